@@ -4,6 +4,7 @@ pub mod Fronts
 pub mod LookAhead
 pub mod Looks
 pub mod Marks
+pub mod Openings
 pub mod Steps
 pub mod Years
 pub mod ZonesAlone

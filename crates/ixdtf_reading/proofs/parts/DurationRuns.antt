@@ -4,10 +4,9 @@ use Rattle.std.proofs.Common.{◌≡◌, ℕ, zero, suc, ◌≤◌, IsTrue, [], 
 use Rattle.std.proofs.lemmas.Bool.{leb-true, le-leb}
 use Rattle.ixdtf_grammar.specs.{declared.profile.Profile.Profile, language.{Letters.{Text, digit, Letter.{Plain, Bad}}, Shapes.digits, Digits.decimal}}
 use Rattle.ixdtf_grammar.specs.{language.Fractions.SomeDigits, table.{Faults.Fault, LineNames.{LineName, LineName.of_duration}, Lines.{Line, duration_line}}}
-use Rattle.ixdtf_grammar.specs.table.{Lines.Line.{line, scanned, whole}, DurationFronts.Context.{in_dates, in_times}, Rows.{Row, Place, Stops}}
-use Rattle.ixdtf_grammar.specs.table.Rows.Place.{end, other, bad, anywhere}
-use Rattle.ixdtf_reading.specs.reading.{Looks.{Read, ◌>>=◌, row_of, look_of}, Durations.{State, line_of_state, step, at_end, run, State.between}}
-use Rattle.ixdtf_reading.proofs.{parts.Looks.{ReadsOver, Halts, Goes}, code.GrowingDigits.decimal_snoc}
+use Rattle.ixdtf_grammar.specs.table.{Lines.{Line.{line, scanned, whole}, Ending.{ok, error}}, DurationFronts.Context.{in_dates, in_times}, Rows.{Row, Place, Stops}}
+use Rattle.ixdtf_reading.specs.reading.{Looks.{Read, ◌>>=◌, row_of, look_of}, Durations.{State, line_of_state, step, at_end, finished, run, State.between}}
+use Rattle.ixdtf_reading.proofs.{parts.Looks.{ReadsOver, Halts, Goes, LooksAs, row_here}, code.GrowingDigits.decimal_snoc}
 
 -- ---- digits
 
@@ -89,37 +88,23 @@ module _ {E : Type 0} (fault : Row → E) (profile : Profile) where
   pub letter_stops : (s : State) (c : ℕ) {rest : Text} {row : Row} → Goes (duration_line profile (line_of_state s)) c → step fault profile rest s c ≡ Err (fault row)
       → Stays s (Plain c ∷ []) rest row
   unfolding run
-  letter_stops s c h is = record { halts = by_look _ _ c _ _ h ∙ rw is refl }
+  letter_stops s c h is = record { reads_to = by_look _ _ c _ _ h ∙ rw is refl }
 
   -- ---- the row of a state's line
 
-  stops_end : {A : Type 0} (name : LineName) (l : Line) (x : A) (e : Fault) (rest : Text) → Asks l → (left : Text) → Stops l (end left) e rest
-      → (rest ≡ []) × (at_end ((look_of fault name l).at_end []) x ≡ Err (fault (row_of name (end left) e)))
-  stops_end name (line front goes_on ends at_other) x e rest asks left h = (h.0, rw (h.1, h.2, h.0) refl)
-  stops_end name other_line x e rest asks left h = absurd asks
-
-  stops_other : {A : Type 0} (name : LineName) (l : Line) (next : ℕ → Text → Read E A) (e : Fault) (rest : Text) → Asks l → (left : Text) → Stops l (other left) e rest
-      → (c : ℕ) × (more : Text) × (rest ≡ Plain c ∷ more)
-      × ((if (look_of fault name l).goes_on c then next c more else Err ((look_of fault name l).at_other c (Plain c ∷ more))) ≡ Err (fault (row_of name (other left) e)))
-  stops_other name (line front goes_on ends at_other) next e rest asks left h = (h.0, h.1, h.2, rw (h.3, h.4, h.5, h.2) refl)
-  stops_other name other_line next e rest asks left h = absurd asks
-
-  stops_bad : (name : LineName) (l : Line) (e : Fault) (rest : Text) → Asks l → (left : Text) → Stops l (bad left) e rest
-      → (more : Text) × (rest ≡ Bad ∷ more) × ((look_of fault name l).at_bad (Bad ∷ more) ≡ fault (row_of name (bad left) e))
-  stops_bad name (line front goes_on ends at_other) e rest asks left h = (h.0, h.1, rw (h.2, h.3, h.1) refl)
-  stops_bad name other_line e rest asks left h = absurd asks
-
-  stops_nowhere : (l : Line) (e : Fault) (rest : Text) → Asks l → (left : Text) → Stops l (anywhere left) e rest → ⊥
-  stops_nowhere (line front goes_on ends at_other) e rest asks left h = h
-  stops_nowhere other_line e rest asks left h = asks
+  -- a reading by the look of a line that asks looks at the text as the line does
+  looks_as : {A : Type 0} (name : LineName) (l : Line) (read : Text → Read E A) (x : A) (next : ℕ → Text → Read E A) → Asks l
+      → read [] ≡ at_end ((look_of fault name l).at_end []) x → ((rest : Text) → read (Bad ∷ rest) ≡ Err ((look_of fault name l).at_bad (Bad ∷ rest)))
+      → ((c : ℕ) (rest : Text) → read (Plain c ∷ rest)
+      ≡ (if (look_of fault name l).goes_on c then next c rest else Err ((look_of fault name l).at_other c (Plain c ∷ rest)))) → LooksAs fault name read l
+  looks_as name (line front goes_on ok at_other) read x next asks ends bad letter = (tt, bad, λ c rest out. letter c rest ∙ rw out refl)
+  looks_as name (line front goes_on (error e) at_other) read x next asks ends bad letter = (ends, bad, λ c rest out. letter c rest ∙ rw out refl)
+  looks_as name other_line read x next asks ends bad letter = absurd asks
 
   pub run_stops : (s : State) (place : Place) (e : Fault) (rest : Text) → Stops (duration_line profile (line_of_state s)) place e rest
       → run fault profile s rest ≡ Err (fault (row_of (of_duration profile (line_of_state s)) place e))
   unfolding run
-  run_stops s (end left) e rest h = let p = stops_end _ _ _ e rest (state_asks profile s) left h in rw p.0 p.1
-  run_stops s (other left) e rest h =
-      let p = stops_other _ _ (λ c more. step fault profile more s c >>= λ next. run fault profile next more) e rest (state_asks profile s) left h in
-      rw p.2 p.3
-  run_stops s (bad left) e rest h = let p =
-      stops_bad (of_duration profile (line_of_state s)) (duration_line profile (line_of_state s)) e rest (state_asks profile s) left h in rw (p.1, p.2) refl
-  run_stops s (anywhere left) e rest h = absurd (stops_nowhere _ e rest (state_asks profile s) left h)
+  run_stops s =
+      row_here fault (of_duration profile (line_of_state s)) (run fault profile s) (duration_line profile (line_of_state s))
+      (looks_as (of_duration profile (line_of_state s)) (duration_line profile (line_of_state s)) (run fault profile s) (finished s)
+      (λ c rest. step fault profile rest s c >>= λ next. run fault profile next rest) (state_asks profile s) refl (λ rest. refl) (λ c rest. refl))

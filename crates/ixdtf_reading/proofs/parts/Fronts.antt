@@ -23,20 +23,30 @@ not_there test holds h none = false_from_ne_true test (λ yes. none (h.0 yes))
 none_there : (test : Bool) (holds : Type 0) → Exact test holds → IsFalse test → ¬ holds
 none_there test holds h fails there = both_ways test fails (h.1 there)
 
--- a reading that takes each front of the part, and returns nothing else, tells whether one stands in front
-exact : (part : Text → DateRecord → Type 0) (text : Text) (read : Read Placed DateRecord) (stopped : Row → Type 0)
+-- a front of the part, and what the text has after it
+abbrev pub Fronted : (Text → DateRecord → Type 0) → Text → Text → Type 0
+Fronted part text left = (front : Text) × (text ≡ front ++ left) × some part front
+
+-- a reading that takes each front of the part, and returns nothing else, tells whether one stands in front, and what is left
+tells : (part : Text → DateRecord → Type 0) (text : Text) (read : Read Placed DateRecord) (stopped : Row → Type 0)
     → OnRead error_of read (FrontIs part text) stopped
     → ((front : Text) (date : DateRecord) (rest : Text) → text ≡ front ++ rest → part front date → read ≡ Ok (date, rest))
-    → Exact (is_read read) (BeginsWith (some part) text)
-exact part text (Ok x) stopped gives takes = (λ h. (gives.0, x.1, gives.1, (x.0, gives.2), tt), λ h. refl)
-exact part text (Err e) stopped gives takes = (λ h. absurd (both_ways false refl h), λ h. ap is_read (takes h.0 h.3.0 h.1 h.2 h.3.1))
+    → Exact (is_read read) (BeginsWith (some part) text) × ((left : Text) → Fronted part text left → left_by read ≡ left)
+tells part text (Ok x) stopped gives takes =
+    (((λ h. (gives.0, x.1, gives.1, (x.0, gives.2), tt)), λ h. refl), λ left h. ap left_by (takes h.0 h.2.0 left h.1 h.2.1))
+tells part text (Err e) stopped gives takes =
+    (((λ h. absurd (both_ways false refl h)), λ h. ap is_read (takes h.0 h.3.0 h.1 h.2 h.3.1)), λ left h. ap left_by (takes h.0 h.2.0 left h.1 h.2.1))
 
-pub month_day_begins_exact : (profile : Profile) (text : Text) → Exact (month_day_begins profile text) (BeginsWith (some (IsMonthDay profile)) text)
-month_day_begins_exact profile text = exact _ text _ _ (month_day_read error_of profile text)
+-- the front of a month-day, and of a year-month
+month_day_tells : (profile : Profile) (text : Text)
+    → Exact (month_day_begins profile text) (BeginsWith (some (IsMonthDay profile)) text)
+    × ((left : Text) → Fronted (IsMonthDay profile) text left → left_by (month_day_at error_of profile text) ≡ left)
+month_day_tells profile text = tells _ text _ _ (month_day_read error_of profile text)
     (λ front date rest is h. ap (month_day_at error_of profile) is ∙ month_day_takes error_of profile front date rest h)
 
-pub year_month_begins_exact : (text : Text) → Exact (year_month_begins text) (BeginsWith (some IsYearMonth) text)
-year_month_begins_exact text = exact IsYearMonth text _ _ (year_month_read error_of text)
+year_month_tells : (text : Text) → Exact (year_month_begins text) (BeginsWith (some IsYearMonth) text)
+    × ((left : Text) → Fronted IsYearMonth text left → left_by (year_month_at error_of text) ≡ left)
+year_month_tells text = tells IsYearMonth text _ _ (year_month_read error_of text)
     (λ front date rest is h. ap (year_month_at error_of) is ∙ year_month_takes error_of front date rest h)
 
 -- ---- fronts of a core, and of the text with what stands after the core
@@ -75,59 +85,42 @@ abbrev pub year_month_front : Text → Row
 year_month_front left = row_of (of_time time_reads_as_year_month) (anywhere left) AmbiguousTimeYearMonth
 
 module _ (profile : Profile) (text : Text) where
-  -- a front of the part, and what the text has after it
-  abbrev pub Fronted : (Text → DateRecord → Type 0) → Text → Type 0
-  Fronted part left = (front : Text) × (text ≡ front ++ left) × some part front
-
-  -- what is left of a reading that takes each front of the part
-  left_is : (part : Text → DateRecord → Type 0) (read : Read Placed DateRecord) (left : Text)
-      → ((front : Text) (date : DateRecord) (rest : Text) → text ≡ front ++ rest → part front date → read ≡ Ok (date, rest))
-      → Fronted part left → left_by read ≡ left
-  left_is part read left takes h = ap left_by (takes h.0 h.2.0 left h.1 h.2.1)
-
-  month_day_left : (left : Text) → Fronted (IsMonthDay profile) left → left_by (month_day_at error_of profile text) ≡ left
-  month_day_left left = left_is _ _ left
-      (λ front date rest is h. ap (month_day_at error_of profile) is ∙ month_day_takes error_of profile front date rest h)
-
-  year_month_left : (left : Text) → Fronted IsYearMonth left → left_by (year_month_at error_of text) ≡ left
-  year_month_left left = left_is _ _ left
-      (λ front date rest is h. ap (year_month_at error_of) is ∙ year_month_takes error_of front date rest h)
-
   abbrev pub MonthDayBegins : Type 0
   MonthDayBegins = BeginsWith (some (IsMonthDay profile)) text
 
   module _ {E A : Type 0} (fault : Row → E) (read : Read E A) where
     -- each row of a time's front is returned
-    pub month_day_stops : (left : Text) → Fronted (IsMonthDay profile) left → unfronted fault profile text read ≡ Err (fault (month_day_front profile left))
-    month_day_stops left h = rw ((month_day_begins_exact profile text).1 (h.0, left, h.1, h.2, tt), month_day_left left h) refl
+    pub month_day_stops : (left : Text) → Fronted (IsMonthDay profile) text left
+        → unfronted fault profile text read ≡ Err (fault (month_day_front profile left))
+    month_day_stops left h = rw ((month_day_tells profile text).0.1 (h.0, left, h.1, h.2, tt), (month_day_tells profile text).1 left h) refl
 
-    pub year_month_stops : (left : Text) → Fronted IsYearMonth left → ¬ MonthDayBegins
+    pub year_month_stops : (left : Text) → Fronted IsYearMonth text left → ¬ MonthDayBegins
         → unfronted fault profile text read ≡ Err (fault (year_month_front left))
     year_month_stops left h none = rw (
-      not_there _ _ (month_day_begins_exact profile text) none,
-      (year_month_begins_exact text).1 (h.0, left, h.1, h.2, tt),
-      year_month_left left h,
+      not_there _ _ (month_day_tells profile text).0 none,
+      (year_month_tells text).0.1 (h.0, left, h.1, h.2, tt),
+      (year_month_tells text).1 left h,
     ) refl
 
     -- without such a front reading goes on
     pub unfronted_goes : HasNoDateFront profile text → unfronted fault profile text read ≡ read
     unfronted_goes none =
-        let no_month_day = not_there _ _ (month_day_begins_exact profile text) none.0 in
-        let no_year_month = not_there _ _ (year_month_begins_exact text) none.1 in
+        let no_month_day = not_there _ _ (month_day_tells profile text).0 none.0 in
+        let no_year_month = not_there _ _ (year_month_tells text).0 none.1 in
         rw (no_month_day, no_year_month) refl
 
     -- and back
     pub unfronted_read : (found : A → Text → Type 0) (stopped : Row → Type 0)
-        → ((left : Text) → Fronted (IsMonthDay profile) left → stopped (month_day_front profile left))
-        → ((left : Text) → Fronted IsYearMonth left → ¬ MonthDayBegins → stopped (year_month_front left)) → (HasNoDateFront profile text → OnRead fault read found stopped)
-        → OnRead fault (unfronted fault profile text read) found stopped
+        → ((left : Text) → Fronted (IsMonthDay profile) text left → stopped (month_day_front profile left))
+        → ((left : Text) → Fronted IsYearMonth text left → ¬ MonthDayBegins → stopped (year_month_front left))
+        → (HasNoDateFront profile text → OnRead fault read found stopped) → OnRead fault (unfronted fault profile text read) found stopped
     unfronted_read found stopped at_month_day at_year_month goes = read_if fault _ _ _ found stopped
-        (λ yes. let h = (month_day_begins_exact profile text).0 yes in
-        let front : Fronted (IsMonthDay profile) h.1 = (h.0, h.2, h.3) in
-        rw (month_day_left h.1 front) (month_day_front profile h.1, refl, at_month_day h.1 front))
-        (λ fails. let none = none_there _ _ (month_day_begins_exact profile text) fails in
+        (λ yes. let h = (month_day_tells profile text).0.0 yes in
+        let front : Fronted (IsMonthDay profile) text h.1 = (h.0, h.2, h.3) in
+        rw ((month_day_tells profile text).1 h.1 front) (month_day_front profile h.1, refl, at_month_day h.1 front))
+        (λ fails. let none = none_there _ _ (month_day_tells profile text).0 fails in
         read_if fault _ _ _ found stopped
-        (λ yes. let h = (year_month_begins_exact text).0 yes in
-        let front : Fronted IsYearMonth h.1 = (h.0, h.2, h.3) in
-        rw (year_month_left h.1 front) (year_month_front h.1, refl, at_year_month h.1 front none))
-        (λ neither. goes (none, none_there (year_month_begins text) _ (year_month_begins_exact text) neither)))
+        (λ yes. let h = (year_month_tells text).0.0 yes in
+        let front : Fronted IsYearMonth text h.1 = (h.0, h.2, h.3) in
+        rw ((year_month_tells text).1 h.1 front) (year_month_front h.1, refl, at_year_month h.1 front none))
+        (λ neither. goes (none, none_there (year_month_begins text) _ (year_month_tells text).0 neither)))

@@ -1,20 +1,14 @@
 -- Looking ahead in a bracket: what holds of a text decides what `sight_at` returns, and back.
 use Rattle.std.proofs.Common.{◌≡◌, ℕ, Bool, true, false, IsTrue, IsFalse, List, [], ◌∷◌, ◌++◌, Result, Ok, Err, refl, ap, ◌∙◌, inl, inr, arith, append_assoc}
-use Rattle.std.proofs.{Common.if◌then◌else◌, lemmas.Bool.Decides.nat_tests}
-use Rattle.ixdtf_grammar.specs.language.Letters.{Text, equals, closing, slash, zone_char, key_lead, key_char, Letter.{Plain, Bad}}
-use Rattle.ixdtf_grammar.specs.language.{Shapes.{one, ◌then◌, Joined, many}, ZoneNames.{NameItem, ZoneName}}
+use Rattle.std.proofs.{Common.if◌then◌else◌, lemmas.Bool.{eqb-true, Decides.nat_tests}}
+use Rattle.ixdtf_grammar.specs.language.Letters.{Text, Class, equals, closing, slash, zone_char, key_lead, key_char, Letter.{Plain, Bad}}
+use Rattle.ixdtf_grammar.specs.language.{Shapes.{Shape, one, ◌then◌, Joined, many}, ZoneNames.{NameItem, ZoneName}}
 use Rattle.ixdtf_grammar.specs.{language.Brackets.{skipped, FirstIs, ReadsAsName, Key, ReadsAsPair}, table.Faults.{Fault, Fault.NonAsciiCodePoint}}
 use Rattle.ixdtf_grammar.specs.table.{LineNames.{LineName.of_bracket, BracketLine.first_bracket_scan}, Lines.{bracket_line, abrupt_bracket, LetterOfKey}}
-use Rattle.ixdtf_grammar.specs.table.Rows.{Row, Place, Stops, Place.{end, other, bad, anywhere}}
-use Rattle.ixdtf_reading.specs.reading.{Looks.row_of, Brackets.sight_at}
+use Rattle.ixdtf_grammar.specs.table.Rows.{Row, Place, Stops, Place.{end, bad}}
+use Rattle.ixdtf_reading.{specs.reading.{Looks.row_of, Brackets.sight_at}, proofs.parts.Looks.row_here}
 
 -- ---- code units that are passed
-
-skipped_no_equals : (c : ℕ) → IsTrue (skipped c) → IsFalse (equals c)
-skipped_no_equals c h = grind (arith, nat_tests)
-
-skipped_no_closing : (c : ℕ) → IsTrue (skipped c) → IsFalse (closing c)
-skipped_no_closing c h = grind (arith, nat_tests)
 
 neither_skipped : (c : ℕ) → IsFalse (equals c) → IsFalse (closing c) → IsTrue (skipped c)
 neither_skipped c no_equals no_closing = rw (no_equals, no_closing) refl
@@ -36,7 +30,9 @@ key_lead_skipped c h = grind (arith, nat_tests)
 module _ {E : Type 0} (fault : Row → E) where
   pub over_letter : (c : ℕ) (rest : Text) → IsTrue (skipped c) → sight_at fault (Plain c ∷ rest) ≡ sight_at fault rest
   unfolding sight_at
-  over_letter c rest h = rw (skipped_no_equals c h, skipped_no_closing c h) refl
+  over_letter c rest h =
+      let no_equals : IsFalse (equals c) = grind (arith, nat_tests, h) in
+      let no_closing : IsFalse (closing c) = grind (arith, nat_tests, h) in rw (no_equals, no_closing) refl
 
   over_joined : (parts : List Text) (text rest : Text) → Joined (one skipped) parts text → sight_at fault (text ++ rest) ≡ sight_at fault rest
   over_joined [] text rest h = rw h refl
@@ -50,35 +46,23 @@ module _ {E : Type 0} (fault : Row → E) where
   pub sight_stops : (place : Place) (e : Fault) (rest : Text) → Stops (bracket_line first_bracket_scan) place e rest
       → sight_at fault rest ≡ Err (fault (row_of (of_bracket first_bracket_scan) place e))
   unfolding sight_at
-  sight_stops (end left) e rest h = rw (h.2, h.0, h.1) refl
-  sight_stops (other left) e rest h = absurd h
-  sight_stops (bad left) e rest h = rw (h.3, h.1, h.2) refl
-  sight_stops (anywhere left) e rest h = absurd h
+  sight_stops = row_here fault (of_bracket first_bracket_scan) (sight_at fault) (bracket_line first_bracket_scan) (refl, λ rest. refl)
 
-  sight_equals : (c : ℕ) (rest : Text) → IsTrue (equals c) → sight_at fault (Plain c ∷ rest) ≡ Ok true
-  unfolding sight_at
-  sight_equals c rest h = rw h refl
+  -- a code unit of the class comes first, and decides
+  sight_first : (class : Class) (b : Bool) → ((c : ℕ) (rest : Text) → IsTrue (class c) → sight_at fault (Plain c ∷ rest) ≡ Ok b)
+      → (text : Text) → (one key_lead then FirstIs class) text → sight_at fault text ≡ Ok b
+  sight_first class b decides text h =
+      let f = h.4 in
+      let g = f.4 in
+      rw (h.2, h.3.1, f.2, g.2, g.3.1) (over_letter h.3.0 _ (key_lead_skipped h.3.0 h.3.2) ∙ over_joined f.3.0 f.0 _ f.3.1 ∙ decides g.3.0 _ g.3.2)
 
-  sight_closing : (c : ℕ) (rest : Text) → IsTrue (closing c) → sight_at fault (Plain c ∷ rest) ≡ Ok false
-  unfolding sight_at
-  sight_closing c rest h = rw (closing_no_equals c h, h) refl
-    where
-      closing_no_equals : (c : ℕ) → IsTrue (closing c) → IsFalse (equals c)
-      closing_no_equals c h = grind (arith, nat_tests)
-
-  -- an `=` comes first
   pub sight_pair : (text : Text) → ReadsAsPair text → sight_at fault text ≡ Ok true
-  sight_pair text h =
-      let f = h.4 in
-      let g = f.4 in
-      rw (h.2, h.3.1, f.2, g.2, g.3.1) (over_letter h.3.0 _ (key_lead_skipped h.3.0 h.3.2) ∙ over_joined f.3.0 f.0 _ f.3.1 ∙ sight_equals g.3.0 _ g.3.2)
+  unfolding sight_at
+  sight_pair = sight_first equals true (λ c rest h. rw h refl)
 
-  -- a `]` comes first
   pub sight_name : (text : Text) → (one key_lead then FirstIs closing) text → sight_at fault text ≡ Ok false
-  sight_name text h =
-      let f = h.4 in
-      let g = f.4 in
-      rw (h.2, h.3.1, f.2, g.2, g.3.1) (over_letter h.3.0 _ (key_lead_skipped h.3.0 h.3.2) ∙ over_joined f.3.0 f.0 _ f.3.1 ∙ sight_closing g.3.0 _ g.3.2)
+  unfolding sight_at
+  sight_name = sight_first closing false (λ c rest h. rw (eqb-true c 93 h) refl)
 
 -- ---- what was seen
 
@@ -118,9 +102,11 @@ item_skipped part rest (inl h) m = rw h.1 (one_more h.0 rest (zone_char_skipped 
 item_skipped part rest (inr h) m =
     rw (h.2, h.3.1, h.4.1) (one_more h.3.0 (Plain h.4.0 ∷ rest) (slash_skipped h.3.0 h.3.2) (one_more h.4.0 rest (zone_char_skipped h.4.0 h.4.2) m))
 
-items_skipped : (parts : List Text) (text : Text) → Joined NameItem parts text → many (one skipped) text
-items_skipped [] text h = ([], h)
-items_skipped (part ∷ parts) text h = rw h.1 (item_skipped part h.0 h.2 (items_skipped parts h.0 h.3))
+-- parts in a row, each of which may stand in front of what is passed
+joined_skipped : {shape : Shape} → ((part rest : Text) → shape part → many (one skipped) rest → many (one skipped) (part ++ rest))
+    → (parts : List Text) (text : Text) → Joined shape parts text → many (one skipped) text
+joined_skipped each [] text h = ([], h)
+joined_skipped each (part ∷ parts) text h = rw h.1 (each part h.0 h.2 (joined_skipped each parts h.0 h.3))
 
 -- a whole name, and `]`
 pub name_reads : (text rest : Text) → ZoneName text → ReadsAsName (text ++ (Plain 93 ∷ rest))
@@ -132,22 +118,14 @@ name_reads text rest h = rw (h.2, h.3.1) (by_lead (key_lead h.3.0) refl)
       h.1 ++ (Plain 93 ∷ rest),
       refl,
       (h.3.0, refl, is),
-      (h.1, Plain 93 ∷ rest, refl, items_skipped h.4.0 h.1 h.4.1, (Plain 93 ∷ [], rest, refl, (93, refl, refl), tt)),
+      (h.1, Plain 93 ∷ rest, refl, joined_skipped item_skipped h.4.0 h.1 h.4.1, (Plain 93 ∷ [], rest, refl, (93, refl, refl), tt)),
     )
     by_lead false is = inl (Plain h.3.0 ∷ [], h.1 ++ (Plain 93 ∷ rest), refl, (h.3.0, refl, rw (h.3.2, is) refl), tt)
 
 -- ---- keys read as keys
 
-keys_skipped : (parts : List Text) (text : Text) → Joined (one key_char) parts text → many (one skipped) text
-keys_skipped [] text h = ([], h)
-keys_skipped (part ∷ parts) text h = rw (h.1, h.2.1) (one_more h.2.0 h.0 (key_char_skipped h.2.0 h.2.2) (keys_skipped parts h.0 h.3))
-
 -- a whole key, and `=`
 pub key_reads : (text rest : Text) → Key text → ReadsAsPair (text ++ (Plain 61 ∷ rest))
-key_reads text rest h = (
-  h.0,
-  h.1 ++ (Plain 61 ∷ rest),
-  rw h.2 (simp append_assoc),
-  h.3,
-  (h.1, Plain 61 ∷ rest, refl, keys_skipped h.4.0 h.1 h.4.1, (Plain 61 ∷ [], rest, refl, (61, refl, refl), tt)),
-)
+key_reads text rest h =
+    let passed = joined_skipped (λ part more g m. rw g.1 (one_more g.0 more (key_char_skipped g.0 g.2) m)) h.4.0 h.1 h.4.1 in
+    (h.0, h.1 ++ (Plain 61 ∷ rest), rw h.2 (simp append_assoc), h.3, (h.1, Plain 61 ∷ rest, refl, passed, (Plain 61 ∷ [], rest, refl, (61, refl, refl), tt)))

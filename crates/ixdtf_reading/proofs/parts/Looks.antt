@@ -1,10 +1,10 @@
 -- One look at a line: a code unit that goes on is read further, a row that fits is returned; and back.
 use Rattle.std.proofs.Common.{◌≡◌, ℕ, zero, suc, ◌<◌, ◌⊎◌, Bool, true, false, IsTrue, IsFalse, [], ◌∷◌, ◌++◌, Ok, Err, Option, Some, None, refl, sym, ap, ◌∙◌}
-use Rattle.std.proofs.Common.{inl, inr, arith, append_assoc, if◌then◌else◌}
+use Rattle.std.proofs.Common.{inl, inr, arith, append_assoc, Result, if◌then◌else◌, List}
 use Rattle.ixdtf_grammar.specs.language.{Letters.{Text, Class, digit, Letter.{Plain, Bad}}, Shapes.{Shape, one, digits}, Readers.{Reader, has_brackets}}
-use Rattle.ixdtf_grammar.specs.table.{Faults.{Fault, Fault.NonAsciiCodePoint}, LineNames.LineName, Lines.{Line, line_of, Line.{line, scanned, whole}}}
-use Rattle.ixdtf_grammar.specs.table.{Lines.Ending.{ok, error}, Before.Before, Rows.{Row, Place, Stops, front_of, FitsHere, Fits}}
-use Rattle.ixdtf_grammar.specs.table.Rows.Place.{end, other, bad, anywhere}
+use Rattle.ixdtf_grammar.specs.{language.Brackets.Pair, table.{Faults.{Fault, Fault.NonAsciiCodePoint}, LineNames.LineName, Lines.{Line, line_of, Line.line}}}
+use Rattle.ixdtf_grammar.specs.table.{Lines.{Line.{scanned, whole}, Ending, Ending.{ok, error}}, Before.Before, Rows.{Row, Place, Stops, front_of, FitsHere}}
+use Rattle.ixdtf_grammar.specs.table.Rows.{Fits, Place.{end, other, bad, anywhere}}
 use Rattle.ixdtf_reading.specs.reading.Looks.{Read, Look, ◌>>=◌, row_of, look_of, look_at, next_by, letter_at, digits_by, digits_at, peek_by, on_next}
 use Rattle.ixdtf_reading.specs.reading.Looks.{digit_run}
 
@@ -63,13 +63,13 @@ pub ◌upto◌ : {E A : Type 0} {start middle : Text → Read E A} {first second
 ◌upto◌ {second} {rest} to from = record { reads_to = rw append_assoc (to.over _ ∙ from.reads_to) }
 
 -- reading halts at a fault, over a front and at a rest
-pub record Halts {E A : Type 0} (start : Text → Read E A) (front rest : Text) (e : E) : Type 0 where
-  pub halts : start (front ++ rest) ≡ Err e
+abbrev pub Halts : {E A : Type 0} → (Text → Read E A) → Text → Text → E → Type 0
+Halts start front rest e = ReadsTo start front rest (Err e)
 
-infixr 30 ◌till◌
-pub ◌till◌ : {E A : Type 0} {start middle : Text → Read E A} {first second rest : Text} {e : E} → ReadsOver start first middle → Halts middle second rest e
-    → Halts start (first ++ second) rest e
-◌till◌ {second} {rest} to from = record { halts = rw append_assoc (to.over _ ∙ from.halts) }
+-- and so does what would be read after it
+pub halts_then : {E A B : Type 0} {start : Text → Read E A} {front rest : Text} {e : E} (next : A × Text → Read E B) → Halts start front rest e
+    → Halts (λ text. start text >>= next) front rest e
+halts_then next h = record { reads_to = rw h.reads_to refl }
 
 -- ---- rows
 
@@ -78,23 +78,14 @@ abbrev pub RowsRead : {E A : Type 0} → (Row → E) → Bool → (Text → Read
 RowsRead fault brackets read name = (place : Place) (e : Fault) (front rest : Text) → front_of (line_of brackets name) front
     → Stops (line_of brackets name) place e rest → read (front ++ rest) ≡ Err (fault (row_of name place e))
 
-abbrev pub IsWhole : Line → Type 0
-IsWhole (line front goes_on at_end at_other) = ⊥
-IsWhole (scanned front e) = ⊥
-IsWhole (whole front e) = Unit {0}
+-- the same where what stands before the line's front, and from its front on, is so
+abbrev pub RowsWhere : {E A : Type 0} → (Row → E) → Bool → (Text → Read E A) → LineName → (Text → Text → Type 0) → Type 0
+RowsWhere fault brackets read name stands = (place : Place) (e : Fault) (prior front rest : Text) → stands prior (front ++ rest)
+    → front_of (line_of brackets name) front → Stops (line_of brackets name) place e rest → read (prior ++ (front ++ rest)) ≡ Err (fault (row_of name place e))
 
--- a whole line has one row
-pub whole_row : {E A : Type 0} (fault : Row → E) (brackets : Bool) (read : Text → Read E A) (name : LineName) → IsWhole (line_of brackets name)
-    → ((e : Fault) (front rest : Text) → front_of (line_of brackets name) front → Stops (line_of brackets name) (anywhere rest) e rest
-    → read (front ++ rest) ≡ Err (fault (row_of name (anywhere rest) e))) → RowsRead fault brackets read name
-whole_row fault brackets read name is h place e front rest f at =
-    rw (one_row (line_of brackets name) is place at)
-    (h e front rest f (rw (← (one_row (line_of brackets name) is place at)) at))
-  where
-    one_row : (l : Line) → IsWhole l → (p : Place) → Stops l p e rest → p ≡ anywhere rest
-    one_row (whole f d) is (anywhere left) at = ap anywhere at.1
-    one_row (whole f d) is p at = absurd at
-    one_row other_line is p at = absurd is
+-- each row of the reader's lines is returned
+abbrev pub ReadsAllRows : {E A : Type 0} → (Row → E) → Reader → (Text → Read E A) → Type 0
+ReadsAllRows fault reader read = (name : LineName) (pairs : List Pair) → RowsWhere fault (has_brackets reader) read name (Before reader name pairs)
 
 -- the row is of a line of a part, and fits here
 abbrev pub FitsIn : {L : Type 0} → (L → LineName) → Bool → Row → Text → Type 0
@@ -116,6 +107,39 @@ pub fits_whole_in : {E L : Type 0} (fault : Row → E) (part : L → LineName) (
     → IsRowFault fault (fault (row_of (part l) (anywhere rest) e)) (λ row. FitsIn part brackets row text)
 fits_whole_in fault part brackets l e text front rest split shape at = (row_of (part l) (anywhere rest) e, refl, (l, refl, (front, rest, split, shape, at)))
 
+-- ---- a reading that looks at the text as a line does
+
+module _ {E B : Type 0} (fault : Row → E) (name : LineName) (read : Text → Result B E) where
+  abbrev AtEnd : Ending → Type 0
+  AtEnd ok = Unit {0}
+  AtEnd (error e) = read [] ≡ Err (fault (row_of name (end []) e))
+
+  abbrev AtBad : Type 0
+  AtBad = (rest : Text) → read (Bad ∷ rest) ≡ Err (fault (row_of name (bad (Bad ∷ rest)) NonAsciiCodePoint))
+
+  -- at the end, at Bad and at each other code unit that does not go on it returns the line's fault
+  abbrev pub LooksAs : Line → Type 0
+  LooksAs (line front goes_on at_end at_other) =
+      AtEnd at_end × AtBad
+      × ((c : ℕ) (rest : Text) → IsFalse (goes_on c) → read (Plain c ∷ rest) ≡ Err (fault (row_of name (other (Plain c ∷ rest)) (at_other c))))
+  LooksAs (scanned front e) = AtEnd (error e) × AtBad
+  LooksAs (whole front e) = ⊥
+
+  ended : (ending : Ending) (e : Fault) → ending ≡ error e → AtEnd ending → read [] ≡ Err (fault (row_of name (end []) e))
+  ended ok e is h = absurd cc
+  ended (error d) e is h = let same : d ≡ e = cc in rw same at h
+
+  -- it returns the row that fits
+  pub row_here : (l : Line) → LooksAs l → (place : Place) (e : Fault) (rest : Text) → Stops l place e rest → read rest ≡ Err (fault (row_of name place e))
+  row_here (line front goes_on at_end at_other) h (end left) e rest at = rw (at.2, at.0) (ended at_end e at.1 h.0)
+  row_here (line front goes_on at_end at_other) h (other left) e rest at = rw (at.5, at.2, at.4) (h.2 at.0 at.1 at.3)
+  row_here (line front goes_on at_end at_other) h (bad left) e rest at = rw (at.3, at.1, at.2) (h.1 at.0)
+  row_here (scanned front d) h (end left) e rest at = rw (at.2, at.0, at.1) h.0
+  row_here (scanned front d) h (bad left) e rest at = rw (at.3, at.1, at.2) (h.1 at.0)
+  row_here (line front goes_on at_end at_other) h (anywhere left) e rest at = absurd at
+  row_here (scanned front d) h place e rest at = absurd at
+  row_here (whole front d) h place e rest at = absurd h
+
 -- ---- a line at which the text may not end
 
 abbrev pub Looks : Line → Type 0
@@ -129,11 +153,25 @@ Goes (line front goes_on at_end at_other) c = IsTrue (goes_on c)
 Goes (scanned front e) c = ⊥
 Goes (whole front e) c = ⊥
 
-abbrev pub LooksForDigit : Line → Type 0
-LooksForDigit (line front goes_on (error e) at_other) = (c : ℕ) → goes_on c ≡ digit c
-LooksForDigit (line front goes_on ok at_other) = ⊥
-LooksForDigit (scanned front e) = ⊥
-LooksForDigit (whole front e) = ⊥
+-- the line goes on with the code units of the class
+abbrev pub LooksFor : Class → Line → Type 0
+LooksFor class (line front goes_on (error e) at_other) = (c : ℕ) → goes_on c ≡ class c
+LooksFor class (line front goes_on ok at_other) = ⊥
+LooksFor class (scanned front e) = ⊥
+LooksFor class (whole front e) = ⊥
+
+module _ (class : Class) where
+  pub goes_with : (l : Line) (c : ℕ) → LooksFor class l → IsTrue (class c) → Goes l c
+  goes_with (line front goes_on (error e) at_other) c same h = same c ∙ h
+  goes_with other_line c same h = absurd same
+
+  pub went_with : (l : Line) (c : ℕ) → LooksFor class l → Goes l c → IsTrue (class c)
+  went_with (line front goes_on (error e) at_other) c same h = sym (same c) ∙ h
+  went_with other_line c same h = absurd same
+
+  pub looks_for : (l : Line) → LooksFor class l → Looks l
+  looks_for (line front goes_on (error e) at_other) same = tt
+  looks_for other_line same = absurd same
 
 -- the row is the line's, and fits at this rest
 abbrev pub StopsHere : LineName → Text → Row → Type 0
@@ -147,17 +185,10 @@ module _ {E : Type 0} (fault : Row → E) (name : LineName) (front : Shape) (goe
   abbrev here : Line
   here = line front goes_on (error e) at_other
 
-  letter_goes : (c : ℕ) (rest : Text) → IsTrue (goes_on c) → next_by (look_of fault name here) (Plain c ∷ rest) ≡ Ok (c, rest)
-  unfolding next_by look_at
-  letter_goes c rest h = rw h refl
-
-  letter_stops : (place : Place) (d : Fault) (rest : Text) → Stops here place d rest
+  pub letter_stops : (place : Place) (d : Fault) (rest : Text) → Stops here place d rest
       → next_by (look_of fault name here) rest ≡ Err (fault (row_of name place d))
   unfolding next_by look_at
-  letter_stops (end left) d rest h = rw (h.2, h.0) (grind (arith, h.1))
-  letter_stops (other left) d rest h = rw (h.5, h.2, h.3, h.4) refl
-  letter_stops (bad left) d rest h = rw (h.3, h.1, h.2) refl
-  letter_stops (anywhere left) d rest h = absurd h
+  letter_stops = row_here fault name (next_by (look_of fault name here)) here (refl, (λ rest. refl), λ c rest h. rw h refl)
 
   letter_read : (text : Text) → OnRead fault (next_by (look_of fault name here) text) (λ c rest. (text ≡ Plain c ∷ rest) × IsTrue (goes_on c))
       (λ row. (row.name ≡ name) × Stops here row.place row.error text)
@@ -169,10 +200,11 @@ module _ {E : Type 0} (fault : Row → E) (name : LineName) (front : Shape) (goe
 
 module _ {E : Type 0} (fault : Row → E) (name : LineName) where
   pub goes : (c : ℕ) (rest : Text) → Looks (line_of true name) → Goes (line_of true name) c → letter_at fault name (Plain c ∷ rest) ≡ Ok (c, rest)
+  unfolding next_by look_at
   goes c rest looks h = go _ looks h
     where
       go : (l : Line) → Looks l → Goes l c → next_by (look_of fault name l) (Plain c ∷ rest) ≡ Ok (c, rest)
-      go (line front goes_on (error e) at_other) looks h = letter_goes fault name front goes_on e at_other c rest h
+      go (line front goes_on (error e) at_other) looks h = rw h refl
       go other_line looks h = absurd looks
 
   pub stops : (place : Place) (e : Fault) (rest : Text) → Looks (line_of true name) → Stops (line_of true name) place e rest
@@ -192,28 +224,16 @@ module _ {E : Type 0} (fault : Row → E) (name : LineName) where
       go (line front goes_on (error e) at_other) looks = letter_read fault name front goes_on e at_other text
       go other_line looks = absurd looks
 
-  pub digit_goes : (l : Line) (c : ℕ) → LooksForDigit l → IsTrue (digit c) → Goes l c
-  digit_goes (line front goes_on (error e) at_other) c same h = same c ∙ h
-  digit_goes other_line c same h = absurd same
-
-  goes_digit : (l : Line) (c : ℕ) → LooksForDigit l → Goes l c → IsTrue (digit c)
-  goes_digit (line front goes_on (error e) at_other) c same h = sym (same c) ∙ h
-  goes_digit other_line c same h = absurd same
-
-  pub digit_looks : (l : Line) → LooksForDigit l → Looks l
-  digit_looks (line front goes_on (error e) at_other) same = tt
-  digit_looks other_line same = absurd same
-
-  module _ (asks : LooksForDigit (line_of true name)) where
+  module _ (asks : LooksFor digit (line_of true name)) where
     looks : Looks (line_of true name)
-    looks = digit_looks _ asks
+    looks = looks_for digit _ asks
 
     pub digits_go : (n : ℕ) (ds rest : Text) → digits n ds → digits_at fault name n (ds ++ rest) ≡ Ok (ds, rest)
     unfolding digits_by
     digits_go zero ds rest h = rw h refl
     digits_go (suc n) ds rest h =
         rw h.2
-        (rw (goes h.0 _ looks (digit_goes (line_of true name) h.0 asks h.3), digits_go n h.1 rest h.4) refl)
+        (rw (goes h.0 _ looks (goes_with digit _ h.0 asks h.3), digits_go n h.1 rest h.4) refl)
 
     pub digits_stop : (n k : ℕ) (ds rest : Text) (place : Place) (e : Fault) → k < n → digits k ds → Stops (line_of true name) place e rest
         → digits_at fault name n (ds ++ rest) ≡ Err (fault (row_of name place e))
@@ -222,7 +242,7 @@ module _ {E : Type 0} (fault : Row → E) (name : LineName) where
     digits_stop (suc n) zero ds rest place e less h at = rw (h, stops place e rest looks at) refl
     digits_stop (suc n) (suc k) ds rest place e less h at =
         rw h.2
-        (rw (goes h.0 _ looks (digit_goes (line_of true name) h.0 asks h.3), digits_stop n k h.1 rest place e (omega arith) h.4 at) refl)
+        (rw (goes h.0 _ looks (goes_with digit _ h.0 asks h.3), digits_stop n k h.1 rest place e (omega arith) h.4 at) refl)
 
     pub digits_read : (n : ℕ) (text : Text) → OnRead fault (digits_at fault name n text) (λ ds rest. (text ≡ ds ++ rest) × digits n ds) (DigitsStop name n text)
     unfolding digits_by
@@ -230,8 +250,8 @@ module _ {E : Type 0} (fault : Row → E) (name : LineName) where
     digits_read (suc n) text =
         then_read fault (letter_at fault name text) _ _ _ _ _ (read_letter text looks)
         (λ c rest h. then_read fault (digits_at fault name n rest) _ _ _ _ _ (digits_read n rest)
-        (λ ds more g. (h.0 ∙ onto c g.0, (c, ds, refl, goes_digit (line_of true name) c asks h.1, g.1)))
-        (λ r g. (suc g.0, omega (arith, g.1), Plain c ∷ g.2, g.3, h.0 ∙ onto c g.4, (c, g.2, refl, goes_digit (line_of true name) c asks h.1, g.5), g.6)))
+        (λ ds more g. (h.0 ∙ onto c g.0, (c, ds, refl, went_with digit _ c asks h.1, g.1)))
+        (λ r g. (suc g.0, omega (arith, g.1), Plain c ∷ g.2, g.3, h.0 ∙ onto c g.4, (c, g.2, refl, went_with digit _ c asks h.1, g.5), g.6)))
         (λ r h. (zero, omega arith, [], text, refl, refl, h))
 
 -- where one digit is wanted, the row fits at once
@@ -270,10 +290,6 @@ module _ {E : Type 0} (l : Look E) where
   unfolding peek_by look_at
   peek_other c rest h = rw h refl
 
-  pub peek_bad : (rest : Text) → peek_by l (Bad ∷ rest) ≡ Err (l.at_bad (Bad ∷ rest))
-  unfolding peek_by look_at
-  peek_bad rest = refl
-
   pub peek_read : (fault : Row → E) (text : Text) (stopped : Row → Type 0)
       → ((c : ℕ) (rest : Text) → text ≡ Plain c ∷ rest → IsFalse (l.goes_on c) → IsRowFault fault (l.at_other c text) stopped)
       → ((rest : Text) → text ≡ Bad ∷ rest → IsRowFault fault (l.at_bad text) stopped) → OnRead fault (peek_by l text) (Peeked l.goes_on text) stopped
@@ -289,10 +305,8 @@ module _ {E : Type 0} (fault : Row → E) (name : LineName) (front : Shape) (goe
 
   pub peek_stops : (place : Place) (e : Fault) (rest : Text) → Stops ends place e rest
       → peek_by (look_of fault name ends) rest ≡ Err (fault (row_of name place e))
-  peek_stops (end left) e rest h = absurd (grind (arith, h.1))
-  peek_stops (other left) e rest h = rw (h.5, h.2, h.4) (peek_other (look_of fault name ends) h.0 h.1 h.3)
-  peek_stops (bad left) e rest h = rw (h.3, h.1, h.2) (peek_bad (look_of fault name ends) h.0)
-  peek_stops (anywhere left) e rest h = absurd h
+  unfolding peek_by look_at
+  peek_stops = row_here fault name (peek_by (look_of fault name ends)) ends (tt, (λ rest. refl), λ c rest h. rw h refl)
 
   pub peek_line_read : (text : Text) → OnRead fault (peek_by (look_of fault name ends) text) (Peeked goes_on text)
       (λ row. (row.name ≡ name) × Stops ends row.place row.error text)

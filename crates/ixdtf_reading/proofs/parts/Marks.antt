@@ -1,12 +1,12 @@
 -- A hyphen that may stand before digits: where one stands it is taken, and where a digit stands it stays; and back.
 use Rattle.std.proofs.Common.{◌≡◌, ℕ, zero, suc, ◌<◌, ◌⊎◌, Bool, true, false, IsTrue, IsFalse, [], ◌∷◌, ◌++◌, Ok, Err, refl, sym, ◌∙◌, inl, inr, arith}
-use Rattle.std.proofs.{Common.if◌then◌else◌, lemmas.Bool.{both_ways, eqb-true, Decides.nat_tests}}
+use Rattle.std.proofs.{Common.{append_assoc, if◌then◌else◌}, lemmas.Bool.{or_right, both_ways, eqb-true, Decides.nat_tests}}
 use Rattle.ixdtf_grammar.specs.{language.{Letters.{Text, ◌or◌, digit, hyphen, Letter.Plain}, Shapes.{one, digits}, Months.OptionalHyphen}, table.Faults.Fault}
-use Rattle.ixdtf_grammar.specs.table.{LineNames.LineName, Lines.{Line, line_of, Line.{line, scanned, whole}, Ending.{ok, error}}, Rows.{Row, Place, Stops}}
-use Rattle.ixdtf_grammar.specs.table.Rows.Place.{end, other, bad, anywhere}
-use Rattle.ixdtf_reading.specs.reading.Looks.{row_of, mark_by, mark_at, letter_at, digits_at}
-use Rattle.ixdtf_reading.proofs.parts.Looks.{OnRead, Looks, Goes, LooksForDigit, StopsHere, DigitsStop, then_read, read_weaker, goes, stops, read_letter}
-use Rattle.ixdtf_reading.proofs.parts.Looks.{digits_stop, one_as_digits}
+use Rattle.ixdtf_grammar.specs.table.{LineNames.LineName, Lines.{Line, line_of, Line.line, Ending.error}, Rows.{Row, Place, Stops, Place.{end, other, bad}}}
+use Rattle.ixdtf_grammar.specs.table.Rows.Place.{anywhere}
+use Rattle.ixdtf_reading.specs.reading.Looks.{Read, ◌>>=◌, row_of, mark_by, mark_at, letter_at, digits_at}
+use Rattle.ixdtf_reading.proofs.parts.Looks.{OnRead, Looks, Goes, LooksFor, goes_with, went_with, looks_for, StopsHere, DigitsStop, then_read, read_weaker}
+use Rattle.ixdtf_reading.proofs.parts.Looks.{goes, stops, read_letter, ReadsOver, Halts, digits_go, digits_stop, one_as_digits}
 
 -- a hyphen, or nothing
 abbrev pub hyphens_of : Bool → Text
@@ -28,21 +28,8 @@ abbrev pub GoesOver : Line → Bool → Type 0
 GoesOver l true = Goes l 45
 GoesOver l false = (c : ℕ) → IsTrue (digit c) → Goes l c
 
--- the line goes on with a hyphen or a digit
-abbrev pub LooksForHyphen : Line → Type 0
-LooksForHyphen (line front goes_on (error e) at_other) = (c : ℕ) → goes_on c ≡ (hyphen or digit) c
-LooksForHyphen (line front goes_on ok at_other) = ⊥
-LooksForHyphen (scanned front e) = ⊥
-LooksForHyphen (whole front e) = ⊥
-
 digit_no_hyphen : (c : ℕ) → IsTrue (digit c) → IsFalse (hyphen c)
 digit_no_hyphen c h = grind (arith, nat_tests)
-
-digit_goes_on : (c : ℕ) → IsTrue (digit c) → IsTrue ((hyphen or digit) c)
-digit_goes_on c h = grind (arith, nat_tests)
-
-other_is_digit : (c : ℕ) → IsTrue ((hyphen or digit) c) → IsFalse (hyphen c) → IsTrue (digit c)
-other_is_digit c h no_hyphen = grind (arith, nat_tests)
 
 -- ---- shapes
 
@@ -63,25 +50,13 @@ digits_start false n ds rest h = (h.0, h.1 ++ rest, rw h.2 refl, h.3)
 
 -- ---- lines that go on with a hyphen or a digit
 
-pub hyphen_looks : (l : Line) → LooksForHyphen l → Looks l
-hyphen_looks (line front goes_on (error e) at_other) same = tt
-hyphen_looks other_line same = absurd same
-
-goes_so : (l : Line) (c : ℕ) → LooksForHyphen l → IsTrue ((hyphen or digit) c) → Goes l c
-goes_so (line front goes_on (error e) at_other) c same h = same c ∙ h
-goes_so other_line c same h = absurd same
-
-went_so : (l : Line) (c : ℕ) → LooksForHyphen l → Goes l c → IsTrue ((hyphen or digit) c)
-went_so (line front goes_on (error e) at_other) c same h = sym (same c) ∙ h
-went_so other_line c same h = absurd same
-
-goes_over : (l : Line) (b : Bool) → LooksForHyphen l → GoesOver l b
-goes_over l true asks = goes_so l 45 asks refl
-goes_over l false asks = λ c h. goes_so l c asks (digit_goes_on c h)
+goes_over : (l : Line) (b : Bool) → LooksFor (hyphen or digit) l → GoesOver l b
+goes_over l true asks = goes_with (hyphen or digit) l 45 asks refl
+goes_over l false asks = λ c h. goes_with (hyphen or digit) l c asks (or_right _ _ h)
 
 -- ---- what a line that goes on with digits does not stop at
 
-no_stop : (l : Line) (c : ℕ) (place : Place) (e : Fault) (text rest : Text) → LooksForDigit l → text ≡ Plain c ∷ rest → IsTrue (digit c)
+no_stop : (l : Line) (c : ℕ) (place : Place) (e : Fault) (text rest : Text) → LooksFor digit l → text ≡ Plain c ∷ rest → IsTrue (digit c)
     → Stops l place e text → ⊥
 no_stop (line front goes_on (error d) at_other) c (end left) e text rest same is h at = absurd cc
 no_stop (line front goes_on (error d) at_other) c (other left) e text rest same is h at =
@@ -91,7 +66,7 @@ no_stop (line front goes_on (error d) at_other) c (anywhere left) e text rest sa
 no_stop other_line c place e text rest same is h at = absurd same
 
 -- where two digits are wanted and the first stands, the row fits after it
-pub stops_after : (b : Bool) (name : LineName) (text : Text) (row : Row) → LooksForDigit (line_of true name) → Starts b text → DigitsStop name 2 text row
+pub stops_after : (b : Bool) (name : LineName) (text : Text) (row : Row) → LooksFor digit (line_of true name) → Starts b text → DigitsStop name 2 text row
     → (ds rest : Text) × (text ≡ ds ++ rest) × Begun b ds × StopsHere name rest row
 stops_after b name text row asks starts g = go b g.0 g.1 g.5 starts
   where
@@ -112,9 +87,9 @@ module _ {E : Type 0} (fault : Row → E) (name : LineName) where
   mark_over true text looks h starts = rw (goes fault name 45 text looks h) refl
   mark_over false text looks h starts = rw (starts.2, goes fault name starts.0 starts.1 looks (h starts.0 starts.3), digit_no_hyphen starts.0 starts.3) refl
 
-  pub hyphen_over : (b : Bool) (text : Text) → LooksForHyphen (line_of true name) → Starts b text
+  pub hyphen_over : (b : Bool) (text : Text) → LooksFor (hyphen or digit) (line_of true name) → Starts b text
       → mark_at fault name hyphen (hyphens_of b ++ text) ≡ Ok (b, text)
-  hyphen_over b text asks starts = mark_over b text (hyphen_looks (line_of true name) asks) (goes_over (line_of true name) b asks) starts
+  hyphen_over b text asks starts = mark_over b text (looks_for (hyphen or digit) (line_of true name) asks) (goes_over (line_of true name) b asks) starts
 
   pub mark_stops : (place : Place) (e : Fault) (rest : Text) → Looks (line_of true name) → Stops (line_of true name) place e rest
       → mark_at fault name hyphen rest ≡ Err (fault (row_of name place e))
@@ -138,18 +113,38 @@ module _ {E : Type 0} (fault : Row → E) (name : LineName) where
       by_letter c rest is h false same = (refl, c, rest, is, h, same)
 
   -- a hyphen or none, where the line goes on with a hyphen or a digit
-  pub hyphen_read : (text : Text) → LooksForHyphen (line_of true name)
+  pub hyphen_read : (text : Text) → LooksFor (hyphen or digit) (line_of true name)
       → OnRead fault (mark_at fault name hyphen text) (λ b rest. (text ≡ hyphens_of b ++ rest) × Starts b rest) (StopsHere name text)
-  hyphen_read text asks = read_weaker fault _ _ _ _ _ (mark_read text (hyphen_looks (line_of true name) asks)) by_mark
+  hyphen_read text asks = read_weaker fault _ _ _ _ _ (mark_read text (looks_for (hyphen or digit) (line_of true name) asks)) by_mark
       (λ row h. h)
     where
       by_mark : (b : Bool) (rest : Text) → Stood text b rest → (text ≡ hyphens_of b ++ rest) × Starts b rest
       by_mark true rest h = (h.0, tt)
-      by_mark false rest h = (h.0, (h.1, h.2, h.3, other_is_digit h.1 (went_so (line_of true name) h.1 asks h.4) h.5))
+      by_mark false rest h =
+          let went = went_with (hyphen or digit) (line_of true name) h.1 asks h.4 in (h.0, (h.1, h.2, h.3, grind (arith, nat_tests, went, h.5)))
 
   -- fewer digits than two after it
-  pub digits_stop_after : (b : Bool) (ds rest : Text) (place : Place) (e : Fault) → LooksForDigit (line_of true name) → Begun b ds
+  pub digits_stop_after : (b : Bool) (ds rest : Text) (place : Place) (e : Fault) → LooksFor digit (line_of true name) → Begun b ds
       → Stops (line_of true name) place e rest → digits_at fault name 2 (ds ++ rest) ≡ Err (fault (row_of name place e))
   digits_stop_after true ds rest place e asks (inl h) at = digits_stop fault name asks 2 0 ds rest place e (omega arith) h at
   digits_stop_after true ds rest place e asks (inr h) at = digits_stop fault name asks 2 1 ds rest place e (omega arith) (one_as_digits ds h) at
   digits_stop_after false ds rest place e asks h at = digits_stop fault name asks 2 1 ds rest place e (omega arith) (one_as_digits ds h) at
+
+-- ---- a mark and two digits after it
+
+module _ {E A : Type 0} (fault : Row → E) (mark : Text → Read E Bool) (name : LineName) (asks : LooksFor digit (line_of true name))
+    (go : Bool → Text × Text → Read E A) where
+  -- a mark, two digits, and what is read of them
+  abbrev marked : Text → Read E A
+  marked text = mark text >>= λ b. digits_at fault name 2 b.1 >>= go b.0
+
+  module _ (b : Bool) (marks : Text) (over : (text : Text) → Starts b text → mark (marks ++ text) ≡ Ok (b, text)) where
+    pub two_digits_over : (ds : Text) → digits 2 ds → ReadsOver marked (marks ++ ds) (λ rest. go b (ds, rest))
+    two_digits_over ds h =
+        record { over = λ rest. rw (append_assoc, over (ds ++ rest) (digits_start b 1 ds rest h), digits_go fault name asks 2 ds rest h) refl }
+
+    pub two_digits_stop : (ds rest : Text) (place : Place) (e : Fault) → Begun b ds → Stops (line_of true name) place e rest
+        → Halts marked (marks ++ ds) rest (fault (row_of name place e))
+    two_digits_stop ds rest place e h at = record {
+      reads_to = rw (append_assoc, over (ds ++ rest) (begun_starts b ds rest h), digits_stop_after fault name b ds rest place e asks h at) refl;
+    }

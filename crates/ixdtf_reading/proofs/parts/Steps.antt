@@ -1,6 +1,6 @@
 -- Code units in front of what is read behind them, each with its step.
-use Rattle.std.proofs.Common.{◌≡◌, ℕ, List, [], ◌∷◌, ◌++◌, Result, Ok, Err, refl, ap, ◌∙◌}
-use Rattle.ixdtf_grammar.specs.language.Letters.{Text}
+use Rattle.std.proofs.{Common.{◌≡◌, ℕ, List, [], ◌∷◌, ◌++◌, map, Result, Ok, Err, refl, sym, ap, ◌∙◌, append_assoc}, lemmas.List.map-append}
+use Rattle.ixdtf_grammar.specs.language.{Letters.{Text, Letter.Plain}, Shapes.{Shape, Joined}}
 use Rattle.ixdtf_reading.specs.reading.{Looks.Read, Zones.with_letter}
 
 abbrev pub steps : {R : Type 0} → (ℕ → R → R) → List ℕ → R → R
@@ -30,3 +30,42 @@ letters_before {E} (c ∷ letters) more rest = rw (letters_before {E = E} letter
 pub letters_ok : {E : Type 0} (letters : List ℕ) (rest : Text) → with_letters {E = E} letters (Ok ([], rest)) ≡ Ok (letters, rest)
 letters_ok [] rest = refl
 letters_ok {E} (c ∷ letters) rest = rw (letters_ok {E = E} letters rest) refl
+
+-- ---- code units that are read over
+
+plain_faithful : (xs ys : List ℕ) → map Plain xs ≡ map Plain ys → xs ≡ ys
+plain_faithful [] [] h = refl
+plain_faithful [] (y ∷ ys) h = absurd cc
+plain_faithful (x ∷ xs) [] h = absurd cc
+plain_faithful (x ∷ xs) (y ∷ ys) h = let e : xs ≡ ys = plain_faithful xs ys cc in cc
+
+module _ {E : Type 0} where
+  -- the text is code units that lead from a run to a run
+  pub record IsOver (run next : Text → Read E (List ℕ)) (text : Text) : Type 0 where
+    pub letters : List ℕ
+    pub is : text ≡ map Plain letters
+    pub over : (rest : Text) → run (text ++ rest) ≡ with_letters letters (next rest)
+
+  pub over_one : {run next : Text → Read E (List ℕ)} (c : ℕ) → ((rest : Text) → run (Plain c ∷ rest) ≡ with_letter c (next rest)) → IsOver run next (Plain c ∷ [])
+  over_one c h = record { letters = c ∷ []; is = refl; over = h }
+
+  pub over_both : {run last : Text → Read E (List ℕ)} {first second : Text} (next : Text → Read E (List ℕ)) → IsOver run next first → IsOver next last second
+      → IsOver run last (first ++ second)
+  over_both {last} {second} next a b = record {
+    letters = a.letters ++ b.letters;
+    is = rw (a.is, b.is) (sym (map-append Plain a.letters b.letters));
+    over = λ rest. rw append_assoc (a.over (second ++ rest) ∙ rw (b.over rest) (steps_both with_letter a.letters b.letters (last rest)));
+  }
+
+  pub over_many : {run : Text → Read E (List ℕ)} {shape : Shape} → ((text : Text) → shape text → IsOver run run text) → (parts : List Text) (text : Text)
+      → Joined shape parts text → IsOver run run text
+  over_many each [] text h = record { letters = []; is = h; over = λ rest. rw h refl }
+  over_many each (part ∷ parts) text h = rw h.1 (over_both _ (each part h.2) (over_many each parts h.0 h.3))
+
+  -- a whole run is read, and a fault after it is returned
+  pub over_ok : {run next : Text → Read E (List ℕ)} {text : Text} (letters : List ℕ) (rest more : Text) → IsOver run next text → text ≡ map Plain letters
+      → next rest ≡ Ok ([], more) → run (text ++ rest) ≡ Ok (letters, more)
+  over_ok letters rest more o is h = rw (o.over rest, h, letters_ok {E = E} o.letters more, plain_faithful o.letters letters (sym o.is ∙ is))
+
+  pub over_err : {run next : Text → Read E (List ℕ)} {text : Text} (rest : Text) (e : E) → IsOver run next text → next rest ≡ Err e → run (text ++ rest) ≡ Err e
+  over_err rest e o h = rw (o.over rest, h) (letters_err o.letters e)

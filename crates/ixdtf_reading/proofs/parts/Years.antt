@@ -2,11 +2,11 @@
 use Rattle.std.proofs.Common.{◌≡◌, ◌≢◌, ℕ, Bool, true, false, IsTrue, IsFalse, [], ◌∷◌, ◌++◌, Ok, refl, ◌∙◌, inl, inr, arith, ℤ, nat_eq, ◌&&◌}
 use Rattle.std.proofs.lemmas.Bool.{and_parts, and_from, both_ways, eqb-true, eq-eqb, ne_eqb, Decides.nat_tests}
 use Rattle.ixdtf_grammar.specs.language.{Letters.{Text, digit, sign, hyphen, Letter.Plain}, Digits.decimal, Dates.Year, Readers.CoreKind.year_month}
-use Rattle.ixdtf_grammar.specs.table.{Faults.Fault.DateExtendedYear, LineNames.{DateLine, LineName, of_date}}
-use Rattle.ixdtf_grammar.specs.table.{LineNames.DateLine.{year_start, year_digits, extended_year_digits, minus_zero_year}, Before.BeforeDate, Rows.Row}
+use Rattle.ixdtf_grammar.specs.table.{Faults.Fault.DateExtendedYear, LineNames.{DateLine, LineName, of_date, DateLine.{year_start, year_digits}}}
+use Rattle.ixdtf_grammar.specs.table.{LineNames.DateLine.{extended_year_digits, minus_zero_year}, Before.BeforeDate, Rows.{Row, Place.anywhere}}
 use Rattle.ixdtf_reading.specs.reading.{Looks.{letter_at, digits_at}, Dates.{year_at, four_digit_year_at, extended_year_at}}
-use Rattle.ixdtf_reading.proofs.parts.Looks.{OnRead, RowsRead, whole_row, FitsIn, fits_in, fits_whole_in, then_read, read_if, goes, stops, read_letter}
-use Rattle.ixdtf_reading.proofs.parts.Looks.{digits_go, digits_stop, digits_read, onto}
+use Rattle.ixdtf_reading.proofs.parts.Looks.{OnRead, RowsRead, FitsIn, fits_in, fits_whole_in, then_read, read_if, goes, stops, read_letter, digits_go}
+use Rattle.ixdtf_reading.proofs.parts.Looks.{digits_stop, digits_read, onto}
 
 -- a digit is no sign
 digit_no_sign : (c : ℕ) → IsTrue (digit c) → IsFalse (sign c)
@@ -18,9 +18,6 @@ no_minus_zero c n h = go _ refl
     go : (b : Bool) → hyphen c ≡ b → IsFalse (b && nat_eq n 0)
     go true is = ne_eqb n 0 (h is)
     go false is = refl
-
-hyphen_sign : (c : ℕ) → IsTrue (hyphen c) → IsTrue (sign c)
-hyphen_sign c h = grind (arith, nat_tests)
 
 -- a line of a year or of a month after it
 abbrev pub YearOrMonthLine : Type 0
@@ -71,9 +68,10 @@ module _ {E : Type 0} (fault : Row → E) where
 
     pub minus_zero_year_row : RowsRead fault brackets (year_at fault) (of_date minus_zero_year)
     unfolding extended_year_at
-    minus_zero_year_row = whole_row fault brackets (year_at fault) (of_date minus_zero_year) tt λ e front rest f at.
-        rw (f.2, f.3.1, at.0) (extended_start f.3.0 (f.1 ++ rest) (hyphen_sign f.3.0 f.3.2)
+    minus_zero_year_row (anywhere left) e front rest f at =
+        rw (f.2, f.3.1, at.0, at.1) (extended_start f.3.0 (f.1 ++ rest) (grind (arith, nat_tests, f.3.2))
         ∙ rw (digits_go fault (of_date extended_year_digits) (λ c. refl) 6 f.1 rest f.4.0, f.3.2, eq-eqb _ 0 f.4.1) refl)
+    minus_zero_year_row place e front rest f at = absurd at
 
     -- ---- and back
 

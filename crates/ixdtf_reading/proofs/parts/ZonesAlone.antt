@@ -1,36 +1,26 @@
 -- The readers of an offset, of a zone and of a zone's name: what holds of a text decides what they value, and back.
-use Rattle.std.proofs.Common.{◌≡◌, ℕ, true, IsTrue, IsFalse, ◌⊎◌, List, [], ◌∷◌, ◌++◌, Option, Some, None, Ok, Err, refl, sym, ap, ◌∙◌, inl, inr, arith}
-use Rattle.std.proofs.{Common.{append_assoc, append-nil, false}, lemmas.Bool.{or_from, or_cases, or_left, or_right, both_ways, true≢false, Decides.nat_tests}}
-use Rattle.ixdtf_grammar.specs.language.Times.{Clock as clocks, Clock, TimeShape, writes_seconds}
-use Rattle.ixdtf_grammar.specs.language.Letters.{Text, ◌or◌, none, sign, slash, zone_lead, zone_char, Letter.Plain}
-use Rattle.ixdtf_grammar.specs.language.{Offsets.{IsSigned, IsOffset, IsMinuteOffset, offset_of, minutes_of}, ZoneNames.{Zone, ZoneName, IsZone, IsZoneName}}
-use Rattle.ixdtf_grammar.specs.language.{ZoneNames.Zone.Offset, Brackets.Pair, Readers.{Reader, has_brackets}}
-use Rattle.ixdtf_grammar.specs.{language.Readers.Reader.{parse_offset, parse_identifier, parse_iana_identifier}, declared.records.TimeRecord.TimeRecord}
-use Rattle.ixdtf_grammar.specs.{declared.records.{MinutePrecisionOffset.MinutePrecisionOffset, UtcOffsetRecord.UtcOffsetRecord}, table.Faults.Fault}
-use Rattle.ixdtf_grammar.specs.table.LineNames.{LineName, LineName.{of_clock, of_offset, of_zone}, OffsetLine.offset_start}
-use Rattle.ixdtf_grammar.specs.table.LineNames.ZoneLine.{identifier_start, zone_name_start, in_zone_name, after_zone_slash}
-use Rattle.ixdtf_grammar.specs.table.{Lines.{table, line_of, follow_of}, Before.Before, Rows.{Row, Place, Stops, Fits, front_of}}
-use Rattle.ixdtf_grammar.specs.table.Rows.Place.{end, other, bad, anywhere}
+use Rattle.std.proofs.Common.{◌≡◌, ℕ, IsTrue, IsFalse, ◌⊎◌, List, [], ◌∷◌, ◌++◌, Option, Some, None, Ok, Err, refl, sym, ap, ◌∙◌, inl, inr, arith, append_assoc}
+use Rattle.std.proofs.{Common.{append-nil, false}, lemmas.Bool.{or_from, or_left, or_right, true≢false, Decides.nat_tests}}
+use Rattle.ixdtf_grammar.specs.language.{Times.{Clock as clocks, Clock, TimeShape, writes_seconds}, Letters.{Text, none, sign, slash, zone_lead, zone_char}}
+use Rattle.ixdtf_grammar.specs.language.{Letters.Letter.Plain, Offsets.{IsSigned, IsOffset, IsMinuteOffset, offset_of, minutes_of}, ZoneNames.{Zone, ZoneName}}
+use Rattle.ixdtf_grammar.specs.language.{ZoneNames.{IsZone, IsZoneName, Zone.Offset}, Readers.{Reader, has_brackets, Reader.{parse_offset, parse_identifier}}}
+use Rattle.ixdtf_grammar.specs.{language.{Readers.Reader.parse_iana_identifier, Shapes.nothing}, declared.records.TimeRecord.TimeRecord}
+use Rattle.ixdtf_grammar.specs.{declared.records.{MinutePrecisionOffset.MinutePrecisionOffset, UtcOffsetRecord.UtcOffsetRecord}, table.Faults.Fault.InvalidEnd}
+use Rattle.ixdtf_grammar.specs.table.LineNames.{LineName, LineName.{of_clock, of_offset, of_zone}, OffsetLine.offset_start, ZoneLine.identifier_start}
+use Rattle.ixdtf_grammar.specs.table.{LineNames.ZoneLine.{zone_name_start, in_zone_name, after_zone_slash}, Lines.{table, always, zone_other}, Before.Before}
+use Rattle.ixdtf_grammar.specs.table.Rows.{Row, Stops, Fits, front_of, Place.other}
 use Rattle.ixdtf_grammar.proofs.parts.Texts.{signed_text}
 use Rattle.ixdtf_reading.specs.reading.{Looks.{Read, ◌>>=◌, row_of, letter_at, peek_by}, Times.{OpenTime, line_after, clock_at}, Zones.follow_look}
-use Rattle.ixdtf_reading.specs.reading.Zones.{name_run, name_look, name_alone_at, iana_identifier_at, signed_alone_at, offset_alone_at, offset_at}
-use Rattle.ixdtf_reading.specs.reading.Zones.{minute_offset_alone_at, as_zone, identifier_at}
-use Rattle.ixdtf_reading.proofs.parts.Looks.{lift, OnRead, then_read, read_weaker, read_if, FitsIn, goes, stops, read_letter, Peeked, peek_end, peek_other}
-use Rattle.ixdtf_reading.proofs.{parts.Looks.{peek_read, NotNext}, to_reading.ZoneNames.{StopsName, name_takes, name_row, slash_row}}
-use Rattle.ixdtf_reading.proofs.to_reading.{Times.{closed_at_end, Closed, StopsAfter}, ClockRows.{over_clock, clock_rows, peek_stops_after}}
+use Rattle.ixdtf_reading.specs.reading.Zones.{name_alone_at, iana_identifier_at, signed_alone_at, offset_alone_at, offset_at, minute_offset_alone_at, as_zone}
+use Rattle.ixdtf_reading.specs.reading.Zones.{identifier_at}
+use Rattle.ixdtf_reading.proofs.parts.Looks.{lift, RowsRead, OnRead, then_read, read_weaker, read_if, FitsIn, goes, stops, read_letter, Peeked, peek_end}
+use Rattle.ixdtf_reading.proofs.{parts.Looks.{peek_stops, peek_read, NotNext, ReadsAllRows}, to_reading.ZoneNames.{InNameOrBehind, name_takes, name_row}}
+use Rattle.ixdtf_reading.proofs.to_reading.{ZoneNames.slash_row, Times.{closed_at_end, stops_behind}, ClockRows.{Refuses, over_clock, clock_rows}}
 use Rattle.ixdtf_reading.proofs.to_grammar.{ZoneNames.{NameFront, name_read, name_stops_here, name_lines}, Times.{TimeFront, clock_read, clock_peek_read}}
 
 -- what a name begins with is no sign
 pub lead_no_sign : (c : ℕ) → IsTrue (zone_lead c) → IsFalse (sign c)
 lead_no_sign c h = grind (arith, h, nat_tests)
-
--- what begins a zone and is no sign begins a name
-no_sign_lead : (c : ℕ) → IsTrue ((zone_lead or sign) c) → IsFalse (sign c) → IsTrue (zone_lead c)
-no_sign_lead c h unsigned = at (or_cases _ (sign c) h)
-  where
-    at : (IsTrue (zone_lead c)) ⊎ (IsTrue (sign c)) → IsTrue (zone_lead c)
-    at (inl g) = g
-    at (inr g) = absurd (both_ways _ unsigned g)
 
 -- a name begins with a code unit that a name begins with
 pub first_letter : (text : Text) → ZoneName text → (c : ℕ) × (more : Text) × (text ≡ Plain c ∷ more) × IsTrue (zone_lead c)
@@ -52,12 +42,6 @@ lift_start : (reader : Reader) (name : LineName) (row : Row) (text : Text) → r
 lift_start reader name row text is stands shape at = ([], text, refl, rw is stands, ([], text, refl, rw is shape, rw is at))
 
 module _ {E : Type 0} (fault : Row → E) where
-  -- each row of the reader's lines is returned
-  abbrev ReadsAllRows : {A : Type 0} → Reader → (Text → Read E A) → Type 0
-  ReadsAllRows reader read = (name : LineName) (pairs : List Pair) (place : Place) (e : Fault) (prior front rest : Text)
-      → Before reader name pairs prior (front ++ rest) → front_of (table reader name) front → Stops (table reader name) place e rest
-      → read (prior ++ (front ++ rest)) ≡ Err (fault (row_of name place e))
-
   -- ---- a sign and a time
 
   module _ {O : Type 0} (clock : Clock) (record_of : ℕ → TimeShape → TimeRecord → O) where
@@ -76,9 +60,9 @@ module _ {E : Type 0} (fault : Row → E) where
         ∙ rw (peek_end (follow_look fault false clock (h.shape, h.time))) refl)
 
     -- the row after a whole time
-    signed_refuses : (c : ℕ) (shape : TimeShape) (t : TimeRecord) (place : Place) (e : Fault) (rest : Text) → Closed clock shape rest
-        → StopsAfter (follow_of false clock) place e rest → signed_after c ((shape, t), rest) ≡ Err (fault (row_of (line_after clock shape) place e))
-    signed_refuses c shape t place e rest closed at = rw (peek_stops_after fault false clock (shape, t) place e rest refl at) refl
+    signed_refuses : (c : ℕ) → Refuses fault false clock (signed_after c)
+    signed_refuses c shape t place e rest at =
+        rw (peek_stops fault (line_after clock shape) nothing none (always InvalidEnd) place e rest (stops_behind _ place e rest at)) refl
 
     signed_alone_read : (c : ℕ) (body : Text) → IsTrue (sign c)
         → OnRead fault (signed_alone_at fault clock record_of c body) (λ found rest. (rest ≡ []) × IsSigned clock record_of (Plain c ∷ body) found)
@@ -109,7 +93,7 @@ module _ {E : Type 0} (fault : Row → E) where
   pub offset_takes : (text : Text) (offset : UtcOffsetRecord) → IsOffset text offset → offset_at fault text ≡ Ok (offset, [])
   offset_takes = signed_takes clocks.Offset offset_record _ offset_lead
 
-  pub offset_rows : ReadsAllRows parse_offset (offset_at fault)
+  pub offset_rows : ReadsAllRows fault parse_offset (offset_at fault)
   unfolding offset_at
   offset_rows (of_offset offset_start) pairs place e prior front rest b f at = rw (b.0, f, stops fault (of_offset offset_start) place e rest tt at) refl
   offset_rows (of_clock clocks.Offset l) pairs place e prior front rest b f at =
@@ -128,36 +112,20 @@ module _ {E : Type 0} (fault : Row → E) where
 
   -- ---- names
 
-  -- a name, and what comes after it left out
-  abbrev name_after : List ℕ → Option ℕ × Text → Read E (List ℕ)
-  name_after name next = Ok (name, next.1)
-
   alone_takes : (text : Text) (name : List ℕ) → IsZoneName text name → name_alone_at fault text ≡ Ok (name, [])
   unfolding name_alone_at
   alone_takes text name h = rw (← append-nil text, name_takes fault text name [] h.0 h.1 (tt, tt), peek_end _) refl
 
   -- the row after a name, and the row after its slash
-  alone_row : (place : Place) (e : Fault) (front rest : Text) → ZoneName front → Stops (line_of false (of_zone in_zone_name)) place e rest
-      → name_alone_at fault (front ++ rest) ≡ Err (fault (row_of (of_zone in_zone_name) place e))
+  alone_row : RowsRead fault false (name_alone_at fault) (of_zone in_zone_name)
   unfolding name_alone_at
   alone_row place e front rest f at = by_row (name_row fault false place e front rest f at)
     where
-      after : (place : Place) (name : List ℕ) → StopsName false place e rest
-          → (peek_by (name_look fault false none) rest >>= name_after name) ≡ Err (fault (row_of (of_zone in_zone_name) place e))
-      after (end left) name g = absurd (grind (arith, g.1))
-      after (other left) name g = rw (g.5, g.2, g.4, peek_other (name_look fault false none) g.0 g.1 refl) refl
-      after (bad left) name g = absurd g
-      after (anywhere left) name g = absurd g
-
-      by_row : (name_run fault true (front ++ rest) ≡ Err (fault (row_of (of_zone in_zone_name) place e)))
-          ⊎ ((name : List ℕ) × (name_run fault true (front ++ rest) ≡ Ok (name, rest)) × StopsName false place e rest)
-          → name_alone_at fault (front ++ rest) ≡ Err (fault (row_of (of_zone in_zone_name) place e))
+      by_row : InNameOrBehind fault false place e front rest → name_alone_at fault (front ++ rest) ≡ Err (fault (row_of (of_zone in_zone_name) place e))
       by_row (inl h) = rw h refl
-      by_row (inr h) = rw h.1 (after place h.0 h.2)
+      by_row (inr h) = rw (h.1, peek_stops fault (of_zone in_zone_name) nothing none (zone_other false) place e rest h.2) refl
 
-  alone_slash_row : (place : Place) (e : Fault) (front rest : Text) → front_of (line_of false (of_zone after_zone_slash)) front
-      → Stops (line_of false (of_zone after_zone_slash)) place e rest
-      → name_alone_at fault (front ++ rest) ≡ Err (fault (row_of (of_zone after_zone_slash) place e))
+  alone_slash_row : RowsRead fault false (name_alone_at fault) (of_zone after_zone_slash)
   unfolding name_alone_at
   alone_slash_row place e front rest f at = rw (slash_row fault false place e front rest f at) refl
 
@@ -189,7 +157,7 @@ module _ {E : Type 0} (fault : Row → E) where
   iana_identifier_takes text name h =
       ap (iana_identifier_at fault) (sym (append-nil text)) ∙ iana_lead text [] h.0 ∙ ap (name_alone_at fault) (append-nil text) ∙ alone_takes text name h
 
-  pub iana_identifier_rows : ReadsAllRows parse_iana_identifier (iana_identifier_at fault)
+  pub iana_identifier_rows : ReadsAllRows fault parse_iana_identifier (iana_identifier_at fault)
   unfolding iana_identifier_at
   iana_identifier_rows (of_zone zone_name_start) pairs place e prior front rest b f at =
       rw (b.0, f, stops fault (of_zone zone_name_start) place e rest tt at) refl
@@ -236,7 +204,7 @@ module _ {E : Type 0} (fault : Row → E) where
   identifier_takes text zone (inr (offset, h, is)) =
       signed_takes clocks.MinuteOffset zone_record (identifier_at fault) zone_sign_lead text zone (zone_of_offset text zone offset h is)
 
-  pub identifier_rows : ReadsAllRows parse_identifier (identifier_at fault)
+  pub identifier_rows : ReadsAllRows fault parse_identifier (identifier_at fault)
   unfolding identifier_at
   identifier_rows (of_zone identifier_start) pairs place e prior front rest b f at = rw (b.0, f, stops fault (of_zone identifier_start) place e rest tt at) refl
   identifier_rows (of_zone in_zone_name) pairs place e prior front rest b f at =
@@ -268,7 +236,7 @@ module _ {E : Type 0} (fault : Row → E) where
       (λ signed. rw h.0 (read_weaker fault (minute_offset_alone_at fault c more) _ _ _ _ (signed_alone_read clocks.MinuteOffset zone_record c more signed)
       (λ zone rest g. (g.0, offset_is_zone (Plain c ∷ more) zone g.1))
       (λ r g. lift (of_clock clocks.MinuteOffset) parse_identifier r (Plain c ∷ more) (Plain c ∷ []) more refl (λ l. ((c, refl, signed), refl)) g)))
-      (λ no_sign. let lead : IsTrue (zone_lead c) = no_sign_lead c h.1 no_sign in
+      (λ no_sign. let lead : IsTrue (zone_lead c) = grind (arith, nat_tests, h.1, no_sign) in
       zone_of_name text _ (name_alone_at fault text) (read_weaker fault (name_alone_at fault text) _ _ _ _ (alone_read c text more h.0 lead)
       (λ name rest g. g)
       (λ r g. lift_name parse_identifier r c text more h.0 lead (refl, refl) (refl, refl) g))))

@@ -1,7 +1,7 @@
 -- What reading a date returns is a date, or is a row that fits.
 use Rattle.std.proofs.Common.{◌≡◌, ℕ, ◌<◌, ◌≤◌, ◌⊎◌, Bool, true, false, [], ◌∷◌, ◌++◌, refl, ◌∙◌, inl, inr, arith, append_assoc, ℤ, nat_le, ◌&&◌}
 use Rattle.std.proofs.lemmas.Bool.{and_parts, and_from, both_ways, leb-true, le-leb, Decides.nat_tests}
-use Rattle.ixdtf_grammar.specs.{declared.records.DateRecord.DateRecord, language.{Letters.{Text, hyphen, Letter.Plain}, Shapes.{◌either◌, fewer_digits_than}}}
+use Rattle.ixdtf_grammar.specs.{declared.records.DateRecord.DateRecord, language.{Letters.{Text, ◌or◌, digit, hyphen, Letter.Plain}, Shapes.{◌either◌, fewer_digits_than}}}
 use Rattle.ixdtf_grammar.specs.language.{Digits.{decimal, TwoDigits}, Dates.{Year, Month, DateText, IsDate, month_length}}
 use Rattle.ixdtf_grammar.specs.table.{Faults.Fault.InvalidDayRange, LineNames.{LineName, of_date, DateLine.{after_year, month_digits, month_range}}}
 use Rattle.ixdtf_grammar.specs.table.LineNames.DateLine.{after_hyphened_month, after_basic_month, day_digits, day_range}
@@ -9,7 +9,7 @@ use Rattle.ixdtf_grammar.specs.table.{Lines.{line_of, HyphenOrDigit, NoMonth, Ba
 use Rattle.ixdtf_reading.specs.reading.Looks.{Read, ◌>>=◌, digits_at, mark_at}
 use Rattle.ixdtf_reading.specs.reading.Dates.{date_of, month_in_range, month_by, month_at, line_after_month, day_in_range, day_at, year_at, date_at}
 use Rattle.ixdtf_reading.proofs.parts.Looks.{OnRead, FitsIn, StopsHere, fits_in, fits_whole_in, then_read, read_weaker, read_if, digits_read, one_as_digits}
-use Rattle.ixdtf_reading.proofs.parts.{Looks.further, Marks.{hyphens_of, Starts, Begun, LooksForHyphen, Stood, optional, mark_read, hyphen_read, stops_after}}
+use Rattle.ixdtf_reading.proofs.parts.{Looks.{further, LooksFor}, Marks.{hyphens_of, Starts, Begun, Stood, optional, mark_read, hyphen_read, stops_after}}
 use Rattle.ixdtf_reading.proofs.{parts.Years.{in_year_or_month, year_read}, to_reading.Dates.no_month}
 
 -- what reading a date gave
@@ -77,7 +77,7 @@ module _ {E : Type 0} (fault : Row → E) where
       × ((Begun b ds × StopsHere (of_date month_digits) rest row) ⊎ (NoMonth ds × (row ≡ no_month rest)))
 
   -- the year stops at this line
-  module _ (name : LineName) (asks : LooksForHyphen (line_of true name)) where
+  module _ (name : LineName) (asks : LooksFor (hyphen or digit) (line_of true name)) where
     month_read : (text : Text) → OnRead fault (month_at fault name text) (MonthFront text) (λ row. StopsHere name text row ⊎ StopsInMonth text row)
     unfolding month_by
     month_read text = then_read fault (mark_at fault name hyphen text) _ _ _ _ _ (hyphen_read fault name text asks)

@@ -18,7 +18,7 @@ use Rattle.ixdtf_reading.specs.reading.Times.{OpenTime, time_of, line_after, bad
 use Rattle.ixdtf_reading.specs.reading.Times.{second_start, number_at, fraction_at, after_second_at, second_at, after_minute_at, minute_at, after_hour_at}
 use Rattle.ixdtf_reading.specs.reading.{Times.{hour_from, clock_at}, Zones.follow_look}
 use Rattle.ixdtf_reading.proofs.parts.Looks.{IsRowFault, OnRead, OnRun, FitsIn, fits_in, then_read, read_weaker, read_if, no_digit, none_or_one}
-use Rattle.ixdtf_reading.proofs.parts.Looks.{LooksForDigit, DigitsStop, goes, stops, digit_goes, digit_looks, read_letter, digits_read, Peeked, peek_read}
+use Rattle.ixdtf_reading.proofs.parts.Looks.{LooksFor, goes_with, looks_for, DigitsStop, goes, stops, read_letter, digits_read, Peeked, peek_read}
 use Rattle.ixdtf_reading.proofs.parts.Looks.{next_read, run_read, further, onto, NotNext}
 use Rattle.ixdtf_reading.proofs.to_reading.Times.{Closed, IsLater, StopsAfter, closed_minutes, with_fraction}
 
@@ -121,15 +121,15 @@ module _ {E : Type 0} (fault : Row → E) where
   range_read greatest wanted ds rest =
       read_if fault (nat_le (decimal ds) greatest) _ _ _ _ (λ h. (refl, refl, leb-true _ _ h)) (λ h. (wanted rest, refl, (refl, leb-false _ _ h)))
 
-  begun : (name : LineName) → LooksForDigit (line_of true name) → (colons : Bool) (rest : Text) (row : Row) → Starts colons rest
+  begun : (name : LineName) → LooksFor digit (line_of true name) → (colons : Bool) (rest : Text) (row : Row) → Starts colons rest
       → (g : DigitsStop name 2 rest row) → Begun colons g.2
   begun name asks true rest row at g = (g.0, g.1, g.5)
   begun name asks false rest row at g = some_digit (none_or_one g.0 g.2 g.1 g.5)
     where
       some_digit : (g.2 ≡ []) ⊎ one digit g.2 → one digit g.2
       some_digit (inl h) =
-          let looks = digit_looks fault name (line_of true name) asks in
-          let goes_on = goes fault name at.0 at.1 looks (digit_goes fault name (line_of true name) at.0 asks at.3) in
+          let looks = looks_for digit (line_of true name) asks in
+          let goes_on = goes fault name at.0 at.1 looks (goes_with digit (line_of true name) at.0 asks at.3) in
           absurd (grind (arith, goes_on, stops fault name row.place row.error g.3 looks g.6.1, g.4, at.2, h))
       some_digit (inr d) = d
 
@@ -236,7 +236,7 @@ module _ {E : Type 0} (fault : Row → E) where
         (λ closed. (front, is, x, closed))
 
     -- the number of a minute or a second: its digits and its range each have a line
-    module _ (at_digits at_range : (l : ClockLine) × IsLater l) (greatest : ℕ) (e : Fault) (asks : LooksForDigit (line_of true (later clock at_digits)))
+    module _ (at_digits at_range : (l : ClockLine) × IsLater l) (greatest : ℕ) (e : Fault) (asks : LooksFor digit (line_of true (later clock at_digits)))
         (same : line_of true (later clock at_digits) ≡ line_of brackets (later clock at_digits))
         (whole : (t : Text) → Stops (line_of brackets (later clock at_range)) (anywhere t) e t) where
       number_read : (colons : Bool) (front rest : Text) → text ≡ front ++ (marks colons ++ rest) → Starts colons rest

@@ -7,7 +7,7 @@ use Rattle.ixdtf_grammar.specs.table.{Faults.Fault.{NonAsciiCodePoint, IanaCharP
 use Rattle.ixdtf_grammar.specs.table.{LineNames.ZoneLine.{identifier_start, zone_name_start, in_zone_name, after_zone_slash}, Lines.{line_of, Line.line}}
 use Rattle.ixdtf_grammar.specs.table.{Lines.Ending.error, Rows.{Row, Place, Stops, front_of, Place.{end, other, bad, anywhere}}}
 use Rattle.ixdtf_reading.specs.reading.{Looks.{Read, row_of}, Zones.{with_letter, name_stops, name_run}}
-use Rattle.ixdtf_reading.proofs.{parts.Looks.{OnRead, FitsIn, read_if, onto}, to_reading.ZoneNames.{NameEnds, StopsName, lead_char}}
+use Rattle.ixdtf_reading.proofs.{parts.Looks.{OnRead, FitsIn, read_if, onto}, to_reading.ZoneNames.{NameEnds, lead_char}}
 
 -- what reading a name gave
 abbrev pub NameFront : Text → List ℕ → Text → Type 0
@@ -49,11 +49,9 @@ module _ {E : Type 0} (fault : Row → E) where
 
   module _ (brackets : Bool) where
     -- the row where a name stops
-    pub name_stops_here : (place : Place) (e : Fault) (text front rest : Text) → text ≡ front ++ rest → ZoneName front → StopsName brackets place e rest
-        → FitsIn of_zone brackets (row_of (of_zone in_zone_name) place e) text
-    name_stops_here (end left) e text front rest is name at = (in_zone_name, refl, (front, rest, is, name, at))
-    name_stops_here (other left) e text front rest is name at = (in_zone_name, refl, (front, rest, is, name, at))
-    name_stops_here place e text front rest is name at = absurd at
+    pub name_stops_here : (place : Place) (e : Fault) (text front rest : Text) → text ≡ front ++ rest → ZoneName front
+        → Stops (line_of brackets (of_zone in_zone_name)) place e rest → FitsIn of_zone brackets (row_of (of_zone in_zone_name) place e) text
+    name_stops_here place e text front rest is name at = (in_zone_name, refl, (front, rest, is, name, at))
 
     -- what is known of reading the rest of a name, after a front
     abbrev ReadsMore : Text → Text → Text → Read E (List ℕ) → Type 0

@@ -1,16 +1,13 @@
 -- A reading that has gone over what stands before a time or an offset, and goes on after it, returns each row of their lines.
-use Rattle.std.proofs.Common.{◌≡◌, ℕ, IsTrue, [], ◌∷◌, ◌++◌, Err, refl, ◌∙◌, inl, inr, arith, Bool}
-use Rattle.ixdtf_grammar.specs.{declared.records.TimeRecord.TimeRecord, language.{Shapes.some, Times.{Clock, TimeShape, ClockOf}}}
-use Rattle.ixdtf_grammar.specs.language.{Times.TimeShape.{hours, basic_minutes, colon_minutes, seconds, fractions}, Letters.{Text, digit, Letter.Plain}}
-use Rattle.ixdtf_grammar.specs.table.{Faults.Fault, LineNames.{ClockLine, LineName, LineName.of_clock, ClockLine.{hour_start, hour_digit, hour_range}}}
-use Rattle.ixdtf_grammar.specs.table.LineNames.ClockLine.{after_hour, minute_digits, minute_range, after_basic_minute, after_colon_minute, second_digits}
-use Rattle.ixdtf_grammar.specs.table.{LineNames.ClockLine.{second_range, after_second, fraction_start, after_fraction}, Lines.{line_of, follow_of, Ending.ok}}
-use Rattle.ixdtf_grammar.specs.table.Rows.{Row, Place, Stops, Place.{end, other}}
-use Rattle.ixdtf_reading.specs.reading.{Looks.{Read, ◌>>=◌, row_of, look_at, peek_by, next_by}, Times.{OpenTime, line_after, hour_from, clock_at}}
-use Rattle.ixdtf_reading.specs.reading.Zones.{follow_look}
-use Rattle.ixdtf_reading.proofs.{parts.Looks.{ReadsOver, RowsRead, goes, stops, peek_other}, to_reading.Times.{Closed, IsLater, StopsAfter, OpenRow}}
-use Rattle.ixdtf_reading.proofs.to_reading.Times.{time_takes, open_row, hour_digit_row, hour_range_row, minute_digits_row, minute_range_row}
-use Rattle.ixdtf_reading.proofs.to_reading.Times.{second_digits_row, second_range_row, fraction_start_row}
+use Rattle.std.proofs.Common.{◌≡◌, ℕ, IsTrue, [], ◌∷◌, ◌++◌, Err, refl, ◌∙◌, inl, inr, Bool}
+use Rattle.ixdtf_grammar.specs.{declared.records.TimeRecord.TimeRecord, language.{Shapes.some, Times.{Clock, TimeShape, ClockOf, TimeShape.hours}}}
+use Rattle.ixdtf_grammar.specs.language.{Times.TimeShape.{basic_minutes, colon_minutes, seconds, fractions}, Letters.{Text, digit, Letter.Plain}}
+use Rattle.ixdtf_grammar.specs.table.{Faults.Fault, LineNames.{ClockLine, LineName, LineName.of_clock, ClockLine.{hour_start, after_hour, after_basic_minute}}}
+use Rattle.ixdtf_grammar.specs.table.{LineNames.ClockLine.{after_colon_minute, after_second, after_fraction}, Lines.{line_of, follow_of}, Rows.{Row, Place}}
+use Rattle.ixdtf_grammar.specs.table.Rows.{Stops}
+use Rattle.ixdtf_reading.specs.reading.{Looks.{Read, ◌>>=◌, row_of}, Times.{OpenTime, line_after, hour_from, clock_at}}
+use Rattle.ixdtf_reading.proofs.{parts.Looks.{ReadsOver, RowsRead, goes, stops}, to_reading.Times.{Closed, IsLater, StopsAfter, OpenRow, time_takes, open_row}}
+use Rattle.ixdtf_reading.proofs.to_reading.Times.{inner_rows}
 
 -- each row of the line is returned, behind what stands before it
 abbrev pub RowsBehind : {E A : Type 0} → (Row → E) → Bool → (Text → Read E A) → Text → LineName → Type 0
@@ -19,7 +16,7 @@ RowsBehind fault brackets whole_at prior name = RowsRead fault brackets (λ body
 -- what follows a time refuses, by each row of the line at which the time stops
 abbrev pub Refuses : {E A : Type 0} → (Row → E) → Bool → Clock → (OpenTime × Text → Read E A) → Type 0
 Refuses fault brackets clock after = (shape : TimeShape) (t : TimeRecord) (place : Place) (e : Fault) (rest : Text)
-    → Closed clock shape rest → StopsAfter (follow_of brackets clock) place e rest
+    → StopsAfter (follow_of brackets clock) place e rest
     → after ((shape, t), rest) ≡ Err (fault (row_of (line_after clock shape) place e))
 
 -- over what stands before a time reading goes on to the time, which starts in any way, and then to what follows it
@@ -71,23 +68,18 @@ module _ {E A : Type 0} (fault : Row → E) (clock : Clock) (whole_at : Text →
           by_row : OpenRow fault clock lead.start lead.starts brackets shape place e front rest
               → whole_at (prior ++ (front ++ rest)) ≡ Err (fault (row_of (line_after clock shape) place e))
           by_row (inl h) = in_time (front ++ rest) _ h
-          by_row (inr h) = over_time shape front t rest x h.0 ∙ refuses shape t place e rest h.0 h.1
+          by_row (inr h) = over_time shape front t rest x h.0 ∙ refuses shape t place e rest h.1
 
       -- every row of a time's lines but that of the first digit
       pub later_rows : (l : ClockLine) → IsLater l → RowsBehind fault brackets whole_at prior (of_clock clock l)
-      later_rows hour_start is_later = absurd is_later
-      later_rows hour_digit is_later = start_rows _ (hour_digit_row fault clock lead.start lead.starts brackets)
-      later_rows hour_range is_later = start_rows _ (hour_range_row fault clock lead.start lead.starts brackets)
-      later_rows after_hour is_later = open_rows hours
-      later_rows minute_digits is_later = start_rows _ (minute_digits_row fault clock lead.start lead.starts brackets)
-      later_rows minute_range is_later = start_rows _ (minute_range_row fault clock lead.start lead.starts brackets)
-      later_rows after_basic_minute is_later = open_rows basic_minutes
-      later_rows after_colon_minute is_later = open_rows colon_minutes
-      later_rows second_digits is_later = start_rows _ (second_digits_row fault clock lead.start lead.starts brackets)
-      later_rows second_range is_later = start_rows _ (second_range_row fault clock lead.start lead.starts brackets)
-      later_rows after_second is_later = open_rows seconds
-      later_rows fraction_start is_later = start_rows _ (fraction_start_row fault clock lead.start lead.starts brackets)
-      later_rows after_fraction is_later = open_rows fractions
+      later_rows hour_start is_later place e front rest f at = absurd is_later
+      later_rows after_hour is_later place e front rest f at = open_rows hours place e front rest f at
+      later_rows after_basic_minute is_later place e front rest f at = open_rows basic_minutes place e front rest f at
+      later_rows after_colon_minute is_later place e front rest f at = open_rows colon_minutes place e front rest f at
+      later_rows after_second is_later place e front rest f at = open_rows seconds place e front rest f at
+      later_rows after_fraction is_later place e front rest f at = open_rows fractions place e front rest f at
+      later_rows l is_later place e front rest f at =
+          in_time (front ++ rest) _ (inner_rows fault clock lead.start lead.starts brackets l tt place e front rest f at)
 
 -- ---- a reading that goes on after a time which starts with its hour
 
@@ -104,21 +96,3 @@ module _ {E A : Type 0} (fault : Row → E) (brackets : Bool) (clock : Clock) (w
   pub clock_rows : Refuses fault brackets clock after → (l : ClockLine) → RowsBehind fault brackets whole_at prior (of_clock clock l)
   clock_rows refuses hour_start = start_rows fault clock whole_at after prior lead brackets (of_clock clock hour_start) (hour_start_row fault clock brackets)
   clock_rows refuses l = later_rows fault clock whole_at after prior lead brackets refuses l tt
-
--- ---- the look at what follows a time
-
-module _ {E : Type 0} (fault : Row → E) (brackets : Bool) (clock : Clock) where
-  -- the look at what follows a time returns the row that fits: where the text may end, and where it may not
-  pub peek_stops_after : (x : OpenTime) (place : Place) (e : Fault) (rest : Text) → (follow_of brackets clock).at_end ≡ ok
-      → StopsAfter (follow_of brackets clock) place e rest
-      → peek_by (follow_look fault brackets clock x) rest ≡ Err (fault (row_of (line_after clock x.0) place e))
-  peek_stops_after x (end left) e rest ends at = absurd (grind (arith, ends, at.1))
-  peek_stops_after x (other left) e rest ends at = rw (at.5, at.2, at.4) (peek_other (follow_look fault brackets clock x) at.0 at.1 at.3)
-  peek_stops_after x place e rest ends at = absurd at
-
-  pub next_stops_after : (x : OpenTime) (place : Place) (e : Fault) (rest : Text) → StopsAfter (follow_of brackets clock) place e rest
-      → next_by (follow_look fault brackets clock x) rest ≡ Err (fault (row_of (line_after clock x.0) place e))
-  unfolding next_by look_at
-  next_stops_after x (end left) e rest at = rw (at.2, at.0, at.1)
-  next_stops_after x (other left) e rest at = rw (at.5, at.2, at.3, at.4)
-  next_stops_after x place e rest at = absurd at

@@ -1,65 +1,40 @@
 -- A core is read, with the end or the bracket after it, and each row of a core's lines is returned.
 use Rattle.std.proofs.Common.{◌≡◌, ℕ, true, false, IsTrue, IsFalse, [], ◌∷◌, ◌++◌, Ok, Err, Option, Some, None, refl, sym, ap, ◌∙◌, subst, inl, inr, ◌||◌}
-use Rattle.std.proofs.{Common.{arith, append_assoc}, lemmas.Bool.{or_parts, Decides.nat_tests}}
-use Rattle.ixdtf_grammar.specs.declared.{profile.Profile.Profile, records.{DateRecord.DateRecord, TimeRecord.TimeRecord}}
-use Rattle.ixdtf_grammar.specs.declared.records.UtcOffsetRecordOrZ.{UtcOffsetRecordOrZ, TheVariants.Z}
-use Rattle.ixdtf_grammar.specs.language.Letters.{Text, digit, colon, decimal_mark, sign, zulu, opening, date_time_separator, time_letter, Letter.Plain}
-use Rattle.ixdtf_grammar.specs.language.{Shapes.{Shape, one, some, ◌then◌}, Dates.IsDate, Months.{IsYearMonth, IsMonthDay}}
-use Rattle.ixdtf_grammar.specs.language.{Times.{Clock, TimeShape, ClockOf, IsTime, writes_seconds, TimeShape.{hours, seconds, fractions}}, Offsets.offset_of}
-use Rattle.ixdtf_grammar.specs.language.Cores.{Core, core_of, OptionalOffset, DateAlone, IsDateTimeCore, TimeMark, MarkedTime, HasNoDateFront, IsCore}
-use Rattle.ixdtf_grammar.specs.{language.Readers.{CoreKind, CoreKind.{date_time, year_month, month_day, time_of_day}}, table.Faults.{Fault, Fault.InvalidEnd}}
-use Rattle.ixdtf_grammar.specs.table.LineNames.{DateLine, TimeLine, CoreLine, ClockLine, LineName, of_date, of_year_month, of_month_day, of_time}
-use Rattle.ixdtf_grammar.specs.table.LineNames.{CoreLine.{dates, year_months, month_days, times}, LineName.{of_core, of_clock, of_offset}}
-use Rattle.ixdtf_grammar.specs.table.LineNames.DateLine.{after_year, after_hyphened_month, after_basic_month, day_digits, day_range, after_date}
-use Rattle.ixdtf_grammar.specs.table.LineNames.{YearMonthLine.{after_year_in_year_month, after_year_month}, MonthDayLine.{month_day_range, after_month_day}}
-use Rattle.ixdtf_grammar.specs.table.LineNames.{TimeLine.{time_start, time_reads_as_month_day, time_reads_as_year_month}, ClockLine.hour_start}
-use Rattle.ixdtf_grammar.specs.table.{LineNames.OffsetLine.after_zulu, Lines.{line_of, always, Line.line, Ending.ok}}
-use Rattle.ixdtf_grammar.specs.table.Before.{DateAndSeparator, BeforeDate, ReadsAsTime, InTimeAlone, BeforeCore, BeforeTime, BeforeOffset}
-use Rattle.ixdtf_grammar.specs.table.Rows.{Row, Place, Stops, front_of, Place.{end, other, bad, anywhere}}
+use Rattle.std.proofs.{Common.{arith, append_assoc}, lemmas.Bool.{or_parts, Decides.nat_tests, or_left, or_right}}
+use Rattle.ixdtf_grammar.specs.declared.{profile.Profile.Profile, records.{DateRecord.DateRecord, TimeRecord.TimeRecord, UtcOffsetRecordOrZ.UtcOffsetRecordOrZ}}
+use Rattle.ixdtf_grammar.specs.{declared.records.UtcOffsetRecordOrZ.TheVariants.Z, language.Letters.{Text, digit, sign, zulu, opening, date_time_separator}}
+use Rattle.ixdtf_grammar.specs.language.{Letters.{time_letter, Letter.Plain, ◌or◌}, Shapes.{Shape, one, some, ◌then◌, nothing}, Dates.IsDate}
+use Rattle.ixdtf_grammar.specs.language.{Months.{IsYearMonth, IsMonthDay}, Times.{Clock, TimeShape, ClockOf, IsTime, writes_seconds, TimeShape.hours}}
+use Rattle.ixdtf_grammar.specs.language.{Times.TimeShape.{seconds, fractions}, Offsets.offset_of, Cores.{Core, core_of, OptionalOffset, DateAlone}}
+use Rattle.ixdtf_grammar.specs.language.{Cores.{IsDateTimeCore, TimeMark, MarkedTime, IsCore}, Readers.{CoreKind, CoreKind.{date_time, year_month, month_day}}}
+use Rattle.ixdtf_grammar.specs.{language.Readers.CoreKind.time_of_day, table.{Faults.{Fault, Fault.InvalidEnd}, LineNames.{TimeLine, CoreLine, ClockLine}}}
+use Rattle.ixdtf_grammar.specs.table.LineNames.{LineName, of_date, of_year_month, of_month_day, of_time, CoreLine.{dates, year_months, month_days, times}}
+use Rattle.ixdtf_grammar.specs.table.LineNames.{LineName.{of_core, of_clock, of_offset}, DateLine.after_date, YearMonthLine.after_year_in_year_month}
+use Rattle.ixdtf_grammar.specs.table.LineNames.{YearMonthLine.after_year_month, MonthDayLine.{month_day_range, after_month_day}, TimeLine.time_start}
+use Rattle.ixdtf_grammar.specs.table.LineNames.{TimeLine.{time_reads_as_month_day, time_reads_as_year_month}, ClockLine.hour_start, OffsetLine.after_zulu}
+use Rattle.ixdtf_grammar.specs.table.{Lines.{line_of, always, Line.line, Ending.ok}, Before.{DateAndSeparator, ReadsAsTime, InTimeAlone, BeforeCore}}
+use Rattle.ixdtf_grammar.specs.table.{Before.{BeforeTime, BeforeOffset}, Rows.{Row, Place, Stops, Place.{other, anywhere}}}
 use Rattle.ixdtf_grammar.proofs.parts.CoreLetters.{CoreEnds, core_ends}
-use Rattle.ixdtf_reading.specs.reading.{Looks.{Read, ◌>>=◌, row_of, look_at, next_by}, Months.{year_month_at, month_day_at}}
-use Rattle.ixdtf_reading.specs.reading.{Times.{OpenTime, line_after, hour_from, clock_at}, Cores.{ClosedCore, core_look, core_end_at, with_offset}}
-use Rattle.ixdtf_reading.specs.reading.Cores.{offset_core_at, after_time_at, time_core_at, after_date_at, date_time_core_at, date_alone_at, lone_time_at}
-use Rattle.ixdtf_reading.specs.reading.Cores.{marked_time_at, marked_core_at, unfronted, time_alone_core_at, core_at}
-use Rattle.ixdtf_reading.proofs.parts.Looks.{ReadsOver, RowsRead, peek_end, peek_goes, peek_other, peek_stops}
-use Rattle.ixdtf_reading.proofs.parts.Fronts.{no_front_after, month_day_stops, year_month_stops, unfronted_goes}
-use Rattle.ixdtf_reading.proofs.to_reading.Dates.{IsInside, date_takes, date_row_read}
-use Rattle.ixdtf_reading.proofs.to_reading.Months.{year_month_takes, month_day_takes, year_month_date_row, year_month_row, month_day_row}
-use Rattle.ixdtf_reading.proofs.to_reading.{Times.{closed_at_end, Closed, IsLater}, ClockRows.{RowsBehind, Refuses, TimeLead, hour_start_row, clock_lead}}
+use Rattle.ixdtf_reading.specs.reading.{Looks.{Read, ◌>>=◌, row_of, look_at, next_by}, Months.{year_month_at, month_day_at}, Times.{OpenTime, line_after}}
+use Rattle.ixdtf_reading.specs.reading.{Times.{hour_from, clock_at}, Cores.{ClosedCore, core_look, core_end_at, with_offset, offset_core_at, after_time_at}}
+use Rattle.ixdtf_reading.specs.reading.Cores.{time_core_at, after_date_at, date_time_core_at, date_alone_at, lone_time_at, marked_time_at, marked_core_at}
+use Rattle.ixdtf_reading.specs.reading.Cores.{unfronted, time_alone_core_at, core_at}
+use Rattle.ixdtf_reading.proofs.parts.{Looks.{ReadsOver, RowsRead, peek_end, peek_goes, peek_other, peek_stops, row_here, RowsWhere}, Fronts.no_front_after}
+use Rattle.ixdtf_reading.proofs.{parts.Fronts.{month_day_stops, year_month_stops, unfronted_goes}, to_reading.Dates.{date_takes, date_row_read}}
+use Rattle.ixdtf_reading.proofs.to_reading.{Months.{year_month_takes, month_day_takes, year_month_date_row, year_month_row, month_day_row}, Times.closed_at_end}
+use Rattle.ixdtf_reading.proofs.to_reading.{Times.{Closed, IsLater, stops_behind}, ClockRows.{RowsBehind, Refuses, TimeLead, hour_start_row, clock_lead}}
 use Rattle.ixdtf_reading.proofs.to_reading.ClockRows.{over_time, start_rows, later_rows, over_clock, clock_rows}
 
--- a code unit that does not go on in any time
-abbrev OutsideTimes : ℕ → Type 0
-OutsideTimes c = IsFalse (digit c) × IsFalse (colon c) × IsFalse (decimal_mark c)
-
-closed_before : (clock : Clock) (shape : TimeShape) (c : ℕ) (rest : Text) → OutsideTimes c → Closed clock shape (Plain c ∷ rest)
-closed_before clock hours c rest out = (out.1, out.0)
-closed_before clock seconds c rest out = out.2
-closed_before clock fractions c rest out = out.0
-closed_before clock minutes c rest out = (grind (arith, nat_tests, out), grind (arith, nat_tests, out))
-
-sign_outside : (c : ℕ) → IsTrue (sign c) → OutsideTimes c
-sign_outside c h = (grind (arith, nat_tests), grind (arith, nat_tests), grind (arith, nat_tests))
-
-zulu_outside : (c : ℕ) → IsTrue (zulu c) → OutsideTimes c
-zulu_outside c h = (grind (arith, nat_tests), grind (arith, nat_tests), grind (arith, nat_tests))
-
-ends_outside : OutsideTimes 91
-ends_outside = (refl, refl, refl)
+-- what may follow a time does not go on in it
+closed_before : (clock : Clock) (shape : TimeShape) (c : ℕ) (rest : Text) → IsTrue ((sign or zulu or opening) c) → Closed clock shape (Plain c ∷ rest)
+closed_before clock hours c rest h = (grind (arith, nat_tests), grind (arith, nat_tests))
+closed_before clock seconds c rest h = grind (arith, nat_tests)
+closed_before clock fractions c rest h = grind (arith, nat_tests)
+closed_before clock minutes c rest h = (grind (arith, nat_tests, h), grind (arith, nat_tests, h))
 
 closed_at_core_end : (clock : Clock) (shape : TimeShape) (rest : Text) → CoreEnds rest → Closed clock shape rest
 closed_at_core_end clock shape rest (inl is) = rw is (closed_at_end clock shape)
-closed_at_core_end clock shape rest (inr h) = rw h.1 (closed_before clock shape 91 h.0 ends_outside)
-
--- a line of dates that a year-month has stands at its start
-year_month_first : (l : DateLine) (prior : Text) → BeforeDate year_month l prior → (prior ≡ []) × BeforeDate year_month l []
-year_month_first after_year prior b = absurd b
-year_month_first after_hyphened_month prior b = absurd b
-year_month_first after_basic_month prior b = absurd b
-year_month_first day_digits prior b = absurd b
-year_month_first day_range prior b = absurd b
-year_month_first after_date prior b = absurd b
-year_month_first l prior b = (b, refl)
+closed_at_core_end clock shape rest (inr h) = rw h.1 (closed_before clock shape 91 h.0 refl)
 
 module _ {E : Type 0} (fault : Row → E) where
   -- ---- the end of a core
@@ -94,12 +69,16 @@ module _ {E : Type 0} (fault : Row → E) where
 
     time_refuses : Refuses fault true Clock.Time after_time
     unfolding after_time_at look_at
-    time_refuses shape t (other left) e rest closed s =
-        let parts = or_parts (sign s.0 || zulu s.0) (opening s.0) s.3 in
-        let first = or_parts (sign s.0) (zulu s.0) parts.0 in
-        rw (s.5, s.2, s.4, first.0, first.1) (end_other (line_after Clock.Time shape) (core_of date (Some t) None) s.0 s.1 parts.1)
-    time_refuses shape t (end left) e rest closed s = absurd (grind (arith, s.1))
-    time_refuses shape t place e rest closed s = absurd s
+    time_refuses shape t place e rest s =
+        row_here fault (line_after Clock.Time shape) (λ rest. after_time ((shape, t), rest)) (line nothing (sign or zulu or opening) ok (always InvalidEnd))
+        (tt, (λ rest. refl), at_other) place e rest (stops_behind _ place e rest s)
+      where
+        at_other : (c : ℕ) (rest : Text) → IsFalse ((sign or zulu or opening) c)
+            → after_time ((shape, t), Plain c ∷ rest) ≡ Err (fault (row_of (line_after Clock.Time shape) (other (Plain c ∷ rest)) InvalidEnd))
+        at_other c rest out =
+            let parts = or_parts (sign c || zulu c) (opening c) out in
+            let no_offset = or_parts (sign c) (zulu c) parts.0 in
+            rw (no_offset.0, no_offset.1) (end_other (line_after Clock.Time shape) (core_of date (Some t) None) c rest parts.1)
 
     -- after an offset
     abbrev after_offset : TimeRecord → ℕ → OpenTime × Text → Read E ClosedCore
@@ -107,9 +86,8 @@ module _ {E : Type 0} (fault : Row → E) where
         core_end_at fault (line_after Clock.Offset offset.0.0) (with_offset date time (offset_of c (writes_seconds offset.0.0) offset.0.1)) offset.1
 
     offset_refuses : (time : TimeRecord) (c : ℕ) → Refuses fault true Clock.Offset (after_offset time c)
-    offset_refuses time c shape t (end left) e rest closed s = absurd (grind (arith, s.1))
-    offset_refuses time c shape t (other left) e rest closed s = rw (s.5, s.2, s.4) (end_other (line_after Clock.Offset shape) _ s.0 s.1 s.3)
-    offset_refuses time c shape t place e rest closed s = absurd s
+    offset_refuses time c shape t place e rest s =
+        end_rows (line_after Clock.Offset shape) _ nothing place e rest (stops_behind _ place e rest s)
 
     module _ (whole_at : Text → Read E ClosedCore) (prior : Text) (lead : TimeLead fault Clock.Time whole_at after_time prior) where
       -- a time was read
@@ -124,14 +102,15 @@ module _ {E : Type 0} (fault : Row → E) where
         offset_lead : (c : ℕ) → IsTrue (sign c) → (body : Text) → whole_at (signed c ++ body) ≡ (clock_at fault Clock.Offset body >>= after_offset t c)
         unfolding after_time_at offset_core_at look_at
         offset_lead c h body =
-            ap whole_at (simp append_assoc) ∙ timed_over (Plain c ∷ body) (closed_before Clock.Time shape c body (sign_outside c h)) ∙ rw h
+            ap whole_at (simp append_assoc) ∙ timed_over (Plain c ∷ body) (closed_before Clock.Time shape c body (or_left _ _ (or_left _ _ h))) ∙ rw h
 
         zulu_over : (c : ℕ) → IsTrue (zulu c) → (rest : Text)
             → whole_at ((prior ++ ts) ++ (Plain c ∷ rest)) ≡ core_end_at fault (of_offset after_zulu) (core_of date (Some t) (Some Z)) rest
         unfolding after_time_at look_at
         zulu_over c h rest =
             let no_sign : IsFalse (sign c) = grind (arith, nat_tests, h) in
-            ap whole_at (simp append_assoc) ∙ timed_over (Plain c ∷ rest) (closed_before Clock.Time shape c rest (zulu_outside c h)) ∙ rw (no_sign, h)
+            let closed = closed_before Clock.Time shape c rest (or_left _ _ (or_right _ _ h)) in
+            ap whole_at (simp append_assoc) ∙ timed_over (Plain c ∷ rest) closed ∙ rw (no_sign, h)
 
         without_offset_over : (rest : Text) → CoreEnds rest
             → whole_at (prior ++ (ts ++ rest)) ≡ core_end_at fault (line_after Clock.Time shape) (core_of date (Some t) None) rest
@@ -209,19 +188,15 @@ module _ {E : Type 0} (fault : Row → E) where
       → TimeLead fault Clock.Time (date_time_core_at fault) (after_time (date_before prior b)) prior
   date_time_lead prior b = clock_lead fault Clock.Time (date_time_core_at fault) (after_time (date_before prior b)) prior (over_date prior b)
 
-  -- the row of a line in a date
-  date_rows : (l : DateLine) → IsInside l → RowsRead fault true (date_time_core_at fault) (of_date l)
-  unfolding date_time_core_at
-  date_rows l is place e front rest f at = rw (date_row_read fault true l is place e front rest f at)
-
   after_date_row : RowsRead fault true (date_time_core_at fault) (of_date after_date)
   unfolding date_time_core_at after_date_at look_at
-  after_date_row (end left) e front rest f at = absurd (grind (arith, at.1))
-  after_date_row (other left) e front rest f at =
-      let parts = or_parts (date_time_separator at.0) (opening at.0) at.3 in
-      rw (date_takes fault front f.0 rest f.1, at.5, at.2, at.4, parts.0) (end_other (of_date after_date) (core_of (Some f.0) None None) at.0 at.1 parts.1)
-  after_date_row (bad left) e front rest f at = rw (date_takes fault front f.0 rest f.1, at.3, at.1, at.2)
-  after_date_row (anywhere left) e front rest f at = absurd at
+  after_date_row place e front rest f at =
+      rw (date_takes fault front f.0 rest f.1) (row_here fault (of_date after_date) (after_date_at fault f.0) (line_of true (of_date after_date)) (
+        tt,
+        (λ rest. refl),
+        λ c rest out. let parts = or_parts (date_time_separator c) (opening c) out in
+            rw parts.0 (end_other (of_date after_date) (core_of (Some f.0) None None) c rest parts.1),
+      ) place e rest at)
 
   no_time : (ds : Text) (date : DateRecord) (rest : Text) → IsDate ds date → CoreEnds rest
       → date_time_core_at fault (ds ++ rest) ≡ core_end_at fault (of_date after_date) (core_of (Some date) None None) rest
@@ -249,10 +224,6 @@ module _ {E : Type 0} (fault : Row → E) where
         → date_alone_at fault name (part_at (front ++ rest)) ≡ Err (fault (row_of name place e))
     after_alone_rows place e front rest f at = rw (takes front f.0 rest f.1) (end_rows name (core_of (Some f.0) None None) (some part) place e rest at)
 
-  -- a fault in the date is returned
-  in_alone : (name : LineName) (read : Read E DateRecord) (e : E) → read ≡ Err e → date_alone_at fault name read ≡ Err e
-  in_alone name read e h = rw h
-
   -- ---- times that stand alone
 
   abbrev no_date : (prior : Text) → TimeMark prior → Option DateRecord
@@ -278,11 +249,9 @@ module _ {E : Type 0} (fault : Row → E) where
 
   time_start_row : RowsRead fault true (marked_time_at fault) (of_time time_start)
   unfolding marked_time_at lone_time_at look_at next_by
-  time_start_row (end left) e front rest f at = rw (f, at.2, at.0) (grind (arith, at.1))
-  time_start_row (other left) e front rest f at =
-      let parts = or_parts (digit at.0) (time_letter at.0) at.3 in rw (f, at.5, at.2, parts.0, parts.1, at.4)
-  time_start_row (bad left) e front rest f at = rw (f, at.3, at.1, at.2)
-  time_start_row (anywhere left) e front rest f at = absurd at
+  time_start_row place e front rest f at =
+      rw f (row_here fault (of_time time_start) (marked_time_at fault) (line_of true (of_time time_start))
+      (refl, (λ rest. refl), λ c rest out. rw ((or_parts (digit c) (time_letter c) out).0, (or_parts (digit c) (time_letter c) out).1) refl) place e rest at)
 
   marked_takes : (front : Text) (core : Core) (rest : Text) → MarkedTime front core → CoreEnds rest → Closes core rest (marked_core_at fault (front ++ rest))
   marked_takes front core rest d ends =
@@ -293,12 +262,6 @@ module _ {E : Type 0} (fault : Row → E) where
       → RowsBehind fault true (time_alone_core_at fault profile) prior name
   unfolding time_alone_core_at
   in_marked profile name prior h place e front rest f at = rw (h place e front rest f at)
-
-  -- a time without such a front is read
-  unfronted_takes : (profile : Profile) (text : Text) (x : ClosedCore × Text) → HasNoDateFront profile text → marked_core_at fault text ≡ Ok x
-      → time_alone_core_at fault profile text ≡ Ok x
-  unfolding time_alone_core_at
-  unfronted_takes profile text x none h = rw h (unfronted_goes profile text fault (Ok x) none)
 
   -- a time is read as a whole, and then the test of its front refuses it
   front_refuses : (profile : Profile) (text : Text) (e : E) → ReadsAsTime text → ((x : ClosedCore × Text) → unfronted fault profile text (Ok x) ≡ Err e)
@@ -312,15 +275,13 @@ module _ {E : Type 0} (fault : Row → E) where
       go (inr bracket) closes = rw (closes.1 bracket.0 bracket.1) (refuses ((h.3.0, true), bracket.0))
 
   -- the rows of a time's lines but those of its clock
-  time_line_rows : (profile : Profile) (l : TimeLine) (place : Place) (e : Fault) (prior front rest : Text) → InTimeAlone profile l prior (front ++ rest)
-      → front_of (line_of true (of_time l)) front → Stops (line_of true (of_time l)) place e rest
-      → time_alone_core_at fault profile (prior ++ (front ++ rest)) ≡ Err (fault (row_of (of_time l) place e))
+  time_line_rows : (profile : Profile) (l : TimeLine) → RowsWhere fault true (time_alone_core_at fault profile) (of_time l) (InTimeAlone profile l)
   time_line_rows profile time_start place e prior front rest b f at =
       in_marked profile (of_time time_start) prior (first_rows _ _ _ mark_lead prior (inl b) (of_time time_start) time_start_row) place e front rest f at
   time_line_rows profile (time_reads_as_month_day named) (anywhere left) e prior front rest b f at =
-      let same : (time_reads_as_month_day named) ≡ (time_reads_as_month_day profile) = ap time_reads_as_month_day b.2 in
       let here = rw b.2 at f in
-      rw (b.0, at.0, at.1, same) (front_refuses profile (front ++ rest) _ b.1 (λ x. month_day_stops profile (front ++ rest) fault (Ok x) rest (front, refl, here)))
+      rw (b.0, at.0, at.1, b.2) (front_refuses profile (front ++ rest) _ b.1
+      (λ x. month_day_stops profile (front ++ rest) fault (Ok x) rest (front, refl, here)))
   time_line_rows profile (time_reads_as_month_day named) place e prior front rest b f at = absurd at
   time_line_rows profile time_reads_as_year_month (anywhere left) e prior front rest b f at =
       rw (b.0, at.0, at.1) (front_refuses profile (front ++ rest) _ b.1 (λ x. year_month_stops profile (front ++ rest) fault (Ok x) rest (front, refl, f) b.2))
@@ -331,6 +292,7 @@ module _ {E : Type 0} (fault : Row → E) where
   -- a core is read where the end or a bracket follows it
   pub core_takes : (kind : CoreKind) (front : Text) (core : Core) (rest : Text) → IsCore kind front core → CoreEnds rest
       → Closes core rest (core_at fault kind (front ++ rest))
+  unfolding time_alone_core_at
   core_takes date_time front core rest d ends = date_time_takes front core rest d ends
   core_takes year_month front core rest d ends =
       alone_takes IsYearMonth (of_year_month after_year_month) (year_month_at fault) (year_month_takes fault) front core rest d
@@ -339,38 +301,28 @@ module _ {E : Type 0} (fault : Row → E) where
   core_takes (time_of_day profile) front core rest d ends =
       let closes = marked_takes front core rest d.0 ends in
       let none = no_front_after profile front rest ends d.1 in
-      ((λ is. unfronted_takes profile (front ++ rest) _ none (closes.0 is)), λ more is. unfronted_takes profile (front ++ rest) _ none (closes.1 more is))
-
-  -- each row of what may follow a month-day
-  after_month_day_rows : (profile named : Profile) → named ≡ profile → (place : Place) (e : Fault) (prior front rest : Text) → prior ≡ []
-      → some (IsMonthDay named) front → Stops (line_of true (of_month_day (after_month_day named))) place e rest
-      → core_at fault (month_day profile) (prior ++ (front ++ rest)) ≡ Err (fault (row_of (of_month_day (after_month_day named)) place e))
-  after_month_day_rows profile named same place e prior front rest b f at =
-      let here : some (IsMonthDay profile) front = subst (λ p. some (IsMonthDay p) front) same f in
-      let row : row_of (of_month_day (after_month_day profile)) place e ≡ row_of (of_month_day (after_month_day named)) place e =
-      ap (λ p. row_of (of_month_day (after_month_day p)) place e) (sym same) in
-      rw b (after_alone_rows (IsMonthDay profile) (of_month_day (after_month_day profile)) (month_day_at fault profile) (month_day_takes fault profile)
-      place e front rest here at ∙ ap (λ r. Err (fault r)) row)
+      let goes : (x : ClosedCore × Text) → unfronted fault profile (front ++ rest) (Ok x) ≡ Ok x =
+      λ x. unfronted_goes profile (front ++ rest) fault (Ok x) none in
+      ((λ is. rw (closes.0 is) (goes _)), λ more is. rw (closes.1 more is) (goes _))
 
   -- each row of a core's lines is returned
-  pub core_line_rows : (kind : CoreKind) (l : CoreLine) (place : Place) (e : Fault) (prior front rest : Text) → BeforeCore kind l prior (front ++ rest)
-      → front_of (line_of true (of_core l)) front → Stops (line_of true (of_core l)) place e rest
-      → core_at fault kind (prior ++ (front ++ rest)) ≡ Err (fault (row_of (of_core l) place e))
+  pub core_line_rows : (kind : CoreKind) (l : CoreLine) → RowsWhere fault true (core_at fault kind) (of_core l) (BeforeCore kind l)
+  unfolding date_time_core_at
   core_line_rows date_time (dates after_date) place e prior front rest b f at = rw b (after_date_row place e front rest f at)
-  core_line_rows date_time (dates l) place e prior front rest b f at = rw b (date_rows l tt place e front rest f at)
-  core_line_rows year_month (dates l) place e prior front rest b f at =
-      let first = year_month_first l prior b in
-      rw first.0 (in_alone (of_year_month after_year_month) _ _ (year_month_date_row fault l first.1 place e front rest f at))
+  core_line_rows date_time (dates l) place e prior front rest b f at = rw (b, date_row_read fault true l tt place e front rest f at) refl
+  core_line_rows year_month (dates l) place e prior front rest b f at = rw (year_month_date_row fault l prior b place e front rest f at) refl
   core_line_rows year_month (year_months after_year_in_year_month) place e prior front rest b f at =
-      rw b (in_alone (of_year_month after_year_month) _ _ (year_month_row fault place e front rest f at))
+      rw (b, year_month_row fault place e front rest f at) refl
   core_line_rows year_month (year_months after_year_month) place e prior front rest b f at =
       rw b (after_alone_rows IsYearMonth (of_year_month after_year_month) (year_month_at fault) (year_month_takes fault) place e front rest f at)
   core_line_rows (month_day profile) (month_days (after_month_day named)) place e prior front rest b f at =
-      after_month_day_rows profile named b.1 place e prior front rest b.0 f at
+      let here : some (IsMonthDay profile) front = rw b.1 at f in
+      rw (b.0, b.1) (after_alone_rows (IsMonthDay profile) (of_month_day (after_month_day profile)) (month_day_at fault profile) (month_day_takes fault profile)
+      place e front rest here at)
   core_line_rows (month_day profile) (month_days (month_day_range named)) place e prior front rest b f at =
-      rw b.0 (in_alone (of_month_day (after_month_day profile)) _ _ (month_day_row fault profile (month_day_range named) b.1 place e front rest f at))
+      rw (b.0, month_day_row fault profile (month_day_range named) b.1 place e front rest f at) refl
   core_line_rows (month_day profile) (month_days l) place e prior front rest b f at =
-      rw b (in_alone (of_month_day (after_month_day profile)) _ _ (month_day_row fault profile l tt place e front rest f at))
+      rw (b, month_day_row fault profile l tt place e front rest f at) refl
   core_line_rows (time_of_day profile) (times l) place e prior front rest b f at = time_line_rows profile l place e prior front rest b f at
   core_line_rows kind l place e prior front rest b f at = absurd b
 

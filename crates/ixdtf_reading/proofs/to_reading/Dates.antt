@@ -1,18 +1,17 @@
 -- For a date its record and the rest are returned, and each row of a date's lines is returned.
-use Rattle.std.proofs.Common.{◌≡◌, ℕ, ◌<◌, ◌⊎◌, Bool, true, false, [], ◌++◌, Ok, Err, refl, sym, ap, ◌∙◌, inl, inr, arith, append_assoc, ℤ, nat_le, ◌&&◌, ◌≤◌}
+use Rattle.std.proofs.Common.{◌≡◌, ℕ, ◌<◌, ◌⊎◌, Bool, true, false, [], ◌++◌, Ok, Err, refl, sym, ap, ◌∙◌, inl, inr, arith, ℤ, nat_le, ◌&&◌, ◌≤◌}
 use Rattle.std.proofs.lemmas.Bool.{and_parts, and_from, leb-true, le-leb, false_from_ne_true, Decides.nat_tests}
-use Rattle.ixdtf_grammar.specs.{declared.records.DateRecord.DateRecord, language.{Letters.{Text, hyphen}, Digits.{decimal, TwoDigits}, Months.OptionalHyphen}}
-use Rattle.ixdtf_grammar.specs.{language.{Dates.{Year, Month, DateText, IsDayOfMonth, IsDate, month_length}, Readers.CoreKind.year_month}, table.Faults.Fault}
-use Rattle.ixdtf_grammar.specs.table.{Faults.Fault.{InvalidMonthRange, InvalidDayRange}, LineNames.{DateLine, LineName, of_date, DateLine.year_start}}
-use Rattle.ixdtf_grammar.specs.table.LineNames.DateLine.{year_digits, extended_year_digits, minus_zero_year, after_year, month_digits, month_range}
-use Rattle.ixdtf_grammar.specs.table.LineNames.DateLine.{after_hyphened_month, after_basic_month, day_digits, day_range, after_date}
+use Rattle.ixdtf_grammar.specs.{declared.records.DateRecord.DateRecord, language.{Letters.{Text, ◌or◌, digit, hyphen}, Shapes.digits, Digits.decimal}}
+use Rattle.ixdtf_grammar.specs.language.{Digits.TwoDigits, Months.OptionalHyphen, Dates.{Year, Month, DateText, IsDayOfMonth, IsDate, month_length}}
+use Rattle.ixdtf_grammar.specs.{language.Readers.CoreKind.year_month, table.{Faults.{Fault, Fault.{InvalidMonthRange, InvalidDayRange}}, LineNames.DateLine}}
+use Rattle.ixdtf_grammar.specs.table.LineNames.{LineName, of_date, DateLine.{year_start, year_digits, extended_year_digits, minus_zero_year, after_year}}
+use Rattle.ixdtf_grammar.specs.table.LineNames.DateLine.{month_digits, month_range, after_hyphened_month, after_basic_month, day_digits, day_range, after_date}
 use Rattle.ixdtf_grammar.specs.table.{Lines.{line_of, date_line, HyphenOrDigit, NoMonth}, Before.BeforeDate, Rows.{Row, Place, Stops, Place.anywhere}}
-use Rattle.ixdtf_reading.specs.reading.Looks.{Read, ◌>>=◌, row_of, mark_at}
-use Rattle.ixdtf_reading.specs.reading.Dates.{date_of, year_at, month_in_range, month_by, month_at, line_after_month, day_in_range, day_at, date_at}
-use Rattle.ixdtf_reading.proofs.parts.{Looks.{ReadsOver, ◌before◌, Halts, ◌till◌, RowsRead, whole_row, digits_go, none_or_one}, Marks.{hyphens_of, Starts}}
-use Rattle.ixdtf_reading.proofs.parts.Marks.{Begun, LooksForHyphen, hyphen_is, begun_starts, digits_start, hyphen_looks, hyphen_over, mark_over, mark_stops}
-use Rattle.ixdtf_reading.proofs.parts.Marks.{digits_stop_after}
-use Rattle.ixdtf_reading.proofs.parts.Years.{year_takes, year_start_row, year_digits_row, extended_year_digits_row, minus_zero_year_row}
+use Rattle.ixdtf_reading.specs.reading.{Looks.{Read, ◌>>=◌, row_of, mark_at}, Dates.{date_of, year_at, month_in_range, month_by, month_at, line_after_month}}
+use Rattle.ixdtf_reading.specs.reading.Dates.{day_in_range, day_at, date_at}
+use Rattle.ixdtf_reading.proofs.parts.{Looks.{ReadsOver, ◌before◌, ◌upto◌, Halts, halts_then, RowsRead, LooksFor, looks_for, none_or_one}, Marks.hyphens_of}
+use Rattle.ixdtf_reading.proofs.parts.{Marks.{Starts, Begun, hyphen_is, hyphen_over, mark_over, mark_stops, two_digits_over, two_digits_stop}, Years.year_takes}
+use Rattle.ixdtf_reading.proofs.parts.Years.{year_start_row, year_digits_row, extended_year_digits_row, minus_zero_year_row}
 
 -- the lines that a date's own reading returns
 abbrev pub IsInside : DateLine → Type 0
@@ -47,37 +46,31 @@ module _ {E : Type 0} (fault : Row → E) where
   -- ---- a year and a month
 
   -- the year stops at this line
-  module _ (name : LineName) (asks : LooksForHyphen (line_of true name)) where
-    pub month_takes : (b : Bool) (ms : Text) (m : ℕ) (rest : Text) → Month ms m → month_at fault name ((hyphens_of b ++ ms) ++ rest) ≡ Ok ((m, b), rest)
-    unfolding month_by month_in_range
-    month_takes b ms m rest h =
-        rw (
-          append_assoc,
-          hyphen_over fault name b (ms ++ rest) asks (digits_start b 1 ms rest h.0.0),
-          digits_go fault (of_date month_digits) (λ c. refl) 2 ms rest h.0.0,
-          sym h.0.1,
-          month_is m h.1 h.2,
-        ) refl
+  module _ (name : LineName) (asks : LooksFor (hyphen or digit) (line_of true name)) where
+    -- what is read of a month's digits, behind a hyphen or none
+    abbrev month_of : Bool → Text × Text → Read E (ℕ × Bool)
+    month_of b ds = month_in_range fault ds >>= λ month. Ok ((month.0, b), month.1)
+
+    over_digits : (b : Bool) (ds : Text) → digits 2 ds → ReadsOver (month_at fault name) (hyphens_of b ++ ds) (λ rest. month_of b (ds, rest))
+    unfolding month_by
+    over_digits b =
+        two_digits_over fault (mark_at fault name hyphen) (of_date month_digits) (λ c. refl) month_of
+        b (hyphens_of b) (λ text. hyphen_over fault name b text asks)
 
     month_stops : (b : Bool) (ds rest : Text) (place : Place) (e : Fault) → Begun b ds → Stops (date_line month_digits) place e rest
-        → month_at fault name ((hyphens_of b ++ ds) ++ rest) ≡ Err (fault (row_of (of_date month_digits) place e))
+        → Halts (month_at fault name) (hyphens_of b ++ ds) rest (fault (row_of (of_date month_digits) place e))
     unfolding month_by
-    month_stops b ds rest place e h at =
-        rw (
-          append_assoc,
-          hyphen_over fault name b (ds ++ rest) asks (begun_starts b ds rest h),
-          digits_stop_after fault (of_date month_digits) b ds rest place e (λ c. refl) h at,
-        ) refl
+    month_stops b =
+        two_digits_stop fault (mark_at fault name hyphen) (of_date month_digits) (λ c. refl) month_of
+        b (hyphens_of b) (λ text. hyphen_over fault name b text asks)
+
+    pub month_takes : (b : Bool) (ms : Text) (m : ℕ) (rest : Text) → Month ms m → month_at fault name ((hyphens_of b ++ ms) ++ rest) ≡ Ok ((m, b), rest)
+    unfolding month_in_range
+    month_takes b ms m rest h = (over_digits b ms h.0.0).over rest ∙ rw (sym h.0.1, month_is m h.1 h.2) refl
 
     pub month_out : (b : Bool) (ds rest : Text) → NoMonth ds → month_at fault name ((hyphens_of b ++ ds) ++ rest) ≡ Err (fault (no_month rest))
-    unfolding month_by month_in_range
-    month_out b ds rest h =
-        rw (
-          append_assoc,
-          hyphen_over fault name b (ds ++ rest) asks (digits_start b 1 ds rest h.0),
-          digits_go fault (of_date month_digits) (λ c. refl) 2 ds rest h.0,
-          month_is_none (decimal ds) h.1,
-        ) refl
+    unfolding month_in_range
+    month_out b ds rest h = (over_digits b ds h.0).over rest ∙ rw (month_is_none (decimal ds) h.1) refl
 
     -- a year and a month, and what is read with them from there
     module _ {A : Type 0} (go : ℤ → (ℕ × Bool) × Text → Read E A) where
@@ -96,37 +89,26 @@ module _ {E : Type 0} (fault : Row → E) where
       pub year_stops : (ys : Text) (y : ℤ) (place : Place) (e : Fault) (rest : Text) → Year ys y → Stops (line_of true name) place e rest
           → from_year (ys ++ rest) ≡ Err (fault (row_of name place e))
       unfolding month_by
-      year_stops ys y place e rest h at = (over_year ys y h).over rest ∙ rw (mark_stops fault name place e rest (hyphen_looks (line_of true name) asks) at)
+      year_stops ys y place e rest h at = (over_year ys y h).over rest ∙ rw (mark_stops fault name place e rest (looks_for (hyphen or digit) _ asks) at)
 
       module _ (brackets : Bool) where
-        year_rows : (l : LineName) → RowsRead fault brackets (year_at fault) l → RowsRead fault brackets from_year l
-        year_rows l h place e front rest f at = rw (h place e front rest f at)
-
-        month_digits_row : RowsRead fault brackets from_year (of_date month_digits)
-        month_digits_row place e front rest f at =
-            let t = begun_month f.1 f.4 in
-            rw (f.2, t.2) ((over_year f.0 f.3.0 f.3.1 till halted t.0 t.1 t.3).halts)
-          where
-            halted : (b : Bool) (ds : Text) → Begun b ds → Halts (from_month f.3.0) (hyphens_of b ++ ds) rest (fault (row_of (of_date month_digits) place e))
-            halted b ds h = record { halts = rw (month_stops b ds rest place e h at) refl }
-
-        month_range_row : RowsRead fault brackets from_year (of_date month_range)
-        month_range_row = whole_row fault brackets from_year (of_date month_range) tt λ e front rest f at.
-            let t = hyphens_are f.4.0 f.4.3 in
-            rw (f.2, f.4.2, t.1, at.0) ((over_year f.0 f.3.0 f.3.1 till halted f.3.0 t.0 f.4.1 rest f.4.4).halts)
-          where
-            halted : (y : ℤ) (b : Bool) (ds rest : Text) → NoMonth ds → Halts (from_month y) (hyphens_of b ++ ds) rest (fault (no_month rest))
-            halted y b ds rest h = record { halts = rw (month_out b ds rest h) refl }
-
         -- every row of a year and of a month after it
-        pub year_and_month_row : (l : DateLine) → BeforeDate year_month l [] → RowsRead fault brackets from_year (of_date l)
-        year_and_month_row year_start h = year_rows (of_date year_start) (year_start_row fault brackets)
-        year_and_month_row year_digits h = year_rows (of_date year_digits) (year_digits_row fault brackets)
-        year_and_month_row extended_year_digits h = year_rows (of_date extended_year_digits) (extended_year_digits_row fault brackets)
-        year_and_month_row minus_zero_year h = year_rows (of_date minus_zero_year) (minus_zero_year_row fault brackets)
-        year_and_month_row month_digits h = month_digits_row
-        year_and_month_row month_range h = month_range_row
-        year_and_month_row l h = absurd h
+        pub year_and_month_row : (l : DateLine) (prior : Text) → BeforeDate year_month l prior
+            → RowsRead fault brackets (λ body. from_year (prior ++ body)) (of_date l)
+        year_and_month_row year_start prior h place e front rest f at = rw (h, year_start_row fault brackets place e front rest f at) refl
+        year_and_month_row year_digits prior h place e front rest f at = rw (h, year_digits_row fault brackets place e front rest f at) refl
+        year_and_month_row extended_year_digits prior h place e front rest f at = rw (h, extended_year_digits_row fault brackets place e front rest f at) refl
+        year_and_month_row minus_zero_year prior h place e front rest f at = rw (h, minus_zero_year_row fault brackets place e front rest f at) refl
+        year_and_month_row month_digits prior h place e front rest f at =
+            let t = begun_month f.1 f.4 in
+            rw (h, f.2, t.2) ((over_year f.0 f.3.0 f.3.1 upto halts_then (go f.3.0) (month_stops t.0 t.1 rest place e t.3 at)).reads_to)
+        year_and_month_row month_range prior h (anywhere left) e front rest f at =
+            let t = hyphens_are f.4.0 f.4.3 in
+            let out : Halts (month_at fault name) (hyphens_of t.0 ++ f.4.1) rest (fault (no_month rest)) =
+            record { reads_to = month_out t.0 f.4.1 rest f.4.4 } in
+            rw (h, f.2, f.4.2, t.1, at.0, at.1) ((over_year f.0 f.3.0 f.3.1 upto halts_then (go f.3.0) out).reads_to)
+        year_and_month_row month_range prior h place e front rest f at = absurd at
+        year_and_month_row l prior h place e front rest f at = absurd h
 
   -- ---- the day after them
 
@@ -145,28 +127,22 @@ module _ {E : Type 0} (fault : Row → E) where
   over_separator true text starts = mark_over fault (of_date after_hyphened_month) true text tt refl starts
   over_separator false text starts = mark_over fault (of_date after_basic_month) false text tt (λ c h. h) starts
 
+  -- what is read of a day's digits
+  abbrev day_of : ℤ → ℕ → Bool → Text × Text → Read E DateRecord
+  day_of y m b ds = day_in_range fault (date_of y m (decimal ds.0)) ds.1
+
   pub over_day : (y : ℤ) (m : ℕ) (b : Bool) (ds : Text) (d : ℕ) → TwoDigits ds d
       → ReadsOver (day_at fault y (m, b)) (hyphens_of b ++ ds) (day_in_range fault (date_of y m d))
   unfolding day_at
-  over_day y m b ds d h = record {
-    over = λ rest. rw (
-      append_assoc,
-      over_separator b (ds ++ rest) (digits_start b 1 ds rest h.0),
-      digits_go fault (of_date day_digits) (λ c. refl) 2 ds rest h.0,
-      h.1,
-    ) refl;
-  }
+  over_day y m b ds d h =
+      rw (← h.1) at (two_digits_over fault (mark_at fault (line_after_month b) hyphen) (of_date day_digits) (λ c. refl) (day_of y m)
+      b (hyphens_of b) (over_separator b) ds h.0)
 
   day_stops : (y : ℤ) (m : ℕ) (b : Bool) (ds rest : Text) (place : Place) (e : Fault) → Begun b ds → Stops (date_line day_digits) place e rest
       → Halts (day_at fault y (m, b)) (hyphens_of b ++ ds) rest (fault (row_of (of_date day_digits) place e))
   unfolding day_at
-  day_stops y m b ds rest place e h at = record {
-    halts = rw (
-      append_assoc,
-      over_separator b (ds ++ rest) (begun_starts b ds rest h),
-      digits_stop_after fault (of_date day_digits) b ds rest place e (λ c. refl) h at,
-    ) refl;
-  }
+  day_stops y m b =
+      two_digits_stop fault (mark_at fault (line_after_month b) hyphen) (of_date day_digits) (λ c. refl) (day_of y m) b (hyphens_of b) (over_separator b)
 
   -- ---- dates
 
@@ -188,46 +164,24 @@ module _ {E : Type 0} (fault : Row → E) where
   pub date_takes : (text : Text) (date : DateRecord) (rest : Text) → IsDate text date → date_at fault (text ++ rest) ≡ Ok (date, rest)
   date_takes text date rest h = (over_date text date h.0).over rest ∙ day_fits date rest h.1
 
-  -- ---- each row is returned
-
-  module _ (brackets : Bool) where
-    year_or_month_row : (l : DateLine) → BeforeDate year_month l [] → RowsRead fault brackets (date_at fault) (of_date l)
-    unfolding date_at
-    year_or_month_row = year_and_month_row (of_date after_year) (λ c. refl) day_from brackets
-
-    after_year_row : RowsRead fault brackets (date_at fault) (of_date after_year)
-    unfolding date_at
-    after_year_row place e front rest f at = year_stops (of_date after_year) (λ c. refl) day_from front f.0 place e rest f.1 at
-
-    after_hyphened_month_row : RowsRead fault brackets (date_at fault) (of_date after_hyphened_month)
-    unfolding day_at
-    after_hyphened_month_row place e front rest f at =
-        rw (f.2, f.4.2, hyphen_is f.4.0 f.4.3)
-        ((to_year _ _ f.3.1 before to_month _ true _ _ f.4.4.1).over rest ∙ rw (mark_stops fault (of_date after_hyphened_month) place e rest tt at))
-
-    after_basic_month_row : RowsRead fault brackets (date_at fault) (of_date after_basic_month)
-    unfolding day_at
-    after_basic_month_row place e front rest f at =
-        rw f.2 ((to_year _ _ f.3.1 before to_month _ false _ _ f.4.1).over rest ∙ rw (mark_stops fault (of_date after_basic_month) place e rest tt at))
-
-    day_digits_row : RowsRead fault brackets (date_at fault) (of_date day_digits)
-    day_digits_row place e front rest (inl f) at =
-        rw (f.2, f.4.2) ((to_year _ _ f.3.1 till to_month _ false _ _ f.4.3.1 till day_stops _ _ false f.4.1 rest place e f.4.4 at).halts)
-    day_digits_row place e front rest (inr f) at =
-        let last = f.4.4.4 in
-        rw (f.2, f.4.2, f.4.4.2, last.2, hyphen_is f.4.0 f.4.3, hyphen_is last.0 last.3) ((to_year _ _ f.3.1 till to_month _ true _ _ f.4.4.3.1
-        till day_stops _ _ true last.1 rest place e (none_or_one last.4.0 last.1 last.4.1 last.4.2) at).halts)
-
-    day_range_row : RowsRead fault brackets (date_at fault) (of_date day_range)
-    day_range_row = whole_row fault brackets (date_at fault) (of_date day_range) tt λ e front rest f at.
-        rw at.0 ((over_date front f.0 f.1.0).over rest ∙ day_refused f.0 rest f.1.1)
-
-    -- every row of a date but those after it
-    pub date_row_read : (l : DateLine) → IsInside l → RowsRead fault brackets (date_at fault) (of_date l)
-    date_row_read after_year h = after_year_row
-    date_row_read after_hyphened_month h = after_hyphened_month_row
-    date_row_read after_basic_month h = after_basic_month_row
-    date_row_read day_digits h = day_digits_row
-    date_row_read day_range h = day_range_row
-    date_row_read after_date h = absurd h
-    date_row_read l h = year_or_month_row l refl
+  -- every row of a date but those after it
+  pub date_row_read : (brackets : Bool) (l : DateLine) → IsInside l → RowsRead fault brackets (date_at fault) (of_date l)
+  unfolding date_at day_at
+  date_row_read brackets after_year h place e front rest f at = year_stops (of_date after_year) (λ c. refl) day_from front f.0 place e rest f.1 at
+  date_row_read brackets after_hyphened_month h place e front rest f at =
+      rw (f.2, f.4.2, hyphen_is f.4.0 f.4.3)
+      ((to_year _ _ f.3.1 before to_month _ true _ _ f.4.4.1).over rest ∙ rw (mark_stops fault (of_date after_hyphened_month) place e rest tt at))
+  date_row_read brackets after_basic_month h place e front rest f at =
+      rw f.2 ((to_year _ _ f.3.1 before to_month _ false _ _ f.4.1).over rest ∙ rw (mark_stops fault (of_date after_basic_month) place e rest tt at))
+  date_row_read brackets day_digits h place e front rest (inl f) at =
+      rw (f.2, f.4.2) ((to_year _ _ f.3.1 upto to_month _ false _ _ f.4.3.1 upto day_stops _ _ false f.4.1 rest place e f.4.4 at).reads_to)
+  date_row_read brackets day_digits h place e front rest (inr f) at =
+      let last = f.4.4.4 in
+      rw (f.2, f.4.2, f.4.4.2, last.2, hyphen_is f.4.0 f.4.3, hyphen_is last.0 last.3) ((to_year _ _ f.3.1 upto to_month _ true _ _ f.4.4.3.1
+      upto day_stops _ _ true last.1 rest place e (none_or_one last.4.0 last.1 last.4.1 last.4.2) at).reads_to)
+  date_row_read brackets day_range h (anywhere left) e front rest f at =
+      rw (at.0, at.1) ((over_date front f.0 f.1.0).over rest ∙ day_refused f.0 rest f.1.1)
+  date_row_read brackets day_range h place e front rest f at = absurd at
+  date_row_read brackets after_date h place e front rest f at = absurd h
+  date_row_read brackets l h place e front rest f at =
+      year_and_month_row (of_date after_year) (λ c. refl) day_from brackets l [] refl place e front rest f at

@@ -1,22 +1,21 @@
 -- A duration is read, and each row of a duration's lines is returned.
-use Rattle.std.proofs.Common.{◌≡◌, false, ℕ, ◌≤◌, ◌<◌, IsTrue, IsFalse, List, [], ◌∷◌, ◌++◌, Result, Ok, Err, Some, refl, sym, ap, ◌∙◌, subst, inl, inr}
-use Rattle.std.proofs.{Common.{arith, append_assoc, append-nil, nat_le}, lemmas.Bool.{or_left, or_right, le-leb, lt-leb, Decides.nat_tests}}
-use Rattle.ixdtf_grammar.specs.declared.{profile.Profile.Profile, records.{Sign.Sign, DurationParseRecord.DurationParseRecord}}
-use Rattle.ixdtf_grammar.specs.language.Letters.{Text, digit, sign, decimal_mark, duration_designator, time_letter, Letter.{Plain, Bad}}
-use Rattle.ixdtf_grammar.specs.language.{Shapes.{one, ◌then◌, some}, Digits.decimal, Fractions.SomeDigits, Offsets.sign_of, Brackets.Pair, Durations.Half}
-use Rattle.ixdtf_grammar.specs.language.Durations.{Group, Number, IntegerGroup, FractionGroup, Groups, TimeGroups, TimePart, AtLeastOne, SignedDesignator}
-use Rattle.ixdtf_grammar.specs.language.Durations.{designator, in_order, greatest, greatest_value, duration_of, IsDuration, Half.{date, time}}
-use Rattle.ixdtf_grammar.specs.{language.Readers.Reader.parse_duration, table.{Faults.Fault, LineNames.{LineName, DurationLine, DurationLine.duration_start}}}
-use Rattle.ixdtf_grammar.specs.table.LineNames.DurationLine.{after_duration_sign, after_duration_designator, after_date_groups, after_time_designator}
-use Rattle.ixdtf_grammar.specs.table.LineNames.DurationLine.{group_digits, group_value_range, unit_order, date_unit_range, group_fraction_start}
-use Rattle.ixdtf_grammar.specs.table.LineNames.{DurationLine.{group_fraction_digits, after_time_groups, after_fraction_group}, LineName.of_duration}
-use Rattle.ixdtf_grammar.specs.table.DurationFronts.{Context, half_of, groups_of, IsContext, OutOfOrder, UnitPast, Context.{in_dates, in_times}}
-use Rattle.ixdtf_grammar.specs.table.{Lines.{duration_line, table}, Before.Before, Rows.{Row, Place, Stops, front_of, Place.anywhere}}
-use Rattle.ixdtf_reading.specs.reading.{Looks.row_of, Durations.{State, line_of_state, add, integer_group, fraction_group, value_past, unit_past}}
-use Rattle.ixdtf_reading.specs.reading.Durations.{out_of_order, in_its_order, add_group, end_group, step, run, duration_at}
-use Rattle.ixdtf_reading.specs.reading.Durations.State.{started, signed, between, in_number, at_mark, in_fraction, ended}
-use Rattle.ixdtf_reading.proofs.parts.{Looks.{RowsRead, ◌before◌, ◌till◌, Goes}, DurationRuns.{AllDigits, all_digits, some_all, digits_snoc, below_front}}
-use Rattle.ixdtf_reading.proofs.parts.DurationRuns.{Asks, Over, Stays, stays, one_letter, letter_stops, run_stops}
+use Rattle.std.proofs.Common.{◌≡◌, false, ℕ, ◌≤◌, ◌<◌, IsTrue, IsFalse, List, [], ◌∷◌, ◌++◌, Result, Ok, Err, Some, refl, sym, ap, ◌∙◌, subst, inl, inr, arith}
+use Rattle.std.proofs.{Common.{append_assoc, append-nil, nat_le}, lemmas.Bool.{or_left, or_right, le-leb, lt-leb, Decides.nat_tests}}
+use Rattle.ixdtf_grammar.specs.{declared.{profile.Profile.Profile, records.{Sign.Sign, DurationParseRecord.DurationParseRecord}}, language.Letters.Text}
+use Rattle.ixdtf_grammar.specs.language.{Letters.{digit, sign, decimal_mark, time_letter, Letter.{Plain, Bad}}, Digits.decimal, Fractions.SomeDigits}
+use Rattle.ixdtf_grammar.specs.language.{Offsets.sign_of, Durations.{Half, Group, Number, IntegerGroup, FractionGroup, Groups, TimeGroups, TimePart}}
+use Rattle.ixdtf_grammar.specs.language.Durations.{AtLeastOne, SignedDesignator, designator, in_order, greatest, greatest_value, duration_of, IsDuration}
+use Rattle.ixdtf_grammar.specs.{language.{Durations.Half.{date, time}, Readers.Reader.parse_duration}, table.LineNames.DurationLine}
+use Rattle.ixdtf_grammar.specs.table.LineNames.DurationLine.{duration_start, after_duration_sign, after_duration_designator, after_date_groups}
+use Rattle.ixdtf_grammar.specs.table.LineNames.DurationLine.{after_time_designator, group_digits, group_value_range, unit_order, date_unit_range}
+use Rattle.ixdtf_grammar.specs.table.LineNames.DurationLine.{group_fraction_start, group_fraction_digits, after_time_groups, after_fraction_group}
+use Rattle.ixdtf_grammar.specs.table.{LineNames.LineName.of_duration, DurationFronts.{Context, half_of, groups_of, IsContext, OutOfOrder, UnitPast}}
+use Rattle.ixdtf_grammar.specs.table.{DurationFronts.Context.{in_dates, in_times}, Lines.duration_line, Rows.{Row, Stops, front_of, Place.anywhere}}
+use Rattle.ixdtf_reading.specs.reading.{Looks.row_of, Durations.{State, line_of_state, add, integer_group, fraction_group, value_past, unit_past, out_of_order}}
+use Rattle.ixdtf_reading.specs.reading.Durations.{in_its_order, add_group, step, run, duration_at, State.{started, signed, between, in_number, at_mark}}
+use Rattle.ixdtf_reading.specs.reading.Durations.State.{in_fraction, ended}
+use Rattle.ixdtf_reading.proofs.parts.{Looks.{RowsRead, ◌before◌, ◌upto◌, Goes, ReadsAllRows}, DurationRuns.{AllDigits, all_digits, some_all, digits_snoc}}
+use Rattle.ixdtf_reading.proofs.parts.DurationRuns.{below_front, Asks, Over, Stays, stays, one_letter, letter_stops, run_stops}
 
 -- ---- code units
 
@@ -27,20 +26,18 @@ designator_no_digit half c h = grind (arith, h, nat_tests)
 time_no_digit : (c : ℕ) → IsTrue (time_letter c) → IsFalse (digit c)
 time_no_digit c h = grind (arith, h, nat_tests)
 
-mark_no_digit : (c : ℕ) → IsTrue (decimal_mark c) → IsFalse (digit c)
-mark_no_digit c h = grind (arith, h, nat_tests)
-
 mark_no_designator : (c : ℕ) → IsTrue (decimal_mark c) → IsFalse (designator time c)
 mark_no_designator c h = grind (arith, h, nat_tests)
-
-duration_no_sign : (c : ℕ) → IsTrue (duration_designator c) → IsFalse (sign c)
-duration_no_sign c h = grind (arith, h, nat_tests)
 
 between_goes : (profile : Profile) (context : Context) (c : ℕ) → IsTrue (digit c) → Goes (duration_line profile (line_of_state (between context))) c
 between_goes profile (in_dates s []) c h = or_left _ _ h
 between_goes profile (in_dates s (g ∷ earlier)) c h = or_left _ _ h
 between_goes profile (in_times s dates []) c h = h
 between_goes profile (in_times s dates (g ∷ earlier)) c h = h
+
+in_time : (context : Context) → half_of context ≡ time → (s : Sign) × (dates times : List Group) × (context ≡ in_times s dates times)
+in_time (in_dates s dates) same = absurd (grind (arith, same))
+in_time (in_times s dates times) same = (s, dates, times, refl)
 
 -- ---- groups
 
@@ -51,14 +48,6 @@ same_fraction_group : {text : Text} {g : Group} (h : FractionGroup text g) → f
 same_fraction_group h = λ i. record { unit = (sym h.unit) i; value = (sym h.number.1) i; fraction = (sym (h.fraction ∙ ap Some h.is_fraction.value)) i }
 
 module _ {E : Type 0} (fault : Row → E) (profile : Profile) where
-  added : (left : Text) (context : Context) (g h : Group) → h ≡ g → IsTrue (in_order profile (groups_of context) g.unit) → g.value ≤ greatest g.unit
-      → add_group fault profile left context h ≡ Ok (between (add context g))
-  added left context g h is order range = rw is (rw (order, le-leb g.value (greatest g.unit) range))
-
-  added_last : (left : Text) (s : Sign) (dates times : List Group) (g h : Group) → h ≡ g → IsTrue (in_order profile times g.unit)
-      → end_group fault profile left s dates times h ≡ Ok (ended s dates times g)
-  added_last left s dates times g h is order = rw is (rw order)
-
   misplaced : (left : Text) (context : Context) (next : Result State E) (g h : Group) → h ≡ g → IsFalse (in_order profile (groups_of context) g.unit)
       → in_its_order fault profile left context h next ≡ Err (fault (out_of_order profile (half_of context) left))
   misplaced left context next g h is order = rw is (rw order)
@@ -71,7 +60,9 @@ module _ {E : Type 0} (fault : Row → E) (profile : Profile) where
 
   over_start : (text : Text) (s : Sign) → SignedDesignator text s → Over fault profile started text (between (in_dates s []))
   unfolding step
-  over_start text s (inl (o, is)) = rw (o.1, is) (one_letter fault profile started o.0 (or_right _ _ o.2) (λ rest. rw (duration_no_sign o.0 o.2)))
+  over_start text s (inl (o, is)) =
+      let no_sign : IsFalse (sign o.0) = grind (arith, o.2, nat_tests) in
+      rw (o.1, is) (one_letter fault profile started o.0 (or_right _ _ o.2) (λ rest. rw no_sign))
   over_start text s (inr h) =
       let first : Over fault profile started (Plain h.0 ∷ []) (signed (sign_of h.0)) = one_letter fault profile started h.0 (or_left _ _ h.3) (λ rest. rw h.3) in
       let second : Over fault profile (signed (sign_of h.0)) (Plain h.4.0 ∷ []) (between (in_dates (sign_of h.0) [])) = one_letter fault profile
@@ -117,7 +108,8 @@ module _ {E : Type 0} (fault : Row → E) (profile : Profile) where
   over_integer_group context text g h order range =
       rw h.is (over_number context h.ds g.value h.number
       before one_letter fault profile (in_number context h.ds) h.c (or_left _ _ (or_right _ _ h.ends))
-      (λ rest. rw (designator_no_digit (half_of context) h.c h.ends, h.ends) (added rest context g _ (same_group h) order range)))
+      (λ rest. rw (designator_no_digit (half_of context) h.c h.ends, h.ends, same_group h, ← h.unit, order, ← h.number.1)
+      (rw (le-leb g.value (greatest g.unit) range) refl)))
 
   over_dates : (s : Sign) (text : Text) (groups : List Group) → Groups profile date text groups
       → Over fault profile (between (in_dates s [])) text (between (in_dates s groups))
@@ -145,7 +137,8 @@ module _ {E : Type 0} (fault : Row → E) (profile : Profile) where
       → Over fault profile (in_number (in_times s dates times) ds) (Plain c ∷ []) (at_mark s dates times ds)
   unfolding step
   over_mark s dates times ds c h =
-      one_letter fault profile (in_number (in_times s dates times) ds) c (or_right _ _ h) (λ rest. rw (mark_no_digit c h, mark_no_designator c h))
+      one_letter fault profile (in_number (in_times s dates times) ds) c (or_right _ _ h) (λ rest.
+      let no_digit : IsFalse (digit c) = grind (arith, h, nat_tests) in rw (no_digit, mark_no_designator c h))
 
   over_fraction_digits : (s : Sign) (dates times : List Group) (ds fs more : Text) → AllDigits more
       → Over fault profile (in_fraction s dates times ds fs) more (in_fraction s dates times ds (fs ++ more))
@@ -175,41 +168,12 @@ module _ {E : Type 0} (fault : Row → E) (profile : Profile) where
       before over_mark s dates times h.ds f.mark f.marks
       before over_fraction s dates times h.ds f.ds f.some
       before one_letter fault profile (in_fraction s dates times h.ds f.ds) h.c (or_right _ _ h.ends)
-      (λ rest. rw (designator_no_digit time h.c h.ends) (added_last rest s dates times g _ (same_fraction_group h) order)))
+      (λ rest. rw (designator_no_digit time h.c h.ends, same_fraction_group h, ← h.unit, order) refl))
 
   -- ---- a front of a line leads to a state that looks at the line
 
   abbrev Reaches : DurationLine → Text → Type 0
   Reaches name front = (s : State) × Over fault profile started front s × (line_of_state s ≡ name)
-
-  fraction_start_reached : (context : Context) (prior rest : Text) → half_of context ≡ time → IsContext profile prior context
-      → (some Number then one decimal_mark) rest
-      → Reaches group_fraction_start (prior ++ rest)
-  fraction_start_reached (in_dates s dates) prior rest same b f = absurd (grind (arith, same))
-  fraction_start_reached (in_times s dates times) prior rest same b f = (
-    at_mark s dates times f.0,
-    rw (f.2, f.4.1)
-        (over_context prior (in_times s dates times) b before over_number (in_times s dates times) f.0 f.3.0 f.3.1
-        before over_mark s dates times f.0 f.4.0 f.4.2),
-    refl,
-  )
-
-  fraction_digits_reached : (context : Context) (prior rest : Text) → half_of context ≡ time → IsContext profile prior context
-      → (some Number then one decimal_mark then SomeDigits) rest → Reaches group_fraction_digits (prior ++ rest)
-  fraction_digits_reached (in_dates s dates) prior rest same b f = absurd (grind (arith, same))
-  fraction_digits_reached (in_times s dates times) prior rest same b f = (
-    in_fraction s dates times f.0 f.4.1,
-    rw (f.2, f.4.2, f.4.3.1) (over_context prior (in_times s dates times) b before over_number (in_times s dates times) f.0 f.3.0 f.3.1
-        before over_mark s dates times f.0 f.4.3.0 f.4.3.2 before over_fraction s dates times f.0 f.4.1 f.4.4),
-    refl,
-  )
-
-  after_fraction_reached : (context : Context) (prior rest : Text) → half_of context ≡ time → IsContext profile prior context → (g : Group)
-      → FractionGroup rest g
-      → IsTrue (in_order profile (groups_of context) g.unit) → Reaches after_fraction_group (prior ++ rest)
-  after_fraction_reached (in_dates s dates) prior rest same b g f order = absurd (grind (arith, same))
-  after_fraction_reached (in_times s dates times) prior rest same b g f order =
-      (ended s dates times g, over_context prior (in_times s dates times) b before over_fraction_group s dates times rest g f order, refl)
 
   reached : (name : DurationLine) (front : Text) → Asks (duration_line profile name) → front_of (duration_line profile name) front → Reaches name front
   unfolding step
@@ -219,10 +183,29 @@ module _ {E : Type 0} (fault : Row → E) (profile : Profile) where
   reached after_date_groups front asks f = (between (in_dates f.0 (f.1 ∷ f.2)), over_context front (in_dates f.0 (f.1 ∷ f.2)) f.3, refl)
   reached after_time_designator front asks f = (between (in_times f.0 f.1 []), over_context front (in_times f.0 f.1 []) f.2, refl)
   reached (group_digits half) front asks f = (in_number f.0 f.2, rw f.4 (over_context f.1 f.0 f.5 before over_number f.0 f.2 f.6.0 f.6.1), ap group_digits f.3)
-  reached group_fraction_start front asks f = rw f.4 (fraction_start_reached f.0 f.1 f.2 f.3 f.5 f.6)
-  reached group_fraction_digits front asks f = rw f.4 (fraction_digits_reached f.0 f.1 f.2 f.3 f.5 f.6)
+  reached group_fraction_start front asks f =
+      let c = in_time f.0 f.3 in
+      let g = f.6 in (
+        at_mark c.0 c.1 c.2 g.0,
+        rw (f.4, g.2, g.4.1) (over_context f.1 (in_times c.0 c.1 c.2) (rw c.3 at f.5) before over_number (in_times c.0 c.1 c.2) g.0 g.3.0 g.3.1
+            before over_mark c.0 c.1 c.2 g.0 g.4.0 g.4.2),
+        refl,
+      )
+  reached group_fraction_digits front asks f =
+      let c = in_time f.0 f.3 in
+      let g = f.6 in (
+        in_fraction c.0 c.1 c.2 g.0 g.4.1,
+        rw (f.4, g.2, g.4.2, g.4.3.1) (over_context f.1 (in_times c.0 c.1 c.2) (rw c.3 at f.5) before over_number (in_times c.0 c.1 c.2) g.0 g.3.0 g.3.1
+            before over_mark c.0 c.1 c.2 g.0 g.4.3.0 g.4.3.2 before over_fraction c.0 c.1 c.2 g.0 g.4.1 g.4.4),
+        refl,
+      )
   reached after_time_groups front asks f = (between (in_times f.0 f.1 (f.2 ∷ f.3)), over_context front (in_times f.0 f.1 (f.2 ∷ f.3)) f.4, refl)
-  reached after_fraction_group front asks f = rw f.4 (after_fraction_reached f.0 f.1 f.2 f.3 f.5 f.6.0 f.6.1 f.6.2)
+  reached after_fraction_group front asks f =
+      let c = in_time f.0 f.3 in (
+        ended c.0 c.1 c.2 f.6.0,
+        rw f.4 (over_context f.1 (in_times c.0 c.1 c.2) (rw c.3 at f.5) before over_fraction_group c.0 c.1 c.2 f.2 f.6.0 f.6.1 (rw c.3 at f.6.2)),
+        refl,
+      )
   reached name front asks f = absurd asks
 
   state_row : (name : DurationLine) → Asks (duration_line profile name) → RowsRead fault false (duration_at fault profile) (of_duration profile name)
@@ -241,7 +224,7 @@ module _ {E : Type 0} (fault : Row → E) (profile : Profile) where
       letter_stops fault profile (between context) c (between_goes profile context c all.0) (rw (all.0, lt-leb _ greatest_value past))
   value_stops context (Plain d ∷ ds) c rest all below past =
       let parts = digits_snoc (Plain d ∷ ds) c all in
-      over_all context d ds parts.0 (le-leb _ greatest_value below) till letter_stops fault profile (in_number context (Plain d ∷ ds)) c
+      over_all context d ds parts.0 (le-leb _ greatest_value below) upto letter_stops fault profile (in_number context (Plain d ∷ ds)) c
       (or_left _ _ (or_left _ _ parts.1)) (rw (parts.1, lt-leb _ greatest_value past))
   value_stops context (Bad ∷ ds) c rest all below past = absurd all
 
@@ -250,7 +233,7 @@ module _ {E : Type 0} (fault : Row → E) (profile : Profile) where
   unfolding step
   integer_stops context text rest g row h refused =
       rw h.is (over_number context h.ds g.value h.number
-      till letter_stops fault profile (in_number context h.ds) h.c (or_left _ _ (or_right _ _ h.ends))
+      upto letter_stops fault profile (in_number context h.ds) h.c (or_left _ _ (or_right _ _ h.ends))
       (rw (designator_no_digit (half_of context) h.c h.ends, h.ends) (refused _ (same_group h))))
 
   fraction_stops : (s : Sign) (dates times : List Group) (text rest : Text) (g : Group) → FractionGroup text g → IsFalse (in_order profile times g.unit)
@@ -259,9 +242,9 @@ module _ {E : Type 0} (fault : Row → E) (profile : Profile) where
   fraction_stops s dates times text rest g h order =
       let f = h.is_fraction in
       rw (h.is, f.is) (over_number (in_times s dates times) h.ds g.value h.number
-      till over_mark s dates times h.ds f.mark f.marks
-      till over_fraction s dates times h.ds f.ds f.some
-      till letter_stops fault profile (in_fraction s dates times h.ds f.ds) h.c (or_right _ _ h.ends)
+      upto over_mark s dates times h.ds f.mark f.marks
+      upto over_fraction s dates times h.ds f.ds f.some
+      upto letter_stops fault profile (in_fraction s dates times h.ds f.ds) h.c (or_right _ _ h.ends)
       (rw (designator_no_digit time h.c h.ends) (misplaced rest (in_times s dates times) _ g _ (same_fraction_group h) order)))
 
   order_stops : (half : Half) (context : Context) (text rest : Text) → half_of context ≡ half → OutOfOrder profile half context text
@@ -281,25 +264,21 @@ module _ {E : Type 0} (fault : Row → E) (profile : Profile) where
   line_rows : (name : DurationLine) → RowsRead fault false (duration_at fault profile) (of_duration profile name)
   line_rows (group_value_range half) (anywhere left) e front rest f at =
       let past = f.6 in
-      rw (f.4, at.0, at.1, ← f.3, past.2) ((over_context f.1 f.0 f.5 till value_stops f.0 past.0 past.1 rest (rw past.2 at (some_all f.2 past.3)) past.4
-      (rw past.2 at past.5)).halts)
-  line_rows (unit_order half) (anywhere left) e front rest f at = rw (f.4, at.0, at.1) ((over_context f.1 f.0 f.5 till order_stops half f.0 f.2 rest f.3 f.6).halts)
-  line_rows date_unit_range (anywhere left) e front rest f at = rw (f.4, at.0, at.1) ((over_context f.1 f.0 f.5 till unit_stops f.0 f.2 rest f.3 f.6).halts)
+      rw (f.4, at.0, at.1, ← f.3, past.2) ((over_context f.1 f.0 f.5 upto value_stops f.0 past.0 past.1 rest (rw past.2 at (some_all f.2 past.3)) past.4
+      (rw past.2 at past.5)).reads_to)
+  line_rows (unit_order half) (anywhere left) e front rest f at = rw (f.4, at.0, at.1) ((over_context f.1 f.0 f.5 upto order_stops half f.0 f.2 rest f.3 f.6).reads_to)
+  line_rows date_unit_range (anywhere left) e front rest f at = rw (f.4, at.0, at.1) ((over_context f.1 f.0 f.5 upto unit_stops f.0 f.2 rest f.3 f.6).reads_to)
   line_rows (group_value_range half) place e front rest f at = absurd at
   line_rows (unit_order half) place e front rest f at = absurd at
   line_rows date_unit_range place e front rest f at = absurd at
   line_rows name place e front rest f at = state_row name tt place e front rest f at
 
   -- each row of the reader's lines is returned
-  pub duration_rows : (name : LineName) (pairs : List Pair) (place : Place) (e : Fault) (prior front rest : Text)
-      → Before (parse_duration profile) name pairs prior (front ++ rest) → front_of (table (parse_duration profile) name) front
-      → Stops (table (parse_duration profile) name) place e rest
-      → duration_at fault profile (prior ++ (front ++ rest)) ≡ Err (fault (row_of name place e))
+  pub duration_rows : ReadsAllRows fault (parse_duration profile) (duration_at fault profile)
   duration_rows (of_duration other l) pairs place e prior front rest b f at =
-      let row : row_of (of_duration profile l) place e ≡ row_of (of_duration other l) place e = ap (λ p. row_of (of_duration p l) place e) (sym b.0.1) in
-      let here : front_of (duration_line profile l) front = subst (λ p. front_of (duration_line p l) front) b.0.1 f in
-      let there : Stops (duration_line profile l) place e rest = subst (λ p. Stops (duration_line p l) place e rest) b.0.1 at in
-      rw b.0.0 (line_rows l place e front rest here there ∙ ap (λ r. Err (fault r)) row)
+      let here : front_of (duration_line profile l) front = rw b.0.1 at f in
+      let there : Stops (duration_line profile l) place e rest = rw b.0.1 at at in
+      rw (b.0.0, b.0.1) (line_rows l place e front rest here there)
   duration_rows name pairs place e prior front rest b f at = absurd b.0
 
   -- ---- durations

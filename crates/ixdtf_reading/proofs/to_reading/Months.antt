@@ -1,18 +1,18 @@
 -- A year-month and a month-day give their record and the rest, and each row of their lines is returned.
-use Rattle.std.proofs.Common.{◌≡◌, ℕ, Bool, true, false, [], ◌∷◌, ◌++◌, Ok, Err, refl, sym, ap, ◌∙◌, subst, inl, inr, append_assoc, ℤ, pos, nat_le}
+use Rattle.std.proofs.Common.{◌≡◌, ℕ, Bool, true, false, [], ◌∷◌, ◌++◌, Ok, Err, refl, sym, ap, ◌∙◌, inl, inr, append_assoc, ℤ, pos, nat_le}
 use Rattle.std.proofs.lemmas.Bool.{and_parts, and_from, leb-true, le-leb, false_from_ne_true}
 use Rattle.ixdtf_grammar.specs.{declared.{profile.Profile.Profile, records.DateRecord.DateRecord}, language.Letters.{Text, digit, hyphen, Letter.Plain}}
-use Rattle.ixdtf_grammar.specs.language.{Shapes.{one, ◌then◌, ◌either◌}, Digits.{TwoDigits, decimal}, Dates.Month}
+use Rattle.ixdtf_grammar.specs.language.{Shapes.{one, some, digits, ◌then◌, ◌either◌}, Digits.{TwoDigits, decimal}, Dates.Month}
 use Rattle.ixdtf_grammar.specs.language.Months.{Marks, OptionalHyphen, IsYearMonth, MonthDayText, IsDayOfSomeYear, IsMonthDay, greatest_day, least_day}
 use Rattle.ixdtf_grammar.specs.{language.Readers.CoreKind.year_month, table.Faults.{Fault, Fault.{InvalidMonthRange, InvalidMonthDay}}}
 use Rattle.ixdtf_grammar.specs.table.LineNames.{DateLine, MonthDayLine, of_date, of_year_month, of_month_day, YearMonthLine.after_year_in_year_month}
 use Rattle.ixdtf_grammar.specs.table.LineNames.MonthDayLine.{month_day_start, month_day_hyphen, month_day_month_digits, month_day_month_range}
 use Rattle.ixdtf_grammar.specs.table.LineNames.MonthDayLine.{after_month_day_month, month_day_day_digits, month_day_range, after_month_day}
-use Rattle.ixdtf_grammar.specs.table.{Lines.{month_day_line, MonthDayMonthDigits, NoMonth}, Before.BeforeDate, Rows.{Row, Place, Stops, Place.anywhere}}
-use Rattle.ixdtf_reading.specs.reading.{Looks.{Read, row_of}, Dates.date_of}
+use Rattle.ixdtf_grammar.specs.table.{Lines.{month_day_line, MonthDayMonthDigits, NoMonthDay}, Before.BeforeDate, Rows.{Row, Place, Stops, Place.anywhere}}
+use Rattle.ixdtf_reading.specs.reading.{Looks.{Read, ◌>>=◌, row_of, mark_at}, Dates.date_of}
 use Rattle.ixdtf_reading.specs.reading.Months.{year_month_at, marks_at, lone_month_in_range, lone_day_in_range, lone_day_at, month_day_at}
-use Rattle.ixdtf_reading.proofs.parts.{Looks.{ReadsOver, ◌before◌, Halts, ◌till◌, RowsRead, whole_row, digits_go}, Marks.{hyphens_of, Starts, Begun}}
-use Rattle.ixdtf_reading.proofs.parts.Marks.{hyphen_is, begun_starts, digits_start, hyphen_over, mark_over, mark_stops, digits_stop_after}
+use Rattle.ixdtf_reading.proofs.parts.{Looks.{ReadsOver, ◌before◌, ◌upto◌, Halts, RowsRead}, Marks.{hyphens_of, Starts, Begun}}
+use Rattle.ixdtf_reading.proofs.parts.Marks.{hyphen_is, hyphen_over, mark_over, mark_stops, two_digits_over, two_digits_stop}
 use Rattle.ixdtf_reading.proofs.to_reading.Dates.{hyphens_are, month_is, month_is_none, over_year, over_month, year_stops, year_and_month_row}
 
 -- ---- year-months
@@ -35,7 +35,8 @@ module _ {E : Type 0} (fault : Row → E) where
   year_month_takes text date rest h = (over_year_month text date h).over rest ∙ λ i. Ok (date_of date.year date.month (sym h.first_day i), rest)
 
   -- every row of a year and of a month after it
-  pub year_month_date_row : (l : DateLine) → BeforeDate year_month l [] → RowsRead fault true (year_month_at fault) (of_date l)
+  pub year_month_date_row : (l : DateLine) (prior : Text) → BeforeDate year_month l prior
+      → RowsRead fault true (λ body. year_month_at fault (prior ++ body)) (of_date l)
   unfolding year_month_at
   year_month_date_row = year_and_month_row fault (of_year_month after_year_in_year_month) (λ c. refl) first_of true
 
@@ -103,62 +104,38 @@ module _ {E : Type 0} (fault : Row → E) (profile : Profile) where
   ) refl
   over_marks false text starts = rw (hyphen_over fault (of_month_day month_day_start) false text (λ c. refl) starts)
 
-  over_lone_month : (b : Bool) (ms : Text) (m : ℕ) → Month ms m → ReadsOver (month_day_at fault profile) (marks_of b ++ ms) (lone_day_at fault profile m)
-  unfolding month_day_at lone_month_in_range
-  over_lone_month b ms m h = record {
-    over = λ rest.
-        rw (
-          append_assoc,
-          over_marks b (ms ++ rest) (digits_start b 1 ms rest h.0.0),
-          digits_go fault (of_month_day month_day_month_digits) (λ c. refl) 2 ms rest h.0.0,
-          sym h.0.1,
-          month_is m h.1 h.2,
-        ) refl;
-  }
+  -- what is read of a month's digits and behind them
+  abbrev month_from : Bool → Text × Text → Read E DateRecord
+  month_from b ds = lone_month_in_range fault ds >>= λ month. lone_day_at fault profile month.0 month.1
 
-  month_stops : (b : Bool) (ds rest : Text) (place : Place) (e : Fault) → Begun b ds → Stops (month_day_line month_day_month_digits) place e rest
-      → month_day_at fault profile ((marks_of b ++ ds) ++ rest) ≡ Err (fault (row_of (of_month_day month_day_month_digits) place e))
+  over_digits : (b : Bool) (ds : Text) → digits 2 ds → ReadsOver (month_day_at fault profile) (marks_of b ++ ds) (λ rest. month_from b (ds, rest))
   unfolding month_day_at
-  month_stops b ds rest place e h at =
-      rw (
-        append_assoc,
-        over_marks b (ds ++ rest) (begun_starts b ds rest h),
-        digits_stop_after fault (of_month_day month_day_month_digits) b ds rest place e (λ c. refl) h at,
-      ) refl
+  over_digits b = two_digits_over fault (marks_at fault) (of_month_day month_day_month_digits) (λ c. refl) month_from b (marks_of b) (over_marks b)
 
-  month_out : (b : Bool) (ds rest : Text) → NoMonth ds → month_day_at fault profile ((marks_of b ++ ds) ++ rest) ≡ Err (fault (no_lone_month rest))
-  unfolding month_day_at lone_month_in_range
-  month_out b ds rest h =
-      rw (
-        append_assoc,
-        over_marks b (ds ++ rest) (digits_start b 1 ds rest h.0),
-        digits_go fault (of_month_day month_day_month_digits) (λ c. refl) 2 ds rest h.0,
-        month_is_none (decimal ds) h.1,
-      ) refl
+  over_lone_month : (b : Bool) (ms : Text) (m : ℕ) → Month ms m → ReadsOver (month_day_at fault profile) (marks_of b ++ ms) (lone_day_at fault profile m)
+  unfolding lone_month_in_range
+  over_lone_month b ms m h = record { over = λ rest. (over_digits b ms h.0.0).over rest ∙ rw (sym h.0.1, month_is m h.1 h.2) refl }
+
+  -- what is read of a day's digits
+  abbrev day_from : ℕ → Bool → Text × Text → Read E DateRecord
+  day_from m b ds = lone_day_in_range fault profile m (decimal ds.0) ds.1
+
+  over_hyphen : (b : Bool) (text : Text) → Starts b text → mark_at fault (of_month_day after_month_day_month) hyphen (hyphens_of b ++ text) ≡ Ok (b, text)
+  over_hyphen b text = hyphen_over fault (of_month_day after_month_day_month) b text (λ c. refl)
 
   pub over_lone_day : (m : ℕ) (b : Bool) (ds : Text) (d : ℕ) → TwoDigits ds d
       → ReadsOver (lone_day_at fault profile m) (hyphens_of b ++ ds) (lone_day_in_range fault profile m d)
   unfolding lone_day_at
-  over_lone_day m b ds d h = record {
-    over = λ rest.
-        rw (
-          append_assoc,
-          hyphen_over fault (of_month_day after_month_day_month) b (ds ++ rest) (λ c. refl) (digits_start b 1 ds rest h.0),
-          digits_go fault (of_month_day month_day_day_digits) (λ c. refl) 2 ds rest h.0,
-          h.1,
-        ) refl;
-  }
+  over_lone_day m b ds d h =
+      rw (← h.1) at (two_digits_over fault (mark_at fault (of_month_day after_month_day_month) hyphen) (of_month_day month_day_day_digits) (λ c. refl)
+      (day_from m) b (hyphens_of b) (over_hyphen b) ds h.0)
 
   day_stops : (m : ℕ) (b : Bool) (ds rest : Text) (place : Place) (e : Fault) → Begun b ds → Stops (month_day_line month_day_day_digits) place e rest
       → Halts (lone_day_at fault profile m) (hyphens_of b ++ ds) rest (fault (row_of (of_month_day month_day_day_digits) place e))
   unfolding lone_day_at
-  day_stops m b ds rest place e h at = record {
-    halts = rw (
-      append_assoc,
-      hyphen_over fault (of_month_day after_month_day_month) b (ds ++ rest) (λ c. refl) (begun_starts b ds rest h),
-      digits_stop_after fault (of_month_day month_day_day_digits) b ds rest place e (λ c. refl) h at,
-    ) refl;
-  }
+  day_stops m b =
+      two_digits_stop fault (mark_at fault (of_month_day after_month_day_month) hyphen) (of_month_day month_day_day_digits) (λ c. refl) (day_from m)
+      b (hyphens_of b) (over_hyphen b)
 
   over_month_day : (text : Text) (date : DateRecord) → MonthDayText text date
       → ReadsOver (month_day_at fault profile) text (lone_day_in_range fault profile date.month date.day)
@@ -173,54 +150,33 @@ module _ {E : Type 0} (fault : Row → E) (profile : Profile) where
   month_day_takes text date rest h = (over_month_day text date h.0).over rest ∙ day_fits date.month date.day rest h.1
       ∙ λ i. Ok (date_of (sym h.0.no_year i) date.month date.day, rest)
 
-  -- ---- each row is returned
-
-  start_row : RowsRead fault true (month_day_at fault profile) (of_month_day month_day_start)
-  unfolding month_day_at marks_at
-  start_row place e front rest f at = rw (f, mark_stops fault (of_month_day month_day_start) place e rest tt at)
-
-  hyphen_row : RowsRead fault true (month_day_at fault profile) (of_month_day month_day_hyphen)
-  unfolding month_day_at marks_at
-  hyphen_row place e front rest f at =
+  -- every row of a month-day but those after it
+  pub month_day_row : (l : MonthDayLine) → IsInMonthDay profile l → RowsRead fault true (month_day_at fault profile) (of_month_day l)
+  unfolding month_day_at marks_at lone_month_in_range lone_day_at
+  month_day_row month_day_start h place e front rest f at = rw (f, mark_stops fault (of_month_day month_day_start) place e rest tt at)
+  month_day_row month_day_hyphen h place e front rest f at =
       rw (
         hyphen_is front f,
         hyphen_over fault (of_month_day month_day_start) true rest (λ c. refl) tt,
         mark_stops fault (of_month_day month_day_hyphen) place e rest tt at,
       ) refl
-
-  month_digits_row : RowsRead fault true (month_day_at fault profile) (of_month_day month_day_month_digits)
-  month_digits_row place e front rest f at = let t = begun_month front f in rw t.2 (month_stops t.0 t.1 rest place e t.3 at)
-
-  month_range_row : RowsRead fault true (month_day_at fault profile) (of_month_day month_day_month_range)
-  month_range_row = whole_row fault true (month_day_at fault profile) (of_month_day month_day_month_range) tt λ e front rest f at.
+  month_day_row month_day_month_digits h place e front rest f at =
+      let t = begun_month front f in
+      rw t.2 ((two_digits_stop fault (marks_at fault) (of_month_day month_day_month_digits) (λ c. refl) month_from t.0 (marks_of t.0) (over_marks t.0)
+      t.1 rest place e t.3 at).reads_to)
+  month_day_row month_day_month_range h (anywhere left) e front rest f at =
       let t = marks_are f.0 f.3 in
-      rw (f.2, t.1, at.0) (month_out t.0 f.1 rest f.4)
-
-  after_month_row : RowsRead fault true (month_day_at fault profile) (of_month_day after_month_day_month)
-  unfolding lone_day_at
-  after_month_row place e front rest f at =
+      rw (f.2, t.1, at.0, at.1) ((over_digits t.0 f.1 f.4.0).over rest ∙ rw (month_is_none (decimal f.1) f.4.1) refl)
+  month_day_row after_month_day_month h place e front rest f at =
       let t = marks_are f.0 f.3 in
       rw (f.2, t.1) ((over_lone_month t.0 f.1 f.4.0 f.4.1).over rest ∙ rw (mark_stops fault (of_month_day after_month_day_month) place e rest tt at))
-
-  day_digits_row : RowsRead fault true (month_day_at fault profile) (of_month_day month_day_day_digits)
-  day_digits_row place e front rest f at =
+  month_day_row month_day_day_digits h place e front rest f at =
       let t = marks_are f.0 f.3 in
       let s = begun_day f.4.1 f.4.4 in
       rw (f.2, f.4.2, ← append_assoc f.0 f.4.0 f.4.1, t.1, s.2)
-      ((over_lone_month t.0 f.4.0 f.4.3.0 f.4.3.1 till day_stops f.4.3.0 s.0 s.1 rest place e s.3 at).halts)
-
-  day_range_row : RowsRead fault true (month_day_at fault profile) (of_month_day (month_day_range profile))
-  day_range_row = whole_row fault true (month_day_at fault profile) (of_month_day (month_day_range profile)) tt λ e front rest f at.
-      rw at.0 ((over_month_day front f.0 f.1.0).over rest ∙ day_refused f.0.month f.0.day rest f.1.1)
-
-  -- every row of a month-day but those after it
-  pub month_day_row : (l : MonthDayLine) → IsInMonthDay profile l → RowsRead fault true (month_day_at fault profile) (of_month_day l)
-  month_day_row month_day_start h = start_row
-  month_day_row month_day_hyphen h = hyphen_row
-  month_day_row month_day_month_digits h = month_digits_row
-  month_day_row month_day_month_range h = month_range_row
-  month_day_row after_month_day_month h = after_month_row
-  month_day_row month_day_day_digits h = day_digits_row
-  month_day_row (month_day_range other) h =
-      subst (λ p. RowsRead fault true (month_day_at fault profile) (of_month_day (month_day_range p))) (sym h) day_range_row
-  month_day_row (after_month_day other) h = absurd h
+      ((over_lone_month t.0 f.4.0 f.4.3.0 f.4.3.1 upto day_stops f.4.3.0 s.0 s.1 rest place e s.3 at).reads_to)
+  month_day_row (month_day_range other) h (anywhere left) e front rest f at =
+      let here : some (NoMonthDay profile) front = rw h at f in
+      rw (h, at.0, at.1) ((over_month_day front here.0 here.1.0).over rest ∙ day_refused here.0.month here.0.day rest here.1.1)
+  month_day_row (after_month_day other) h place e front rest f at = absurd h
+  month_day_row l h place e front rest f at = absurd at

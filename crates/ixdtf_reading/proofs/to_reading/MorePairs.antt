@@ -2,10 +2,10 @@
 use Rattle.std.proofs.Common.{◌≡◌, ℕ, zero, suc, ◌<◌, ◌+◌, List, [], ◌∷◌, ◌++◌, length, Ok, Err, refl, ap, ◌∙◌, subst, arith, append_assoc, append-nil, true}
 use Rattle.std.proofs.lemmas.List.{length-append}
 use Rattle.ixdtf_grammar.specs.{language.{Letters.{Text, opening, Letter.Plain}, Shapes.nothing, Brackets.{Pair, ArePairs}}, table.Faults.Fault}
-use Rattle.ixdtf_grammar.specs.table.{Faults.Fault.InvalidEnd, LineNames.{LineName, LineName.{of_bracket, of_pair}, BracketLine.after_bracket}}
-use Rattle.ixdtf_grammar.specs.table.{Lines.{line_of, always}, Rows.{Row, Place, Stops, front_of}}
+use Rattle.ixdtf_grammar.specs.table.{Faults.Fault.InvalidEnd, LineNames.{LineName, LineName.{of_bracket, of_pair}, BracketLine.after_bracket}, Lines.line_of}
+use Rattle.ixdtf_grammar.specs.table.{Lines.always, Rows.{Row, Place, Stops, front_of}}
 use Rattle.ixdtf_reading.specs.reading.{Looks.{row_of, look_at_line}, Pairs.{later_pair_at, next_pair_at, pairs_at}, Chains.AfterBrackets}
-use Rattle.ixdtf_reading.proofs.{parts.Looks.{peek_end, peek_goes, peek_stops}, to_reading.Pair.{later_pair_takes, later_pair_rows}}
+use Rattle.ixdtf_reading.proofs.{parts.Looks.{peek_end, peek_goes, peek_stops, RowsWhere}, to_reading.Pair.{later_pair_takes, later_pair_rows}}
 
 -- what follows something is shorter
 pub shorter : (whole front inner rest : Text) (c : ℕ) (n : ℕ) → front ≡ Plain c ∷ inner → whole ≡ front ++ rest → length whole < suc n → length rest < n
@@ -16,14 +16,13 @@ shorter whole front inner rest c n starts is less =
 
 module _ {E : Type 0} (fault : Row → E) where
   -- each row of the line after whole brackets, and of the lines of a pair
-  next_row : (name : LineName) (place : Place) (e : Fault) (prior front rest : Text) → AfterBrackets name prior → front_of (line_of true name) front
-      → Stops (line_of true name) place e rest → next_pair_at fault (prior ++ (front ++ rest)) ≡ Err (fault (row_of name place e))
+  next_row : (name : LineName) → RowsWhere fault true (next_pair_at fault) name (λ prior rest. AfterBrackets name prior)
   unfolding next_pair_at
   next_row (of_bracket after_bracket) place e prior front rest b f at =
       rw (b, f, peek_stops fault (of_bracket after_bracket) nothing opening (always InvalidEnd) place e rest at)
   next_row (of_pair l) place e prior front rest b f at =
       let row = later_pair_rows fault l place e prior front rest b f at in
-      rw (row.1, peek_goes (look_at_line fault (of_bracket after_bracket)) 91 row.0 refl, row.2)
+      rw (← append_assoc prior front rest, row.1, peek_goes (look_at_line fault (of_bracket after_bracket)) 91 (row.0 ++ rest) refl, row.2)
   next_row name place e prior front rest b f at = absurd b
 
 module _ {E : Type 0} (fault : List Pair → Row → E) where

@@ -1,15 +1,15 @@
 -- A pair is read, and each row of a pair's lines is returned.
-use Rattle.std.proofs.Common.{◌≡◌, ℕ, Bool, true, false, IsTrue, IsFalse, List, [], ◌∷◌, ◌++◌, map, Ok, Err, refl, sym, ap, ◌∙◌, arith, append_assoc}
-use Rattle.std.proofs.lemmas.{Bool.{or_parts, or_left, or_right, eqb-true, Decides.nat_tests}, List.map-append}
-use Rattle.ixdtf_grammar.specs.language.Letters.{Text, ◌or◌, hyphen, equals, opening, closing, exclamation, key_lead, key_char, value_char, Letter.Plain}
-use Rattle.ixdtf_grammar.specs.{language.{Shapes.{Shape, one, ◌then◌, Joined}, Brackets.{Pair, Key, ValueRun, Value, IsPair, Opens}}, table.Faults.Fault}
+use Rattle.std.proofs.Common.{◌≡◌, ℕ, Bool, true, IsTrue, IsFalse, List, [], ◌∷◌, ◌++◌, map, Ok, Err, refl, ap, ◌∙◌, arith, append_assoc}
+use Rattle.std.proofs.lemmas.{Bool.{or_parts, or_left, eqb-true, Decides.nat_tests}}
+use Rattle.ixdtf_grammar.specs.language.Letters.{Text, ◌or◌, hyphen, equals, closing, exclamation, key_lead, key_char, value_char, Letter.Plain}
+use Rattle.ixdtf_grammar.specs.{language.{Shapes.{one, ◌then◌}, Brackets.{Pair, Key, ValueRun, Value, IsPair, Opens}}, table.Faults.Fault}
 use Rattle.ixdtf_grammar.specs.table.LineNames.{PairLine, LineName.of_pair}
 use Rattle.ixdtf_grammar.specs.table.LineNames.PairLine.{key_start, critical_key_start, in_key, value_start, in_value, after_value_hyphen}
-use Rattle.ixdtf_grammar.specs.table.{Lines.{line_of, pair_line}, Rows.{Row, Place, Stops, front_of, Place.{end, other, bad, anywhere}}}
+use Rattle.ixdtf_grammar.specs.table.{Lines.{line_of, pair_line}, Rows.{Row, Place, Stops, front_of, Place.{end, other, bad}}}
 use Rattle.ixdtf_reading.specs.reading.{Looks.{Read, row_of}, Zones.with_letter, Pairs.{value_line, value_other, value_step, key_run, value_run, pair_at}}
 use Rattle.ixdtf_reading.specs.reading.Pairs.{critical_pair_at, later_pair_at, ValueState, AtStart, Inside, AfterHyphen, ValueStep, GoesOn, Ends}
 use Rattle.ixdtf_reading.specs.reading.{Pairs.{ValueStep as steps}, Chains.AfterBrackets}
-use Rattle.ixdtf_reading.proofs.{parts.{Looks.{goes, stops}, Steps.{with_letters, letters_err, letters_ok, steps_both}}, to_reading.ZoneNames.plain_faithful}
+use Rattle.ixdtf_reading.proofs.parts.{Looks.row_here, Openings.{Returned, opened, start_row, critical_row}, Steps.{IsOver, over_one, over_both, over_many, over_ok, over_err}}
 
 -- the lines from the key on
 abbrev pub InPair : PairLine → Type 0
@@ -35,51 +35,9 @@ pair_text h = record { keys = h.keys; values = h.values; is = refl; is_key = h.i
 key_lead_goes : (c : ℕ) → IsTrue (key_lead c) → IsTrue (key_char c)
 key_lead_goes c h = grind (arith, nat_tests)
 
-equals_no_key : (c : ℕ) → IsTrue (equals c) → IsFalse (key_char c)
-equals_no_key c h = rw (eqb-true c 61 h)
-
-hyphen_no_value : (c : ℕ) → IsTrue (hyphen c) → IsFalse (value_char c)
-hyphen_no_value c h = rw (eqb-true c 45 h)
-
-lead_no_exclamation : (c : ℕ) → IsTrue (key_lead c) → IsFalse (exclamation c)
-lead_no_exclamation c h = grind (arith, nat_tests)
-
 -- what stops in a value
 no_value : (c : ℕ) → IsFalse ((value_char or hyphen or closing) c) → IsFalse (value_char c) × IsFalse (hyphen c) × IsFalse (closing c)
 no_value c h = (grind (arith, nat_tests), grind (arith, nat_tests), grind (arith, nat_tests))
-
--- ---- code units that are read over
-
-module _ {E : Type 0} where
-  -- the text is code units that lead from a run to a run
-  record IsOver (run next : Text → Read E (List ℕ)) (text : Text) : Type 0 where
-    letters : List ℕ
-    is : text ≡ map Plain letters
-    over : (rest : Text) → run (text ++ rest) ≡ with_letters letters (next rest)
-
-  over_one : {run next : Text → Read E (List ℕ)} (c : ℕ) → ((rest : Text) → run (Plain c ∷ rest) ≡ with_letter c (next rest)) → IsOver run next (Plain c ∷ [])
-  over_one c h = record { letters = c ∷ []; is = refl; over = h }
-
-  over_both : {run last : Text → Read E (List ℕ)} {first second : Text} (next : Text → Read E (List ℕ)) → IsOver run next first → IsOver next last second
-      → IsOver run last (first ++ second)
-  over_both {last} {second} next a b = record {
-    letters = a.letters ++ b.letters;
-    is = rw (a.is, b.is) (sym (map-append Plain a.letters b.letters));
-    over = λ rest. rw append_assoc (a.over (second ++ rest) ∙ rw (b.over rest) (steps_both with_letter a.letters b.letters (last rest)));
-  }
-
-  over_many : {run : Text → Read E (List ℕ)} {shape : Shape} → ((text : Text) → shape text → IsOver run run text) → (parts : List Text) (text : Text)
-      → Joined shape parts text → IsOver run run text
-  over_many each [] text h = record { letters = []; is = h; over = λ rest. rw h refl }
-  over_many each (part ∷ parts) text h = rw h.1 (over_both _ (each part h.2) (over_many each parts h.0 h.3))
-
-  -- a whole run is read, and a fault after it is returned
-  over_ok : {run next : Text → Read E (List ℕ)} {text : Text} (letters : List ℕ) (rest more : Text) → IsOver run next text → text ≡ map Plain letters
-      → next rest ≡ Ok ([], more) → run (text ++ rest) ≡ Ok (letters, more)
-  over_ok letters rest more o is h = rw (o.over rest, h, letters_ok {E = E} o.letters more, plain_faithful o.letters letters (sym o.is ∙ is))
-
-  over_err : {run next : Text → Read E (List ℕ)} {text : Text} (rest : Text) (e : E) → IsOver run next text → next rest ≡ Err e → run (text ++ rest) ≡ Err e
-  over_err rest e o h = rw (o.over rest, h) (letters_err o.letters e)
 
 module _ {E : Type 0} (fault : Row → E) where
   -- ---- keys
@@ -95,15 +53,14 @@ module _ {E : Type 0} (fault : Row → E) where
 
   key_ends : (c : ℕ) (rest : Text) → IsTrue (equals c) → key_run fault (Plain c ∷ rest) ≡ Ok ([], rest)
   unfolding key_run
-  key_ends c rest h = rw (equals_no_key c h, h)
+  key_ends c rest h = rw (eqb-true c 61 h) refl
 
   key_stops : (place : Place) (e : Fault) (rest : Text) → Stops (pair_line in_key) place e rest
       → key_run fault rest ≡ Err (fault (row_of (of_pair in_key) place e))
   unfolding key_run
-  key_stops (end left) e rest at = rw (at.2, at.0) (grind (arith, at.1))
-  key_stops (other left) e rest at = let out = or_parts (key_char at.0) (equals at.0) at.3 in rw (at.5, at.2, at.4) (rw (out.0, out.1))
-  key_stops (bad left) e rest at = rw (at.3, at.1, at.2)
-  key_stops (anywhere left) e rest at = absurd at
+  key_stops =
+      row_here fault (of_pair in_key) (key_run fault) (pair_line in_key)
+      (refl, (λ rest. refl), λ c rest out. rw ((or_parts (key_char c) (equals c) out).0, (or_parts (key_char c) (equals c) out).1) refl)
 
   -- ---- values
 
@@ -126,7 +83,7 @@ module _ {E : Type 0} (fault : Row → E) where
   value_letter state c h = over_one c (λ rest. by_step state c rest (GoesOn Inside) (rw h))
 
   value_hyphen : (c : ℕ) → IsTrue (hyphen c) → IsOver (value_run fault Inside) (value_run fault AfterHyphen) (Plain c ∷ [])
-  value_hyphen c h = over_one c (λ rest. by_step Inside c rest (GoesOn AfterHyphen) (rw (hyphen_no_value c h, h)))
+  value_hyphen c h = over_one c (λ rest. by_step Inside c rest (GoesOn AfterHyphen) (rw (eqb-true c 45 h) refl))
 
   over_run : (state : ValueState) (text : Text) → ValueRun text → IsOver (value_run fault state) (value_run fault Inside) text
   over_run state text h =
@@ -193,79 +150,37 @@ module _ {E : Type 0} (fault : Row → E) where
 
   -- ---- pairs after their `[`
 
-  -- the text after `[`, and the reading of a pair that follows
-  abbrev Starts : Text → Bool → Type 0
-  Starts start critical =
-      (inner : Text) × (start ≡ Plain 91 ∷ inner) × ((c : ℕ) (more : Text) → IsTrue (key_lead c) → later_pair_at fault
-      (inner ++ (Plain c ∷ more)) ≡ pair_at fault critical (Plain c ∷ more))
+  -- a pair is read by its key, whatever its first code unit
+  abbrev by_key : Bool → ℕ → Text → Read E Pair
+  by_key critical c text = pair_at fault critical text
 
-  starts : (start : Text) (critical : Bool) → Opens start critical → Starts start critical
+  may_start : (c : ℕ) → IsTrue (key_lead c) → IsTrue ((key_lead or exclamation) c) × IsTrue (key_lead c) × IsFalse (exclamation c)
+  may_start c h = (or_left _ _ h, h, grind (arith, nat_tests))
+
+  -- what begins as a key does, behind what opens its bracket
+  at_key : (start : Text) (critical : Bool) (keys : Text) (body rest : Text) (given : Read E Pair) → Opens start critical → Key keys
+      → (more : Text) → body ++ rest ≡ keys ++ more → pair_at fault critical (body ++ rest) ≡ given → Returned (later_pair_at fault) (start ++ body) rest given
   unfolding later_pair_at critical_pair_at
-  starts start true h = (
-    h.1,
-    h.2 ∙ rw (h.3.1, eqb-true h.3.0 91 h.3.2),
-    λ c more lead. rw (
-      h.4.1,
-      goes fault (of_pair key_start) h.4.0 (Plain c ∷ more) tt (or_right _ _ h.4.2),
-      h.4.2,
-      goes fault (of_pair critical_key_start) c more tt lead,
-    ),
-  )
-  starts start false h =
-      ([], h.1 ∙ rw (eqb-true h.0 91 h.2), λ c more lead. rw (goes fault (of_pair key_start) c more tt (or_left _ _ lead), lead_no_exclamation c lead))
+  at_key start critical keys body rest given opens key more is h =
+      opened fault (of_pair key_start) (of_pair critical_key_start) key_lead tt tt may_start refl by_key start critical opens body rest given
+      (key.3.0, key.1 ++ more, is ∙ rw (key.2, key.3.1) refl, key.3.2, h)
 
-  -- what begins as a key does, after what opens its bracket
-  at_key : (start text : Text) (critical : Bool) (keys rest : Text) (given : Read E Pair) → Opens start critical → Key keys → text ≡ keys ++ rest
-      → pair_at fault critical text ≡ given → (inner : Text) × (start ++ text ≡ Plain 91 ∷ inner) × (later_pair_at fault inner ≡ given)
-  at_key start text critical keys rest given opens key is h =
-      let o = starts start critical opens in
-      let whole : text ≡ Plain key.3.0 ∷ (key.1 ++ rest) = is ∙ rw (key.2, key.3.1) refl in (
-        o.0 ++ text,
-        ap (λ t. t ++ text) o.1,
-        ap (λ t. later_pair_at fault (o.0 ++ t)) whole ∙ o.2 key.3.0 (key.1 ++ rest) key.3.2
-            ∙ ap (pair_at fault critical) (sym whole) ∙ h,
-      )
-
-  -- a whole pair, after its `[`
-  pub later_pair_takes : (front rest : Text) (pair : Pair) → IsPair front pair
-      → (inner : Text) × (front ≡ Plain 91 ∷ inner) × (later_pair_at fault (inner ++ rest) ≡ Ok (pair, rest))
+  -- a whole pair
+  pub later_pair_takes : (front rest : Text) (pair : Pair) → IsPair front pair → Returned (later_pair_at fault) front rest (Ok (pair, rest))
   later_pair_takes front rest pair h =
-      let o = starts h.start pair.critical h.opens in
-      let body : Text = h.keys ++ (Plain 61 ∷ (h.values ++ (Plain 93 ∷ []))) in
-      let key : Key h.keys = h.is_key in
-      let whole : body ++ rest ≡ Plain key.3.0 ∷ (key.1 ++ ((Plain 61 ∷ (h.values ++ (Plain 93 ∷ []))) ++ rest)) = simp append_assoc
-      (rw (key.2, key.3.1) (simp append_assoc)) in
-      let is : (o.0 ++ body) ++ rest ≡ o.0 ++ (body ++ rest) = simp append_assoc in (
-        o.0 ++ body,
-        h.is ∙ ap (λ t. t ++ body) o.1,
-        ap (later_pair_at fault) (is ∙ ap (λ t. o.0 ++ t) whole) ∙ o.2 key.3.0 _ key.3.2 ∙ ap (pair_at fault pair.critical) (sym whole)
-            ∙ pair_takes body rest pair (pair_text h),
-      )
+      let behind : Text = Plain 61 ∷ (h.values ++ (Plain 93 ∷ [])) in
+      rw h.is (at_key h.start pair.critical h.keys (h.keys ++ behind) rest _ h.opens h.is_key (behind ++ rest) (append_assoc h.keys behind rest)
+      (pair_takes (h.keys ++ behind) rest pair (pair_text h)))
 
-  -- the text is `[` and more, after which reading a pair returns this
-  abbrev Returned : Text → Read E Pair → Type 0
-  Returned text given = (inner : Text) × (text ≡ Plain 91 ∷ inner) × (later_pair_at fault inner ≡ given)
-
-  start_row : (place : Place) (e : Fault) (front rest : Text) → one opening front → Stops (pair_line key_start) place e rest
-      → Returned (front ++ rest) (Err (fault (row_of (of_pair key_start) place e)))
-  unfolding later_pair_at
-  start_row place e front rest f at = (rest, rw (f.1, eqb-true f.0 91 f.2), rw (stops fault (of_pair key_start) place e rest tt at))
-
-  critical_row : (place : Place) (e : Fault) (front rest : Text) → (one opening then one exclamation) front
-      → Stops (pair_line critical_key_start) place e rest → Returned (front ++ rest) (Err (fault (row_of (of_pair critical_key_start) place e)))
-  unfolding later_pair_at critical_pair_at
-  critical_row place e front rest f at = (
-    f.1 ++ rest,
-    rw (f.2, f.3.1, eqb-true f.3.0 91 f.3.2),
-    rw (f.4.1, goes fault (of_pair key_start) f.4.0 rest tt (or_right _ _ f.4.2), f.4.2, stops fault (of_pair critical_key_start) place e rest tt at),
-  )
-
-  pub later_pair_rows : (l : PairLine) (place : Place) (e : Fault) (before_front front rest : Text) → AfterBrackets (of_pair l) before_front
+  pub later_pair_rows : (l : PairLine) (place : Place) (e : Fault) (before front rest : Text) → AfterBrackets (of_pair l) before
       → front_of (line_of true (of_pair l)) front → Stops (line_of true (of_pair l)) place e rest
-      → (inner : Text) × (before_front ++ (front ++ rest) ≡ Plain 91 ∷ inner) × (later_pair_at fault inner ≡ Err (fault (row_of (of_pair l) place e)))
-  later_pair_rows key_start place e start front rest b f at = rw b (start_row place e front rest f at)
-  later_pair_rows critical_key_start place e start front rest b f at = rw b (critical_row place e front rest f at)
-  later_pair_rows in_key place e start front rest b f at =
-      at_key start (front ++ rest) b.0 front rest _ b.1 f refl (pair_rows b.0 in_key place e front rest tt f at)
-  later_pair_rows l place e start front rest b f at =
-      at_key start (front ++ rest) b.0 f.0 (f.1 ++ rest) _ b.1 f.3 (rw f.2 (simp append_assoc)) (pair_rows b.0 l place e front rest tt f at)
+      → Returned (later_pair_at fault) (before ++ front) rest (Err (fault (row_of (of_pair l) place e)))
+  unfolding later_pair_at critical_pair_at
+  later_pair_rows key_start place e before front rest b f at =
+      rw b (start_row fault (of_pair key_start) (of_pair critical_key_start) key_lead tt tt may_start refl by_key place e front rest f at)
+  later_pair_rows critical_key_start place e before front rest b f at =
+      rw b (critical_row fault (of_pair key_start) (of_pair critical_key_start) key_lead tt tt may_start refl by_key place e front rest f at)
+  later_pair_rows in_key place e before front rest b f at =
+      at_key before b.0 front front rest _ b.1 f rest refl (pair_rows b.0 in_key place e front rest tt f at)
+  later_pair_rows l place e before front rest b f at =
+      at_key before b.0 f.0 front rest _ b.1 f.3 (f.1 ++ rest) (rw f.2 (simp append_assoc)) (pair_rows b.0 l place e front rest tt f at)

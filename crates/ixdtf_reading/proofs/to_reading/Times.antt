@@ -1,22 +1,19 @@
 -- A time is read as far as it goes, wherever it starts, and each row of a time's lines is returned.
-use Rattle.std.proofs.Common.{◌≡◌, ℕ, suc, ◌<◌, ◌⊎◌, Bool, true, false, IsTrue, IsFalse, [], ◌∷◌, ◌++◌, Ok, Err, Option, Some, None, refl, sym, ap, ◌∙◌, inl}
-use Rattle.std.proofs.{Common.{inr, arith, append-nil, nat_le}, lemmas.Bool.{le-leb, lt-leb, or_parts, Decides.nat_tests}}
+use Rattle.std.proofs.Common.{◌≡◌, ℕ, suc, ◌<◌, ◌⊎◌, Bool, true, false, IsTrue, IsFalse, [], ◌∷◌, ◌++◌, Ok, Err, Some, None, refl, sym, ◌∙◌, inl, inr, arith}
+use Rattle.std.proofs.{Common.{append-nil, nat_le}, lemmas.Bool.{le-leb, lt-leb, or_parts, Decides.nat_tests}}
 use Rattle.ixdtf_grammar.specs.{declared.records.TimeRecord.TimeRecord, language.Times.{Clock, TimeShape, ClockOf, SecondText, greatest_second, has_seconds}}
-use Rattle.ixdtf_grammar.specs.language.Times.TimeShape.{hours, basic_minutes, colon_minutes, seconds, fractions}
-use Rattle.ixdtf_grammar.specs.language.{Letters.{Text, Class, ◌or◌, digit, colon, decimal_mark, Letter.{Plain, Bad}}, Shapes.{Shape, some, digits, one}}
-use Rattle.ixdtf_grammar.specs.{language.{Digits.{decimal, UpTo}, Fractions.{FractionParts, fraction_of}}, table.Faults.Fault}
-use Rattle.ixdtf_grammar.specs.table.LineNames.{ClockLine, LineName, LineName.of_clock, ClockLine.{hour_start, hour_digit, hour_range, minute_digits}}
-use Rattle.ixdtf_grammar.specs.table.LineNames.ClockLine.{minute_range, second_digits, second_range, fraction_start}
-use Rattle.ixdtf_grammar.specs.table.Lines.{Follow, line_of, follow_of, seconds_after, after_minute, Past, ColonOrDigit, Line.line, Ending.error}
-use Rattle.ixdtf_grammar.specs.table.Rows.{Row, Place, Stops, front_of, Place.{end, other, bad, anywhere}}
+use Rattle.ixdtf_grammar.specs.language.{Times.TimeShape.{hours, basic_minutes, colon_minutes, seconds, fractions}, Letters.{Text, Class, ◌or◌, digit, colon}}
+use Rattle.ixdtf_grammar.specs.language.{Letters.{decimal_mark, Letter.{Plain, Bad}}, Shapes.{Shape, nothing, some, digits, one}, Digits.{decimal, UpTo}}
+use Rattle.ixdtf_grammar.specs.{language.Fractions.{FractionParts, fraction_of}, table.{Faults.Fault, LineNames.{ClockLine, LineName, LineName.of_clock}}}
+use Rattle.ixdtf_grammar.specs.table.LineNames.ClockLine.{hour_start, hour_digit, hour_range, minute_digits, minute_range, second_digits, second_range}
+use Rattle.ixdtf_grammar.specs.table.LineNames.ClockLine.{fraction_start, after_hour, after_basic_minute, after_colon_minute, after_second, after_fraction}
+use Rattle.ixdtf_grammar.specs.table.Lines.{Follow, line_of, follow_of, always, seconds_after, after_minute, Past, ColonOrDigit, Line.line, Ending.error}
+use Rattle.ixdtf_grammar.specs.table.Rows.{Row, Place, Stops, Place.{end, other, bad, anywhere}}
 use Rattle.ixdtf_reading.specs.reading.{Looks.{Read, ◌>>=◌, row_of, look_at, in_range, number_by}, Times.{OpenTime, time_of, line_after, bad_after}}
 use Rattle.ixdtf_reading.specs.reading.Times.{mixed_after, hour_past, minute_past, second_past, minutes_shape, second_start, number_at, fraction_at}
 use Rattle.ixdtf_reading.specs.reading.Times.{after_second_at, second_at, after_minute_at, minute_at, after_hour_at, hour_from}
-use Rattle.ixdtf_reading.proofs.parts.Looks.{ReadsOver, ◌before◌, ReadsTo, ◌upto◌, Halts, ◌till◌, RowsRead, whole_row, LooksForDigit, goes, stops, digits_go}
-use Rattle.ixdtf_reading.proofs.parts.Looks.{digits_stop, one_as_digits, NotNext, run_takes, run_bad}
-
-digit_no_colon : (c : ℕ) → IsTrue (digit c) → IsFalse (colon c)
-digit_no_colon c h = grind (arith, nat_tests)
+use Rattle.ixdtf_reading.proofs.parts.Looks.{ReadsOver, ◌before◌, ReadsTo, ◌upto◌, Halts, RowsRead, LooksFor, goes, stops, digits_go, digits_stop}
+use Rattle.ixdtf_reading.proofs.parts.Looks.{one_as_digits, NotNext, run_takes, run_bad}
 
 range_fits : {E : Type 0} (greatest n : ℕ) (e : Text → E) (ds rest : Text) → UpTo greatest ds n → in_range greatest e (ds, rest) ≡ Ok (n, rest)
 unfolding in_range
@@ -26,7 +23,7 @@ range_refused : {E : Type 0} (greatest : ℕ) (e : Text → E) (ds rest : Text) 
 unfolding in_range
 range_refused greatest e ds rest h = rw (lt-leb (decimal ds) greatest h)
 
-module _ {E : Type 0} (fault : Row → E) (name : LineName) (asks : LooksForDigit (line_of true name)) (greatest : ℕ) (past : Text → Row) where
+module _ {E : Type 0} (fault : Row → E) (name : LineName) (asks : LooksFor digit (line_of true name)) (greatest : ℕ) (past : Text → Row) where
   number_goes : (ds rest : Text) (n : ℕ) → UpTo greatest ds n → number_at fault name greatest past (ds ++ rest) ≡ Ok (n, rest)
   unfolding number_by
   number_goes ds rest n u = rw (digits_go fault name asks 2 ds rest u.0, range_fits greatest n (λ left. fault (past left)) ds rest u)
@@ -50,14 +47,7 @@ module _ {E A : Type 0}
   reads_over_as n ds d from = record { over = λ rest. same_over n ds rest d ∙ from.over rest }
 
   halts_as : {rest : Text} {e : E} (n : ℕ) (ds : Text) → digits (suc n) ds → Halts stage ds rest e → Halts start ds rest e
-  halts_as n ds d from = record { halts = same_over n ds _ d ∙ from.halts }
-
--- the parts of a time that are absent are 0 or None
-same_time : (t : TimeRecord) (h m s : ℕ) (f : Option FractionParts) → h ≡ t.hour → m ≡ t.minute → s ≡ t.second → f ≡ t.fraction → time_of h m s f ≡ t
-same_time t h m s f p q r u = λ i. record { hour = p i; minute = q i; second = r i; fraction = u i }
-
-some_same : (a b : Text) (n : FractionParts) (o : Option FractionParts) → n ≡ fraction_of a → a ≡ b → o ≡ Some n → Some (fraction_of b) ≡ o
-some_same a b n o p q r = rw (r, p, q)
+  halts_as n ds d from = record { reads_to = same_over n ds _ d ∙ from.reads_to }
 
 -- the text does not go on as a time of the shape does, and Bad does not stand next
 abbrev pub Closed : Clock → TimeShape → Text → Type 0
@@ -77,6 +67,16 @@ abbrev pub IsLater : ClockLine → Type 0
 IsLater hour_start = ⊥
 IsLater _ = Unit {0}
 
+-- the lines between the first digit of an hour and the end, at which a time may not stop
+abbrev pub IsInner : ClockLine → Type 0
+IsInner hour_start = ⊥
+IsInner after_hour = ⊥
+IsInner after_basic_minute = ⊥
+IsInner after_colon_minute = ⊥
+IsInner after_second = ⊥
+IsInner after_fraction = ⊥
+IsInner _ = Unit {0}
+
 -- what stands after a whole time where the row of its line fits, but at Bad and at what goes wrong in the time
 abbrev pub StopsAfter : Follow → Place → Fault → Text → Type 0
 StopsAfter follow (end left) e rest = (rest ≡ []) × (follow.at_end ≡ error e) × (left ≡ rest)
@@ -84,6 +84,13 @@ StopsAfter follow (other left) e rest =
     (c : ℕ) × (more : Text) × (rest ≡ Plain c ∷ more) × IsFalse (follow.letters c) × (e ≡ follow.at_other) × (left ≡ rest)
 StopsAfter follow (bad left) e rest = ⊥
 StopsAfter follow (anywhere left) e rest = ⊥
+
+-- such a row is one of the line of what goes on behind a time alone
+pub stops_behind : (follow : Follow) (place : Place) (e : Fault) (rest : Text) → StopsAfter follow place e rest
+    → Stops (line nothing follow.letters follow.at_end (always follow.at_other)) place e rest
+stops_behind follow (end left) e rest at = at
+stops_behind follow (other left) e rest at = at
+stops_behind follow place e rest at = absurd at
 
 -- the text's end closes a time of each shape
 pub closed_at_end : (clock : Clock) (shape : TimeShape) → Closed clock shape []
@@ -114,7 +121,7 @@ module _ {E : Type 0} (fault : Row → E) (clock : Clock)
 
   at_minute_digit : (h c : ℕ) (rest : Text) → IsTrue (digit c) → after_hour_at fault clock h (Plain c ∷ rest) ≡ minute_at fault clock false h (Plain c ∷ rest)
   unfolding after_hour_at look_at
-  at_minute_digit h c rest d = rw (digit_no_colon c d, d)
+  at_minute_digit h c rest d = let no_colon : IsFalse (colon c) = grind (arith, nat_tests, d) in rw (no_colon, d)
 
   over_minute : (colons : Bool) (h : ℕ) (ms : Text) (m : ℕ) → UpTo 59 ms m
       → ReadsOver (minute_at fault clock colons h) ms (after_minute_at fault clock colons h m)
@@ -197,68 +204,37 @@ module _ {E : Type 0} (fault : Row → E) (clock : Clock)
       → start (text ++ rest) ≡ Ok ((shape, t), rest)
   time_takes hours text t rest x closed =
       (over_hour _ _ x.hour).over rest ∙ stays_at_hour t.hour rest closed
-      ∙ ap (λ u. Ok ((hours, u), rest)) (same_time t _ _ _ _ refl (sym x.no_minute) (sym x.no_second) (sym x.no_fraction))
+      ∙ λ i. Ok ((hours, time_of t.hour (sym x.no_minute i) (sym x.no_second i) (sym x.no_fraction i)), rest)
   time_takes basic_minutes text t rest x closed =
       (over_minutes false text t x).over rest ∙ stays_at_minute false t.hour t.minute rest closed.0 closed.1
-      ∙ ap (λ u. Ok ((basic_minutes, u), rest)) (same_time t _ _ _ _ refl refl (sym x.no_second) (sym x.no_fraction))
+      ∙ λ i. Ok ((basic_minutes, time_of t.hour t.minute (sym x.no_second i) (sym x.no_fraction i)), rest)
   time_takes colon_minutes text t rest x closed =
       (over_minutes true text t x).over rest ∙ stays_at_minute true t.hour t.minute rest closed.0 closed.1
-      ∙ ap (λ u. Ok ((colon_minutes, u), rest)) (same_time t _ _ _ _ refl refl (sym x.no_second) (sym x.no_fraction))
+      ∙ λ i. Ok ((colon_minutes, time_of t.hour t.minute (sym x.no_second i) (sym x.no_fraction i)), rest)
   time_takes seconds text t rest x closed =
       (over_seconds text t x).over rest ∙ stays_at_second t.hour t.minute t.second rest closed
-      ∙ ap (λ u. Ok ((seconds, u), rest)) (same_time t _ _ _ _ refl refl refl (sym (no_fraction x)))
+      ∙ λ i. Ok ((seconds, time_of t.hour t.minute t.second (sym (no_fraction x) i)), rest)
   time_takes fractions text t rest x closed =
       let part = x.is_fraction in
       let ds = part.some.1 in
+      let same : Some (fraction_of (Plain ds.0 ∷ ds.1)) ≡ t.fraction = rw (x.value, part.value, ds.2) refl in
       rw (x.is, part.is, ds.2) ((over_seconds x.whole _ x.second upto over_mark _ _ _ (Plain part.mark ∷ []) (part.mark, refl, part.marks)
       upto fraction_gives ds.0 ds.1 rest part.some.0 ds.3 ds.4 closed).reads_to
-      ∙ ap (λ u. Ok ((fractions, u), rest)) (same_time t _ _ _ _ refl refl refl
-      (some_same part.ds (Plain ds.0 ∷ ds.1) x.fraction t.fraction part.value ds.2 x.value)))
+      ∙ λ i. Ok ((fractions, time_of t.hour t.minute t.second (same i)), rest))
 
   -- ---- the rows inside a time
   module _ (brackets : Bool) where
-    pub hour_digit_row : RowsRead fault brackets start (of_clock clock hour_digit)
-    unfolding hour_from
-    hour_digit_row place e front rest f at =
-        rw f.1 ((starts f.0 f.2).over rest ∙ rw (digits_stop fault (of_clock clock hour_digit) (λ c. refl) 1 0 [] rest place e (omega arith) refl at))
-
-    pub hour_range_row : RowsRead fault brackets start (of_clock clock hour_range)
-    unfolding hour_from
-    hour_range_row = whole_row fault brackets start (of_clock clock hour_range) tt λ e front rest f at.
-        let g = f.0 in
-        rw (g.2, at.0) ((starts g.0 g.3).over (g.1 ++ rest)
-        ∙ rw (digits_go fault (of_clock clock hour_digit) (λ c. refl) 1 g.1 rest g.4) (rw (range_refused 23 _ (Plain g.0 ∷ g.1) rest (rw g.2 at f.1))))
-
     minute_stops : (colons : Bool) (h k : ℕ) (ds rest : Text) (place : Place) (e : Fault) → k < 2 → digits k ds
         → Stops (line_of brackets (of_clock clock minute_digits)) place e rest
         → Halts (minute_at fault clock colons h) ds rest (fault (row_of (of_clock clock minute_digits) place e))
     unfolding minute_at
     minute_stops colons h k ds rest place e less d at =
-        record { halts = rw (number_stops fault (of_clock clock minute_digits) (λ c. refl) 59 (minute_past clock) k ds rest place e less d at) refl }
-
-    pub minute_digits_row : RowsRead fault brackets start (of_clock clock minute_digits)
-    minute_digits_row place e front rest f at = rw f.2 ((at_place f.4).halts)
-      where
-        at_place : ColonOrDigit f.1 → Halts start (f.0 ++ f.1) rest (fault (row_of (of_clock clock minute_digits) place e))
-        at_place (inl h) = over_hour _ _ f.3.1 till rw (← append-nil f.1) (over_colon _ _ h till minute_stops true _ 0 [] rest place e (omega arith) refl at)
-        at_place (inr (inl h)) =
-            rw h.2 (over_hour _ _ f.3.1 till over_colon _ _ h.3 till minute_stops true _ 1 h.1 rest place e (omega arith) (one_as_digits _ h.4) at)
-        at_place (inr (inr h)) =
-            let d = one_as_digits _ h in
-            over_hour _ _ f.3.1 till halts_as _ _ (at_minute_digit _) 0 f.1 d (minute_stops false _ 1 f.1 rest place e (omega arith) d at)
+        record { reads_to = rw (number_stops fault (of_clock clock minute_digits) (λ c. refl) 59 (minute_past clock) k ds rest place e less d at) refl }
 
     minute_too_great : (colons : Bool) (h : ℕ) (ds rest : Text) → Past 59 ds → Halts (minute_at fault clock colons h) ds rest (fault (minute_past clock rest))
     unfolding minute_at
     minute_too_great colons h ds rest p =
-        record { halts = rw (number_too_great fault (of_clock clock minute_digits) (λ c. refl) 59 (minute_past clock) ds rest p) refl }
-
-    pub minute_range_row : RowsRead fault brackets start (of_clock clock minute_range)
-    minute_range_row = whole_row fault brackets start (of_clock clock minute_range) tt λ e front rest f at. rw (f.2, f.4.2, at.0) ((at_place f f.4.3).halts)
-      where
-        at_place : {front rest : Text} (f : front_of (line_of brackets (of_clock clock minute_range)) front) → ((f.4.0 ≡ []) ⊎ one colon f.4.0)
-            → Halts start (f.0 ++ (f.4.0 ++ f.4.1)) rest (fault (minute_past clock rest))
-        at_place f (inl h) = rw h (over_hour _ _ f.3.1 till halts_as _ _ (at_minute_digit _) 1 _ f.4.4.0 (minute_too_great false _ _ _ f.4.4))
-        at_place f (inr h) = over_hour _ _ f.3.1 till over_colon _ _ h till minute_too_great true _ _ _ f.4.4
+        record { reads_to = rw (number_too_great fault (of_clock clock minute_digits) (λ c. refl) 59 (minute_past clock) ds rest p) refl }
 
     second_stops : (h m k : ℕ) (ds rest : Text) (place : Place) (e : Fault) → k < 2 → digits k ds
         → Stops (line_of brackets (of_clock clock second_digits)) place e rest
@@ -266,36 +242,55 @@ module _ {E : Type 0} (fault : Row → E) (clock : Clock)
     unfolding second_at
     second_stops h m k ds rest place e less d at =
         let stops_at = number_stops fault (of_clock clock second_digits) (λ c. refl) (greatest_second clock) (second_past clock) k ds rest place e less d at in
-        record { halts = rw stops_at refl }
-
-    pub second_digits_row : RowsRead fault brackets start (of_clock clock second_digits)
-    second_digits_row place e front rest (may, inl f) at =
-        let d = one_as_digits _ f.4 in
-        rw f.2 ((over_minutes false f.0 f.3.0 f.3.1
-        till halts_as _ _ (at_second_digit _ _ may) 0 f.1 d (second_stops _ _ 1 f.1 rest place e (omega arith) d at)).halts)
-    second_digits_row place e front rest (may, inr f) at =
-        rw (f.2, f.4.2) ((over_minutes true f.0 f.3.0 f.3.1 till over_second_colon _ _ _ may f.4.3
-        till second_stops _ _ f.4.4.0 _ rest place e f.4.4.1 f.4.4.2 at).halts)
+        record { reads_to = rw stops_at refl }
 
     second_too_great : (h m : ℕ) (ds rest : Text) → Past (greatest_second clock) ds → Halts (second_at fault clock h m) ds rest (fault (second_past clock rest))
     unfolding second_at
     second_too_great h m ds rest p =
-        record { halts = rw (number_too_great fault (of_clock clock second_digits) (λ c. refl) (greatest_second clock) (second_past clock) ds rest p) refl }
+        record { reads_to = rw (number_too_great fault (of_clock clock second_digits) (λ c. refl) (greatest_second clock) (second_past clock) ds rest p) refl }
 
-    pub second_range_row : RowsRead fault brackets start (of_clock clock second_range)
-    second_range_row = whole_row fault brackets start (of_clock clock second_range) tt λ e front rest f at. rw at.0 ((at_place front rest f).halts)
+    -- each row inside a time
+    pub inner_rows : (l : ClockLine) → IsInner l → RowsRead fault brackets start (of_clock clock l)
+    unfolding hour_from fraction_at fraction_stage
+    inner_rows hour_digit h place e front rest f at =
+        rw f.1 ((starts f.0 f.2).over rest ∙ rw (digits_stop fault (of_clock clock hour_digit) (λ c. refl) 1 0 [] rest place e (omega arith) refl at))
+    inner_rows hour_range h (anywhere left) e front rest f at =
+        let g = f.0 in
+        rw (g.2, at.0, at.1) ((starts g.0 g.3).over (g.1 ++ rest)
+        ∙ rw (digits_go fault (of_clock clock hour_digit) (λ c. refl) 1 g.1 rest g.4) (rw (range_refused 23 _ (Plain g.0 ∷ g.1) rest (rw g.2 at f.1))))
+    inner_rows minute_digits h place e front rest f at = rw f.2 ((at_place f.4).reads_to)
       where
-        at_place : (front rest : Text) → front_of (line_of brackets (of_clock clock second_range)) front → Halts start front rest (fault (second_past clock rest))
-        at_place front rest (may, inl f) =
-            rw f.2 (over_minutes false f.0 f.3.0 f.3.1 till halts_as _ _ (at_second_digit _ _ may) 1 _ f.4.0 (second_too_great _ _ _ _ f.4))
-        at_place front rest (may, inr f) =
-            rw (f.2, f.4.2) (over_minutes true f.0 f.3.0 f.3.1 till over_second_colon _ _ _ may f.4.3 till second_too_great _ _ _ _ f.4.4)
-
-    pub fraction_start_row : RowsRead fault brackets start (of_clock clock fraction_start)
-    unfolding fraction_at fraction_stage
-    fraction_start_row place e front rest f at =
-        rw f.2 ((over_seconds f.0 f.3.0 f.3.1 before over_mark _ _ _ f.1 f.4).over rest
-        ∙ rw (stops fault (of_clock clock fraction_start) place e rest tt at))
+        at_place : ColonOrDigit f.1 → Halts start (f.0 ++ f.1) rest (fault (row_of (of_clock clock minute_digits) place e))
+        at_place (inl h) = over_hour _ _ f.3.1 upto rw (← append-nil f.1) (over_colon _ _ h upto minute_stops true _ 0 [] rest place e (omega arith) refl at)
+        at_place (inr (inl h)) =
+            rw h.2 (over_hour _ _ f.3.1 upto over_colon _ _ h.3 upto minute_stops true _ 1 h.1 rest place e (omega arith) (one_as_digits _ h.4) at)
+        at_place (inr (inr h)) =
+            let d = one_as_digits _ h in
+            over_hour _ _ f.3.1 upto halts_as _ _ (at_minute_digit _) 0 f.1 d (minute_stops false _ 1 f.1 rest place e (omega arith) d at)
+    inner_rows minute_range h (anywhere left) e front rest (hs, more, is, hour, (marks, ds, both, inl none, past)) at =
+        rw (is, both, none, at.0, at.1)
+        ((over_hour _ _ hour.1 upto halts_as _ _ (at_minute_digit _) 1 _ past.0 (minute_too_great false _ _ _ past)).reads_to)
+    inner_rows minute_range h (anywhere left) e front rest (hs, more, is, hour, (marks, ds, both, inr mark, past)) at =
+        rw (is, both, at.0, at.1) ((over_hour _ _ hour.1 upto over_colon _ _ mark upto minute_too_great true _ _ _ past).reads_to)
+    inner_rows second_digits h place e front rest (may, inl f) at =
+        let d = one_as_digits _ f.4 in
+        rw f.2 ((over_minutes false f.0 f.3.0 f.3.1
+        upto halts_as _ _ (at_second_digit _ _ may) 0 f.1 d (second_stops _ _ 1 f.1 rest place e (omega arith) d at)).reads_to)
+    inner_rows second_digits h place e front rest (may, inr f) at =
+        rw (f.2, f.4.2) ((over_minutes true f.0 f.3.0 f.3.1 upto over_second_colon _ _ _ may f.4.3
+        upto second_stops _ _ f.4.4.0 _ rest place e f.4.4.1 f.4.4.2 at).reads_to)
+    inner_rows second_range h (anywhere left) e front rest (may, inl f) at =
+        rw (f.2, at.0, at.1)
+        ((over_minutes false f.0 f.3.0 f.3.1 upto halts_as _ _ (at_second_digit _ _ may) 1 _ f.4.0 (second_too_great _ _ _ _ f.4)).reads_to)
+    inner_rows second_range h (anywhere left) e front rest (may, inr f) at =
+        rw (f.2, f.4.2, at.0, at.1)
+        ((over_minutes true f.0 f.3.0 f.3.1 upto over_second_colon _ _ _ may f.4.3 upto second_too_great _ _ _ _ f.4.4).reads_to)
+    inner_rows fraction_start h place e front rest f at =
+        rw f.2 ((over_seconds f.0 f.3.0 f.3.1 before over_mark _ _ _ f.1 f.4).over rest ∙ rw (stops fault (of_clock clock fraction_start) place e rest tt at))
+    inner_rows hour_range h place e front rest f at = absurd at
+    inner_rows minute_range h place e front rest f at = absurd at
+    inner_rows second_range h place e front rest f at = absurd at
+    inner_rows l h place e front rest f at = absurd h
 
   -- ---- the lines at which a time may stop
 
@@ -304,7 +299,7 @@ module _ {E : Type 0} (fault : Row → E) (clock : Clock)
   unfolding fraction_at fraction_stage
   fraction_bad h m s d more rest n is ds =
       let start_goes = goes fault (of_clock clock fraction_start) d (more ++ (Bad ∷ rest)) tt is in
-      record { halts = rw (start_goes, run_bad (bad_after fault clock fractions) n more rest ds) refl }
+      record { reads_to = rw (start_goes, run_bad (bad_after fault clock fractions) n more rest ds) refl }
 
   -- at Bad
   time_bad : (shape : TimeShape) (text : Text) (t : TimeRecord) (rest : Text) → ClockOf clock shape text t
@@ -317,8 +312,8 @@ module _ {E : Type 0} (fault : Row → E) (clock : Clock)
   time_bad fractions text t rest x =
       let part = x.is_fraction in
       let ds = part.some.1 in
-      rw (x.is, part.is, ds.2) ((over_seconds x.whole _ x.second till over_mark _ _ _ (Plain part.mark ∷ []) (part.mark, refl, part.marks)
-      till fraction_bad _ _ _ ds.0 ds.1 rest part.some.0 ds.3 ds.4).halts)
+      rw (x.is, part.is, ds.2) ((over_seconds x.whole _ x.second upto over_mark _ _ _ (Plain part.mark ∷ []) (part.mark, refl, part.marks)
+      upto fraction_bad _ _ _ ds.0 ds.1 rest part.some.0 ds.3 ds.4).reads_to)
 
   -- at a colon or a digit that does not go on
   minute_mixed : (colons : Bool) (text : Text) (t : TimeRecord) (c : ℕ) (rest : Text) → ClockOf clock (minutes_shape colons) text t

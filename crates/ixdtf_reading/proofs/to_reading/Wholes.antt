@@ -1,23 +1,20 @@
 -- What is derived is returned, and each row that fits: what holds of a text decides what reading returns.
 use Rattle.std.proofs.Common.{◌≡◌, ℕ, suc, ◌<◌, ◌⊎◌, List, [], ◌∷◌, ◌++◌, length, Ok, Err, Option, Some, None, refl, sym, ap, ◌∙◌, inl, inr, arith}
 use Rattle.std.proofs.Common.{append_assoc, append-nil, true}
-use Rattle.ixdtf_grammar.specs.language.{Times.Clock, Letters.{Text, Letter.Plain}, Shapes.some}
-use Rattle.ixdtf_grammar.specs.language.{Brackets.{ZoneNote, Opens, Pair, ArePairs, IsTail, ReadsAsPair}, Cores.{Core, IsCore}, Readers.{Reader, CoreKind}}
-use Rattle.ixdtf_grammar.specs.language.Readers.Reader.{bracketed, parse_offset, parse_identifier, parse_iana_identifier, parse_duration}
-use Rattle.ixdtf_grammar.specs.language.Languages.{Parsed, parsed_with, IsBracketed, Found, Derives}
-use Rattle.ixdtf_grammar.specs.{language.Languages.Derives.{as_parsed, as_shifted, as_identified, as_named, as_lasting}, table.Faults.Fault}
-use Rattle.ixdtf_grammar.specs.table.LineNames.{LineName, LineName.{of_core, of_clock, of_offset, of_zone, of_bracket, of_pair}}
-use Rattle.ixdtf_grammar.specs.table.LineNames.{OffsetLine.{offset_start, after_zulu}, ZoneLine.{in_zone_name, after_zone_slash}}
-use Rattle.ixdtf_grammar.specs.table.LineNames.BracketLine.{first_bracket_start, first_critical_start, first_bracket_scan, after_bracket}
-use Rattle.ixdtf_grammar.specs.table.{LineNames.PairLine.{key_start, critical_key_start}, Lines.line_of, Before.{BeforeBracketed, Bracketed, BeforeKey}}
-use Rattle.ixdtf_grammar.specs.table.Rows.{Row, Place, Stops, Fits, front_of}
-use Rattle.ixdtf_reading.specs.reading.{Looks.{Read, ◌>>=◌, row_of}, Pairs.pairs_at, Brackets.{Bracket, zoned, paired, zone_in, pairs_in, bracket_at}}
-use Rattle.ixdtf_reading.specs.reading.{Cores.core_at, Wholes.{bracketed_at, annotated_at, bracketed_text_at, read_at}, Chains.AfterBrackets}
-use Rattle.ixdtf_reading.proofs.to_reading.Cores.{core_takes, core_line_rows, core_time_rows, core_offset_rows, core_zulu_row}
-use Rattle.ixdtf_reading.proofs.to_reading.{FirstBracket.{bracket_takes, bracket_rows}, MorePairs.{over_pairs, pairs_end, pairs_row}}
-use Rattle.ixdtf_reading.proofs.{to_reading.Durations.{duration_takes, duration_rows}, to_grammar.FirstBracket.{InBracket, IsBracket}}
-use Rattle.ixdtf_reading.proofs.parts.ZonesAlone.{offset_takes, offset_rows as offset_reader_rows, identifier_takes, identifier_rows, iana_identifier_takes}
-use Rattle.ixdtf_reading.proofs.parts.ZonesAlone.{iana_identifier_rows}
+use Rattle.ixdtf_grammar.specs.language.{Times.Clock, Letters.{Text, Letter.Plain}, Shapes.some, Brackets.{ZoneNote, Pair, ArePairs, IsTail}, Cores.Core}
+use Rattle.ixdtf_grammar.specs.language.{Cores.IsCore, Readers.{Reader, CoreKind, Reader.{bracketed, parse_offset, parse_identifier, parse_iana_identifier}}}
+use Rattle.ixdtf_grammar.specs.language.{Readers.Reader.parse_duration, Languages.{Parsed, parsed_with, IsBracketed, Found, Derives, Derives.as_parsed}}
+use Rattle.ixdtf_grammar.specs.{language.Languages.Derives.{as_shifted, as_identified, as_named, as_lasting}, table.{Faults.Fault, LineNames.LineName}}
+use Rattle.ixdtf_grammar.specs.table.LineNames.{LineName.{of_core, of_clock, of_offset, of_zone, of_bracket, of_pair}, OffsetLine.{offset_start, after_zulu}}
+use Rattle.ixdtf_grammar.specs.table.LineNames.{ZoneLine.{in_zone_name, after_zone_slash}, BracketLine.{first_bracket_start, first_critical_start}}
+use Rattle.ixdtf_grammar.specs.table.{LineNames.{BracketLine.{first_bracket_scan, after_bracket}, PairLine.{key_start, critical_key_start}}, Lines.line_of}
+use Rattle.ixdtf_grammar.specs.table.{Before.{BeforeBracketed, Bracketed}, Rows.{Row, Place, Stops, Fits, front_of}}
+use Rattle.ixdtf_reading.specs.reading.{Looks.{Read, ◌>>=◌, row_of}, Pairs.pairs_at, Brackets.{Bracket, zoned, paired, zone_in, pairs_in}, Cores.core_at}
+use Rattle.ixdtf_reading.specs.reading.{Wholes.{bracketed_at, annotated_at, bracketed_text_at, read_at}, Chains.AfterBrackets}
+use Rattle.ixdtf_reading.proofs.to_reading.{Cores.{core_takes, core_line_rows, core_time_rows, core_offset_rows, core_zulu_row}, FirstBracket.bracket_takes}
+use Rattle.ixdtf_reading.proofs.to_reading.{FirstBracket.bracket_rows, MorePairs.{over_pairs, pairs_end, pairs_row}, Durations.{duration_takes, duration_rows}}
+use Rattle.ixdtf_reading.proofs.{to_grammar.FirstBracket.{InBracket, IsBracket}, parts.ZonesAlone.{offset_takes, offset_rows as offset_reader_rows}}
+use Rattle.ixdtf_reading.proofs.parts.{ZonesAlone.{identifier_takes, identifier_rows, iana_identifier_takes, iana_identifier_rows}, Looks.RowsWhere}
 
 -- one bracket or more, as reading takes them: a first one, and pairs
 pub record Brackets (text : Text) (zone : Option ZoneNote) (pairs : List Pair) : Type 0 where
@@ -73,27 +70,19 @@ module _ {E : Type 0} (fault : List Pair → Row → E) (kind : CoreKind) where
   abbrev with_core : Core → Option ZoneNote → List Pair × Text → Read E (Parsed × List Pair)
   with_core core zone pairs = Ok ((parsed_with core zone, pairs.0), pairs.1)
 
-  after_first : (core : Core) (bracket : Bracket) (inner rest : Text) → bracket_at (fault []) inner ≡ Ok (bracket, rest)
-      → annotated_at fault core inner ≡ (pairs_at fault (suc (length rest)) (pairs_in bracket) rest >>= with_core core (zone_in bracket))
-  unfolding annotated_at bracketed_at
-  after_first core bracket inner rest read = rw read
-
   -- reading goes over whole brackets to the pairs after them, with fuel left for the rest
   pub over_brackets : (cores brackets rest : Text) (core : Core) (zone : Option ZoneNote) (pairs : List Pair) → IsCore kind cores core
       → Brackets brackets zone pairs → (m : ℕ) × (length rest < m)
       × (whole_at (cores ++ (brackets ++ rest)) ≡ (pairs_at fault m pairs rest >>= with_core core zone))
-  over_brackets cores brackets rest core zone pairs d h =
+  unfolding annotated_at bracketed_at
+  over_brackets cores brackets rest core first_zone pairs d h =
       let read = bracket_takes (fault []) h.first (h.rest ++ rest) h.bracket h.is_bracket in
       let over = over_pairs fault h.more h.rest rest (pairs_in h.bracket) (suc (length (h.rest ++ rest))) h.are_pairs (omega arith) in
       let whole : brackets ++ rest ≡ Plain 91 ∷ (read.0 ++ (h.rest ++ rest)) = ap (λ t. t ++ rest) h.is ∙ append_assoc h.first h.rest rest
       ∙ ap (λ t. t ++ (h.rest ++ rest)) read.1 in (
         over.0,
         over.1,
-        after_opening cores core (brackets ++ rest) (read.0 ++ (h.rest ++ rest)) whole d
-            ∙ after_first core h.bracket (read.0 ++ (h.rest ++ rest)) (h.rest ++ rest) read.2
-            ∙ ap (λ r. r >>= with_core core (zone_in h.bracket)) over.2
-            ∙ ap (λ z. pairs_at fault over.0 (pairs_in h.bracket ++ h.more) rest >>= with_core core z) (sym h.zone_is)
-            ∙ ap (λ ps. pairs_at fault over.0 ps rest >>= with_core core zone) (sym h.pairs_are),
+        after_opening cores core (brackets ++ rest) (read.0 ++ (h.rest ++ rest)) whole d ∙ rw (read.2, over.2, h.zone_is, h.pairs_are) refl,
       )
 
   -- ---- what is derived
@@ -111,13 +100,12 @@ module _ {E : Type 0} (fault : List Pair → Row → E) (kind : CoreKind) where
 
   -- ---- each row
 
-  inner_row : (cores : Text) (core : Core) → IsCore kind cores core → (name : LineName) (place : Place) (e : Fault) (prior front rest : Text)
-      → InBracket name prior (front ++ rest) → front_of (line_of true name) front → Stops (line_of true name) place e rest
-      → whole_at (cores ++ (prior ++ (front ++ rest))) ≡ Err (fault [] (row_of name place e))
+  inner_row : (cores : Text) (core : Core) → IsCore kind cores core → (name : LineName)
+      → RowsWhere (fault []) true (λ body. whole_at (cores ++ body)) name (InBracket name)
   unfolding annotated_at
   inner_row cores core d name place e prior front rest b f at =
       let row = bracket_rows (fault []) name place e prior front rest b f at in
-      after_opening cores core (prior ++ (front ++ rest)) row.0 row.1 d ∙ rw row.2
+      after_opening cores core (prior ++ (front ++ rest)) (row.0 ++ rest) (rw (← append_assoc prior front rest, row.1) refl) d ∙ rw row.2
 
   -- a row after `[` or `[!`, and what stands before the two
   opened_row : (name : LineName) (place : Place) (e : Fault) (pairs : List Pair) (cores prior front rest before_all : Text) → pairs ≡ []
@@ -127,34 +115,16 @@ module _ {E : Type 0} (fault : List Pair → Row → E) (kind : CoreKind) where
       rw (is, none) (ap (whole_at) (simp append_assoc) ∙ inner_row cores core.0 core.1 name place e prior front rest b f at)
 
   -- a row after whole brackets
-  pairs_in_row : (name : LineName) (place : Place) (e : Fault) (cores brackets prior front rest : Text) (core : Core) (zone : Option ZoneNote)
-      (pairs : List Pair) → IsCore kind cores core → Brackets brackets zone pairs → AfterBrackets name prior → front_of (line_of true name) front
-      → Stops (line_of true name) place e rest → whole_at (cores ++ (brackets ++ (prior ++ (front ++ rest)))) ≡ Err (fault pairs (row_of name place e))
-  pairs_in_row name place e cores brackets prior front rest core zone pairs d h b f at =
-      let over = over_brackets cores brackets (prior ++ (front ++ rest)) core zone pairs d h in
-      over.2 ∙ rw (pairs_row fault name place e prior front rest pairs over.0 b f at over.1)
-
-  bracketed_row : (name : LineName) (place : Place) (e : Fault) (pairs : List Pair) (prior opens front rest : Text) → Bracketed kind pairs prior
-      → AfterBrackets name opens → front_of (line_of true name) front → Stops (line_of true name) place e rest
-      → whole_at (prior ++ (opens ++ (front ++ rest))) ≡ Err (fault pairs (row_of name place e))
-  bracketed_row name place e pairs prior opens front rest b a f at = go (brackets_of b.1 b.4 pairs b.5)
+  bracketed_row : (name : LineName) (pairs : List Pair) (prior : Text) → Bracketed kind pairs prior
+      → RowsWhere (fault pairs) true (λ body. whole_at (prior ++ body)) name (λ opens rest. AfterBrackets name opens)
+  bracketed_row name pairs prior b place e opens front rest a f at = go (brackets_of b.1 b.4 pairs b.5)
     where
       go : NoBrackets b.1 b.4 pairs ⊎ Brackets b.1 b.4 pairs → whole_at (prior ++ (opens ++ (front ++ rest))) ≡ Err (fault pairs (row_of name place e))
       go (inl h) = absurd (b.6 h.is)
       go (inr h) =
-          ap (whole_at) (ap (λ t. t ++ (opens ++ (front ++ rest))) b.2 ∙ append_assoc b.0 b.1 (opens ++ (front ++ rest)))
-          ∙ pairs_in_row name place e b.0 b.1 opens front rest b.3.0 b.4 pairs b.3.1 h a f at
-
-  -- a row behind the opening of a bracket with a key
-  key_row : (name : LineName) (place : Place) (e : Fault) (pairs : List Pair) (prior front rest : Text)
-      → ((opens : Text) → some Opens opens → AfterBrackets name opens) → ((opens left : Text) → some Opens opens → ReadsAsPair left → InBracket name opens left)
-      → BeforeKey kind pairs prior (front ++ rest) → front_of (line_of true name) front → Stops (line_of true name) place e rest
-      → whole_at (prior ++ (front ++ rest)) ≡ Err (fault pairs (row_of name place e))
-  key_row name place e pairs prior front rest later first (inl b) f at =
-      opened_row name place e pairs b.0.0 b.0.1 front rest prior b.2 b.0.2 b.0.3 (first b.0.1 (front ++ rest) b.0.4 b.1) f at
-  key_row name place e pairs prior front rest later first (inr b) f at =
-      ap (whole_at) (ap (λ t. t ++ (front ++ rest)) b.2 ∙ append_assoc b.0 b.1 (front ++ rest))
-      ∙ bracketed_row name place e pairs b.0 b.1 front rest b.3 (later b.1 b.4) f at
+          let over = over_brackets b.0 b.1 (opens ++ (front ++ rest)) b.3.0 b.4 pairs b.3.1 h in
+          ap whole_at (ap (λ t. t ++ (opens ++ (front ++ rest))) b.2 ∙ append_assoc b.0 b.1 (opens ++ (front ++ rest)))
+          ∙ over.2 ∙ rw (pairs_row fault name place e opens front rest pairs over.0 a f at over.1)
 
   -- a row of a core's lines
   in_core : (text : Text) (row : Row) (pairs : List Pair) → pairs ≡ [] → core_at (fault []) kind text ≡ Err (fault [] row)
@@ -162,9 +132,7 @@ module _ {E : Type 0} (fault : List Pair → Row → E) (kind : CoreKind) where
   unfolding bracketed_text_at
   in_core text row pairs none h = rw (none, h)
 
-  pub whole_row : (name : LineName) (pairs : List Pair) (place : Place) (e : Fault) (prior front rest : Text)
-      → BeforeBracketed kind name pairs prior (front ++ rest) → front_of (line_of true name) front → Stops (line_of true name) place e rest
-      → whole_at (prior ++ (front ++ rest)) ≡ Err (fault pairs (row_of name place e))
+  pub whole_row : (name : LineName) (pairs : List Pair) → RowsWhere (fault pairs) true whole_at name (BeforeBracketed kind name pairs)
   whole_row (of_core l) pairs place e prior front rest b f at = in_core _ _ pairs b.1 (core_line_rows (fault []) kind l place e prior front rest b.0 f at)
   whole_row (of_clock Clock.Time l) pairs place e prior front rest b f at =
       in_core _ _ pairs b.1 (core_time_rows (fault []) kind l prior b.0 place e front rest f at)
@@ -187,11 +155,15 @@ module _ {E : Type 0} (fault : List Pair → Row → E) (kind : CoreKind) where
   whole_row (of_bracket first_bracket_scan) pairs place e prior front rest (b, none) f at =
       opened_row (of_bracket first_bracket_scan) place e pairs b.0 b.1 front rest prior none b.2 b.3 b.4 f at
   whole_row (of_bracket after_bracket) pairs place e prior front rest b f at =
-      bracketed_row (of_bracket after_bracket) place e pairs prior [] front rest b refl f at
-  whole_row (of_pair key_start) pairs place e prior front rest b f at = bracketed_row (of_pair key_start) place e pairs prior [] front rest b refl f at
+      bracketed_row (of_bracket after_bracket) pairs prior b place e [] front rest refl f at
+  whole_row (of_pair key_start) pairs place e prior front rest b f at = bracketed_row (of_pair key_start) pairs prior b place e [] front rest refl f at
   whole_row (of_pair critical_key_start) pairs place e prior front rest b f at =
-      bracketed_row (of_pair critical_key_start) place e pairs prior [] front rest b refl f at
-  whole_row (of_pair l) pairs place e prior front rest b f at = key_row (of_pair l) place e pairs prior front rest (λ t o. o) (λ t left o r. (o, r)) b f at
+      bracketed_row (of_pair critical_key_start) pairs prior b place e [] front rest refl f at
+  whole_row (of_pair l) pairs place e prior front rest (inl b) f at =
+      opened_row (of_pair l) place e pairs b.0.0 b.0.1 front rest prior b.2 b.0.2 b.0.3 (b.0.4, b.1) f at
+  whole_row (of_pair l) pairs place e prior front rest (inr b) f at =
+      ap whole_at (ap (λ t. t ++ (front ++ rest)) b.2 ∙ append_assoc b.0 b.1 (front ++ rest))
+      ∙ bracketed_row (of_pair l) pairs b.0 b.3 place e b.1 front rest b.4 f at
   whole_row name pairs place e prior front rest b f at = absurd b
 
 module _ {E : Type 0} (fault : List Pair → Row → E) where
