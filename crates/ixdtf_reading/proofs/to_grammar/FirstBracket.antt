@@ -2,17 +2,15 @@
 use Rattle.std.proofs.Common.{◌≡◌, ℕ, Bool, true, false, IsTrue, IsFalse, List, Result, Ok, Err, [], ◌∷◌, ◌++◌, drop, refl, sym, ap, ◌∙◌, subst, inl, inr}
 use Rattle.std.proofs.{Common.{arith, append_assoc, if◌then◌else◌}, lemmas.Bool.{eqb-true, Decides.nat_tests}}
 use Rattle.ixdtf_grammar.specs.language.Times.Clock.{MinuteOffset}
-use Rattle.ixdtf_grammar.specs.language.Letters.{Text, Class, ◌or◌, sign, opening, closing, exclamation, slash, zone_lead, zone_char, key_lead}
-use Rattle.ixdtf_grammar.specs.language.{Letters.Letter.{Plain, Bad}, Shapes.{nothing, one, ◌then◌, some}, Offsets.minutes_of}
+use Rattle.ixdtf_grammar.specs.language.Letters.{Text, ◌or◌, sign, opening, closing, exclamation, slash, zone_lead, zone_char, key_lead}
+use Rattle.ixdtf_grammar.specs.language.{Letters.Letter.{Plain, Bad}, Shapes.{one, ◌then◌, some}, Offsets.minutes_of}
 use Rattle.ixdtf_grammar.specs.language.{ZoneNames.{Zone, IsZone, IsZoneName}, Brackets.{Opens, IsZoneBracket, ReadsAsName, Pair, IsPair, ReadsAsPair}}
-use Rattle.ixdtf_grammar.specs.table.{Faults.{Fault, Fault.{TzLeadingChar, AnnotationClose, IanaChar}}, LineNames.{ZoneLine, BracketLine, PairLine, LineName}}
-use Rattle.ixdtf_grammar.specs.table.LineNames.LineName.{of_clock, of_zone, of_bracket, of_pair}
-use Rattle.ixdtf_grammar.specs.table.LineNames.ZoneLine.{identifier_start, zone_name_start, in_zone_name, after_zone_slash}
+use Rattle.ixdtf_grammar.specs.table.{Faults.Fault.{AnnotationClose, IanaChar}, LineNames.{BracketLine, PairLine, LineName}}
+use Rattle.ixdtf_grammar.specs.table.LineNames.{LineName.{of_clock, of_zone, of_bracket, of_pair}, ZoneLine.{in_zone_name, after_zone_slash}}
 use Rattle.ixdtf_grammar.specs.table.LineNames.BracketLine.{first_bracket_start, first_critical_start, first_bracket_scan}
 use Rattle.ixdtf_grammar.specs.table.LineNames.PairLine.{key_start, critical_key_start, in_key, value_start, in_value, after_value_hyphen}
-use Rattle.ixdtf_grammar.specs.table.Lines.{Ending, line_of, always, abrupt_zone, zone_letters, zone_line, Line.line, Ending.error}
-use Rattle.ixdtf_grammar.specs.table.Rows.{Row, Place, Stops, FitsHere, front_of, Place.{end, other, bad, anywhere}}
-use Rattle.ixdtf_reading.specs.reading.{Looks.{Read, ◌>>=◌, row_of, letter_at, look_at, next_by}, Times.clock_at, Pairs.pair_at}
+use Rattle.ixdtf_grammar.specs.table.{Lines.{line_of, zone_letters, Ending.error}, Rows.{Row, Stops, FitsHere, front_of, Place.{end, other}}}
+use Rattle.ixdtf_reading.specs.reading.{Looks.{Read, ◌>>=◌, row_of, letter_at, look_at, next_by}, Times.clock_at, Pairs.pair_at, Zones.name_line}
 use Rattle.ixdtf_reading.specs.reading.{Zones.{follow_look, name_look, name_run, as_zone}, Brackets.{Bracket, zoned, paired, sight_at, name_in_bracket_at}}
 use Rattle.ixdtf_reading.specs.reading.Brackets.{name_or_pair_at, offset_in_bracket_at, noted, as_pair, inside_at, critical_bracket_at, bracket_at}
 use Rattle.ixdtf_reading.proofs.parts.Looks.{OnRead, FitsIn, then_read, read_if, read_letter}
@@ -57,35 +55,13 @@ ZoneFront text zone rest = (inside : Text) × (text ≡ inside ++ (Plain 93 ∷ 
 
 -- ---- rows
 
--- no row of a line with nothing before it fits where a code unit goes on
-goes_here : (goes_on : Class) (at_end : Ending) (at_other : ℕ → Fault) (c : ℕ) (more : Text) → IsTrue (goes_on c) → (place : Place) (e : Fault)
-    → Stops (line nothing goes_on at_end at_other) place e (Plain c ∷ more) → ⊥
-goes_here goes_on at_end at_other c more goes (end left) e at = absurd (grind (arith, at.0))
-goes_here goes_on at_end at_other c more goes (other left) e at = absurd cc
-goes_here goes_on at_end at_other c more goes (bad left) e at = absurd (grind (arith, at.1))
-goes_here goes_on at_end at_other c more goes (anywhere left) e at = at
-
--- where a name begins, no row of the lines before it fits
-inside_name : (l : ZoneLine) (place : Place) (e : Fault) (c : ℕ) (more front rest : Text) → IsTrue (zone_lead c) → Plain c ∷ more ≡ front ++ rest
-    → front_of (line_of true (of_zone l)) front → Stops (line_of true (of_zone l)) place e rest → (start text : Text) → some Opens start → ReadsAsName text
-    → InBracket (of_zone l) start text
-inside_name identifier_start place e c more front rest lead is f at start text opens reads =
-    absurd (goes_here (zone_lead or sign) (error abrupt_zone) (always TzLeadingChar) c more (grind (arith, lead, nat_tests)) place e
-    (subst (Stops (zone_line true identifier_start) place e) (sym (is ∙ ap (λ t. t ++ rest) f)) at))
-inside_name zone_name_start place e c more front rest lead is f at start text opens reads =
-    absurd (goes_here zone_lead (error TzLeadingChar) (always TzLeadingChar) c more lead place e
-    (subst (Stops (zone_line true zone_name_start) place e) (sym (is ∙ ap (λ t. t ++ rest) f)) at))
-inside_name l place e c more front rest lead is f at start text opens reads = (opens, reads)
-
 -- a row of a name fits in a bracket
-of_name : (row : Row) (c : ℕ) (text more : Text) → text ≡ Plain c ∷ more → IsTrue (zone_lead c) → ReadsAsName text → FitsIn of_zone true row text
-    → FitsInside text row
-of_name row c text more is lead reads h start opens =
-    (start, text, refl, subst (λ n. InBracket n start text) (sym h.1) (at_line (rw h.1 at h.2)), h.2)
+of_name : (row : Row) (text : Text) → ReadsAsName text → FitsIn name_line true row text → FitsInside text row
+of_name row text reads h start opens = (start, text, refl, rw h.1 (at h.0), h.2)
   where
-    at_line : ((front rest : Text) × (text ≡ front ++ rest) × front_of (line_of true (of_zone h.0)) front
-        × Stops (line_of true (of_zone h.0)) row.place row.error rest) → InBracket (of_zone h.0) start text
-    at_line g = inside_name h.0 row.place row.error c more g.0 g.1 lead (sym is ∙ g.2) g.3 g.4 start text opens reads
+    at : (may_end : Bool) → InBracket (name_line may_end) start text
+    at true = (opens, reads)
+    at false = (opens, reads)
 
 -- a row of an offset fits in a bracket
 of_minutes : (row : Row) (c : ℕ) (text more : Text) → text ≡ Plain c ∷ more → IsTrue (sign c) → FitsIn (of_clock MinuteOffset) true row more
@@ -112,7 +88,7 @@ module _ {E : Type 0} (fault : Row → E) where
 
   -- a name's code units were read
   after_name_read : (text : Text) (name : List ℕ) (rest : Text) → NameFront text name rest
-      → OnRead fault (next_by (name_look fault true closing) rest) (λ d left. rest ≡ Plain 93 ∷ left) (λ row. FitsIn of_zone true row text)
+      → OnRead fault (next_by (name_look fault true closing) rest) (λ d left. rest ≡ Plain 93 ∷ left) (λ row. FitsIn name_line true row text)
   unfolding next_by look_at
   after_name_read text name [] h =
       (row_of (of_zone in_zone_name) (end []) AnnotationClose, refl, name_stops_here fault true (end []) AnnotationClose text h.0 [] h.1 h.2 (refl, refl, refl))
@@ -135,8 +111,8 @@ module _ {E : Type 0} (fault : Row → E) where
   name_in_bracket_read c text more is lead reads = then_read fault (name_run fault true text) _ _ _ _ _ (name_read fault true c text more is lead)
       (λ name rest h. then_read fault (next_by (name_look fault true closing) rest) _ _ _ _ _ (after_name_read text name rest h)
       (λ d left g. (h.0, h.1 ∙ ap (λ t. h.0 ++ t) g, (h.2, h.3)))
-      (λ r f. of_name r c text more is lead reads f))
-      (λ r f. of_name r c text more is lead reads f)
+      (λ r f. of_name r text reads f))
+      (λ r f. of_name r text reads f)
 
   as_zone_read : (text : Text) (r : Read E (List ℕ)) → OnRead fault r (NameClosed text) (FitsInside text)
       → OnRead fault (as_zone r) (ZoneFront text) (FitsInside text)
