@@ -6,8 +6,7 @@ use Rattle.ixdtf_grammar.specs.{language.{Letters.{Text, digit, hyphen, Letter.P
 use Rattle.ixdtf_grammar.specs.table.{LineNames.{of_date, DateLine, DateLine.{after_hyphened_month, after_basic_month}}, Rows.{front_of, Stops, Place.other}}
 use Rattle.ixdtf_grammar.specs.table.{Before.BeforeDate, Lines.date_line}
 use Rattle.ixdtf_reading.specs.reading.{Cores.date_time_core_at, Dates.date_of, Looks.row_of, Wholes.{row_behind, bracketed_text_at, outcome}}
-use Rattle.ixdtf_reading.proofs.{code.OneMoreReply.NoneRefused-nothing, theorems.{OneOutcome.outcome_holds, OneUnhandledOutcome.same_plain}}
-use Rattle.ixdtf_reading.proofs.to_reading.Dates.{over_date}
+use Rattle.ixdtf_reading.proofs.{theorems.{OneOutcome.outcome_holds, OneUnhandledOutcome.same_plain, Replies.NoneRefused-nothing}, to_reading.Dates.over_date}
 
 -- the date of these parts
 abbrev date_with : (years months days : Text) → IsDateParts years months days → DateRecord
