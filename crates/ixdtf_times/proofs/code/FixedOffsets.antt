@@ -52,7 +52,7 @@ offset_letters c text offset e =
     then_some (number_place 0 text) _ offset e λ hour f0 e0.
     then_some (letter_place colon 2 text) _ offset e0 λ mark f1 e1.
     then_some (number_place 3 text) _ offset e1 λ minute f2 e2.
-    of_numbers c text offset hour minute (number_at_place 0 text hour f0) (mark_at_place colon 58 2 text mark colon_is f1) (number_at_place 3 text minute f2)
+    of_numbers c text offset hour minute (number_at_place 0 text hour f0) (mark_at_place 58 2 text mark f1) (number_at_place 3 text minute f2)
     (then_held _ _ offset e2)
 
 module _ (c : ℕ) (text : Text) (offset : MinutePrecisionOffset) (found : offset_place c text ≡ Some offset) where

@@ -1,7 +1,8 @@
 use Rattle.ixdtf_reading.proofs.grammar.is_a_key_char.Goals as goal
-use Rattle.std.proofs.Common.{arith}
-use Rattle.ixdtf_reading.proofs.code.Tables.{bits, bits_from, in_key}
+use Rattle.std.proofs.Common.{refl, arith}
+use Rattle.ixdtf_grammar.specs.language.Letters.{key_char}
+use Rattle.ixdtf_reading.proofs.code.Tables.{agree_below, bits, listed_from, in_class}
 
 pub returns : goal.returns
-unfolding bits bits_from
-returns c = in_key c.args.byte (omega arith)
+unfolding agree_below bits listed_from
+returns c = in_class 1 key_char refl c.args.byte (omega arith)

@@ -1,7 +1,8 @@
 use Rattle.ixdtf_reading.proofs.grammar.is_annotation_value_component.Goals as goal
-use Rattle.std.proofs.Common.{arith}
-use Rattle.ixdtf_reading.proofs.code.Tables.{bits, bits_from, in_value}
+use Rattle.std.proofs.Common.{refl, arith}
+use Rattle.ixdtf_grammar.specs.language.Letters.{value_char}
+use Rattle.ixdtf_reading.proofs.code.Tables.{agree_below, bits, listed_from, in_class}
 
 pub returns : goal.returns
-unfolding bits bits_from
-returns c = in_value c.args.byte (omega arith)
+unfolding agree_below bits listed_from
+returns c = in_class 4 value_char refl c.args.byte (omega arith)
