@@ -11,9 +11,9 @@ use Rattle.ixdtf_reading.specs.reading.{Months.{year_month_at, marks_at, month_d
 use Rattle.ixdtf_reading.specs.reading.FixedPlaces.{byte_place, number_place, year_place, month_of_year_place, day_of_month_place, ranged_month, ranged_day}
 use Rattle.ixdtf_reading.specs.reading.FixedPlaces.{marks_place, unmarked_at}
 use Rattle.ixdtf_reading.proofs.{parts.{Looks.{onto, digits_go}, Marks.hyphens_of, Years.year_takes}, code.DigitClasses.digit_no_hyphen}
-use Rattle.ixdtf_reading.proofs.code.FixedPlaces.{then_some, Number, number_at_place, hyphen_is, mark_at_place, over_two, byte_in_class, two_digits, two}
+use Rattle.ixdtf_reading.proofs.code.FixedPlaces.{then_some, Number, number_at_place, over_two, two_digits, two}
 use Rattle.ixdtf_reading.proofs.{code.FixedPlaces.year_at_place, to_reading.Dates.{month_is, month_is_none, month_or_none, month_takes, month_out}}
-use Rattle.ixdtf_reading.proofs.to_reading.Months.{over_lone_day}
+use Rattle.ixdtf_reading.proofs.{to_reading.Months.over_lone_day, code.FixedPlaces.byte_is_mark}
 
 -- ---- year-months
 
