@@ -1,8 +1,7 @@
 -- What reading a first bracket returns is a zone bracket or a pair, or a row that fits.
 use Rattle.std.proofs.Common.{◌≡◌, ℕ, Bool, true, false, IsTrue, IsFalse, List, Result, Ok, Err, [], ◌∷◌, ◌++◌, drop, refl, sym, ap, ◌∙◌, subst, inl, inr}
 use Rattle.std.proofs.{Common.{arith, append_assoc, if◌then◌else◌}, lemmas.Bool.{eqb-true, Decides.nat_tests}}
-use Rattle.ixdtf_grammar.specs.language.Times.Clock.{MinuteOffset}
-use Rattle.ixdtf_grammar.specs.language.Letters.{Text, ◌or◌, sign, opening, closing, exclamation, slash, zone_lead, zone_char, key_lead}
+use Rattle.ixdtf_grammar.specs.language.{Times.Clock.MinuteOffset, Letters.{Text, ◌or◌, sign, closing, exclamation, slash, zone_lead, zone_char, key_lead}}
 use Rattle.ixdtf_grammar.specs.language.{Letters.Letter.{Plain, Bad}, Shapes.{one, ◌then◌, some}, Offsets.minutes_of}
 use Rattle.ixdtf_grammar.specs.language.{ZoneNames.{Zone, IsZone, IsZoneName}, Brackets.{Opens, IsZoneBracket, ReadsAsName, Pair, IsPair, ReadsAsPair}}
 use Rattle.ixdtf_grammar.specs.table.{Faults.Fault.{AnnotationClose, IanaChar}, LineNames.{BracketLine, PairLine, LineName}}
@@ -13,7 +12,7 @@ use Rattle.ixdtf_grammar.specs.table.{Lines.{line_of, zone_letters, Ending.error
 use Rattle.ixdtf_reading.specs.reading.{Looks.{Read, ◌>>=◌, row_of, letter_at, look_at, next_by}, Times.clock_at, Pairs.pair_at, Zones.name_line}
 use Rattle.ixdtf_reading.specs.reading.{Zones.{follow_look, name_look, name_run, as_zone}, Brackets.{Bracket, zoned, paired, sight_at, name_in_bracket_at}}
 use Rattle.ixdtf_reading.specs.reading.Brackets.{name_or_pair_at, offset_in_bracket_at, noted, as_pair, inside_at, critical_bracket_at, bracket_at}
-use Rattle.ixdtf_reading.proofs.parts.Looks.{OnRead, FitsIn, then_read, read_if, read_letter}
+use Rattle.ixdtf_reading.proofs.{parts.Looks.{OnRead, FitsIn, then_read, read_if, read_letter}, to_grammar.Pair.critical_start}
 use Rattle.ixdtf_reading.proofs.{parts.LookAhead.{OnSight, over_letter, sight_read, key_lead_skipped}, to_grammar.Times.{clock_read, clock_next_read}}
 use Rattle.ixdtf_reading.proofs.to_grammar.{ZoneNames.{NameFront, name_read, name_stops_here}, Pair.{PairFront, FitsInPair, pair_read, opened_pair}}
 use Rattle.ixdtf_reading.proofs.to_reading.Pair.{InPair}
@@ -66,17 +65,12 @@ of_name row text reads h start opens = (start, text, refl, rw h.1 (at h.0), h.2)
 -- a row of an offset fits in a bracket
 of_minutes : (row : Row) (c : ℕ) (text more : Text) → text ≡ Plain c ∷ more → IsTrue (sign c) → FitsIn (of_clock MinuteOffset) true row more
     → FitsInside text row
-of_minutes row c text more is signs h start opens = (
-  start ++ (Plain c ∷ []),
-  more,
-  rw is (simp append_assoc),
-  subst (λ n. InBracket n (start ++ (Plain c ∷ [])) more) (sym h.1) (start, Plain c ∷ [], refl, opens, (c, refl, signs)),
-  h.2,
-)
+of_minutes row c text more is signs h start opens =
+    (start ++ (Plain c ∷ []), more, rw is (simp append_assoc), rw h.1 (start, Plain c ∷ [], refl, opens, (c, refl, signs)), h.2)
 
 -- a row of a pair fits in a bracket
 of_pairs : (row : Row) (text : Text) → ReadsAsPair text → FitsInPair text row → FitsInside text row
-of_pairs row text reads h start opens = (start, text, refl, subst (λ n. InBracket n start text) (sym h.2) (by_line h.0 h.1), h.3)
+of_pairs row text reads h start opens = (start, text, refl, rw h.2 (by_line h.0 h.1), h.3)
   where
     by_line : (l : PairLine) → InPair l → InBracket (of_pair l) start text
     by_line key_start within = absurd within
@@ -193,33 +187,24 @@ module _ {E : Type 0} (fault : Row → E) where
   -- a row of a line with nothing before it
   at_start : (l : BracketLine) (row : Row) (body front rest : Text) → row.name ≡ of_bracket l → InBracket (of_bracket l) [] body → body ≡ front ++ rest
       → front_of (line_of true (of_bracket l)) front → Stops (line_of true (of_bracket l)) row.place row.error rest → FitsAfterCore row body
-  at_start l row body front rest name inside is shape at =
-      subst (λ n. (prior last : Text) × (body ≡ prior ++ last) × InBracket n prior last ×
-      ((f x : Text) × (last ≡ f ++ x) × front_of (line_of true n) f × Stops (line_of true n) row.place row.error x)) (sym name)
-      ([], body, refl, inside, (front, rest, is, shape, at))
+  at_start l row body front rest name inside is shape at = ([], body, refl, rw name inside, rw name (front, rest, is, shape, at))
 
   -- after `[` and `!`
   critical_read : (text : Text) → BracketRead (Plain 91 ∷ (Plain 33 ∷ text)) (critical_bracket_at fault text)
   unfolding critical_bracket_at
   critical_read text =
       then_read fault (letter_at fault (of_bracket first_critical_start) text) _ _ _ _ _ (read_letter fault (of_bracket first_critical_start) text tt)
-      (λ c rest h. inside_read (Plain 91 ∷ (Plain 33 ∷ [])) true starts c text rest h.0 h.1)
-      (λ r h. at_start first_critical_start r (Plain 91 ∷ (Plain 33 ∷ text)) (Plain 91 ∷ (Plain 33 ∷ [])) text h.0 refl refl starts h.1)
-    where
-      starts : (one opening then one exclamation) (Plain 91 ∷ (Plain 33 ∷ []))
-      starts = (Plain 91 ∷ [], Plain 33 ∷ [], refl, (91, refl, refl), (33, refl, refl))
-
-  from_opening : (text : Text) → BracketRead (Plain 91 ∷ text) (bracket_at fault text)
-  unfolding bracket_at
-  from_opening text =
-      then_read fault (letter_at fault (of_bracket first_bracket_start) text) _ _ _ _ _ (read_letter fault (of_bracket first_bracket_start) text tt)
-      (λ c rest h. read_if fault (exclamation c) _ _ _ _
-      (λ critical. subst (λ t. BracketRead (Plain 91 ∷ t) (critical_bracket_at fault rest))
-      (sym (h.0 ∙ ap (λ n. Plain n ∷ rest) (eqb-true c 33 critical))) (critical_read rest))
-      (λ no_mark. inside_read (Plain 91 ∷ []) false (91, refl, refl) c text rest h.0 (grind (arith, h.1, no_mark, nat_tests))))
-      (λ r h. at_start first_bracket_start r (Plain 91 ∷ text) (Plain 91 ∷ []) text h.0 refl refl (91, refl, refl) h.1)
+      (λ c rest h. inside_read (Plain 91 ∷ (Plain 33 ∷ [])) true critical_start c text rest h.0 h.1)
+      (λ r h. at_start first_critical_start r (Plain 91 ∷ (Plain 33 ∷ text)) (Plain 91 ∷ (Plain 33 ∷ [])) text h.0 refl refl critical_start h.1)
 
   -- after `[`
   pub bracket_read : (body text : Text) → body ≡ Plain 91 ∷ text
       → OnRead fault (bracket_at fault text) (λ bracket rest. (front : Text) × (body ≡ front ++ rest) × IsBracket front bracket) (λ row. FitsAfterCore row body)
-  bracket_read body text is = rw is (from_opening text)
+  unfolding bracket_at
+  bracket_read body text is =
+      rw is (then_read fault (letter_at fault (of_bracket first_bracket_start) text) _ _ _ _ _ (read_letter fault (of_bracket first_bracket_start) text tt)
+      (λ c rest h. read_if fault (exclamation c) _ _ _ _
+      (λ critical. subst (λ t. BracketRead (Plain 91 ∷ t) (critical_bracket_at fault rest))
+      (sym (h.0 ∙ ap (λ n. Plain n ∷ rest) (eqb-true c 33 critical))) (critical_read rest))
+      (λ no_mark. inside_read (Plain 91 ∷ []) false (91, refl, refl) c text rest h.0 (grind (arith, h.1, no_mark, nat_tests))))
+      (λ r h. at_start first_bracket_start r (Plain 91 ∷ text) (Plain 91 ∷ []) text h.0 refl refl (91, refl, refl) h.1))

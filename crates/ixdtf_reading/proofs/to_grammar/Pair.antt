@@ -6,7 +6,7 @@ use Rattle.ixdtf_grammar.specs.language.{Letters.Letter.{Plain, Bad}, Shapes.{Sh
 use Rattle.ixdtf_grammar.specs.language.Brackets.{Opens, Pair, Key, ValueRun, Value, IsPair}
 use Rattle.ixdtf_grammar.specs.table.{Faults.Fault.{NonAsciiCodePoint, AnnotationKeyValueSeparator, AnnotationKeyChar}, LineNames.PairLine}
 use Rattle.ixdtf_grammar.specs.table.LineNames.{PairLine.{key_start, critical_key_start, in_key}, LineName.of_pair}
-use Rattle.ixdtf_grammar.specs.table.{Lines.{line_of, pair_line}, Rows.{Row, Stops, FitsHere, front_of, Place.{end, other, bad}}}
+use Rattle.ixdtf_grammar.specs.table.{Lines.pair_line, Rows.{Row, Stops, FitsHere, front_of, Place.{end, other, bad}}}
 use Rattle.ixdtf_reading.specs.reading.{Looks.{Read, row_of, letter_at}, Zones.with_letter, Pairs.{value_line, value_end, value_other, value_step, key_run}}
 use Rattle.ixdtf_reading.specs.reading.Pairs.{value_run, pair_at, critical_pair_at, later_pair_at, ValueState, AtStart, Inside, AfterHyphen, ValueStep}
 use Rattle.ixdtf_reading.specs.reading.{Pairs.{GoesOn, Ends, ValueStep as steps}, Chains.{AfterBrackets, FitsAfterBrackets}}
@@ -100,9 +100,7 @@ abbrev At : PairLine → Shape → Text → Row → Type 0
 At l shape text row = (part rest : Text) × (text ≡ part ++ rest) × shape part × (row.name ≡ of_pair l) × Stops (pair_line l) row.place row.error rest
 
 fits_here : (l : PairLine) (row : Row) (text : Text) → At l (front_of (pair_line l)) text row → FitsHere true row text
-fits_here l row text h =
-    subst (λ n. (f x : Text) × (text ≡ f ++ x) × front_of (line_of true n) f × Stops (line_of true n) row.place row.error x) (sym h.4)
-    (h.0, h.1, h.2, h.3, h.5)
+fits_here l row text h = rw h.4 (h.0, h.1, h.2, h.3, h.5)
 
 -- what reading a key of the shape gave
 abbrev KeyFront : Shape → Text → List ℕ → Text → Type 0
@@ -114,6 +112,10 @@ ValueFront state text value rest = (part : Text) × (text ≡ part ++ (Plain 93 
 
 abbrev ValueHalts : ValueState → Text → Row → Type 0
 ValueHalts state text row = (last : ValueState) × At (value_line last) (Reach state last) text row
+
+-- `[` and `!`
+pub critical_start : (one opening then one exclamation) (Plain 91 ∷ (Plain 33 ∷ []))
+critical_start = (Plain 91 ∷ [], Plain 33 ∷ [], refl, (91, refl, refl), (33, refl, refl))
 
 -- a pair's text, after what opens its bracket
 pub opened_pair : (start text : Text) (critical : Bool) (pair : Pair) → Opens start critical → PairText text pair → pair.critical ≡ critical
@@ -282,22 +284,17 @@ module _ {E : Type 0} (fault : Row → E) where
   critical_read : (text : Text) → LaterRead (Plain 91 ∷ (Plain 33 ∷ text)) (critical_pair_at fault text)
   unfolding critical_pair_at
   critical_read text = then_read fault (letter_at fault (of_pair critical_key_start) text) _ _ _ _ _ (read_letter fault (of_pair critical_key_start) text tt)
-      (λ c rest h. opened_read (Plain 91 ∷ (Plain 33 ∷ [])) text true starts _ (pair_read true c text rest h.0 h.1))
-      (λ r h. first_row critical_key_start r (Plain 91 ∷ (Plain 33 ∷ text)) refl (Plain 91 ∷ (Plain 33 ∷ []), text, refl, starts, h.0, h.1))
-    where
-      starts : (one opening then one exclamation) (Plain 91 ∷ (Plain 33 ∷ []))
-      starts = (Plain 91 ∷ [], Plain 33 ∷ [], refl, (91, refl, refl), (33, refl, refl))
-
-  from_opening : (text : Text) → LaterRead (Plain 91 ∷ text) (later_pair_at fault text)
-  unfolding later_pair_at
-  from_opening text = then_read fault (letter_at fault (of_pair key_start) text) _ _ _ _ _ (read_letter fault (of_pair key_start) text tt)
-      (λ c rest h. read_if fault (exclamation c) _ _ _ _
-      (λ critical. subst (λ t. LaterRead (Plain 91 ∷ t) (critical_pair_at fault rest)) (sym (h.0 ∙ ap (λ n. Plain n ∷ rest) (eqb-true c 33 critical)))
-      (critical_read rest))
-      (λ no_mark. opened_read (Plain 91 ∷ []) text false (91, refl, refl) _ (pair_read false c text rest h.0 (starts_key c h.1 no_mark))))
-      (λ r h. first_row key_start r (Plain 91 ∷ text) refl (Plain 91 ∷ [], text, refl, (91, refl, refl), h.0, h.1))
+      (λ c rest h. opened_read (Plain 91 ∷ (Plain 33 ∷ [])) text true critical_start _ (pair_read true c text rest h.0 h.1))
+      (λ r h. first_row critical_key_start r (Plain 91 ∷ (Plain 33 ∷ text)) refl (Plain 91 ∷ (Plain 33 ∷ []), text, refl, critical_start, h.0, h.1))
 
   -- after `[`
   pub later_pair_read : (body text : Text) → body ≡ Plain 91 ∷ text
       → OnRead fault (later_pair_at fault text) (λ pair rest. (front : Text) × (body ≡ front ++ rest) × IsPair front pair) (λ row. FitsAfterBrackets row body)
-  later_pair_read body text is = rw is (from_opening text)
+  unfolding later_pair_at
+  later_pair_read body text is =
+      rw is (then_read fault (letter_at fault (of_pair key_start) text) _ _ _ _ _ (read_letter fault (of_pair key_start) text tt)
+      (λ c rest h. read_if fault (exclamation c) _ _ _ _
+      (λ critical. subst (λ t. LaterRead (Plain 91 ∷ t) (critical_pair_at fault rest)) (sym (h.0 ∙ ap (λ n. Plain n ∷ rest) (eqb-true c 33 critical)))
+      (critical_read rest))
+      (λ no_mark. opened_read (Plain 91 ∷ []) text false (91, refl, refl) _ (pair_read false c text rest h.0 (starts_key c h.1 no_mark))))
+      (λ r h. first_row key_start r (Plain 91 ∷ text) refl (Plain 91 ∷ [], text, refl, (91, refl, refl), h.0, h.1)))
