@@ -1,6 +1,6 @@
 -- What reading a duration returns is a duration, or the fault of a row that fits.
 use Rattle.std.proofs.Common.{◌≡◌, ℕ, ◌≤◌, ◌<◌, ◌||◌, Bool, true, false, IsTrue, IsFalse, List, [], ◌∷◌, ◌++◌, Result, Ok, Err, refl, inl, inr, arith}
-use Rattle.std.proofs.{Common.{append_assoc, append-nil, nat_le, if◌then◌else◌}, lemmas.Bool.{or_from, both_ways, leb-true, Decides.nat_tests}}
+use Rattle.std.proofs.{Common.{append_assoc, append-nil, nat_le, if◌then◌else◌}, lemmas.Bool.{or_from, both_ways, leb-true, leb-false}}
 use Rattle.ixdtf_grammar.specs.declared.{profile.Profile.Profile, records.{DurationParseRecord.DurationParseRecord, Sign.Sign}}
 use Rattle.ixdtf_grammar.specs.language.{Letters.{Text, digit, sign, decimal_mark, hour_letter, minute_letter, Letter.{Plain, Bad}}, Digits.decimal}
 use Rattle.ixdtf_grammar.specs.language.{Fractions.{SomeDigits, IsFraction, fraction_of}, Offsets.sign_of, Durations.{Half, Group, IntegerGroup}}
@@ -46,9 +46,6 @@ FitsAnywhere profile left front row =
 or_other : (x y : Bool) → IsTrue (x || y) → IsFalse x → IsTrue y
 or_other true y h misses = absurd (both_ways _ misses refl)
 or_other false y h misses = h
-
-not_below : (n m : ℕ) → IsFalse (nat_le n m) → m < n
-not_below n m h = grind (arith, nat_tests, h)
 
 time_greatest : (c : ℕ) → greatest (unit_of time c) ≡ greatest_value
 time_greatest c = go (hour_letter c) (minute_letter c)
@@ -112,13 +109,13 @@ module _ {E : Type 0} (fault : Row → E) (profile : Profile) where
         → Kept left (prior ++ (ds ++ (Plain c ∷ []))) (grow fault profile left context (ds ++ (Plain c ∷ [])))
     grow_kept ds c below all = state_if (nat_le (decimal (ds ++ (Plain c ∷ []))) greatest_value) _ _ _ _
         (λ fits. (prior, refl, b, (all, leb-true _ _ fits)))
-        (λ past. (_, refl, ((refl, refl), (context, prior, ds ++ (Plain c ∷ []), refl, refl, b, (ds, c, refl, all, below, not_below _ _ past)), (refl, refl))))
+        (λ past. (_, refl, ((refl, refl), (context, prior, ds ++ (Plain c ∷ []), refl, refl, b, (ds, c, refl, all, below, leb-false _ _ past)), (refl, refl))))
 
     range_kept : (last : Text) (g : Group) (c : ℕ) → IntegerGroup (half_of context) last g → g.unit ≡ unit_of (half_of context) c → g.value ≤ greatest_value
         → IsTrue (in_order profile (groups_of context) g.unit) → Kept left (prior ++ last) (add_in_range fault profile left context g)
     range_kept last g c h unit below order = state_if (nat_le g.value (greatest g.unit)) _ _ _ _
         (λ range. added_after context prior last g b h order (leb-true _ _ range))
-        (λ past. (unit_past profile left, refl, unit_kept left context prior last g c b h unit below order (not_below _ _ past)))
+        (λ past. (unit_past profile left, refl, unit_kept left context prior last g c b h unit below order (leb-false _ _ past)))
 
     order_kept : (last : Text) (g : Group) (next : Result State E) → AnyGroup (half_of context) last g
         → (IsTrue (in_order profile (groups_of context) g.unit) → Kept left (prior ++ last) next)
@@ -239,14 +236,12 @@ is_duration profile s front h ends = absurd ends
 
 -- ---- what reading returns
 
-bad_stops : (l : Line) (rest : Text) → Asks l → Stops l (bad (Bad ∷ rest)) NonAsciiCodePoint (Bad ∷ rest)
-bad_stops (line front goes_on ends at_other) rest asks = (rest, refl, refl, refl)
-bad_stops l rest asks = absurd asks
-
 module _ {E : Type 0} (fault : Row → E) (profile : Profile) where
-  bad_row : (name : LineName) (l : Line) (text : Text) → Asks l → (look_of fault name l).at_bad text ≡ fault (row_of name (bad text) NonAsciiCodePoint)
-  bad_row name (line front goes_on ends at_other) text asks = refl
-  bad_row name l text asks = absurd asks
+  bad_read : (name : LineName) (l : Line) (rest : Text) (stopped : Row → Type 0) → Asks l
+      → (Stops l (bad (Bad ∷ rest)) NonAsciiCodePoint (Bad ∷ rest) → stopped (row_of name (bad (Bad ∷ rest)) NonAsciiCodePoint))
+      → IsRowFault fault ((look_of fault name l).at_bad (Bad ∷ rest)) stopped
+  bad_read name (line front goes_on ends at_other) rest stopped asks at = (row_of name (bad (Bad ∷ rest)) NonAsciiCodePoint, refl, at (rest, refl, refl, refl))
+  bad_read name l rest stopped asks at = absurd asks
 
   end_read : (name : LineName) (l : Line) (d : DurationParseRecord) (found : DurationParseRecord → Type 0) (stopped : Row → Type 0) → Asks l
       → (MayEnd l → found d) → ((e : Fault) → Stops l (end []) e [] → stopped (row_of name (end []) e))
@@ -280,17 +275,9 @@ module _ {E : Type 0} (fault : Row → E) (profile : Profile) where
       end_read (of_duration profile (line_of_state s)) (duration_line profile (line_of_state s)) (finished s) _ _ (state_asks profile s)
       (λ ends. rw (is, append-nil) (is_duration profile s front h ends))
       (λ e at. ([], text, refl, ((refl, refl), refl), (front, [], is, shown profile s front h, at)))
-  run_read s front (Bad ∷ rest) text h is = (
-    row_of (of_duration profile (line_of_state s)) (bad (Bad ∷ rest)) NonAsciiCodePoint,
-    bad_row (of_duration profile (line_of_state s)) (duration_line profile (line_of_state s)) (Bad ∷ rest) (state_asks profile s),
-    (
-      [],
-      text,
-      refl,
-      ((refl, refl), refl),
-      (front, Bad ∷ rest, is, shown profile s front h, bad_stops (duration_line profile (line_of_state s)) rest (state_asks profile s)),
-    ),
-  )
+  run_read s front (Bad ∷ rest) text h is =
+      bad_read (of_duration profile (line_of_state s)) (duration_line profile (line_of_state s)) rest _ (state_asks profile s)
+      (λ at. ([], text, refl, ((refl, refl), refl), (front, Bad ∷ rest, is, shown profile s front h, at)))
   run_read s front (Plain c ∷ rest) text h is =
       letter_read (of_duration profile (line_of_state s)) (duration_line profile (line_of_state s)) c rest _ _ _ (state_asks profile s)
       (λ g. then_state (step fault profile rest s c) _ _ _ _ _ (kept fault profile rest s c front h g)

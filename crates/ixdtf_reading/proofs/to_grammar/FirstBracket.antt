@@ -16,6 +16,7 @@ use Rattle.ixdtf_reading.proofs.{parts.Looks.{OnRead, FitsIn, then_read, read_if
 use Rattle.ixdtf_reading.proofs.{parts.LookAhead.{OnSight, over_letter, sight_read, key_lead_skipped}, to_grammar.Times.{clock_read, clock_next_read}}
 use Rattle.ixdtf_reading.proofs.to_grammar.{ZoneNames.{NameFront, name_read, name_stops_here}, Pair.{PairFront, FitsInPair, pair_read, opened_pair}}
 use Rattle.ixdtf_reading.proofs.to_reading.Pair.{InPair}
+use Rattle.ixdtf_grammar.proofs.parts.Texts.{signed_text}
 
 -- what stands between a core and the front of a line of a first bracket, and what the text has from the front on
 abbrev pub InBracket : LineName → Text → Text → Type 0
@@ -125,7 +126,7 @@ module _ {E : Type 0} (fault : Row → E) where
       (λ d left g. (
         Plain c ∷ h.0,
         is ∙ ap (λ t. Plain c ∷ t) (h.1 ∙ ap (λ t. h.0 ++ t) (g.0 ∙ ap (λ n. Plain n ∷ left) (eqb-true d 93 g.1))),
-        inr (minutes_of c x.1, record { c = c; body = h.0; shape = x.0; time = x.1; is = refl; sign = signs; clock = h.2; value = refl }, refl),
+        inr (minutes_of c x.1, signed_text c h.0 x.0 x.1 refl signs h.2, refl),
       ))
       (λ r f. of_minutes r c text more is signs f))
       (λ r f. of_minutes r c text more is signs f)
