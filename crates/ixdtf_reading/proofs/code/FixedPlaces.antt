@@ -1,7 +1,7 @@
 -- A date and a time at fixed places: what is found there is what the grammar has, and is read so.
 use Rattle.std.proofs.Common.{subst, ◌≡◌, ℕ, zero, suc, ◌+◌, ◌-◌, ◌*◌, ◌<◌, ◌≤◌, Bool, true, false, IsTrue, List, [], ◌∷◌, ◌++◌, map, drop, length, Option}
 use Rattle.std.proofs.Common.{Some, None, Result, Ok, Err, refl, sym, ap, ◌∙◌, ◌&&◌, if◌then◌else◌, ℤ, pos, arith, append_assoc, inl, inr, nat_eq, eqb-true}
-use Rattle.std.proofs.lemmas.{Bool.{and_parts, and_from, le-leb, Decides.nat_tests}, List.length-drop}
+use Rattle.std.proofs.lemmas.{Bool.{and_parts, and_from, le-leb, both_ways, Decides.nat_tests}, List.length-drop}
 use Rattle.ixdtf_grammar.specs.declared.records.{DateRecord.DateRecord, TimeRecord.TimeRecord}
 use Rattle.ixdtf_grammar.specs.language.Letters.{Letter, Letter.{Plain, Bad}, Text, Class, digit, hyphen, colon, date_time_separator}
 use Rattle.ixdtf_grammar.specs.language.{Digits.{decimal, TwoDigits}, Shapes.digits, Dates.{FourDigitYear, IsDayOfMonth, month_length}}
@@ -341,18 +341,14 @@ date_time_stands text date time rest f =
 
 -- ---- what is found is read
 
-never : (b : Bool) → b ≡ false → IsTrue b → ⊥
-never true no_one is = absurd cc
-never false no_one is = absurd cc
-
 -- the code unit at a place is of a class that 0 is not of
 pub byte_in_class : (class : Class) (place : ℕ) (text : Text) → class 0 ≡ false → IsTrue (class (byte_place place text))
     → letter_place class place text ≡ Some (byte_place place text)
 byte_in_class class place text not_zero is = go (drop place text) is
   where
     go : (text : Text) → IsTrue (class (first_byte text)) → first_in class text ≡ Some (first_byte text)
-    go [] is = absurd (never (class 0) not_zero is)
-    go (Bad ∷ rest) is = absurd (never (class 0) not_zero is)
+    go [] is = absurd (both_ways (class 0) not_zero is)
+    go (Bad ∷ rest) is = absurd (both_ways (class 0) not_zero is)
     go (Plain c ∷ rest) is = rw is refl
 
 -- so a mark is, which 0 is not

@@ -1,5 +1,5 @@
 -- Tables, held against what they are tables of at each place by computing.
-use Rattle.std.proofs.Common.{◌≡◌, ℕ, zero, suc, ◌+◌, ◌<◌, ◌≤◌, Bool, true, false, ◌&&◌, nat_eq, List, [], ◌∷◌, slice_index_or, bit_and, IsTrue, refl, arith}
+use Rattle.std.proofs.Common.{◌≡◌, ℕ, zero, suc, ◌+◌, ◌<◌, ◌≤◌, Bool, true, false, ◌&&◌, nat_eq, List, [], ◌∷◌, slice_index_or, bit_and, IsTrue, arith}
 use Rattle.std.proofs.{Common.{inl, inr}, lemmas.Bool.{cases_eq, Decides.nat_tests}}
 use Rattle.std.specs.{Prelude.{not, IsFalse}, Bool.beq}
 use Rattle.ixdtf_grammar.specs.language.Letters.{digit, zone_char, key_char, value_char, Class}
@@ -11,10 +11,7 @@ agree_below f g zero = true
 agree_below f g (suc n) = beq (f n) (g n) && agree_below f g n
 
 both_of : (x y rest : Bool) → (beq x y && rest) ≡ true → (x ≡ y) × (rest ≡ true)
-both_of true true rest h = (refl, h)
-both_of true false rest h = cc
-both_of false true rest h = cc
-both_of false false rest h = (refl, h)
+both_of x y rest h = grind (arith, h)
 
 pub agree_at : (f g : ℕ → Bool) (n : ℕ) → agree_below f g n ≡ true → (b : ℕ) → b < n → f b ≡ g b
 unfolding agree_below

@@ -2,10 +2,10 @@
 use Rattle.std.proofs.Common.{◌≡◌, ℕ, ◌≤◌, ◌<◌, ◌||◌, Bool, true, false, IsTrue, IsFalse, List, [], ◌∷◌, ◌++◌, Result, Ok, Err, refl, inl, inr, arith}
 use Rattle.std.proofs.{Common.{append_assoc, append-nil, nat_le, if◌then◌else◌}, lemmas.Bool.{or_from, both_ways, leb-true, leb-false}}
 use Rattle.ixdtf_grammar.specs.declared.{profile.Profile.Profile, records.{DurationParseRecord.DurationParseRecord, Sign.Sign}}
-use Rattle.ixdtf_grammar.specs.language.{Letters.{Text, digit, sign, decimal_mark, hour_letter, minute_letter, Letter.{Plain, Bad}}, Digits.decimal}
+use Rattle.ixdtf_grammar.specs.language.{Letters.{Text, digit, sign, decimal_mark, Letter.{Plain, Bad}}, Digits.decimal}
 use Rattle.ixdtf_grammar.specs.language.{Fractions.{SomeDigits, IsFraction, fraction_of}, Offsets.sign_of, Durations.{Half, Group, IntegerGroup}}
 use Rattle.ixdtf_grammar.specs.language.Durations.{FractionGroup, AtLeastOne, unit_of, designator, in_order, greatest, greatest_value, IsDuration}
-use Rattle.ixdtf_grammar.specs.language.Durations.{DurationUnit as units, SignedDesignator, Groups, TimePart, duration_of, Half.{date, time}}
+use Rattle.ixdtf_grammar.specs.language.Durations.{SignedDesignator, Groups, TimePart, duration_of, Half.{date, time}}
 use Rattle.ixdtf_grammar.specs.{language.Readers.Reader.parse_duration, table.{Faults.{Fault, Fault.NonAsciiCodePoint}, LineNames.LineName}}
 use Rattle.ixdtf_grammar.specs.table.{LineNames.LineName.of_duration, DurationFronts.{Context, half_of, groups_of, IsContext, AnyGroup, group_mark}}
 use Rattle.ixdtf_grammar.specs.table.{DurationFronts.Context.{in_dates, in_times}, Lines.{Line, duration_line, line_of, Line.line, Ending.{ok, error}}}
@@ -44,16 +44,10 @@ FitsAnywhere profile left front row =
 -- ---- code units and numbers
 
 or_other : (x y : Bool) → IsTrue (x || y) → IsFalse x → IsTrue y
-or_other true y h misses = absurd (both_ways _ misses refl)
-or_other false y h misses = h
+or_other x y h misses = grind (arith, h, misses)
 
 time_greatest : (c : ℕ) → greatest (unit_of time c) ≡ greatest_value
-time_greatest c = go (hour_letter c) (minute_letter c)
-  where
-    go : (h m : Bool) → greatest (if h then units.hours else (if m then units.minutes else units.seconds)) ≡ greatest_value
-    go true m = refl
-    go false true = refl
-    go false false = refl
+time_greatest c = grind arith
 
 any_integer : (half : Half) (text : Text) (g : Group) → IntegerGroup half text g → AnyGroup half text g
 any_integer date text g h = h
