@@ -3,10 +3,10 @@ use Rattle.std.proofs.Common.{subst, ◌≡◌, ℕ, zero, suc, ◌+◌, ◌-◌
 use Rattle.std.proofs.Common.{Some, None, Result, Ok, Err, refl, sym, ap, ◌∙◌, ◌&&◌, if◌then◌else◌, ℤ, pos, arith, append_assoc, inl, inr, nat_eq, eqb-true}
 use Rattle.std.proofs.lemmas.{Bool.{and_parts, and_from, le-leb, both_ways, Decides.nat_tests}, List.length-drop}
 use Rattle.ixdtf_grammar.specs.declared.records.{DateRecord.DateRecord, TimeRecord.TimeRecord}
-use Rattle.ixdtf_grammar.specs.language.Letters.{Letter, Letter.{Plain, Bad}, Text, Class, digit, hyphen, colon, date_time_separator}
+use Rattle.ixdtf_grammar.specs.language.Letters.{Letter, Letter.Plain, Text, Class, digit, hyphen, colon, date_time_separator}
 use Rattle.ixdtf_grammar.specs.language.{Digits.{decimal, TwoDigits}, Shapes.digits, Dates.{FourDigitYear, IsDayOfMonth, month_length}}
 use Rattle.ixdtf_grammar.specs.{language.FixedPlaces.{FixedDateTime, FixedDate, FixedTime}, table.{Faults.Fault, LineNames.{of_date, DateLine.after_year}}}
-use Rattle.ixdtf_grammar.specs.Views.{Unread, ascii_at, looked}
+use Rattle.ixdtf_grammar.specs.Views.{Unread, ascii_at}
 use Rattle.ixdtf_grammar.proofs.parts.Texts.{colon_seconds_text}
 use Rattle.ixdtf_reading.specs.{declared.stop.Stop.Stop, reading.{Clauses.{Reads, YieldsAt}, Dates.{date_of, day_in_range, day_at, days_at, date_at}}}
 use Rattle.ixdtf_reading.specs.reading.{Times.time_of, Looks.{Read, Placed, error_of}, FixedPlaces.{ranged, ◌>>?◌, first_in, letter_place, first_byte}}
@@ -26,21 +26,13 @@ pub place_looked : (letter : ℕ → Letter) (class : Class) (place : ℕ) (unit
     → letter_place class place (map letter units) ≡ class_at_place class (ascii_at letter place units)
 place_looked letter class zero [] = refl
 place_looked letter class (suc place) [] = refl
-place_looked letter class zero (u ∷ more) = go (letter u)
-  where
-    go : (l : Letter) → first_in class (l ∷ map letter more) ≡ class_at_place class (looked (Some l))
-    go (Plain n) = refl
-    go Bad = refl
+place_looked letter class zero (u ∷ more) = grind arith
 place_looked letter class (suc place) (u ∷ more) = place_looked letter class place more
 
 pub byte_looked : (letter : ℕ → Letter) (place : ℕ) (units : List ℕ) → byte_place place (map letter units) ≡ byte_of_look (ascii_at letter place units)
 byte_looked letter zero [] = refl
 byte_looked letter (suc place) [] = refl
-byte_looked letter zero (u ∷ more) = go (letter u)
-  where
-    go : (l : Letter) → first_byte (l ∷ map letter more) ≡ byte_of_look (looked (Some l))
-    go (Plain n) = refl
-    go Bad = refl
+byte_looked letter zero (u ∷ more) = grind arith
 byte_looked letter (suc place) (u ∷ more) = byte_looked letter place more
 
 -- ---- what stands where something was found
@@ -53,8 +45,7 @@ then_some (Some x) go y e next = next x refl e
 
 -- what passed a test
 pub then_held : {A : Type 0} (t : Bool) (x y : A) → (if t then Some x else None) ≡ Some y → IsTrue t × (x ≡ y)
-then_held true x y e = (refl, cc)
-then_held false x y e = absurd cc
+then_held t x y e = grind (arith, e)
 
 -- the code unit at a place, and the text after it
 pub letter_at_place : (class : Class) (place : ℕ) (text : Text) (c : ℕ) → letter_place class place text ≡ Some c
@@ -347,9 +338,8 @@ pub byte_in_class : (class : Class) (place : ℕ) (text : Text) → class 0 ≡ 
 byte_in_class class place text not_zero is = go (drop place text) is
   where
     go : (text : Text) → IsTrue (class (first_byte text)) → first_in class text ≡ Some (first_byte text)
-    go [] is = absurd (both_ways (class 0) not_zero is)
-    go (Bad ∷ rest) is = absurd (both_ways (class 0) not_zero is)
     go (Plain c ∷ rest) is = rw is refl
+    go text is = absurd (both_ways (class 0) not_zero is)
 
 -- so a mark is, which 0 is not
 pub byte_is_mark : (mark place : ℕ) (text : Text) → nat_eq 0 mark ≡ false → IsTrue (nat_eq (byte_place place text) mark)

@@ -1,5 +1,5 @@
 -- What reading a zone name returns is a name as far as it goes, or a row that fits.
-use Rattle.std.proofs.Common.{◌≡◌, ℕ, Bool, true, false, IsTrue, IsFalse, List, [], ◌∷◌, ◌++◌, map, Ok, Err, refl, sym, ◌∙◌, inl, inr}
+use Rattle.std.proofs.Common.{◌≡◌, ℕ, Bool, true, false, IsTrue, IsFalse, List, [], ◌∷◌, ◌++◌, map, Ok, Err, refl, sym, ◌∙◌, inl, inr, arith}
 use Rattle.std.proofs.{Common.{append_assoc, append-nil, ◌&&◌}, lemmas.Bool.{and_parts, true≢false}}
 use Rattle.ixdtf_grammar.specs.language.Letters.{Text, ◌or◌, zone_lead, zone_char, slash, Letter.{Plain, Bad}}
 use Rattle.ixdtf_grammar.specs.{language.{Shapes.{Shape, one, ◌then◌, Joined, many}, ZoneNames.{NameItem, ZoneName}}, table.Faults.Fault}
@@ -24,8 +24,7 @@ longer front part h item = (h.0, h.1 ++ part, rw (h.2, append_assoc), h.3, joine
 
 -- a test that fails where the other one holds
 by_slash : (b : Bool) → IsFalse (b && true) → IsFalse b
-by_slash true h = h
-by_slash false h = refl
+by_slash b h = grind (arith, h)
 
 -- a name, or a name and a slash, by whether it may end
 abbrev Begun : Bool → Shape
