@@ -8,7 +8,7 @@ use Rattle.ixdtf_grammar.specs.table.{Faults.Fault.{AnnotationClose, IanaChar}, 
 use Rattle.ixdtf_grammar.specs.table.LineNames.{LineName.{of_clock, of_zone, of_bracket, of_pair}, ZoneLine.{in_zone_name, after_zone_slash}}
 use Rattle.ixdtf_grammar.specs.table.LineNames.BracketLine.{first_bracket_start, first_critical_start, first_bracket_scan}
 use Rattle.ixdtf_grammar.specs.table.LineNames.PairLine.{key_start, critical_key_start, in_key, value_start, in_value, after_value_hyphen}
-use Rattle.ixdtf_grammar.specs.table.{Lines.{line_of, zone_letters, Ending.error}, Rows.{Row, Stops, FitsHere, front_of, Place.{end, other}}}
+use Rattle.ixdtf_grammar.specs.table.{Lines.{line_of, zone_letters}, Rows.{Row, Stops, FitsHere, front_of, Place.{end, other}}}
 use Rattle.ixdtf_reading.specs.reading.{Looks.{Read, ◌>>=◌, row_of, letter_at, look_at, next_by}, Times.clock_at, Pairs.pair_at, Zones.name_line}
 use Rattle.ixdtf_reading.specs.reading.{Zones.{follow_look, name_look, name_run, as_zone}, Brackets.{Bracket, zoned, paired, sight_at, name_in_bracket_at}}
 use Rattle.ixdtf_reading.specs.reading.Brackets.{name_or_pair_at, offset_in_bracket_at, noted, as_pair, inside_at, critical_bracket_at, bracket_at}

@@ -1,7 +1,7 @@
 -- What reading a zone name returns is a name as far as it goes, or a row that fits.
 use Rattle.std.proofs.Common.{◌≡◌, ℕ, Bool, true, false, IsTrue, IsFalse, List, [], ◌∷◌, ◌++◌, map, Ok, Err, refl, sym, ◌∙◌, inl, inr, arith}
 use Rattle.std.proofs.{Common.{append_assoc, append-nil, ◌&&◌}, lemmas.Bool.{and_parts, true≢false}}
-use Rattle.ixdtf_grammar.specs.language.Letters.{Text, ◌or◌, zone_lead, zone_char, slash, Letter.{Plain, Bad}}
+use Rattle.ixdtf_grammar.specs.language.Letters.{Text, zone_lead, zone_char, slash, Letter.{Plain, Bad}}
 use Rattle.ixdtf_grammar.specs.{language.{Shapes.{Shape, one, ◌then◌, Joined, many}, ZoneNames.{NameItem, ZoneName}}, table.Faults.Fault}
 use Rattle.ixdtf_grammar.specs.table.{Faults.Fault.{NonAsciiCodePoint, IanaCharPostSeparator}, LineNames.LineName.of_zone}
 use Rattle.ixdtf_grammar.specs.table.{LineNames.ZoneLine.{in_zone_name, after_zone_slash}, Rows.{Row, Place, Place.{end, other, bad}}}
