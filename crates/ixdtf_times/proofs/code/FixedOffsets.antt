@@ -8,8 +8,7 @@ use Rattle.ixdtf_grammar.specs.language.Times.TimeShape.{colon_minutes}
 use Rattle.ixdtf_reading.specs.reading.{Looks.{error_of, look_at, peek_by}, FixedPlaces.{letter_place, number_place, offset_place}}
 use Rattle.ixdtf_reading.specs.reading.{Times.{time_of, line_after, clock_at}, Zones.{signed_alone_at, offset_alone_at, minute_offset_alone_at}}
 use Rattle.ixdtf_reading.specs.reading.Cores.{with_offset, offset_core_at, core_end_at}
-use Rattle.ixdtf_reading.proofs.parts.Looks.{onto}
-use Rattle.ixdtf_reading.proofs.code.FixedPlaces.{then_some, then_held, Number, number_at_place, mark_at_place, colon_is, two, two_digits, over_two}
+use Rattle.ixdtf_reading.proofs.{parts.Looks.onto, code.FixedPlaces.{then_some, then_held, Number, number_at_place, mark_at_place, two, two_digits, over_two}}
 use Rattle.ixdtf_reading.proofs.to_reading.{Times.{Closed, time_takes}, ClockRows.clock_starts}
 
 -- the code units of an hour, a colon and a minute, the text after them, and the offset that they are

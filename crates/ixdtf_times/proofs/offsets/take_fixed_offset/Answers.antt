@@ -1,5 +1,5 @@
 use Rattle.ixdtf_times.proofs.offsets.take_fixed_offset.Goals as goal
-use Rattle.std.proofs.{Common.{◌≡◌, List, ℕ, IsTrue, [], map, drop, length, Ok, true, false, sym, ap, ◌∙◌, subst, arith}, lemmas.Bool.Decides.nat_tests}
+use Rattle.std.proofs.{Common.{◌≡◌, List, ℕ, IsTrue, [], map, drop, length, Ok, true, false, sym, ap, ◌∙◌, subst, arith, refl}, lemmas.Bool.Decides.nat_tests}
 use Rattle.std.proofs.lemmas.List.{drop-map, drop_all}
 use Rattle.ixdtf_reading.specs.reading.{FixedPlaces.byte_place, Cores.with_offset}
 use Rattle.ixdtf_reading.proofs.code.FixedPlaces.{byte_is_mark}
