@@ -6,7 +6,7 @@ use Rattle.std.specs.Option.{option_or}
 use Rattle.ixdtf_grammar.specs.declared.{profile.Profile.Profile, records.Annotation.Annotation}
 use Rattle.ixdtf.specs.{language.{Brackets.Pair, Letters.Text, Readers.{CoreKind, Reader.bracketed}, Languages.Parsed}, table.Faults.Fault}
 use Rattle.ixdtf.specs.Handlers.{Reply, calendar_value, first_calendar, NoneRefused, LastRefused, Calls, IsChain, Step, handed, replies_of, pair_of, Handled}
-use Rattle.ixdtf_reading.proofs.{code.OneMoreReply.{first_calendar-more, NoneRefused-nothing, NoneRefused-more}, theorems.Handled.handled_of}
+use Rattle.ixdtf_reading.proofs.theorems.{Handled.handled_of, Replies.{first_calendar-more, NoneRefused-nothing, NoneRefused-more}}
 use Rattle.ixdtf_c.specs.{Crossing.{Contents, Gives, units_for, is_there}, Listing.Lists, Located.{FaultAt, unplaced}, Replying.with_kept}
 use Rattle.ixdtf_c.specs.{Standing.where_there, Turns.{HandsOver, InTurn}, Numbers.number_for}
 use Rattle.ixdtf_c.proofs.{Numbers.{number_some, nowhere}, Replying.{overwritten-front, gives_all, front_of}}

@@ -7,7 +7,7 @@ use Rattle.ixdtf.specs.language.{Brackets.Pair, Letters.Text, Readers.{Reader, C
 use Rattle.ixdtf.specs.{language.Languages.Found.parsed, table.{Faults.{Fault, fault_of_located, stands_behind}, Outcomes.{HasFaultAt, NoRowFits}}}
 use Rattle.ixdtf.specs.{Laws.InNoOther, Places.{GivesFaultAt, HandledToAt}, Handlers.{Reply, first_calendar, calendar_value, with_calendar, RefusedBeside}}
 use Rattle.ixdtf.specs.Handlers.{NoneRefused, LastRefused, GivesRecord, GivesFault, pair_of, Calls, handed, replies_of, Step, IsChain}
-use Rattle.ixdtf_reading.proofs.theorems.{OneOutcome.place_once, OnlyOutcome.only_fault}
+use Rattle.ixdtf_reading.proofs.theorems.{OneOutcome.place_once, OnlyOutcome.only_fault, Replies.{nones, first_calendar-nones, each_is_none}}
 use Rattle.ixdtf_c.specs.{Listing.{PassesOver, overwritten, Lists}, Located.{FaultAt, HasOutcome, returned_at}}
 use Rattle.ixdtf_c.proofs.Crossed.{same_ok}
 
@@ -26,19 +26,6 @@ overwritten-more (slot ∷ slots) [] item = ap (λ rest. item ∷ rest) (sym (ov
 overwritten-more (slot ∷ slots) (first ∷ items) item = ap (λ rest. first ∷ rest) (overwritten-more slots items item)
 
 -- ---- replies of none
-
-abbrev nones : {A : Type 0} → List A → List Reply
-nones calls = map (λ call. None) calls
-
-first_calendar-nones : {A : Type 0} (calls : List A) → first_calendar (nones calls) ≡ None
-first_calendar-nones [] = refl
-first_calendar-nones (call ∷ calls) = first_calendar-nones calls
-
-each_is_none : {A : Type 0} (calls : List A) (earlier later : List Reply) (reply : Reply) → nones calls ≡ earlier ++ reply ∷ later → reply ≡ None
-each_is_none [] [] later reply e = cc
-each_is_none [] (b ∷ earlier) later reply e = cc
-each_is_none (call ∷ calls) [] later reply e = cc
-each_is_none (call ∷ calls) (b ∷ earlier) later reply e = let tail : nones calls ≡ earlier ++ reply ∷ later = cc in each_is_none calls earlier later reply tail
 
 unrefused : {A : Type 0} (calls : List A) (earlier later : List Reply) (reply : Reply) (fault : Fault) → nones calls ≡ earlier ++ reply ∷ later
     → ¬ (RefusedBeside (first_calendar earlier) reply fault)

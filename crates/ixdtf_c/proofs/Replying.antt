@@ -5,8 +5,8 @@ use Rattle.std.specs.Option.{option_or}
 use Rattle.ixdtf_grammar.specs.declared.profile.Profile.{Profile}
 use Rattle.ixdtf.specs.{language.{Brackets.Pair, Letters.Text, Readers.{CoreKind, Reader.bracketed}, Languages.Parsed}, table.Faults.Fault}
 use Rattle.ixdtf.specs.{Handlers.{Reply, first_calendar, NoneRefused, LastRefused, HasFront, Step, Handled, handed, replies_of}, Laws.GivesResult}
-use Rattle.ixdtf_reading.proofs.code.OneMoreReply.{first_calendar-more, NoneRefused-nothing, NoneRefused-more}
-use Rattle.ixdtf_reading.proofs.theorems.OneChain.{Replying, GivesChain, only_chain, derived_front, row_front}
+use Rattle.ixdtf_reading.proofs.theorems.{OneChain.{Replying, GivesChain, only_chain, derived_front, row_front}, Replies.first_calendar-more}
+use Rattle.ixdtf_reading.proofs.theorems.Replies.{NoneRefused-nothing, NoneRefused-more}
 use Rattle.ixdtf_c.specs.{Listing.{PassesOver, overwritten}, Located.{FaultAt, unplaced}}
 use Rattle.ixdtf_c.specs.Replying.{with_kept, Replied, IsFront, ReplyingGives, ReplyingIsHandling}
 

@@ -3,10 +3,8 @@ pub mod DigitClasses
 pub mod FirstLetter
 pub mod FixedPlaces
 pub mod FractionLoop
-pub mod GrowingDigits
 pub mod LetterLoops
 pub mod Located
-pub mod OneMoreReply
 pub mod PairLoops
 pub mod ReadersWithoutPairs
 pub mod Tables

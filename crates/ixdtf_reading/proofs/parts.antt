@@ -1,6 +1,7 @@
 -- What readings are made of.
 pub mod DurationRuns
 pub mod Fronts
+pub mod GrowingDigits
 pub mod LookAhead
 pub mod Looks
 pub mod Marks

@@ -8,4 +8,5 @@ pub mod OneOutcome
 pub mod OnePlace
 pub mod OneUnhandledOutcome
 pub mod OnlyOutcome
+pub mod Replies
 pub mod Rfc3339

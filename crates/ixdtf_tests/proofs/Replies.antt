@@ -18,8 +18,7 @@ use Rattle.ixdtf.specs.table.Outcomes.{Outcome, Holds}
 use Rattle.ixdtf.specs.table.Outcomes.Outcome.{derived, refused}
 use Rattle.ixdtf_reading.specs.reading.Looks.{Read}
 use Rattle.ixdtf_reading.specs.reading.Wholes.{RowBehind, row_behind, read_at, outcome_of, outcome}
-use Rattle.ixdtf_reading.proofs.code.OneMoreReply.{NoneRefused-nothing, NoneRefused-more, neither_refused}
-use Rattle.ixdtf_reading.proofs.to_grammar.Wholes.{OnWhole, whole_read}
+use Rattle.ixdtf_reading.proofs.{to_grammar.Wholes.{OnWhole, whole_read}, theorems.Replies.{NoneRefused-nothing, NoneRefused-more, neither_refused}}
 use Rattle.ixdtf_tests.proofs.Helpers.{text_of, parsing}
 
 -- ---- replies that are accepted, by a test

@@ -8,8 +8,8 @@ use Rattle.ixdtf_grammar.specs.{table.{Faults.Fault, Rows.{Row, Fits}}, Handlers
 use Rattle.ixdtf_grammar.specs.Handlers.{with_calendar, pair_of, Calls, handed, replies_of, Step, IsChain}
 use Rattle.ixdtf_reading.specs.reading.{Looks.{Placed, error_of}, Brackets.{Bracket, zone_in, pairs_in}}
 use Rattle.ixdtf_reading.specs.reading.Chains.{FitsAfterBrackets, PairsUpTo, PairsRead, TextGives, TextRead}
-use Rattle.ixdtf_reading.proofs.{code.OneMoreReply.{first_calendar-more, NoneRefused-more, NoneRefused-nothing}, to_grammar.FirstBracket.IsBracket}
-use Rattle.ixdtf_reading.proofs.to_grammar.Wholes.{after_brackets, tail_of, bracket_stands}
+use Rattle.ixdtf_reading.proofs.{to_grammar.{FirstBracket.IsBracket, Wholes.{after_brackets, tail_of, bracket_stands}}, theorems.Replies.first_calendar-more}
+use Rattle.ixdtf_reading.proofs.theorems.Replies.{NoneRefused-more, NoneRefused-nothing}
 
 -- ---- texts of pairs
 

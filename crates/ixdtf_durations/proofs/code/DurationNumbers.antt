@@ -3,7 +3,7 @@ use Rattle.std.proofs.Common.{◌≡◌, ℕ, ◌+◌, ◌-◌, ◌*◌, true, f
 use Rattle.ixdtf_grammar.specs.{declared.profile.Profile.Profile, language.{Letters.{Text, digit, Letter.Plain}, Digits.decimal, Durations.greatest_value}}
 use Rattle.ixdtf_grammar.specs.table.{Faults.Fault.DurationValueExceededRange, Lines.no_designator, DurationFronts.{Context, half_of}}
 use Rattle.ixdtf_reading.specs.reading.{Looks.{Placed, seen}, Durations.{step, run, State.in_number}}
-use Rattle.ixdtf_reading.proofs.code.{GrowingDigits.decimal_snoc, FirstLetter.{first_is, nothing_is}}
+use Rattle.ixdtf_reading.proofs.{code.FirstLetter.{first_is, nothing_is}, parts.GrowingDigits.decimal_snoc}
 use Rattle.ixdtf_durations.specs.reading.DurationClauses.{run_from}
 use Rattle.ixdtf_durations.proofs.code.DurationSteps.{fails}
 

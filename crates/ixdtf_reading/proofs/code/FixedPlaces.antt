@@ -1,12 +1,12 @@
 -- A date and a time at fixed places: what is found there is what the grammar has, and is read so.
 use Rattle.std.proofs.Common.{subst, ◌≡◌, ℕ, zero, suc, ◌+◌, ◌-◌, ◌*◌, ◌<◌, ◌≤◌, Bool, true, false, IsTrue, List, [], ◌∷◌, ◌++◌, map, drop, length, Option}
-use Rattle.std.proofs.Common.{Some, None, Result, Ok, Err, refl, sym, ap, ◌∙◌, ◌&&◌, if◌then◌else◌, ℤ, pos, arith, append_assoc, inl, inr}
-use Rattle.std.proofs.lemmas.{Bool.{and_parts, and_from, le-leb, Decides.nat_tests}, List.length-drop}
+use Rattle.std.proofs.Common.{Some, None, Result, Ok, Err, refl, sym, ap, ◌∙◌, ◌&&◌, if◌then◌else◌, ℤ, pos, arith, append_assoc, inl, inr, nat_eq, eqb-true}
+use Rattle.std.proofs.lemmas.{Bool.{and_parts, and_from, le-leb, both_ways, Decides.nat_tests}, List.length-drop}
 use Rattle.ixdtf_grammar.specs.declared.records.{DateRecord.DateRecord, TimeRecord.TimeRecord}
-use Rattle.ixdtf_grammar.specs.language.Letters.{Letter, Text, Class, digit, hyphen, colon, opening, date_time_separator, Letter.{Plain, Bad}}
+use Rattle.ixdtf_grammar.specs.language.Letters.{Letter, Letter.Plain, Text, Class, digit, hyphen, colon, date_time_separator}
 use Rattle.ixdtf_grammar.specs.language.{Digits.{decimal, TwoDigits}, Shapes.digits, Dates.{FourDigitYear, IsDayOfMonth, month_length}}
 use Rattle.ixdtf_grammar.specs.{language.FixedPlaces.{FixedDateTime, FixedDate, FixedTime}, table.{Faults.Fault, LineNames.{of_date, DateLine.after_year}}}
-use Rattle.ixdtf_grammar.specs.Views.{Unread, ascii_at, looked}
+use Rattle.ixdtf_grammar.specs.Views.{Unread, ascii_at}
 use Rattle.ixdtf_grammar.proofs.parts.Texts.{colon_seconds_text}
 use Rattle.ixdtf_reading.specs.{declared.stop.Stop.Stop, reading.{Clauses.{Reads, YieldsAt}, Dates.{date_of, day_in_range, day_at, days_at, date_at}}}
 use Rattle.ixdtf_reading.specs.reading.{Times.time_of, Looks.{Read, Placed, error_of}, FixedPlaces.{ranged, ◌>>?◌, first_in, letter_place, first_byte}}
@@ -26,21 +26,13 @@ pub place_looked : (letter : ℕ → Letter) (class : Class) (place : ℕ) (unit
     → letter_place class place (map letter units) ≡ class_at_place class (ascii_at letter place units)
 place_looked letter class zero [] = refl
 place_looked letter class (suc place) [] = refl
-place_looked letter class zero (u ∷ more) = go (letter u)
-  where
-    go : (l : Letter) → first_in class (l ∷ map letter more) ≡ class_at_place class (looked (Some l))
-    go (Plain n) = refl
-    go Bad = refl
+place_looked letter class zero (u ∷ more) = grind arith
 place_looked letter class (suc place) (u ∷ more) = place_looked letter class place more
 
 pub byte_looked : (letter : ℕ → Letter) (place : ℕ) (units : List ℕ) → byte_place place (map letter units) ≡ byte_of_look (ascii_at letter place units)
 byte_looked letter zero [] = refl
 byte_looked letter (suc place) [] = refl
-byte_looked letter zero (u ∷ more) = go (letter u)
-  where
-    go : (l : Letter) → first_byte (l ∷ map letter more) ≡ byte_of_look (looked (Some l))
-    go (Plain n) = refl
-    go Bad = refl
+byte_looked letter zero (u ∷ more) = grind arith
 byte_looked letter (suc place) (u ∷ more) = byte_looked letter place more
 
 -- ---- what stands where something was found
@@ -53,8 +45,7 @@ then_some (Some x) go y e next = next x refl e
 
 -- what passed a test
 pub then_held : {A : Type 0} (t : Bool) (x y : A) → (if t then Some x else None) ≡ Some y → IsTrue t × (x ≡ y)
-then_held true x y e = (refl, cc)
-then_held false x y e = absurd cc
+then_held t x y e = grind (arith, e)
 
 -- the code unit at a place, and the text after it
 pub letter_at_place : (class : Class) (place : ℕ) (text : Text) (c : ℕ) → letter_place class place text ≡ Some c
@@ -89,29 +80,12 @@ number_at_place place text n e =
     then_some (letter_place digit (place + 1) text) _ n next λ b eb last.
     number_of_letters place text n a b ea eb cc
 
-pub hyphen_is : (c : ℕ) → IsTrue (hyphen c) → c ≡ 45
-hyphen_is c h = grind (arith, nat_tests)
-
-pub colon_is : (c : ℕ) → IsTrue (colon c) → c ≡ 58
-colon_is c h = grind (arith, nat_tests)
-
 -- a mark at a place
-pub mark_at_place : (class : Class) (mark place : ℕ) (text : Text) (c : ℕ) → ((n : ℕ) → IsTrue (class n) → n ≡ mark) → letter_place class place text ≡ Some c
+pub mark_at_place : (mark place : ℕ) (text : Text) (c : ℕ) → letter_place (λ c. nat_eq c mark) place text ≡ Some c
     → drop place text ≡ Plain mark ∷ drop (suc place) text
-mark_at_place class mark place text c only e =
-    let found = letter_at_place class place text c e in
-    found.0 ∙ ap (λ n. Plain n ∷ drop (suc place) text) (only c found.1)
-
-opening_is : (c : ℕ) → IsTrue (opening c) → c ≡ 91
-opening_is c h = grind (arith, nat_tests)
-
--- a `[` at a place
-pub opening_at_place : (place : ℕ) (text : Text) → IsTrue (opening (byte_place place text)) → drop place text ≡ Plain 91 ∷ drop (suc place) text
-opening_at_place zero [] h = absurd cc
-opening_at_place zero (Bad ∷ rest) h = absurd cc
-opening_at_place zero (Plain c ∷ rest) h = ap (λ n. Plain n ∷ rest) (opening_is c h)
-opening_at_place (suc place) [] h = absurd cc
-opening_at_place (suc place) (x ∷ rest) h = opening_at_place place rest h
+mark_at_place mark place text c e =
+    let found = letter_at_place (λ c. nat_eq c mark) place text c e in
+    found.0 ∙ ap (λ n. Plain n ∷ drop (suc place) text) (eqb-true c mark found.1)
 
 abbrev century_and_year : (a b c d : ℕ) → Type 0
 century_and_year a b c d = 100 * decimal (Plain a ∷ Plain b ∷ []) + decimal (Plain c ∷ Plain d ∷ []) ≡ decimal (Plain a ∷ Plain b ∷ Plain c ∷ Plain d ∷ [])
@@ -182,7 +156,7 @@ days_at_place text year date hyphens e =
     then_some (letter_place hyphen 7 text) _ date e0 λ mark f1 e1.
     then_some (number_place 8 text) _ date e1 λ day f2 e2.
     days_of_numbers true year month day 5 8 text (drop 4 text) date (number_at_place 5 text month f0) (number_at_place 8 text day f2) hyphens
-    (mark_at_place hyphen 45 7 text mark hyphen_is f1) e2
+    (mark_at_place 45 7 text mark f1) e2
 
 basic_days_at_place : (text : Text) (year : ℕ) (date : DateRecord) → basic_days_place year text ≡ Some date
     → Days false (drop 4 text) (drop 6 text) (drop 8 text) year date
@@ -194,12 +168,10 @@ basic_days_at_place text year date e =
 
 date_ranges : (date : DateRecord) → IsTrue (date_in_range date)
     → (1 ≤ date.month) × (date.month ≤ 12) × (1 ≤ date.day) × (date.day ≤ month_length date.year date.month)
-date_ranges date h =
-    (grind (arith, nat_tests), grind (arith, nat_tests), grind (arith, nat_tests), grind (arith, nat_tests))
+date_ranges date h = grind (arith, nat_tests)
 
 time_ranges : (time : TimeRecord) → IsTrue (time_in_range time) → (time.hour ≤ 23) × (time.minute ≤ 59) × (time.second ≤ 60)
-time_ranges time h =
-    (grind (arith, nat_tests), grind (arith, nat_tests), grind (arith, nat_tests))
+time_ranges time h = grind (arith, nat_tests)
 
 fixed_date : (text : Text) (date : DateRecord) (year : ℕ) → year_place text ≡ Some year → Days true (drop 4 text) (drop 7 text) (drop 10 text) year date
     → IsTrue (date_in_range date) → (dates : Text) × (text ≡ dates ++ drop 10 text) × FixedDate dates date
@@ -226,7 +198,7 @@ unfolding date_place
 date_at_place text date e in_range =
     then_some (year_place text) _ date e λ year f0 e0.
     then_some (letter_place hyphen 4 text) _ date e0 λ mark f1 e1.
-    fixed_date text date year f0 (days_at_place text year date (mark_at_place hyphen 45 4 text mark hyphen_is f1) e1) in_range
+    fixed_date text date year f0 (days_at_place text year date (mark_at_place 45 4 text mark f1) e1) in_range
 
 -- ---- times
 
@@ -255,8 +227,8 @@ time_at_place text time e in_range =
     then_some (number_place 14 text) _ time e1 λ minute f2 e2.
     then_some (letter_place colon 16 text) _ time e2 λ last f3 e3.
     then_some (number_place 17 text) _ time e3 λ second f4 e4.
-    fixed_time text time hour minute second (number_at_place 11 text hour f0) (mark_at_place colon 58 13 text first colon_is f1)
-    (number_at_place 14 text minute f2) (mark_at_place colon 58 16 text last colon_is f3) (number_at_place 17 text second f4) e4 in_range
+    fixed_time text time hour minute second (number_at_place 11 text hour f0) (mark_at_place 58 13 text first f1)
+    (number_at_place 14 text minute f2) (mark_at_place 58 16 text last f3) (number_at_place 17 text second f4) e4 in_range
 
 -- ---- a date and a time
 
@@ -360,19 +332,19 @@ date_time_stands text date time rest f =
 
 -- ---- what is found is read
 
-never : (b : Bool) → b ≡ false → IsTrue b → ⊥
-never true no_one is = absurd cc
-never false no_one is = absurd cc
-
 -- the code unit at a place is of a class that 0 is not of
 pub byte_in_class : (class : Class) (place : ℕ) (text : Text) → class 0 ≡ false → IsTrue (class (byte_place place text))
     → letter_place class place text ≡ Some (byte_place place text)
 byte_in_class class place text not_zero is = go (drop place text) is
   where
     go : (text : Text) → IsTrue (class (first_byte text)) → first_in class text ≡ Some (first_byte text)
-    go [] is = absurd (never (class 0) not_zero is)
-    go (Bad ∷ rest) is = absurd (never (class 0) not_zero is)
     go (Plain c ∷ rest) is = rw is refl
+    go text is = absurd (both_ways (class 0) not_zero is)
+
+-- so a mark is, which 0 is not
+pub byte_is_mark : (mark place : ℕ) (text : Text) → nat_eq 0 mark ≡ false → IsTrue (nat_eq (byte_place place text) mark)
+    → drop place text ≡ Plain mark ∷ drop (suc place) text
+byte_is_mark mark place text not_zero is = mark_at_place mark place text _ (byte_in_class (λ c. nat_eq c mark) place text not_zero is)
 
 -- a year that is found is read, and the month and the day after it
 pub year_is_read : (text : Text) (year : ℕ) → year_place text ≡ Some year → date_at error_of text ≡ days_at error_of (pos year) (drop 4 text)
@@ -399,8 +371,7 @@ days_are_read b text after_month rest year date d = ap (days_at error_of (pos ye
 pub hyphened_is_read : (text : Text) (year : ℕ) (date : DateRecord) → year_place text ≡ Some year → IsTrue (hyphen (byte_place 4 text))
     → days_place year text ≡ Some date → date_at error_of text ≡ ranged date (drop 7 text) (drop 10 text)
 hyphened_is_read text year date years mark days =
-    let hyphens = mark_at_place hyphen 45 4 text (byte_place 4 text) hyphen_is (byte_in_class hyphen 4 text refl mark) in
-    year_is_read text year years ∙ days_are_read true _ _ _ year date (days_at_place text year date hyphens days)
+    year_is_read text year years ∙ days_are_read true _ _ _ year date (days_at_place text year date (byte_is_mark 45 4 text refl mark) days)
 
 pub basic_is_read : (text : Text) (year : ℕ) (date : DateRecord) → year_place text ≡ Some year → basic_days_place year text ≡ Some date
     → date_at error_of text ≡ ranged date (drop 6 text) (drop 8 text)

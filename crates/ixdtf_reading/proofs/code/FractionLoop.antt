@@ -4,7 +4,7 @@ use Rattle.std.proofs.Common.{append_assoc, append-nil}
 use Rattle.ixdtf_grammar.specs.language.{Letters.{Letter, Text, digit, Letter.{Plain, Bad}}, Fractions.{FractionParts, fraction_of}}
 use Rattle.ixdtf_grammar.specs.table.Faults.Fault.{NonAsciiCodePoint}
 use Rattle.ixdtf_reading.specs.reading.{Looks.{Placed, before, Read, ◌>>=◌, look_at, seen, digit_run}, Clauses.more_digits_at}
-use Rattle.ixdtf_reading.proofs.code.{FirstLetter.{first_is, nothing_is}, GrowingDigits.{Grown, fraction_grows}}
+use Rattle.ixdtf_reading.proofs.{code.FirstLetter.{first_is, nothing_is}, parts.GrowingDigits.{Grown, fraction_grows}}
 
 -- digits that were read, with more in front of them
 abbrev with_front : Text → Read Placed Text → Read Placed Text

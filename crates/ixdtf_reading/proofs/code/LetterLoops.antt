@@ -8,12 +8,10 @@ use Rattle.ixdtf_reading.proofs.{code.FirstLetter.{nothing_is, first_is as lette
 
 -- a test holds where this has a value, and fails where it has none
 pub test_held : {A : Type 0} (b : Bool) (x y : A) → (if b then Some x else None) ≡ Some y → b ≡ true
-test_held true x y e = refl
-test_held false x y e = absurd cc
+test_held b x y e = grind (arith, e)
 
 pub test_failed : {A : Type 0} (b : Bool) (x : A) → (if b then Some x else None) ≡ None → b ≡ false
-test_failed true x e = absurd cc
-test_failed false x e = refl
+test_failed b x e = grind (arith, e)
 
 -- a look found this code unit first
 pub first_is : (letter : ℕ → Letter) → ((unit n : ℕ) → letter unit ≡ Plain n → n ≡ unit) → (units : List ℕ) (c : ℕ)

@@ -14,13 +14,10 @@ left_is (line front goes_on at_end at_other) (other left) e rest h = h.5
 left_is (line front goes_on at_end at_other) (bad left) e rest h = h.3
 left_is (line front goes_on at_end at_other) (anywhere left) e rest h = absurd h
 left_is (scanned front d) (end left) e rest h = h.2
-left_is (scanned front d) (other left) e rest h = absurd h
 left_is (scanned front d) (bad left) e rest h = h.3
-left_is (scanned front d) (anywhere left) e rest h = absurd h
+left_is (scanned front d) place e rest h = absurd h
 left_is (whole front d) (anywhere left) e rest h = h.1
-left_is (whole front d) (end left) e rest h = absurd h
-left_is (whole front d) (other left) e rest h = absurd h
-left_is (whole front d) (bad left) e rest h = absurd h
+left_is (whole front d) place e rest h = absurd h
 
 -- what is left is no longer than the text
 pub left_fits : (reader : Reader) (row : Row) (pairs : List _) (text : Text) → Fits reader row pairs text → length (left_at row.place) ≤ length text

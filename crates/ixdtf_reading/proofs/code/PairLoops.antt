@@ -3,7 +3,7 @@ use Rattle.std.proofs.Common.{◌≡◌, ℕ, Bool, true, false, List, [], ◌�
 use Rattle.std.proofs.{Common.{if◌then◌else◌, arith}, lemmas.Bool.Decides.nat_tests}
 use Rattle.ixdtf_reading.specs.{declared.annotations.{KeyLetters.KeyLetters, ComponentLetters.ComponentLetters}, reading.Pairs.{ValueState, AtStart, Inside, BeginsKey}}
 use Rattle.ixdtf_reading.specs.reading.Pairs.{AfterHyphen, GoesOn, Ends, Stops, key_run, component_look, value_run, value_mark, value_step, value_end}
-use Rattle.ixdtf_reading.specs.reading.{Pairs.value_other, Looks.{Placed, Read, look_at, seen, next_by, error_of}, Zones.with_letter}
+use Rattle.ixdtf_reading.specs.reading.{Pairs.value_other, Looks.{Placed, look_at, seen, next_by, error_of}, Zones.with_letter}
 use Rattle.ixdtf_reading.specs.reading.Runs.{Taken, letters_by, key_after, component_after}
 use Rattle.ixdtf_reading.proofs.code.{FirstLetter.{first_is as letter_first, nothing_is}, LetterLoops.{test_held, test_failed, first_is, Stays, next_shown}}
 use Rattle.ixdtf_reading.proofs.code.LetterLoops.{next_stays, run_failed, run_passed, IsFar, one_far, more_far, far_fails}
@@ -97,30 +97,21 @@ pub value_unstarted : (state : ValueState) (fault : Fault) → value_end state �
 unfolding next_by look_at value_run
 value_unstarted state fault at_end other marks [] placed e = let same : (fault, []) ≡ placed = cc in ap (λ f. Err (f, [])) at_end ∙ ap Err same
 value_unstarted state fault at_end other marks (Bad ∷ rest) placed e = let same : (NonAsciiCodePoint, Bad ∷ rest) ≡ placed = cc in ap Err same
-value_unstarted state fault at_end other marks (Plain c ∷ rest) placed e = go _ refl e
-  where
-    go : (b : Bool) → value_char c ≡ b → if◌then◌else◌ {A = Read Placed ℕ} b (Ok (c, rest)) (Err (fault, Plain c ∷ rest)) ≡ Err placed
-        → value_run error_of state (Plain c ∷ rest) ≡ Err placed
-    go true p e = absurd cc
-    go false p e =
-        let step : value_step state c ≡ Stops = rw p (marks c) in
-        let same : (fault, Plain c ∷ rest) ≡ placed = cc in
-        value_stops state c rest step ∙ ap (λ f. Err (f, Plain c ∷ rest)) other ∙ ap Err same
+value_unstarted state fault at_end other marks (Plain c ∷ rest) placed e =
+    let out : value_char c ≡ false = grind (arith, e) in
+    let same : (fault, Plain c ∷ rest) ≡ placed = cc (rw out at e) in
+    value_stops state c rest (rw out (marks c)) ∙ ap (λ f. Err (f, Plain c ∷ rest)) other ∙ ap Err same
 
 -- the code unit that a component begins with
 started : (fault : Fault) (text left : Text) (c : ℕ) → next_by (component_look fault) text ≡ Ok (c, left) → (seen text ≡ Ok (Some c)) × (value_char c ≡ true)
 unfolding next_by look_at
 started fault [] left c e = absurd cc
 started fault (Bad ∷ rest) left c e = absurd cc
-started fault (Plain n ∷ rest) left c e = go _ refl e
-  where
-    go : (b : Bool) → value_char n ≡ b → if◌then◌else◌ {A = Read Placed ℕ} b (Ok (n, rest)) (Err (fault, Plain n ∷ rest)) ≡ Ok (c, left)
-        → (seen (Plain n ∷ rest) ≡ Ok (Some c)) × (value_char c ≡ true)
-    go true p e =
-        let both : ◌≡◌ {A = ℕ × Text} (n, rest) (c, left) = cc in
-        let same : n ≡ c = ap (λ x. x.0) both in
-        (ap (λ m. Ok (Some m)) same, ap value_char (sym same) ∙ p)
-    go false p e = absurd cc
+started fault (Plain n ∷ rest) left c e =
+    let is : value_char n ≡ true = grind (arith, e) in
+    let both : ◌≡◌ {A = ℕ × Text} (n, rest) (c, left) = cc (rw is at e) in
+    let same : n ≡ c = ap (λ x. x.0) both in
+    (ap (λ m. Ok (Some m)) same, ap value_char (sym same) ∙ is)
 
 -- a component inside a value
 component_over : (state next : ComponentLetters) (c : ℕ) (rest : Text) → component_after state c ≡ Some next

@@ -1,8 +1,9 @@
 -- Tables, held against what they are tables of at each place by computing.
-use Rattle.std.proofs.Common.{◌≡◌, ℕ, zero, suc, ◌+◌, ◌<◌, ◌≤◌, Bool, true, false, ◌&&◌, nat_eq, List, [], ◌∷◌, slice_index_or, bit_and, IsTrue, refl, arith}
+use Rattle.std.proofs.Common.{◌≡◌, ℕ, zero, suc, ◌+◌, ◌<◌, ◌≤◌, Bool, true, false, ◌&&◌, nat_eq, List, [], ◌∷◌, slice_index_or, bit_and, IsTrue, arith}
 use Rattle.std.proofs.{Common.{inl, inr}, lemmas.Bool.{cases_eq, Decides.nat_tests}}
 use Rattle.std.specs.{Prelude.{not, IsFalse}, Bool.beq}
 use Rattle.ixdtf_grammar.specs.language.Letters.{digit, zone_char, key_char, value_char, key_lead, zone_lead}
+use Rattle.ixdtf_grammar.specs.language.Letters.{Class}
 use Rattle.ixdtf_reading.specs.reading.FixedPlaces.{tens_value, ones_value}
 
 -- the two tests agree below n
@@ -11,10 +12,7 @@ agree_below f g zero = true
 agree_below f g (suc n) = beq (f n) (g n) && agree_below f g n
 
 both_of : (x y rest : Bool) → (beq x y && rest) ≡ true → (x ≡ y) × (rest ≡ true)
-both_of true true rest h = (refl, h)
-both_of true false rest h = cc
-both_of false true rest h = cc
-both_of false false rest h = (refl, h)
+both_of x y rest h = grind (arith, h)
 
 pub agree_at : (f g : ℕ → Bool) (n : ℕ) → agree_below f g n ≡ true → (b : ℕ) → b < n → f b ≡ g b
 unfolding agree_below
@@ -22,6 +20,14 @@ agree_at f g zero h b lt = absurd (omega arith)
 agree_at f g (suc n) h b lt =
     let both = both_of (f n) (g n) (agree_below f g n) h in
     elim (cases_eq b n) [ inl same ↦ rw same both.0 | inr other ↦ agree_at f g n both.1 b (omega arith) ]
+
+-- what a table of these values has from a place on, so many places
+unfoldable pub listed_from : (ℕ → ℕ) → ℕ → ℕ → List ℕ
+listed_from value zero c = []
+listed_from value (suc n) c = value c ∷ listed_from value n (c + 1)
+
+abbrev listed_at : (ℕ → ℕ) → ℕ → ℕ
+listed_at value b = slice_index_or (listed_from value 256 0) b 0
 
 -- ---- the table of classes
 
@@ -33,41 +39,20 @@ bit false n = 0
 unfoldable pub bits : ℕ → ℕ
 bits c = bit (key_char c) 1 + bit (zone_char c) 2 + bit (value_char c) 4 + bit (key_lead c) 8 + bit (zone_lead c) 16
 
--- what the table has from a place on, so many places
-unfoldable pub bits_from : ℕ → ℕ → List ℕ
-bits_from zero c = []
-bits_from (suc n) c = bits c ∷ bits_from n (c + 1)
-
 abbrev pub has_bit : ℕ → ℕ → Bool
-has_bit b bit = not (nat_eq (bit_and (slice_index_or (bits_from 256 0) b 0) bit) 0)
+has_bit b bit = not (nat_eq (bit_and (listed_at bits b) bit) 0)
+
+pub in_class : (bit : ℕ) (class : Class) → agree_below (λ c. has_bit c bit) class 256 ≡ true → (b : ℕ) → b < 256 → has_bit b bit ≡ class b
+in_class bit class agrees b lt = agree_at (λ c. has_bit c bit) class 256 agrees b lt
 
 -- ---- the tables of digits
 
 same_number : (a b : ℕ) → nat_eq a b ≡ true → a ≡ b
 same_number a b h = grind (arith, nat_tests)
 
--- what the tables have from a place on, so many places
-unfoldable pub tens_from : ℕ → ℕ → List ℕ
-tens_from zero c = []
-tens_from (suc n) c = tens_value c ∷ tens_from n (c + 1)
-
-unfoldable pub ones_from : ℕ → ℕ → List ℕ
-ones_from zero c = []
-ones_from (suc n) c = ones_value c ∷ ones_from n (c + 1)
-
-abbrev pub tens_at : ℕ → ℕ
-tens_at b = slice_index_or (tens_from 256 0) b 0
-
-abbrev pub ones_at : ℕ → ℕ
-ones_at b = slice_index_or (ones_from 256 0) b 0
-
-pub in_tens : (b : ℕ) → b < 256 → tens_at b ≡ tens_value b
-unfolding agree_below tens_from
-in_tens b lt = same_number (tens_at b) (tens_value b) (agree_at (λ c. nat_eq (tens_at c) (tens_value c)) (λ c. true) 256 refl b lt)
-
-pub in_ones : (b : ℕ) → b < 256 → ones_at b ≡ ones_value b
-unfolding agree_below ones_from
-in_ones b lt = same_number (ones_at b) (ones_value b) (agree_at (λ c. nat_eq (ones_at c) (ones_value c)) (λ c. true) 256 refl b lt)
+pub in_table : (value : ℕ → ℕ) → agree_below (λ c. nat_eq (listed_at value c) (value c)) (λ c. true) 256 ≡ true → (b : ℕ) → b < 256
+    → listed_at value b ≡ value b
+in_table value agrees b lt = same_number (listed_at value b) (value b) (agree_at (λ c. nat_eq (listed_at value c) (value c)) (λ c. true) 256 agrees b lt)
 
 pub tens_small : (c : ℕ) → tens_value c ≤ 100
 tens_small c = grind (arith, nat_tests)
@@ -76,11 +61,8 @@ pub ones_small : (c : ℕ) → ones_value c ≤ 100
 ones_small c = grind (arith, nat_tests)
 
 -- a number below 100 by the tables is one of two digits, and any other is not
-pub tens_is_digit : (tens ones : ℕ) → tens_value tens + ones_value ones ≤ 99 → IsTrue (digit tens)
-tens_is_digit tens ones small = grind (arith, nat_tests)
-
-pub ones_is_digit : (tens ones : ℕ) → tens_value tens + ones_value ones ≤ 99 → IsTrue (digit ones)
-ones_is_digit tens ones small = grind (arith, nat_tests)
+pub are_digits : (tens ones : ℕ) → tens_value tens + ones_value ones ≤ 99 → IsTrue (digit tens) × IsTrue (digit ones)
+are_digits tens ones small = grind (arith, nat_tests)
 
 pub ones_is_none : (tens ones : ℕ) → 99 < tens_value tens + ones_value ones → IsTrue (digit tens) → IsFalse (digit ones)
 ones_is_none tens ones great is = grind (arith, nat_tests)

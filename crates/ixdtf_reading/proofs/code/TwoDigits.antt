@@ -1,5 +1,5 @@
 -- Two digits, by looks at the first two places.
-use Rattle.std.proofs.Common.{◌≡◌, ℕ, ◌≤◌, ◌<◌, Bool, true, false, IsTrue, List, [], ◌∷◌, length, map, drop, Option, Some, None, Result, Ok, Err, refl, arith}
+use Rattle.std.proofs.Common.{◌≡◌, ℕ, ◌≤◌, ◌<◌, true, IsTrue, List, [], ◌∷◌, length, map, drop, Option, Some, None, Result, Ok, Err, refl, arith}
 use Rattle.ixdtf_reading.specs.{declared.stop.Stop.Stop, reading.Looks.{Placed, Read, ◌>>=◌, look_at, next_by, digits_by, digit_look}}
 use Rattle.ixdtf_reading.specs.reading.{Clauses.{digit_seen, Yields}, FixedPlaces.byte_of_look}
 use Rattle.ixdtf_reading.proofs.code.Units.{placed}
@@ -23,42 +23,28 @@ module _ (letter : ℕ → Letter) (other : Fault) where
   too_short [] short = refl
   too_short (u ∷ []) short = go (letter u)
     where
-      plain : (c : ℕ) (b : Bool) → digit c ≡ b → digits_by (digit_look other) 2 (Plain c ∷ []) ≡ (placed (Plain c ∷ []) (digit_seen other (Ok (Some c))) >>= λ a. Err (abrupt_digit, []))
-      plain c true is = rw is refl
-      plain c false is = rw is refl
-
       go : (l : Letter) → digits_by (digit_look other) 2 (l ∷ []) ≡ (placed (l ∷ []) (digit_seen other (looked (Some l))) >>= λ a. Err (abrupt_digit, []))
       go Bad = refl
-      go (Plain c) = plain c (digit c) refl
+      go (Plain c) = grind arith
   too_short (u ∷ v ∷ units) short = absurd (omega arith)
 
   abbrev Second : ℕ → List ℕ → Letter → Type 0
   Second a units l = digits_by (digit_look other) 2 (Plain a ∷ l ∷ map letter units)
       ≡ (placed (l ∷ map letter units) (digit_seen other (looked (Some l))) >>= λ b. Ok (Plain a ∷ Plain b ∷ [], map letter units))
 
-  plain_second : (a c : ℕ) (units : List ℕ) (b : Bool) → digit a ≡ true → digit c ≡ b → Second a units (Plain c)
-  unfolding digits_by next_by look_at
-  plain_second a c units true at is = rw (at, is) refl
-  plain_second a c units false at is = rw (at, is) refl
-
   second : (a : ℕ) (units : List ℕ) (l : Letter) → digit a ≡ true → Second a units l
   unfolding digits_by next_by look_at
   second a units Bad at = rw at refl
-  second a units (Plain c) at = plain_second a c units (digit c) at refl
+  second a units (Plain c) at = grind (arith, at)
 
   abbrev First : Letter → List ℕ → Letter → Type 0
   First v units l = digits_by (digit_look other) 2 (l ∷ v ∷ map letter units)
       ≡ (placed (l ∷ v ∷ map letter units) (digit_seen other (looked (Some l))) >>= λ a. placed (v ∷ map letter units) (digit_seen other (looked (Some v))) >>= λ b. Ok (Plain a ∷ Plain b ∷ [], map letter units))
 
-  plain_first : (c : ℕ) (v : Letter) (units : List ℕ) (b : Bool) → digit c ≡ b → First v units (Plain c)
-  unfolding digits_by next_by look_at
-  plain_first c v units true is = rw is (rw is at (second c units v is))
-  plain_first c v units false is = rw is refl
-
   first : (l v : Letter) (units : List ℕ) → First v units l
   unfolding digits_by next_by look_at
   first Bad v units = refl
-  first (Plain c) v units = plain_first c v units (digit c) refl
+  first (Plain c) v units = grind (arith, second c units v)
 
   -- two code units or more
   pub long_enough : (units : List ℕ) → 2 ≤ length units

@@ -1,6 +1,6 @@
 -- A text, and the code units of its source.
 use Rattle.std.proofs.{Common.{◌≡◌, ℕ, ◌+◌, List, [], ◌∷◌, map, length, drop, Some, Result, Ok, Err, refl, arith}, lemmas.Option.slice_get-map}
-use Rattle.ixdtf_grammar.specs.{language.Letters.{Letter, Text, Letter.{Plain, Bad}}, table.Faults.Fault, Views.{ascii_at, looked}}
+use Rattle.ixdtf_grammar.specs.{language.Letters.{Letter, Text}, table.Faults.Fault, Views.ascii_at}
 use Rattle.ixdtf_reading.specs.reading.Looks.{look_at, seen, Placed}
 
 -- what a text is, given the code units of its source
@@ -20,11 +20,7 @@ placed left (Err e) = Err (e, left)
 pub first_look : (letter : ℕ → Letter) (units : List ℕ) → seen (map letter units) ≡ placed (map letter units) (ascii_at letter 0 units)
 unfolding look_at
 first_look letter [] = refl
-first_look letter (unit ∷ units) = go (letter unit)
-  where
-    go : (l : Letter) → seen (l ∷ map letter units) ≡ placed (l ∷ map letter units) (looked (Some l))
-    go (Plain n) = refl
-    go Bad = refl
+first_look letter (unit ∷ units) = grind arith
 
 -- where a code unit is seen there is one in the source, and a step takes it
 pub stepped : (letter : ℕ → Letter) (units : List ℕ) (c : ℕ) → seen (map letter units) ≡ Ok (Some c)

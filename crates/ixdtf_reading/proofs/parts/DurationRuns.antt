@@ -6,7 +6,9 @@ use Rattle.ixdtf_grammar.specs.{declared.profile.Profile.Profile, language.{Lett
 use Rattle.ixdtf_grammar.specs.{language.Fractions.SomeDigits, table.{Faults.Fault, LineNames.{LineName, LineName.of_duration}, Lines.{Line, duration_line}}}
 use Rattle.ixdtf_grammar.specs.table.{Lines.{Line.{line, scanned, whole}, Ending.{ok, error}}, DurationFronts.Context.{in_dates, in_times}, Rows.{Row, Place, Stops}}
 use Rattle.ixdtf_reading.specs.reading.{Looks.{Read, ◌>>=◌, row_of, look_of}, Durations.{State, line_of_state, step, at_end, finished, run, State.between}}
-use Rattle.ixdtf_reading.proofs.{parts.Looks.{ReadsOver, Halts, Goes, LooksAs, row_here}, code.GrowingDigits.decimal_snoc}
+use Rattle.ixdtf_reading.proofs.{parts.Looks.{ReadsOver, Halts, Goes, LooksAs, row_here}}
+use Rattle.ixdtf_grammar.specs.table.Rows.Place.{end, other, bad, anywhere}
+use Rattle.ixdtf_reading.proofs.parts.GrowingDigits.{decimal_snoc}
 
 -- ---- digits
 

@@ -17,6 +17,19 @@ use Rattle.ixdtf_reading.proofs.parts.Looks.{lift, RowsRead, OnRead, then_read, 
 use Rattle.ixdtf_reading.proofs.{parts.Looks.{peek_stops, peek_read, NotNext, ReadsAllRows}, to_reading.ZoneNames.{InNameOrBehind, name_takes, name_row}}
 use Rattle.ixdtf_reading.proofs.to_reading.{ZoneNames.slash_row, Times.{closed_at_end, stops_behind}, ClockRows.{Refuses, over_clock, clock_rows}}
 use Rattle.ixdtf_reading.proofs.to_grammar.{ZoneNames.{NameFront, name_read, name_stops_here, name_lines}, Times.{TimeFront, clock_read, clock_peek_read}}
+use Rattle.std.proofs.Common.{true, Bool}
+use Rattle.std.proofs.lemmas.Bool.{or_cases, both_ways}
+use Rattle.ixdtf_grammar.specs.language.Letters.{◌or◌}
+use Rattle.ixdtf_grammar.specs.language.Brackets.{Pair}
+use Rattle.ixdtf_grammar.specs.table.Faults.{Fault}
+use Rattle.ixdtf_grammar.specs.table.Lines.{line_of, follow_of}
+use Rattle.ixdtf_grammar.specs.table.Rows.{Place}
+use Rattle.ixdtf_grammar.specs.table.Rows.Place.{end, bad, anywhere}
+use Rattle.ixdtf_reading.specs.reading.Zones.{name_line, name_run, name_look}
+use Rattle.ixdtf_reading.proofs.parts.Looks.{peek_other}
+use Rattle.ixdtf_reading.proofs.to_reading.ZoneNames.{StopsName}
+use Rattle.ixdtf_reading.proofs.to_reading.Times.{Closed, StopsAfter}
+use Rattle.ixdtf_reading.proofs.to_reading.ClockRows.{peek_stops_after}
 
 -- what a name begins with is no sign
 pub lead_no_sign : (c : ℕ) → IsTrue (zone_lead c) → IsFalse (sign c)
@@ -27,14 +40,13 @@ pub first_letter : (text : Text) → ZoneName text → (c : ℕ) × (more : Text
 first_letter text h = (h.3.0, h.1, rw (h.2, h.3.1) refl, h.3.2)
 
 -- the same for the row where a name stops
-lift_name : (reader : Reader) (row : Row) (c : ℕ) (text more : Text) → text ≡ Plain c ∷ more → IsTrue (zone_lead c)
-    → Before reader (of_zone in_zone_name) [] [] text → Before reader (of_zone after_zone_slash) [] [] text → FitsIn of_zone (has_brackets reader) row text
-    → Fits reader row [] text
-lift_name reader row c text more is lead inside slashed f = ([], text, refl, at (name_lines _ row c text more is lead f), f.2)
+lift_name : (reader : Reader) (row : Row) (text : Text) → Before reader (of_zone in_zone_name) [] [] text → Before reader (of_zone after_zone_slash) [] [] text
+    → FitsIn name_line (has_brackets reader) row text → Fits reader row [] text
+lift_name reader row text inside slashed f = ([], text, refl, rw f.1 (at f.0), f.2)
   where
-    at : (row.name ≡ of_zone in_zone_name) ⊎ (row.name ≡ of_zone after_zone_slash) → Before reader row.name [] [] text
-    at (inl h) = rw h inside
-    at (inr h) = rw h slashed
+    at : (may_end : Bool) → Before reader (name_line may_end) [] [] text
+    at true = inside
+    at false = slashed
 
 -- the row at which the first code unit is looked for
 lift_start : (reader : Reader) (name : LineName) (row : Row) (text : Text) → row.name ≡ name → Before reader name [] [] text → front_of (table reader name) []
@@ -131,11 +143,11 @@ module _ {E : Type 0} (fault : Row → E) where
 
   -- from its first code unit on
   alone_read : (c : ℕ) (text more : Text) → text ≡ Plain c ∷ more → IsTrue (zone_lead c)
-      → OnRead fault (name_alone_at fault text) (λ name rest. (rest ≡ []) × IsZoneName text name) (λ row. FitsIn of_zone false row text)
+      → OnRead fault (name_alone_at fault text) (λ name rest. (rest ≡ []) × IsZoneName text name) (λ row. FitsIn name_line false row text)
   unfolding name_alone_at
   alone_read c text more is lead = then_read fault _ _ _ _ _ _ (name_read fault false c text more is lead)
       (λ name rest h. then_read fault _ _ _ _ _ _
-      (peek_read _ fault rest (λ row. FitsIn of_zone false row text)
+      (peek_read _ fault rest (λ row. FitsIn name_line false row text)
       (λ d left next out. let apart : NotNext zone_char (Plain d ∷ left) × NotNext slash (Plain d ∷ left) = rw next at h.4 in
       (row_of _ (other rest) _, refl, name_stops_here fault false (other rest) _ text h.0 rest h.1 h.2 (d, left, next, or_from _ _ apart.0 apart.1, refl, refl)))
       (λ left next. absurd ((rw next at h.4).0)))
@@ -173,7 +185,7 @@ module _ {E : Type 0} (fault : Row → E) where
   iana_identifier_read text = then_read fault (letter_at fault (of_zone zone_name_start) text) _ _ _ _ _ (read_letter fault (of_zone zone_name_start) text tt)
       (λ c more h. read_weaker fault (name_alone_at fault text) _ _ _ _ (alone_read c text more h.0 h.1)
       (λ name rest g. g)
-      (λ r g. lift_name parse_iana_identifier r c text more h.0 h.1 (refl, refl) (refl, refl) g))
+      (λ r g. lift_name parse_iana_identifier r text (refl, refl) (refl, refl) g))
       (λ r h. lift_start parse_iana_identifier (of_zone zone_name_start) r text h.0 (refl, refl) refl h.1)
 
   -- ---- zones
@@ -239,5 +251,5 @@ module _ {E : Type 0} (fault : Row → E) where
       (λ no_sign. let lead : IsTrue (zone_lead c) = grind (arith, nat_tests, h.1, no_sign) in
       zone_of_name text _ (name_alone_at fault text) (read_weaker fault (name_alone_at fault text) _ _ _ _ (alone_read c text more h.0 lead)
       (λ name rest g. g)
-      (λ r g. lift_name parse_identifier r c text more h.0 lead (refl, refl) (refl, refl) g))))
+      (λ r g. lift_name parse_identifier r text (refl, refl) (refl, refl) g))))
       (λ r h. lift_start parse_identifier (of_zone identifier_start) r text h.0 (refl, refl) refl h.1)

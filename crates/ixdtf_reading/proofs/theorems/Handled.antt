@@ -1,164 +1,98 @@
 -- From what the code replied for a chain of calls to what a handler's clauses say.
-use Rattle.std.proofs.Common.{◌≡◌, ◌≢◌, ◌↔◌, ℕ, IsFalse, List, [], ◌∷◌, ◌++◌, Option, Some, None, Result, Ok, Err, IfOk, refl, sym, ◌∙◌, ap, subst, inl, inr}
-use Rattle.std.proofs.{Common.{map, option_map}, lemmas.List.{map-append, append-nil}}
+use Rattle.std.proofs.Common.{◌≡◌, ◌≢◌, ◌↔◌, ℕ, IsFalse, List, [], ◌∷◌, Option, Some, None, Result, Ok, Err, IfOk, refl, sym, ◌∙◌, ap, subst, inl, inr}
+use Rattle.std.proofs.{Common.{map, option_map}, lemmas.Simd.map-map}
 use Rattle.ixdtf_grammar.specs.{declared.records.{Annotation.Annotation, IxdtfParseRecord.IxdtfParseRecord}, Views.{returned_by, parsed_of}}
-use Rattle.ixdtf_grammar.specs.language.{Letters.Text, Brackets.Pair, Readers.Reader, Languages.{Parsed, Derives, Found.parsed}}
-use Rattle.ixdtf_grammar.specs.table.{Faults.{Fault, never_comes, Fault.{UnrecognizedCritical, CriticalDuplicateCalendar}}, Outcomes.Outcome.derived}
-use Rattle.ixdtf_grammar.specs.Handlers.{Reply, first_calendar, RefusedBeside, NoneRefused, calendar_value, with_calendar, GivesRecord, GivesFault, pair_of}
+use Rattle.ixdtf_grammar.specs.language.{Letters.Text, Brackets.Pair, Readers.Reader, Languages.{Parsed, Found.parsed}}
+use Rattle.ixdtf_grammar.specs.table.Faults.{Fault, Fault.{UnrecognizedCritical, CriticalDuplicateCalendar}, never_comes}
+use Rattle.ixdtf_grammar.specs.Handlers.{Reply, first_calendar, RefusedBeside, calendar_value, pair_of}
 use Rattle.ixdtf_grammar.specs.Handlers.{Calls, handed, replies_of, Step, IsChain, own_replies, Handled, HandledTo, UnhandledRecord, UnhandledFault}
 use Rattle.ixdtf_grammar.specs.Laws.{GivesResult}
 use Rattle.ixdtf_grammar.proofs.theorems.NoRow.{fault_comes, row_is_no_refusal}
 use Rattle.ixdtf_reading.specs.reading.{Chains.{TextGives, TextRead}, Looks.Placed, Clauses.UnhandledForm}
-use Rattle.ixdtf_reading.proofs.theorems.{OneOutcome.{same_outcome, no_row_fits, derived_begins}, OnlyOutcome.{Accepted, accepted, gives_only}}
-use Rattle.ixdtf_reading.proofs.code.OneMoreReply.{refused_last, refused_split}
+use Rattle.ixdtf_reading.proofs.theorems.OnlyOutcome.{Accepted, accepted, gives_only}
+use Rattle.ixdtf_reading.proofs.theorems.{Replies.{refused_split, each_is_none}, OneUnhandledOutcome.one_unhandled_result, OneChain.one_result}
+use Rattle.ixdtf_reading.proofs.theorems.Replies.{first_calendar-nones}
 
--- a text is derived in one way
-pub derived_once : (reader : Reader) (text : Text) (x y : Parsed) (xs ys : List Pair) → Derives reader text (parsed x) xs → Derives reader text (parsed y) ys
-    → (x ≡ y) × (xs ≡ ys)
-derived_once reader text x y xs ys dx dy =
-    let same : derived (parsed x) xs ≡ derived (parsed y) ys = same_outcome reader text _ _ dx dy in
-    let found : parsed x ≡ parsed y = cc in
-    (cc, cc)
-
--- one record for the same replies
-pub record_once : (reader : Reader) (text : Text) (xs ys : List Pair) (replies : List Reply) (x y : Parsed) → GivesRecord reader text xs replies x
-    → GivesRecord reader text ys replies y → x ≡ y
-record_once reader text xs ys replies x y gx gy =
-    gx.has ∙ ap (λ read. with_calendar read _) (derived_once reader text gx.read gy.read xs ys gx.whole gy.whole).0 ∙ sym gy.has
-
--- no record and fault for the same replies
-pub no_record_and_fault : (reader : Reader) (text : Text) (pairs : List Pair) (replies : List Reply) (found : Parsed) (fault : Fault)
-    → GivesRecord reader text pairs replies found → ¬ (GivesFault reader text pairs replies fault)
-no_record_and_fault reader text pairs replies found fault gives other = elim other [
-  | inl p ↦ refused_last replies [] fault p.1 (rw (append-nil replies) gives.accepted)
-  | inr p ↦ no_row_fits reader text (parsed gives.read, pairs, gives.whole) p.0.0 pairs p.0.1
-]
-
--- as many replies as calls, each of them none
-abbrev nones : {A : Type 0} → List A → List Reply
-nones calls = map (λ call. None) calls
-
-first_calendar-nones : {A : Type 0} (calls : List A) → first_calendar (nones calls) ≡ None
-first_calendar-nones [] = refl
-first_calendar-nones (call ∷ calls) = first_calendar-nones calls
-
-each_is_none : {A : Type 0} (calls : List A) (earlier later : List Reply) (reply : Reply) → nones calls ≡ earlier ++ reply ∷ later → reply ≡ None
-each_is_none [] [] later reply e = cc
-each_is_none [] (b ∷ earlier) later reply e = cc
-each_is_none (call ∷ calls) [] later reply e = cc
-each_is_none (call ∷ calls) (b ∷ earlier) later reply e = let tail : nones calls ≡ earlier ++ reply ∷ later = cc in each_is_none calls earlier later reply tail
+-- each reply is so made of the annotation
+abbrev RepliesBy : {T U F : Type 0} → Step T U F → (Annotation T U → Option (Annotation T U)) → Type 0
+RepliesBy {T} {U} {F} step reply =
+    (state : F) (annotation : Annotation T U) (given : Option (Annotation T U)) (next : F) → step state annotation given next → given ≡ reply annotation
 
 -- each reply is the annotation itself
 abbrev pub OwnReplies : {T U F : Type 0} → Step T U F → Type 0
-OwnReplies {T} {U} {F} step =
-    (state : F) (annotation : Annotation T U) (reply : Option (Annotation T U)) (next : F) → step state annotation reply next → reply ≡ Some annotation
+OwnReplies step = RepliesBy step (λ annotation. Some annotation)
 
 -- each reply is none
 abbrev pub NoReplies : {T U F : Type 0} → Step T U F → Type 0
-NoReplies {T} {U} {F} step =
-    (state : F) (annotation : Annotation T U) (reply : Option (Annotation T U)) (next : F) → step state annotation reply next → reply ≡ None
+NoReplies step = RepliesBy step (λ annotation. None)
 
 module _ {T U F : Type 0} (number : U → ℕ) (step : Step T U F) (handler : F) (reader : Reader) (text : Text) (result : Result Parsed Fault) where
-  only_ok : (reply : Result Parsed Fault) (pairs : List Pair) (replies : List Reply) → GivesResult reader text pairs replies reply → (found : Parsed)
-      → (reply ≡ Ok found) ↔ GivesRecord reader text pairs replies found
-  only_ok (Ok read) pairs replies gives found = (
-    (λ is. let same : read ≡ found = cc in rw (← same) gives),
-    λ other. ap Ok (record_once reader text pairs pairs replies read found gives other),
-  )
-  only_ok (Err fault) pairs replies gives found = (
-    (λ is. absurd cc),
-    λ other. absurd (no_record_and_fault reader text pairs replies found fault other gives),
-  )
+  -- what the form that takes the handler by reference promises
+  abbrev pub handled_to_of : (calls : Calls T U) (last : F) → IsChain step handler calls last
+      → GivesResult reader text (handed number calls) (replies_of number calls) result → HandledTo number step handler last reader text result
+  handled_to_of calls last chain gives =
+      let given : (other : Result Parsed Fault) → result ≡ other → GivesResult reader text (handed number calls) (replies_of number calls) other =
+      λ other is. subst (GivesResult reader text _ _) is gives in
+      record {
+        calls = calls;
+        chain = chain;
+        ok = λ found. (given (Ok found), one_result reader text _ _ result (Ok found) gives);
+        err = λ fault is. given (Err fault) is;
+        only = λ fault is. gives_only reader text _ _ fault (given (Err fault) is);
+      }
 
-  only_err : (reply : Result Parsed Fault) (pairs : List Pair) (replies : List Reply) → GivesResult reader text pairs replies reply → (fault : Fault)
-      → reply ≡ Err fault → GivesFault reader text pairs replies fault
-  only_err (Ok read) pairs replies gives fault is = absurd cc
-  only_err (Err e) pairs replies gives fault is = let same : e ≡ fault = cc in rw (← same) gives
+  -- and one that takes it by value
+  by_value : (last : F) → HandledTo number step handler last reader text result → Handled number step handler reader text result
+  by_value last h = record { calls = h.calls; last = last; chain = h.chain; ok = h.ok; err = h.err; only = h.only }
 
-  -- what a handler's form promises
   pub handled_of : (calls : Calls T U) (last : F) → IsChain step handler calls last → GivesResult reader text (handed number calls) (replies_of number calls) result
       → Handled number step handler reader text result
-  handled_of calls last chain gives = record {
-    calls = calls;
-    last = last;
-    chain = chain;
-    ok = only_ok result _ _ gives;
-    err = only_err result _ _ gives;
-    only = λ fault is. gives_only reader text _ _ fault (only_err result _ _ gives fault is);
-  }
-
-  -- what the form that takes the handler by reference promises
-  handled_to_of : (calls : Calls T U) (last : F) → IsChain step handler calls last
-      → GivesResult reader text (handed number calls) (replies_of number calls) result → HandledTo number step handler last reader text result
-  handled_to_of calls last chain gives = record {
-    calls = calls;
-    chain = chain;
-    ok = only_ok result _ _ gives;
-    err = only_err result _ _ gives;
-    only = λ fault is. gives_only reader text _ _ fault (only_err result _ _ gives fault is);
-  }
+  handled_of calls last chain gives = by_value last (handled_to_of calls last chain gives)
 
   -- what a record that was returned says of the text
   pub handled_accepted : Handled number step handler reader text result → (found : Parsed) → result ≡ Ok found → Accepted reader text
   handled_accepted h found is = let gives = (h.ok found).0 is in accepted reader text (parsed gives.read, handed number h.calls, gives.whole)
 
+  -- the replies, made of what was handed
+  replies_by : (reply : Annotation T U → Option (Annotation T U)) → RepliesBy step reply → (calls : Calls T U) (state last : F) → IsChain step state calls last
+      → replies_of number calls ≡ map (λ call. option_map (pair_of number) (reply call.0)) calls
+  replies_by reply by [] state last chain = refl
+  replies_by reply by (call ∷ calls) state last (next, stepped, chain) =
+      let head = by state call.0 call.1 next stepped in
+      let tail = replies_by reply by calls next last chain in λ i. option_map (pair_of number) (head i) ∷ tail i
+
   -- each call's reply is the pair that it was called with
   pub replies_own : OwnReplies step → (calls : Calls T U) (state last : F) → IsChain step state calls last
       → replies_of number calls ≡ own_replies (handed number calls)
-  replies_own own [] state last chain = refl
-  replies_own own (call ∷ calls) state last (next, stepped, chain) =
-      let head = own state call.0 call.1 next stepped in
-      let tail = replies_own own calls next last chain in λ i. option_map (pair_of number) (head i) ∷ tail i
+  replies_own own calls state last chain = replies_by _ own calls state last chain ∙ sym (map-map (λ pair. Some pair) _ calls)
 
-  -- what the pairs by themselves give is what the calls give
-  only_unhandled : OwnReplies step → (reply : Result Parsed Fault) → (h : Handled number step handler reader text reply) → (found : Parsed)
-      → UnhandledRecord reader text found → reply ≡ Ok found
-  only_unhandled own (Ok read) h found (pairs, gives) =
-      let mine = (h.ok read).0 refl in
-      let same = (derived_once reader text gives.read mine.read pairs _ gives.whole mine.whole).1 in
-      (h.ok found).1 (rw (replies_own own h.calls handler h.last h.chain)
-      (rw (← same) gives))
-  only_unhandled own (Err fault) h found (pairs, gives) = elim (h.err fault refl) [
-    | inl p ↦
-        let front = p.0 in
-        let others = derived_begins reader front.0 front.1 front.3 gives.read (handed number h.calls) pairs front.4 (rw (← front.2) gives.whole) in
-        let all : own_replies pairs ≡ replies_of number h.calls ++ own_replies others.0 =
-        ap own_replies others.1 ∙ map-append (λ pair. Some pair) _ others.0
-        ∙ ap (λ replies. replies ++ own_replies others.0) (sym (replies_own own h.calls handler h.last h.chain)) in
-        absurd (refused_last _ _ fault p.1 (subst NoneRefused all gives.accepted))
-    | inr p ↦ absurd (no_row_fits reader text (parsed gives.read, pairs, gives.whole) p.0.0 _ p.0.1)
-  ]
+  gives_of : (reply : Result Parsed Fault) (h : Handled number step handler reader text reply)
+      → GivesResult reader text (handed number h.calls) (replies_of number h.calls) reply
+  gives_of (Ok found) h = (h.ok found).0 refl
+  gives_of (Err fault) h = h.err fault refl
+
+  -- the text, whose pairs are their own replies, gives the result
+  given : OwnReplies step → Handled number step handler reader text result
+      → (pairs : List Pair) × GivesResult reader text pairs (own_replies pairs) result
+  given own h = (handed number h.calls, rw (← (replies_own own h.calls handler h.last h.chain)) (gives_of result h))
 
   -- what the form without a handler promises
   pub unhandled_ok : OwnReplies step → Handled number step handler reader text result → (found : Parsed)
       → (result ≡ Ok found) ↔ UnhandledRecord reader text found
-  unhandled_ok own h found = (
-    (λ is. (
-      handed number h.calls,
-      rw (← (replies_own own h.calls handler h.last h.chain)) ((h.ok found).0 is),
-    )),
-    only_unhandled own result h found,
+  unhandled_ok own h found = let (pairs, gives) = given own h in (
+    (λ is. (pairs, subst (GivesResult reader text pairs (own_replies pairs)) is gives)),
+    (λ other. one_unhandled_result reader text pairs other.0 result found other.1.read other.1.whole gives other.1),
   )
 
   pub unhandled_err : OwnReplies step → Handled number step handler reader text result → (fault : Fault) → result ≡ Err fault → UnhandledFault reader text fault
-  unhandled_err own h fault is = (
-    handed number h.calls,
-    rw (← (replies_own own h.calls handler h.last h.chain)) (h.err fault is),
-  )
+  unhandled_err own h fault is = let (pairs, gives) = given own h in (pairs, subst (GivesResult reader text pairs (own_replies pairs)) is gives)
 
-  -- each call's reply is none
-  replies_none : NoReplies step → (calls : Calls T U) (state last : F) → IsChain step state calls last → replies_of number calls ≡ nones calls
-  replies_none none [] state last chain = refl
-  replies_none none (call ∷ calls) state last (next, stepped, chain) =
-      let head = none state call.0 call.1 next stepped in
-      let tail = replies_none none calls next last chain in λ i. option_map (pair_of number) (head i) ∷ tail i
-
-  -- without an reply there is no calendar
+  -- without a reply there is no calendar
   pub ignored : NoReplies step → Handled number step handler reader text result → (found : Parsed) → result ≡ Ok found → found.calendar ≡ None
   ignored none h found is =
       let gives = (h.ok found).0 is in
       ap (λ read. read.calendar) gives.has
-      ∙ ap (λ replies. calendar_value (first_calendar replies)) (replies_none none h.calls handler h.last h.chain)
+      ∙ ap (λ replies. calendar_value (first_calendar replies)) (replies_by _ none h.calls handler h.last h.chain)
       ∙ ap calendar_value (first_calendar-nones h.calls)
 
   -- without a reply none is refused
@@ -167,7 +101,7 @@ module _ {T U F : Type 0} (number : U → ℕ) (step : Step T U F) (handler : F)
   ignored_err none h fault is = elim (h.err fault is) [
     | inl p ↦
         let last = p.1 in
-        let absent = each_is_none h.calls last.earlier [] last.reply (sym (replies_none none h.calls handler h.last h.chain) ∙ last.split) in
+        let absent = each_is_none h.calls last.earlier [] last.reply (sym (replies_by _ none h.calls handler h.last h.chain) ∙ last.split) in
         absurd (subst (λ reply. RefusedBeside (first_calendar last.earlier) reply fault) absent last.refused)
     | inr p ↦ row_is_no_refusal reader text _ fault p.0
   ]
@@ -207,7 +141,7 @@ module _ {T U F : Type 0} (number : U → ℕ) (step : Step T U F) (handler : F)
 -- what a form without a handler promises, where the handler returns each annotation
 pub unhandled_form : {T U F : Type 0} {number : U → ℕ} {step : Step T U F} {handler : F} {reader : Reader} {text : Text} {result : Result Parsed Fault}
     → Handled number step handler reader text result → OwnReplies step → UnhandledForm reader text result
-unhandled_form {number = number} {step = step} {handler = handler} {reader = reader} {text = text} {result = Ok found} h own = let whole =
+unhandled_form {number} {step} {handler} {reader} {text} {result = Ok found} h own = let whole =
     handled_accepted number step handler reader text _ h found refl in record {
       ok = unhandled_ok number step handler reader text _ own h;
       err = tt;
@@ -215,7 +149,7 @@ unhandled_form {number = number} {step = step} {handler = handler} {reader = rea
       no_other_reader = whole.no_other_reader;
       only = tt;
     }
-unhandled_form {number = number} {step = step} {handler = handler} {reader = reader} {text = text} {result = Err fault} h own = let gives =
+unhandled_form {number} {step} {handler} {reader} {text} {result = Err fault} h own = let gives =
     unhandled_err number step handler reader text _ own h fault refl in record {
       ok = unhandled_ok number step handler reader text _ own h;
       err = gives;

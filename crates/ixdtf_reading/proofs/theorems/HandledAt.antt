@@ -1,11 +1,10 @@
 -- From what the code replied for a chain of calls to where a fault stands, by a handler's clauses.
-use Rattle.std.proofs.{Common.{◌≡◌, ℕ, ◌+◌, ◌≤◌, length, arith, List, Ok, Err, sym, ◌∙◌, ap, inl, inr}, lemmas.List.{length-append, length-map}}
-use Rattle.ixdtf_grammar.specs.{language.{Letters.Text, Brackets.Pair, Languages.Parsed, Readers.Reader}, table.Faults.Fault}
+use Rattle.std.proofs.{Common.{◌≡◌, ℕ, ◌+◌, ◌≤◌, length, arith, List, Ok, Err, sym, ◌∙◌, ap, inl, inr, Result}, lemmas.List.{length-append, length-map}}
+use Rattle.ixdtf_grammar.specs.{language.{Letters.Text, Brackets.Pair, Languages.Parsed, Readers.Reader}, table.Faults.Fault, Views.returned_by}
 use Rattle.ixdtf_grammar.specs.{Handlers.{Reply, Calls, handed, replies_of, Step}, Places.{GivesFaultAt, HandledAt, HandledToAt, UnhandledFaultAt}}
 use Rattle.ixdtf_reading.specs.{declared.stop.StopAt.StopAt, reading.{Chains.{TextGives, TextRead}, Clauses.fault_of_stop}}
 use Rattle.ixdtf_reading.proofs.code.Located.{left_fits as row_left_fits}
-use Rattle.ixdtf_reading.proofs.theorems.{Handled.{OwnReplies, replies_own, no_record_and_fault, handled, handled_to}, OnePlace.{one_place, without_place}}
-use Rattle.ixdtf_reading.proofs.theorems.OnlyOutcome.{gives_only}
+use Rattle.ixdtf_reading.proofs.theorems.{Handled.{OwnReplies, replies_own, handled_to, handled_to_of}, OnePlace.{one_place, without_place}}
 
 -- as many replies as pairs
 as_many : {T U : Type 0} (number : U → ℕ) (calls : Calls T U) → length (replies_of number calls) ≡ length (handed number calls)
@@ -22,37 +21,7 @@ stands_at reader text pairs replies fault left at is gives = elim gives [
 -- a form with a handler whose errors tell their places
 module _ {T U F X E : Type 0} (number : U → ℕ) (step : Step T U F) (handler last : F) (reader : Reader) (text : Text) (named : E → Fault) (stands : ℕ → E → Type 0)
     (view : X → Parsed) where
-  pub handled_at_ok : (x : X) → TextRead number step handler last reader text (Ok (view x)) → HandledAt number step handler reader text named stands view (Ok x)
-  handled_at_ok x read = let plain = handled number step handler reader text (Ok (view x)) last read in record {
-    calls = plain.calls;
-    last = plain.last;
-    chain = plain.chain;
-    ok = plain.ok;
-    err = λ e is. absurd cc;
-    only = λ e is. absurd cc;
-    place = λ e is. absurd cc;
-  }
-
-  pub handled_at_err : (why : StopAt) (e : E) → named e ≡ fault_of_stop why.stop → stands why.at e
-      → (left : Text) × (why.at + length left ≡ length text) × TextRead number step handler last reader text (Err (fault_of_stop why.stop, left))
-      → HandledAt number step handler reader text named stands view (Err e)
-  handled_at_err why e is_named is_there (left, lengths, read) =
-      let gives : GivesFaultAt reader text (handed number read.calls) (replies_of number read.calls) (named e) why.at =
-      rw is_named (stands_at reader text _ _ (fault_of_stop why.stop) left why.at lengths read.gives) in
-      let fault = without_place reader text _ _ (named e) why.at gives in
-      let is_only = gives_only reader text _ _ (named e) fault in
-      let is_only_place = one_place reader text _ _ (named e) why.at (as_many number read.calls) gives in
-      record {
-        calls = read.calls;
-        last = last;
-        chain = read.chain;
-        ok = λ found. ((λ is. absurd cc), λ other. absurd (no_record_and_fault reader text _ _ found (named e) other fault));
-        err = λ e' is. let same : e ≡ e' = cc in rw (← same) (why.at, is_there, gives);
-        only = λ e' is. let same : e ≡ e' = cc in rw (← same) is_only;
-        place = λ e' is. let same : e ≡ e' = cc in rw (← same) (why.at, is_there, is_only_place);
-      }
-
-  -- and one that takes the handler by reference
+  -- one that takes the handler by reference
   pub handled_to_at_ok : (x : X) → TextRead number step handler last reader text (Ok (view x)) → HandledToAt number step handler last reader text named stands view (Ok x)
   handled_to_at_ok x read = record {
     plain = handled_to number step handler reader text (Ok (view x)) last read;
@@ -66,20 +35,33 @@ module _ {T U F X E : Type 0} (number : U → ℕ) (step : Step T U F) (handler 
   handled_to_at_err why e is_named is_there (left, lengths, read) =
       let gives : GivesFaultAt reader text (handed number read.calls) (replies_of number read.calls) (named e) why.at =
       rw is_named (stands_at reader text _ _ (fault_of_stop why.stop) left why.at lengths read.gives) in
-      let fault = without_place reader text _ _ (named e) why.at gives in
-      let is_only = gives_only reader text _ _ (named e) fault in
-      let is_only_place = one_place reader text _ _ (named e) why.at (as_many number read.calls) gives in
+      let is_only = one_place reader text _ _ (named e) why.at (as_many number read.calls) gives in
       record {
-        plain = record {
-          calls = read.calls;
-          chain = read.chain;
-          ok = λ found. ((λ is. absurd cc), λ other. absurd (no_record_and_fault reader text _ _ found (named e) other fault));
-          err = λ other is. let same : named e ≡ other = cc in rw (← same) fault;
-          only = λ other is. let same : named e ≡ other = cc in rw (← same) is_only;
-        };
+        plain = handled_to_of number step handler reader text (Err (named e)) read.calls last read.chain (without_place reader text _ _ (named e) why.at gives);
         err = λ e' is. let same : e ≡ e' = cc in rw (← same) (why.at, is_there, gives);
-        place = λ e' is. let same : e ≡ e' = cc in rw (← same) (why.at, is_there, is_only_place);
+        place = λ e' is. let same : e ≡ e' = cc in rw (← same) (why.at, is_there, is_only);
       }
+
+  -- and one that takes it by value
+  by_value : (result : Result X E) → HandledToAt number step handler last reader text named stands view result
+      → HandledAt number step handler reader text named stands view result
+  by_value result h = record {
+    calls = h.plain.calls;
+    last = last;
+    chain = h.plain.chain;
+    ok = h.plain.ok;
+    err = h.err;
+    only = λ e is. h.plain.only (named e) (ap (returned_by named view) is);
+    place = h.place;
+  }
+
+  pub handled_at_ok : (x : X) → TextRead number step handler last reader text (Ok (view x)) → HandledAt number step handler reader text named stands view (Ok x)
+  handled_at_ok x read = by_value (Ok x) (handled_to_at_ok x read)
+
+  pub handled_at_err : (why : StopAt) (e : E) → named e ≡ fault_of_stop why.stop → stands why.at e
+      → (left : Text) × (why.at + length left ≡ length text) × TextRead number step handler last reader text (Err (fault_of_stop why.stop, left))
+      → HandledAt number step handler reader text named stands view (Err e)
+  handled_at_err why e is_named is_there read = by_value (Err e) (handled_to_at_err why e is_named is_there read)
 
 -- the place of a text whose pairs reply for themselves
 pub unhandled_at : {T U F : Type 0} (number : U → ℕ) (step : Step T U F) (handler last : F) (reader : Reader) (text : Text) → OwnReplies step → (why : StopAt)

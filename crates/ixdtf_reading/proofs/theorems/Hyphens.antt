@@ -1,13 +1,13 @@
 -- A date's hyphens say nothing where both stand, and are refused where one does.
-use Rattle.std.proofs.{Common.{◌≡◌, ℕ, IsTrue, IsFalse, ◌∷◌, ◌++◌, [], refl, sym, ◌∙◌, ap, inl, inr, append_assoc, arith}, lemmas.Bool.Decides.nat_tests}
+use Rattle.std.proofs.Common.{◌≡◌, ◌∷◌, ◌++◌, [], refl, sym, ◌∙◌, ap, inl, inr, append_assoc}
 use Rattle.ixdtf_grammar.specs.{declared.records.DateRecord.DateRecord, Laws.{HyphensSayNothing, OneHyphenIsRefused, IsDateParts}}
 use Rattle.ixdtf_grammar.specs.{Widths.{UnhandledOutcome, HasUnhandledOutcome, UnhandledOutcome.faulted}, language.{Dates.DateText, Digits.decimal}}
-use Rattle.ixdtf_grammar.specs.{language.{Letters.{Text, digit, hyphen, Letter.Plain}, Readers.{parse, CoreKind.date_time}}, table.Faults.Fault.DateSeparator}
+use Rattle.ixdtf_grammar.specs.{language.{Letters.{Text, digit, Letter.Plain}, Readers.{parse, CoreKind.date_time}}, table.Faults.Fault.DateSeparator}
 use Rattle.ixdtf_grammar.specs.table.{LineNames.{of_date, DateLine, DateLine.{after_hyphened_month, after_basic_month}}, Rows.{front_of, Stops, Place.other}}
 use Rattle.ixdtf_grammar.specs.table.{Before.BeforeDate, Lines.date_line}
 use Rattle.ixdtf_reading.specs.reading.{Cores.date_time_core_at, Dates.date_of, Looks.row_of, Wholes.{row_behind, bracketed_text_at, outcome}}
-use Rattle.ixdtf_reading.proofs.{code.OneMoreReply.NoneRefused-nothing, theorems.{OneOutcome.outcome_holds, OneUnhandledOutcome.same_plain}}
-use Rattle.ixdtf_reading.proofs.to_reading.Dates.{over_date}
+use Rattle.ixdtf_reading.proofs.{theorems.{OneOutcome.outcome_holds, OneUnhandledOutcome.same_plain, Replies.NoneRefused-nothing}, to_reading.Dates.over_date}
+use Rattle.ixdtf_reading.proofs.code.DigitClasses.{digit_no_hyphen}
 
 -- the date of these parts
 abbrev date_with : (years months days : Text) → IsDateParts years months days → DateRecord
@@ -40,10 +40,6 @@ hyphens_say_nothing years months days rest h x =
     let alike = alike_read _ _ rest _ (plain_shape years months days h) (hyphened_shape years months days h) in
     let same = ap (outcome parse) (sym plain) ∙ alike ∙ ap (outcome parse) hyphened in
     (alike_plain _ _ same x, alike_plain _ _ (sym same) x)
-
--- a digit is no hyphen
-digit_no_hyphen : (c : ℕ) → IsTrue (digit c) → IsFalse (hyphen c)
-digit_no_hyphen c h = grind (arith, h, nat_tests)
 
 -- the row of a line of dates, before any pair, is what comes
 refused_at : (l : DateLine) (front rest text : Text) → BeforeDate date_time l [] → text ≡ front ++ rest → front_of (date_line l) front

@@ -3,9 +3,9 @@ use Rattle.std.proofs.{Common.{◌≡◌, ℕ, IsTrue, List, [], ◌∷◌, inl,
 use Rattle.ixdtf_grammar.specs.{declared.records.{TimeRecord.TimeRecord, UtcOffsetRecord.{UtcOffsetRecord, TheVariants.MinutePrecision}}, Laws.OffsetsAgree}
 use Rattle.ixdtf_grammar.specs.language.{Languages.{Derives.{as_shifted, as_identified}, Found.shifted}, Letters.{Text, sign, Letter.Plain}}
 use Rattle.ixdtf_grammar.specs.language.{Offsets.{IsOffset, minutes_of}, Readers.Reader.parse_offset, Times.{TimeShape, ClockOf, SecondText, Clock as clocks}}
-use Rattle.ixdtf_grammar.specs.language.{Times.TimeShape.{hours, basic_minutes, colon_minutes, seconds, fractions}, ZoneNames.IsZoneName}
-use Rattle.ixdtf_grammar.specs.table.Outcomes.Outcome.{derived}
+use Rattle.ixdtf_grammar.specs.{language.{Times.TimeShape.{seconds, fractions}, ZoneNames.IsZoneName}, table.Outcomes.Outcome.derived}
 use Rattle.ixdtf_reading.proofs.{parts.ZonesAlone.{lead_no_sign, first_letter}, theorems.OneOutcome.same_outcome}
+use Rattle.ixdtf_grammar.proofs.parts.Texts.{signed_text}
 
 -- a name does not begin as an offset
 no_name : (text : Text) (offset : UtcOffsetRecord) (name : List ℕ) → IsOffset text offset → ¬ (IsZoneName text name)
@@ -23,14 +23,9 @@ no_second text time (inr h) = true≢false (sym h.may)
 -- so an offset without seconds is an offset
 minutes_alone : (c : ℕ) (shape : TimeShape) (body : Text) (time : TimeRecord) → IsTrue (sign c) → ClockOf clocks.MinuteOffset shape body time
     → IsOffset (Plain c ∷ body) (MinutePrecision (minutes_of c time))
-minutes_alone c hours body time signed clock =
-    record { c = c; body = body; shape = hours; time = time; is = refl; sign = signed; clock = clock; value = refl }
-minutes_alone c basic_minutes body time signed clock =
-    record { c = c; body = body; shape = basic_minutes; time = time; is = refl; sign = signed; clock = clock; value = refl }
-minutes_alone c colon_minutes body time signed clock =
-    record { c = c; body = body; shape = colon_minutes; time = time; is = refl; sign = signed; clock = clock; value = refl }
 minutes_alone c seconds body time signed clock = absurd (no_second body time clock)
 minutes_alone c fractions body time signed clock = absurd (no_second clock.whole _ clock.second)
+minutes_alone c shape body time signed clock = signed_text c body shape time refl signed clock
 
 pub offsets_agree : OffsetsAgree
 offsets_agree text offset zone (as_shifted d) (as_identified (inl (name, is_name, is))) = absurd (no_name text offset name d is_name)

@@ -1,18 +1,18 @@
 -- A handler that replies to the pairs of a text is called with one list of them, and there is one result.
 use Rattle.std.proofs.Common.{◌≡◌, ◌≢◌, ◌⊎◌, ℕ, Bool, true, false, List, [], ◌∷◌, ◌++◌, Option, Some, None, Result, Ok, Err, IsTrue, refl, sym, ap, subst}
-use Rattle.std.proofs.{Common.{◌∙◌, inl, inr, append_assoc, true≢false, length, arith, length-append}, lemmas.{List.append-nil, Slice.Eq.bytes_eq-Decides}}
+use Rattle.std.proofs.{Common.{◌∙◌, inl, inr, append_assoc, true≢false}, lemmas.{List.append-nil, Slice.Eq.bytes_eq-Decides}}
 use Rattle.ixdtf_grammar.specs.Handlers.{Reply, calendar_key, first_calendar, calendar_value, with_calendar, RefusedBeside, NoneRefused, LastRefused}
 use Rattle.ixdtf_grammar.specs.{Handlers.HasFront, Laws.{GivesResult, OneResult, replies_to, OneChain}, language.Brackets.{Pair, ZoneNote, ArePairs, IsTail}}
 use Rattle.ixdtf_grammar.specs.language.{Cores.{Core, IsCore}, Languages.{Parsed, parsed_with, Derives, Derives.as_parsed, Found.parsed}, Letters.Text}
-use Rattle.ixdtf_grammar.specs.{language.{Readers.{CoreKind, Reader.bracketed}, Times.Clock.Time}, table.Faults.Fault}
+use Rattle.ixdtf_grammar.specs.{language.{Readers.{CoreKind, Reader.bracketed}, Times.Clock.Time}, table.Faults.Fault, Handlers.{GivesRecord, GivesFault}}
 use Rattle.ixdtf_grammar.specs.table.{Faults.Fault.{UnrecognizedCritical, CriticalDuplicateCalendar}, LineNames.{LineName, BracketLine.after_bracket}}
 use Rattle.ixdtf_grammar.specs.table.LineNames.{LineName.{of_clock, of_zone, of_bracket, of_pair, of_duration}, ZoneLine.{identifier_start, zone_name_start}}
 use Rattle.ixdtf_grammar.specs.table.{LineNames.PairLine.{key_start, critical_key_start}, Before.{Bracketed, BeforeKey, BeforeBracketed}}
-use Rattle.ixdtf_grammar.specs.table.{Outcomes.{ExactlyOne, Outcome, Holds, Outcome.{derived, refused}}, Rows.{Row, Fits}}
+use Rattle.ixdtf_grammar.specs.{table.{Outcomes.{ExactlyOne, Outcome, Outcome.{derived, refused}, Holds}, Rows.{Row, Fits}}, language.Readers.Reader}
 use Rattle.ixdtf_grammar.proofs.parts.Texts.{bracketed_text}
-use Rattle.ixdtf_reading.proofs.code.OneMoreReply.{nothing_split, split_more, NoneRefused-nothing, NoneRefused-more, refused_last, refused_split}
-use Rattle.ixdtf_reading.proofs.{code.OneMoreReply.neither_refused, theorems.Handled.{derived_once, record_once, no_record_and_fault}}
-use Rattle.ixdtf_reading.proofs.theorems.OneOutcome.{one_outcome, no_row_fits, fault_once, derived_begins, fault_begins}
+use Rattle.ixdtf_reading.proofs.theorems.{Replies.{nothing_split, NoneRefused-nothing, two_places, same_last}, OneOutcome.same_outcome}
+use Rattle.ixdtf_reading.proofs.theorems.{OneOutcome.{one_outcome, no_row_fits, fault_once, derived_begins, fault_begins}, Replies.NoneRefused-more}
+use Rattle.ixdtf_reading.proofs.theorems.Replies.{refused_last, refused_split, neither_refused}
 
 -- ---- a refused reply, or none
 
@@ -79,21 +79,6 @@ refused_once calendar reply x y h g = elim (refused_split calendar reply x h) [
 
 -- ---- replies to pairs
 
--- of two elements of a list one stands before the other, or they are one
-two_places : {A : Type 0} (xs ys xs' ys' : List A) (a b : A) → xs ++ a ∷ ys ≡ xs' ++ b ∷ ys'
-    → ((xs ≡ xs') × (a ≡ b)) ⊎ (((rest : List A) × (xs' ≡ xs ++ a ∷ rest)) ⊎ ((rest : List A) × (xs ≡ xs' ++ b ∷ rest)))
-two_places [] ys [] ys' a b e = inl (refl, cc)
-two_places [] ys (x ∷ xs') ys' a b e = inr (inl (xs', cc))
-two_places (x ∷ xs) ys [] ys' a b e = inr (inr (xs, cc))
-two_places {A} (x ∷ xs) ys (x' ∷ xs') ys' a b e =
-    let head : x ≡ x' = cc in
-    let tail : xs ++ a ∷ ys ≡ xs' ++ b ∷ ys' = cc in
-    elim (two_places xs ys xs' ys' a b tail) [
-      | inl p ↦ let same = p.0 in inl (cc, p.1)
-      | inr (inl p) ↦ let same = p.1 in inr (inl (p.0, cc))
-      | inr (inr p) ↦ let same = p.1 in inr (inr (p.0, cc))
-    ]
-
 -- a list is empty, or has a last element
 last_of : {A : Type 0} (xs : List A) → (xs ≡ []) ⊎ ((front : List A) × (x : A) × (xs ≡ front ++ x ∷ []))
 last_of [] = inl refl
@@ -102,17 +87,35 @@ last_of (x ∷ xs) = elim (last_of xs) [
   | inr p ↦ inr (x ∷ p.0, p.1, ap (λ t. x ∷ t) p.2)
 ]
 
-same_last : {A : Type 0} (xs ys : List A) (a b : A) → xs ++ a ∷ [] ≡ ys ++ b ∷ [] → (ys ≡ xs) × (b ≡ a)
-same_last {A} xs ys a b e = elim (split_more xs a ys [] b e) [
-  | inl p ↦ p
-  | inr p ↦ absurd (omega (arith, ap length e, ap length p.1, length-append {A = A}))
-]
-
 -- the last of these replies is refused with one fault
 pub last_once : (replies : List Reply) (x y : Fault) → LastRefused replies x → LastRefused replies y → x ≡ y
 last_once replies x y h g =
     let same = same_last g.earlier h.earlier g.reply h.reply (sym g.split ∙ h.split) in
-    refused_once _ _ x y (rw (← same.0, ← same.1) h.refused) g.refused
+    refused_once _ _ x y (rw (same.0, same.1) h.refused) g.refused
+
+-- ---- one result
+
+-- a text is derived in one way
+derived_once : (reader : Reader) (text : Text) (x y : Parsed) (xs ys : List Pair) → Derives reader text (parsed x) xs → Derives reader text (parsed y) ys
+    → (x ≡ y) × (xs ≡ ys)
+derived_once reader text x y xs ys dx dy =
+    let same : derived (parsed x) xs ≡ derived (parsed y) ys = same_outcome reader text _ _ dx dy in
+    let found : parsed x ≡ parsed y = cc in
+    (cc, cc)
+
+-- one record for the same replies
+record_once : (reader : Reader) (text : Text) (xs ys : List Pair) (replies : List Reply) (x y : Parsed) → GivesRecord reader text xs replies x
+    → GivesRecord reader text ys replies y → x ≡ y
+record_once reader text xs ys replies x y gx gy =
+    gx.has ∙ ap (λ read. with_calendar read _) (derived_once reader text gx.read gy.read xs ys gx.whole gy.whole).0 ∙ sym gy.has
+
+-- no record and fault for the same replies
+no_record_and_fault : (reader : Reader) (text : Text) (pairs : List Pair) (replies : List Reply) (found : Parsed) (fault : Fault)
+    → GivesRecord reader text pairs replies found → ¬ (GivesFault reader text pairs replies fault)
+no_record_and_fault reader text pairs replies found fault gives other = elim other [
+  | inl p ↦ refused_last replies [] fault p.1 (rw (append-nil replies) gives.accepted)
+  | inr p ↦ no_row_fits reader text (parsed gives.read, pairs, gives.whole) p.0.0 pairs p.0.1
+]
 
 pub one_result : OneResult
 one_result reader text pairs replies (Ok x) (Ok y) gx gy = ap Ok (record_once reader text pairs pairs replies x y gx gy)
@@ -162,7 +165,7 @@ module _ (replies : List Pair → List Reply) (by : Replying replies) where
     | inr p ↦
         let one = by.more p.0 p.1 in
         let same = same_last (replies p.0) last.earlier one.0 last.reply (sym one.1 ∙ sym (ap replies p.2) ∙ last.split) in
-        record { earlier = p.0; pair = p.1; is = p.2; none = rw (← same.0) last.none }
+        record { earlier = p.0; pair = p.1; is = p.2; none = rw same.0 last.none }
   ]
 
   -- ---- one chain

@@ -1,9 +1,9 @@
 -- Each text has exactly one outcome, and the pairs of a front begin those of the text.
-use Rattle.std.proofs.Common.{◌≡◌, ℕ, length, arith, ◌⊎◌, List, [], ◌++◌, Option, Ok, Err, refl, sym, ap, ◌∙◌, subst, inl, inr, append_assoc}
+use Rattle.std.proofs.Common.{◌≡◌, ℕ, length, arith, ◌⊎◌, List, [], ◌++◌, Option, Ok, Err, refl, sym, ap, ◌∙◌, subst, inl, inr, append_assoc, ◌≢◌}
 use Rattle.ixdtf_grammar.specs.language.{Letters.Text, Brackets.{ZoneNote, Pair}, Cores.Core, Readers.Reader, Languages.{Parsed, parsed_with, Found, Derives}}
 use Rattle.ixdtf_grammar.specs.{language.Languages.{Derives.{as_parsed, as_shifted, as_identified, as_named, as_lasting}, Found.parsed}, table.Faults.Fault}
 use Rattle.ixdtf_grammar.specs.table.Outcomes.{HasFault, HasFaultAt, OnlyPlace, NoRowFits, Outcome, Holds, OneOutcome, pairs_of, Begins, FrontsBegin}
-use Rattle.ixdtf_grammar.specs.{table.{Outcomes.Outcome.{derived, refused}, Rows.left_at}, Laws.InLanguage}
+use Rattle.ixdtf_grammar.specs.{table.{Outcomes.Outcome.{derived, refused}, Rows.left_at}, Laws.InLanguage, language.Brackets.ArePairs}
 use Rattle.ixdtf_reading.specs.reading.{Looks.{Read, ◌>>=◌}, Pairs.pairs_at}
 use Rattle.ixdtf_reading.specs.reading.Wholes.{bracketed_text_at, with_pairs, read_at, RowBehind, row_behind, outcome_of, outcome}
 use Rattle.ixdtf_reading.proofs.to_grammar.{MorePairs.{OnPairs, pairs_read}, Wholes.{OnWhole, whole_read}}
@@ -47,27 +47,27 @@ place_once reader text pairs fault at h other ys there g =
     let rows : g.0 ≡ h.0 = cc in
     (sym g.2 ∙ ap (λ r. r.error) rows ∙ h.2, omega (arith, g.3, h.3, ap (λ r. length (left_at r.place)) rows))
 
--- the pairs of the front begin those that reading returned
-abbrev OnBegins : List Pair → Read RowBehind (Found × List Pair) → Type 0
-OnBegins pairs (Ok x) = Begins pairs x.0.1
-OnBegins pairs (Err stop) = Begins pairs stop.0
+-- the pairs of the front begin those that reading returned, and where there are any, the others are of the rest
+abbrev OnBegins : List Pair → Text → Read RowBehind (Found × List Pair) → Type 0
+OnBegins pairs rest (Ok x) = (more : List Pair) × (x.0.1 ≡ pairs ++ more) × (pairs ≢ [] → ArePairs rest more)
+OnBegins pairs rest (Err stop) = Begins pairs stop.0
 
-none_begins : (r : Read RowBehind (Found × List Pair)) → OnBegins [] r
-none_begins (Ok x) = (x.0.1, refl)
-none_begins (Err stop) = (stop.0, refl)
+none_begins : (rest : Text) (r : Read RowBehind (Found × List Pair)) → OnBegins [] rest r
+none_begins rest (Ok x) = (x.0.1, refl, λ some. absurd (some refl))
+none_begins rest (Err stop) = (stop.0, refl)
 
 more_begins : (core : Core) (first_zone : Option ZoneNote) (pairs : List Pair) (rest : Text) (r : Read RowBehind (List Pair)) → OnPairs row_behind pairs rest r
-    → OnBegins pairs (with_pairs (r >>= λ all. Ok ((parsed_with core first_zone, all.0), all.1)))
-more_begins core first_zone pairs rest (Ok x) h = (h.1, h.2)
+    → OnBegins pairs rest (with_pairs (r >>= λ all. Ok ((parsed_with core first_zone, all.0), all.1)))
+more_begins core first_zone pairs rest (Ok x) h = (h.1, h.2, λ some. h.3)
 more_begins core first_zone pairs rest (Err stop) h = (h.0, ap (λ s. s.0) h.4)
 
 -- reading goes over the front to the pairs after it
 front_begins : (reader : Reader) (front rest : Text) (read : Parsed) (pairs : List Pair) → Derives reader front (parsed read) pairs
-    → OnBegins pairs (read_at row_behind reader (front ++ rest))
+    → OnBegins pairs rest (read_at row_behind reader (front ++ rest))
 front_begins reader front rest read pairs (as_parsed {kind = kind} d) = go (brackets_of d.brackets d.zone pairs d.is_tail)
   where
-    go : NoBrackets d.brackets d.zone pairs ⊎ Brackets d.brackets d.zone pairs → OnBegins pairs (with_pairs (bracketed_text_at row_behind kind (front ++ rest)))
-    go (inl h) = rw h.pairs_are (none_begins (with_pairs (bracketed_text_at row_behind kind (front ++ rest))))
+    go : NoBrackets d.brackets d.zone pairs ⊎ Brackets d.brackets d.zone pairs → OnBegins pairs rest (with_pairs (bracketed_text_at row_behind kind (front ++ rest)))
+    go (inl h) = rw h.pairs_are (none_begins rest (with_pairs (bracketed_text_at row_behind kind (front ++ rest))))
     go (inr h) =
         let over = over_brackets row_behind kind d.cores d.brackets rest d.core d.zone pairs d.is_core h in
         let is : bracketed_text_at row_behind kind (front ++ rest)
@@ -76,15 +76,19 @@ front_begins reader front rest read pairs (as_parsed {kind = kind} d) = go (brac
         rw is (more_begins d.core d.zone pairs rest _ (pairs_read row_behind over.0 pairs rest over.1))
 
 -- the pairs of a front that is derived begin those of the text, whether it is derived or has a fault
+pub derived_goes_on : (reader : Reader) (front rest : Text) (read whole : Parsed) (pairs all : List Pair) → Derives reader front (parsed read) pairs
+    → Derives reader (front ++ rest) (parsed whole) all → (more : List Pair) × (all ≡ pairs ++ more) × (pairs ≢ [] → ArePairs rest more)
+derived_goes_on reader front rest read whole pairs all d h =
+    subst (OnBegins pairs rest) (takes row_behind reader (front ++ rest) (parsed whole) all h) (front_begins reader front rest read pairs d)
+
 pub derived_begins : (reader : Reader) (front rest : Text) (read whole : Parsed) (pairs all : List Pair) → Derives reader front (parsed read) pairs
     → Derives reader (front ++ rest) (parsed whole) all → Begins pairs all
-derived_begins reader front rest read whole pairs all d h =
-    subst (OnBegins pairs) (takes row_behind reader (front ++ rest) (parsed whole) all h) (front_begins reader front rest read pairs d)
+derived_begins reader front rest read whole pairs all d h = let (more, is, are) = derived_goes_on reader front rest read whole pairs all d h in (more, is)
 
 pub fault_begins : (reader : Reader) (front rest : Text) (read : Parsed) (pairs all : List Pair) (fault : Fault) → Derives reader front (parsed read) pairs
     → HasFault reader (front ++ rest) all fault → Begins pairs all
 fault_begins reader front rest read pairs all fault d h =
-    subst (OnBegins pairs) (row_read row_behind reader (front ++ rest) h.0 all h.1) (front_begins reader front rest read pairs d)
+    subst (OnBegins pairs rest) (row_read row_behind reader (front ++ rest) h.0 all h.1) (front_begins reader front rest read pairs d)
 
 pub fronts_begin : FrontsBegin
 fronts_begin reader front rest found pairs (derived whole all) (as_parsed d) (as_parsed h) =

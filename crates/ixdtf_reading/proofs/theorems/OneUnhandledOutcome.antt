@@ -1,10 +1,10 @@
 -- Each text has exactly one outcome in each reader without a handler.
 use Rattle.std.proofs.{Common.{◌≡◌, List, [], Some, Result, Ok, Err, refl, sym, ◌∙◌, ap}, lemmas.List.map-append}
 use Rattle.ixdtf_grammar.specs.{Handlers.own_replies, Widths.{UnhandledOutcome, HasWithPairs, HasAlone, HasUnhandledOutcome, OneUnhandledOutcome}}
-use Rattle.ixdtf_grammar.specs.{Widths.UnhandledOutcome.{read_as, faulted}, language.{Brackets.Pair, Languages.{Parsed, Found, Derives}}}
+use Rattle.ixdtf_grammar.specs.{Widths.UnhandledOutcome.{read_as, faulted}, language.{Brackets.Pair, Languages.{Parsed, Found, Derives}}, Laws.GivesResult}
 use Rattle.ixdtf_grammar.specs.language.{Languages.{Derives.{as_parsed, as_shifted, as_identified, as_named, as_lasting}, Found.parsed}, Letters.Text}
 use Rattle.ixdtf_grammar.specs.{language.Readers.{Reader, CoreKind, Reader.bracketed}, table.{Before.Before, Faults.Fault, LineNames.LineName}}
-use Rattle.ixdtf_grammar.specs.table.Outcomes.{Outcome, Holds, Outcome.{derived, refused}}
+use Rattle.ixdtf_grammar.specs.{table.Outcomes.{Outcome, Outcome.{derived, refused}, Holds}, Handlers.GivesRecord}
 use Rattle.ixdtf_reading.proofs.{code.ReadersWithoutPairs.ReadsNoPairs, theorems.OneChain.{Replying, GivesChain, alike, only_chain}}
 use Rattle.ixdtf_reading.proofs.theorems.OneOutcome.{one_outcome, same_outcome, fault_once}
 
@@ -92,3 +92,10 @@ pub same_plain : (kind : CoreKind) (one other : Text) (outcome : Outcome) → Ho
 same_plain kind one other outcome h g x p =
     let (y, q) = unhandled_outcome (bracketed kind) other in
     let same = alike_with_pairs kind one other outcome h g x y p q in rw same q
+
+-- what pairs that reply for themselves give is one result, where it is a record
+pub one_unhandled_result : (reader : Reader) (text : Text) (xs ys : List Pair) (result : Result Parsed Fault) (found read : Parsed)
+    → Derives reader text (parsed read) ys → GivesResult reader text xs (own_replies xs) result → GivesRecord reader text ys (own_replies ys) found → result ≡ Ok found
+one_unhandled_result reader text xs ys result found read (as_parsed {kind = kind} d) gives other =
+    let one = one_outcome (bracketed kind) text in
+    ap (λ (c : List Pair × Result Parsed Fault). c.1) (alike own_replies own kind text text one.0 one.1 one.1 (xs, result) (ys, Ok found) gives other)

@@ -4,7 +4,7 @@ use Rattle.ixdtf_grammar.specs.{declared.profile.Profile.Profile, language.{Lett
 use Rattle.ixdtf_grammar.specs.{table.Outcomes.{HasFault, NoRowFits, OnlyFault, Outcome.refused}, Handlers.{Reply, GivesFault, GivesOnlyFault}}
 use Rattle.ixdtf_grammar.specs.Laws.{IsTextReader, InLanguage, InNoOther}
 use Rattle.ixdtf_grammar.proofs.theorems.{NoRow.fault_refuses_none, Disjoint.in_no_other}
-use Rattle.ixdtf_reading.proofs.{code.OneMoreReply.refused_split, theorems.OneOutcome.{same_outcome, no_row_fits}}
+use Rattle.ixdtf_reading.proofs.theorems.{OneOutcome.{same_outcome, no_row_fits}, Replies.refused_split}
 
 -- what holds besides where something is derived from the text
 pub record Accepted (reader : Reader) (text : Text) : Type 0 where

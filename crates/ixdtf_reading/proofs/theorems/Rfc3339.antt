@@ -11,7 +11,7 @@ use Rattle.ixdtf_grammar.proofs.parts.Texts.{signed_text, colon_minutes_text, co
 use Rattle.std.proofs.Common.{ℕ, IsTrue, [], ◌++◌, Some, None, pos, refl, sym, ◌∙◌, false, inl, inr, arith, append_assoc, append-nil}
 use Rattle.std.proofs.lemmas.Bool.Decides.{nat_tests}
 use Rattle.ixdtf_reading.specs.reading.{Dates.date_of, Times.time_of}
-use Rattle.ixdtf_reading.proofs.code.OneMoreReply.{NoneRefused-nothing}
+use Rattle.ixdtf_reading.proofs.theorems.Replies.{NoneRefused-nothing}
 
 full_date : (text : Text) → FullDate text → (date : DateRecord) × IsDate text date
 full_date text d = (

@@ -14,7 +14,7 @@ use Rattle.ixdtf_grammar.specs.table.LineNames.{DateLine.{year_start, after_date
 use Rattle.ixdtf_grammar.specs.table.{LineNames.{TimeLine.time_start, ClockLine.hour_start, OffsetLine.after_zulu}, Lines.{line_of, abrupt_digit, always}}
 use Rattle.ixdtf_grammar.specs.table.{Lines.{Line.line, Ending.ok}, Before.{BeforeDate, BeforeTime, BeforeOffset, DateAndSeparator, AtCoreEnd, ReadsAsTime}}
 use Rattle.ixdtf_grammar.specs.table.Rows.{Row, Place, Stops, Fits, Place.{end, other, bad}}
-use Rattle.ixdtf_grammar.proofs.parts.Texts.{date_and_time}
+use Rattle.ixdtf_grammar.proofs.parts.Texts.{date_and_time, signed_text}
 use Rattle.ixdtf_reading.specs.reading.{Looks.{Read, row_of, look_at, next_by}, Months.{year_month_at, month_day_at}}
 use Rattle.ixdtf_reading.specs.reading.{Times.{OpenTime, line_after, bad_after, hour_from, clock_at}, Cores.{ClosedCore, core_look, core_end_at, with_offset}}
 use Rattle.ixdtf_reading.specs.reading.Cores.{offset_core_at, after_time_at, time_core_at, after_date_at, date_time_core_at, date_alone_at, hour_look}
@@ -117,8 +117,7 @@ module _ {E : Type 0} (fault : Row → E) (kind : CoreKind) (text : Text) (is_co
         → CoreOrRow (core_end_at fault (line_after Clock.Offset o.0) (with_offset date x.1 (offset_of s (writes_seconds o.0) o.1)) left)
     after_offset_read s more next signs o left g =
         let offset : UtcOffsetRecord = offset_of s (writes_seconds o.0) o.1 in
-        let is_offset : IsOffset (Plain s ∷ g.0) offset =
-        record { c = s; body = g.0; shape = o.0; time = o.1; is = refl; sign = signs; clock = g.2; value = refl } in
+        let is_offset : IsOffset (Plain s ∷ g.0) offset = signed_text s g.0 o.0 o.1 refl signs g.2 in
         end_read (line_after Clock.Offset o.0) (with_offset date x.1 offset) (prior ++ (h.0 ++ (Plain s ∷ g.0))) left
         (is_text (Plain s ∷ g.0) left (next ∙ rw g.1))
         (has_core (Plain s ∷ g.0) (Some (Offset offset)) (inl (offset, is_offset, refl)))

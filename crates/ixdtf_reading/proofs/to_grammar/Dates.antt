@@ -3,6 +3,8 @@ use Rattle.std.proofs.Common.{◌≡◌, ℕ, ◌<◌, ◌≤◌, ◌⊎◌, Boo
 use Rattle.std.proofs.lemmas.Bool.{and_parts, and_from, both_ways, leb-true, le-leb, Decides.nat_tests}
 use Rattle.ixdtf_grammar.specs.{declared.records.DateRecord.DateRecord, language.{Letters.{Text, ◌or◌, digit, hyphen, Letter.Plain}, Shapes.{◌either◌, fewer_digits_than}}}
 use Rattle.ixdtf_grammar.specs.language.{Digits.{decimal, TwoDigits}, Dates.{Year, Month, DateText, IsDate, month_length}}
+use Rattle.std.proofs.Common.{Ok, Err, if◌then◌else◌}
+use Rattle.ixdtf_grammar.specs.language.Shapes.{one, ◌then◌}
 use Rattle.ixdtf_grammar.specs.table.{Faults.Fault.InvalidDayRange, LineNames.{LineName, of_date, DateLine.{after_year, month_digits, month_range}}}
 use Rattle.ixdtf_grammar.specs.table.LineNames.DateLine.{after_hyphened_month, after_basic_month, day_digits, day_range}
 use Rattle.ixdtf_grammar.specs.table.{Lines.{line_of, HyphenOrDigit, NoMonth, BasicDay, HyphenedDay}, Rows.Row}
@@ -11,6 +13,8 @@ use Rattle.ixdtf_reading.specs.reading.Dates.{date_of, month_in_range, month_by,
 use Rattle.ixdtf_reading.proofs.parts.Looks.{OnRead, FitsIn, StopsHere, fits_in, fits_whole_in, then_read, read_weaker, read_if, digits_read, one_as_digits}
 use Rattle.ixdtf_reading.proofs.parts.{Looks.{further, LooksFor}, Marks.{hyphens_of, Starts, Begun, Stood, optional, mark_read, hyphen_read, stops_after}}
 use Rattle.ixdtf_reading.proofs.{parts.Years.{in_year_or_month, year_read}, to_reading.Dates.no_month}
+use Rattle.ixdtf_reading.proofs.parts.Marks.{LooksForHyphen}
+use Rattle.ixdtf_reading.proofs.parts.Looks.{Looks}
 
 -- what reading a date gave
 abbrev pub DateFront : Text → DateRecord → Text → Type 0
@@ -38,33 +42,22 @@ is_date_text true ys ms ds date year month day = inr (record { years = ys; month
 begins_day : (b : Bool) (ys ms ds : Text) (y : ℤ) (m : ℕ) → Year ys y → Month ms m → Begun b ds → (BasicDay either HyphenedDay) (dated b ys ms ds)
 begins_day false ys ms ds y m year month h = inl (ys, _, refl, (y, year), (ms, ds, refl, (m, month), h))
 begins_day true ys ms ds y m year month h =
-    inr (
-      ys,
-      _,
-      refl,
-      (y, year),
-      (
-        Plain 45 ∷ [],
-        _,
-        refl,
-        (45, refl, refl),
-        (ms, _, refl, (m, month), (Plain 45 ∷ [], ds, refl, (45, refl, refl), fewer_than_two ds h)),
-      ),
-    )
+    let day : (one hyphen then fewer_digits_than 2) (Plain 45 ∷ ds) = (Plain 45 ∷ [], ds, refl, (45, refl, refl), fewer_than_two ds h) in
+    inr (ys, _, refl, (y, year), (Plain 45 ∷ [], _, refl, (45, refl, refl), (ms, _, refl, (m, month), day)))
+
+-- the row is that of two digits that are no month
+abbrev pub NoMonthRow : (Text → Row) → Text → Text → Row → Type 0
+NoMonthRow wanted ds left row = (row ≡ wanted left) × ((decimal ds ≡ 0) ⊎ (12 < decimal ds))
+
+pub month_range_read : {E : Type 0} (fault : Row → E) (wanted : Text → Row) (ds rest : Text)
+    → OnRead fault (if nat_le 1 (decimal ds) && nat_le (decimal ds) 12 then Ok (decimal ds, rest) else Err (fault (wanted rest)))
+    (λ m more. (more ≡ rest) × (m ≡ decimal ds) × (1 ≤ m) × (m ≤ 12)) (NoMonthRow wanted ds rest)
+month_range_read fault wanted ds rest = read_if fault (nat_le 1 (decimal ds) && nat_le (decimal ds) 12) _ _ _ _
+    (λ test. let both = and_parts (nat_le 1 (decimal ds)) (nat_le (decimal ds) 12) test in (refl, refl, leb-true _ _ both.0, leb-true _ _ both.1))
+    (λ test. (wanted rest, refl, (refl, grind (arith, nat_tests))))
 
 module _ {E : Type 0} (fault : Row → E) where
   -- ---- a year and a month
-
-  -- the row is that of two digits that are no month
-  abbrev NoMonthRow : Text → Text → Row → Type 0
-  NoMonthRow ds left row = (row ≡ no_month left) × ((decimal ds ≡ 0) ⊎ (12 < decimal ds))
-
-  in_month : (ds rest : Text) → OnRead fault (month_in_range fault (ds, rest)) (λ m more. (more ≡ rest) × (m ≡ decimal ds) × (1 ≤ m) × (m ≤ 12)) (NoMonthRow ds rest)
-  unfolding month_in_range
-  in_month ds rest = read_if fault (nat_le 1 (decimal ds) && nat_le (decimal ds) 12) _ _ _ _
-      (λ test. let both = and_parts (nat_le 1 (decimal ds)) (nat_le (decimal ds) 12) test in
-      (refl, refl, leb-true _ _ both.0, leb-true _ _ both.1))
-      (λ test. (no_month rest, refl, (refl, grind (arith, nat_tests))))
 
   -- what reading a month after a year gave
   abbrev MonthFront : Text → ℕ × Bool → Text → Type 0
@@ -79,10 +72,10 @@ module _ {E : Type 0} (fault : Row → E) where
   -- the year stops at this line
   module _ (name : LineName) (asks : LooksFor (hyphen or digit) (line_of true name)) where
     month_read : (text : Text) → OnRead fault (month_at fault name text) (MonthFront text) (λ row. StopsHere name text row ⊎ StopsInMonth text row)
-    unfolding month_by
+    unfolding month_by month_in_range
     month_read text = then_read fault (mark_at fault name hyphen text) _ _ _ _ _ (hyphen_read fault name text asks)
         (λ b rest h. then_read fault (digits_at fault (of_date month_digits) 2 rest) _ _ _ _ _ (digits_read fault (of_date month_digits) (λ c. refl) 2 rest)
-        (λ ds more g. then_read fault (month_in_range fault (ds, more)) _ _ _ _ _ (in_month ds more)
+        (λ ds more g. then_read fault (month_in_range fault (ds, more)) _ _ _ _ _ (month_range_read fault no_month ds more)
         (λ m left k. (ds, further text (hyphens_of b) rest ds left h.0 (g.0 ∙ rw k.0), ((g.1, k.1), k.2, k.3)))
         (λ r k. inr (b, ds, more, further text (hyphens_of b) rest ds more h.0 g.0, inr ((g.1, k.1), k.0))))
         (λ r g. let t = stops_after b (of_date month_digits) rest r (λ c. refl) h.1 g in
@@ -136,18 +129,17 @@ module _ {E : Type 0} (fault : Row → E) where
   separator_read : (b : Bool) (text : Text)
       → OnRead fault (mark_at fault (line_after_month b) hyphen text) (λ s rest. (text ≡ hyphens_of b ++ rest) × Starts b rest)
       (StopsHere (line_after_month b) text)
-  separator_read true text = read_weaker fault _ _ _ _ _
-      (mark_read fault (of_date after_hyphened_month) text tt) by_mark (λ row h. h)
+  separator_read b text = read_weaker fault _ _ _ _ _ (mark_read fault (line_after_month b) text (looks b)) (by_mark b) (λ row h. h)
     where
-      by_mark : (s : Bool) (rest : Text) → Stood fault (of_date after_hyphened_month) text s rest → (text ≡ hyphens_of true ++ rest) × Starts true rest
-      by_mark true rest h = (h.0, tt)
-      by_mark false rest h = absurd (both_ways _ h.5 h.4)
-  separator_read false text = read_weaker fault _ _ _ _ _
-      (mark_read fault (of_date after_basic_month) text tt) by_mark (λ row h. h)
-    where
-      by_mark : (s : Bool) (rest : Text) → Stood fault (of_date after_basic_month) text s rest → (text ≡ hyphens_of false ++ rest) × Starts false rest
-      by_mark true rest h = absurd cc
-      by_mark false rest h = (h.0, (h.1, h.2, h.3, h.4))
+      looks : (b : Bool) → Looks (line_of true (line_after_month b))
+      looks true = tt
+      looks false = tt
+
+      by_mark : (b s : Bool) (rest : Text) → Stood fault (line_after_month b) text s rest → (text ≡ hyphens_of b ++ rest) × Starts b rest
+      by_mark true true rest h = (h.0, tt)
+      by_mark true false rest h = absurd (both_ways _ h.5 h.4)
+      by_mark false true rest h = absurd cc
+      by_mark false false rest h = (h.0, (h.1, h.2, h.3, h.4))
 
   module _ (brackets : Bool) where
     -- what is known of reading a date, or a part of it

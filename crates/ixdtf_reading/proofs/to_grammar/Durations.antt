@@ -1,11 +1,11 @@
 -- What reading a duration returns is a duration, or the fault of a row that fits.
 use Rattle.std.proofs.Common.{◌≡◌, ℕ, ◌≤◌, ◌<◌, ◌||◌, Bool, true, false, IsTrue, IsFalse, List, [], ◌∷◌, ◌++◌, Result, Ok, Err, refl, inl, inr, arith}
-use Rattle.std.proofs.{Common.{append_assoc, append-nil, nat_le, if◌then◌else◌}, lemmas.Bool.{or_from, both_ways, leb-true, Decides.nat_tests}}
+use Rattle.std.proofs.{Common.{append_assoc, append-nil, nat_le, if◌then◌else◌}, lemmas.Bool.{or_from, both_ways, leb-true, leb-false}}
 use Rattle.ixdtf_grammar.specs.declared.{profile.Profile.Profile, records.{DurationParseRecord.DurationParseRecord, Sign.Sign}}
-use Rattle.ixdtf_grammar.specs.language.{Letters.{Text, digit, sign, decimal_mark, hour_letter, minute_letter, Letter.{Plain, Bad}}, Digits.decimal}
+use Rattle.ixdtf_grammar.specs.language.{Letters.{Text, digit, sign, decimal_mark, Letter.{Plain, Bad}}, Digits.decimal}
 use Rattle.ixdtf_grammar.specs.language.{Fractions.{SomeDigits, IsFraction, fraction_of}, Offsets.sign_of, Durations.{Half, Group, IntegerGroup}}
 use Rattle.ixdtf_grammar.specs.language.Durations.{FractionGroup, AtLeastOne, unit_of, designator, in_order, greatest, greatest_value, IsDuration}
-use Rattle.ixdtf_grammar.specs.language.Durations.{DurationUnit as units, SignedDesignator, Groups, TimePart, duration_of, Half.{date, time}}
+use Rattle.ixdtf_grammar.specs.language.Durations.{SignedDesignator, Groups, TimePart, duration_of, Half.{date, time}}
 use Rattle.ixdtf_grammar.specs.{language.Readers.Reader.parse_duration, table.{Faults.{Fault, Fault.NonAsciiCodePoint}, LineNames.LineName}}
 use Rattle.ixdtf_grammar.specs.table.{LineNames.LineName.of_duration, DurationFronts.{Context, half_of, groups_of, IsContext, AnyGroup, group_mark}}
 use Rattle.ixdtf_grammar.specs.table.{DurationFronts.Context.{in_dates, in_times}, Lines.{Line, duration_line, line_of, Line.line, Ending.{ok, error}}}
@@ -44,19 +44,10 @@ FitsAnywhere profile left front row =
 -- ---- code units and numbers
 
 or_other : (x y : Bool) → IsTrue (x || y) → IsFalse x → IsTrue y
-or_other true y h misses = absurd (both_ways _ misses refl)
-or_other false y h misses = h
-
-not_below : (n m : ℕ) → IsFalse (nat_le n m) → m < n
-not_below n m h = grind (arith, nat_tests, h)
+or_other x y h misses = grind (arith, h, misses)
 
 time_greatest : (c : ℕ) → greatest (unit_of time c) ≡ greatest_value
-time_greatest c = go (hour_letter c) (minute_letter c)
-  where
-    go : (h m : Bool) → greatest (if h then units.hours else (if m then units.minutes else units.seconds)) ≡ greatest_value
-    go true m = refl
-    go false true = refl
-    go false false = refl
+time_greatest c = grind arith
 
 any_integer : (half : Half) (text : Text) (g : Group) → IntegerGroup half text g → AnyGroup half text g
 any_integer date text g h = h
@@ -85,12 +76,6 @@ module _ {E : Type 0} (fault : Row → E) (profile : Profile) where
   added_after (in_times s dates times) prior last g b h order range =
       (b.0, b.1, b.2 ++ last, b.3, rw b.4 (simp append_assoc), b.5, b.6, b.7, (b.2, last, refl, b.8, h, order, range))
 
-  grow_kept : (left : Text) (context : Context) (prior ds : Text) (c : ℕ) (front : Text) → front ≡ prior ++ (ds ++ (Plain c ∷ [])) → IsContext profile prior context
-      → decimal ds ≤ greatest_value → SomeDigits (ds ++ (Plain c ∷ [])) → Kept left front (grow fault profile left context (ds ++ (Plain c ∷ [])))
-  grow_kept left context prior ds c front is b below all = state_if (nat_le (decimal (ds ++ (Plain c ∷ []))) greatest_value) _ _ _ _
-      (λ fits. (prior, is, b, (all, leb-true _ _ fits)))
-      (λ past. (_, refl, ((refl, refl), (context, prior, ds ++ (Plain c ∷ []), refl, is, b, (ds, c, refl, all, below, not_below _ _ past)), (refl, refl))))
-
   after_between : (context : Context) (c : ℕ) (front : Text) → IsContext profile front context
       → Goes (duration_line profile (line_of_state (between context))) c
       → IsFalse (digit c) → Here profile (to_times context) (front ++ (Plain c ∷ []))
@@ -100,56 +85,48 @@ module _ {E : Type 0} (fault : Row → E) (profile : Profile) where
   after_between (in_times s dates (h ∷ earlier)) c front b g misses = absurd (both_ways _ misses g)
 
   -- a number past the greatest of its unit is one of dates
-  unit_kept : (left : Text) (context : Context) (prior last : Text) (g : Group) (c : ℕ) (front : Text) → front ≡ prior ++ last → IsContext profile prior context
-      → IntegerGroup (half_of context) last g → g.unit ≡ unit_of (half_of context) c → g.value ≤ greatest_value
-      → IsTrue (in_order profile (groups_of context) g.unit)
-      → greatest g.unit < g.value → FitsAnywhere profile left front (unit_past profile left)
-  unit_kept left (in_dates s dates) prior last g c front is b h unit below order past =
-      ((refl, refl), (in_dates s dates, prior, last, refl, is, b, (g, h, order, past)), (refl, refl))
-  unit_kept left (in_times s dates times) prior last g c front is b h unit below order past =
+  unit_kept : (left : Text) (context : Context) (prior last : Text) (g : Group) (c : ℕ) → IsContext profile prior context → IntegerGroup (half_of context) last g
+      → g.unit ≡ unit_of (half_of context) c → g.value ≤ greatest_value → IsTrue (in_order profile (groups_of context) g.unit) → greatest g.unit < g.value
+      → FitsAnywhere profile left (prior ++ last) (unit_past profile left)
+  unit_kept left (in_dates s dates) prior last g c b h unit below order past =
+      ((refl, refl), (in_dates s dates, prior, last, refl, refl, b, (g, h, order, past)), (refl, refl))
+  unit_kept left (in_times s dates times) prior last g c b h unit below order past =
       let none : greatest_value < g.value = rw (unit, time_greatest c) at past in absurd (omega arith)
 
-  range_kept : (left : Text) (context : Context) (prior last : Text) (g : Group) (c : ℕ) (front : Text) → front ≡ prior ++ last → IsContext profile prior context
-      → IntegerGroup (half_of context) last g → g.unit ≡ unit_of (half_of context) c → g.value ≤ greatest_value
-      → IsTrue (in_order profile (groups_of context) g.unit)
-      → Kept left front (add_in_range fault profile left context g)
-  range_kept left context prior last g c front is b h unit below order = state_if (nat_le g.value (greatest g.unit)) _ _ _ _
-      (λ range. rw is (added_after context prior last g b h order (leb-true _ _ range)))
-      (λ past. ((unit_past profile left), refl, unit_kept left context prior last g c front is b h unit below order (not_below _ _ past)))
+  to_mark : (context : Context) (prior ds : Text) (c : ℕ) → IsContext profile prior context → InRange ds → IsTrue (group_mark (half_of context) c)
+      → Here profile (to_fraction context ds) (prior ++ (ds ++ (Plain c ∷ [])))
+  to_mark (in_dates s dates) prior ds c b in_range mark = absurd (both_ways _ refl mark)
+  to_mark (in_times s dates times) prior ds c b in_range mark = (prior, c, refl, b, in_range, mark)
 
-  order_kept : (left : Text) (context : Context) (prior last : Text) (g : Group) (next : Result State E) (front : Text) → front ≡ prior ++ last
-      → IsContext profile prior context
-      → AnyGroup (half_of context) last g → (IsTrue (in_order profile (groups_of context) g.unit) → Kept left front next)
-      → Kept left front (in_its_order fault profile left context g next)
-  order_kept left context prior last g next front is b h go = state_if (in_order profile (groups_of context) g.unit) _ _ _ _
-      go
-      (λ order. (_, refl, ((refl, refl), (context, prior, last, refl, is, b, (g, h, order)), (refl, refl))))
+  module _ (left : Text) (context : Context) (prior : Text) (b : IsContext profile prior context) where
+    grow_kept : (ds : Text) (c : ℕ) → decimal ds ≤ greatest_value → SomeDigits (ds ++ (Plain c ∷ []))
+        → Kept left (prior ++ (ds ++ (Plain c ∷ []))) (grow fault profile left context (ds ++ (Plain c ∷ [])))
+    grow_kept ds c below all = state_if (nat_le (decimal (ds ++ (Plain c ∷ []))) greatest_value) _ _ _ _
+        (λ fits. (prior, refl, b, (all, leb-true _ _ fits)))
+        (λ past. (_, refl, ((refl, refl), (context, prior, ds ++ (Plain c ∷ []), refl, refl, b, (ds, c, refl, all, below, leb-false _ _ past)), (refl, refl))))
 
-  to_mark : (context : Context) (prior ds : Text) (c : ℕ) (front : Text) → front ≡ prior ++ (ds ++ (Plain c ∷ [])) → IsContext profile prior context
-      → InRange ds
-      → IsTrue (group_mark (half_of context) c) → Here profile (to_fraction context ds) front
-  to_mark (in_dates s dates) prior ds c front is b in_range mark = absurd (both_ways _ refl mark)
-  to_mark (in_times s dates times) prior ds c front is b in_range mark = (prior, c, is, b, in_range, mark)
+    range_kept : (last : Text) (g : Group) (c : ℕ) → IntegerGroup (half_of context) last g → g.unit ≡ unit_of (half_of context) c → g.value ≤ greatest_value
+        → IsTrue (in_order profile (groups_of context) g.unit) → Kept left (prior ++ last) (add_in_range fault profile left context g)
+    range_kept last g c h unit below order = state_if (nat_le g.value (greatest g.unit)) _ _ _ _
+        (λ range. added_after context prior last g b h order (leb-true _ _ range))
+        (λ past. (unit_past profile left, refl, unit_kept left context prior last g c b h unit below order (leb-false _ _ past)))
 
-  -- the letter of a unit behind the digits of a group
-  group_kept : (left : Text) (context : Context) (prior ds : Text) (c : ℕ) (front : Text) → front ≡ prior ++ (ds ++ (Plain c ∷ [])) → IsContext profile prior context
-      → InRange ds
-      → IsTrue (designator (half_of context) c)
-      → Kept left front (in_its_order fault profile left context (integer_group (half_of context) ds c)
-      (add_in_range fault profile left context (integer_group (half_of context) ds c)))
-  group_kept left context prior ds c front is b in_range d =
-      let g = integer_group (half_of context) ds c in
-      let integer : IntegerGroup (half_of context) (ds ++ (Plain c ∷ [])) (integer_group (half_of context) ds c) = record {
-        ds = ds;
-        c = c;
-        is = refl;
-        number = (in_range.0, refl, in_range.1);
-        ends = d;
-        unit = refl;
-        fraction = refl;
-      } in
-      order_kept left context prior (ds ++ (Plain c ∷ [])) g _ front is b (any_integer (half_of context) _ _ integer)
-      (range_kept left context prior (ds ++ (Plain c ∷ [])) g c front is b integer refl in_range.1)
+    order_kept : (last : Text) (g : Group) (next : Result State E) → AnyGroup (half_of context) last g
+        → (IsTrue (in_order profile (groups_of context) g.unit) → Kept left (prior ++ last) next)
+        → Kept left (prior ++ last) (in_its_order fault profile left context g next)
+    order_kept last g next h go = state_if (in_order profile (groups_of context) g.unit) _ _ _ _
+        go
+        (λ order. (_, refl, ((refl, refl), (context, prior, last, refl, refl, b, (g, h, order)), (refl, refl))))
+
+    -- the letter of a unit behind the digits of a group
+    group_kept : (ds : Text) (c : ℕ) → InRange ds → IsTrue (designator (half_of context) c)
+        → Kept left (prior ++ (ds ++ (Plain c ∷ []))) (in_its_order fault profile left context (integer_group (half_of context) ds c)
+        (add_in_range fault profile left context (integer_group (half_of context) ds c)))
+    group_kept ds c in_range d =
+        let g = integer_group (half_of context) ds c in
+        let integer : IntegerGroup (half_of context) (ds ++ (Plain c ∷ [])) (integer_group (half_of context) ds c) =
+        record { ds = ds; c = c; is = refl; number = (in_range.0, refl, in_range.1); ends = d; unit = refl; fraction = refl } in
+        order_kept (ds ++ (Plain c ∷ [])) g _ (any_integer (half_of context) _ _ integer) (range_kept (ds ++ (Plain c ∷ [])) g c integer refl in_range.1)
 
   kept : (left : Text) (s : State) (c : ℕ) (front : Text) → Here profile s front → Goes (duration_line profile (line_of_state s)) c
       → Kept left (front ++ (Plain c ∷ [])) (step fault profile left s c)
@@ -159,20 +136,20 @@ module _ {E : Type 0} (fault : Row → E) (profile : Profile) where
       (λ misses. (Plain c ∷ [], [], rw h, inl ((c, refl, or_other _ _ g misses), refl), refl))
   kept left (signed s) c front h g = (Plain h.0 ∷ (Plain c ∷ []), [], rw h.1, inr (h.0, Plain c ∷ [], refl, h.2, (c, refl, g), h.3), refl)
   kept left (between context) c front h g = state_if (digit c) _ _ _ _
-      (λ d. grow_kept left context front [] c (front ++ (Plain c ∷ [])) refl h (omega arith) (one_digit c d))
+      (λ d. grow_kept left context front h [] c (omega arith) (one_digit c d))
       (after_between context c front h g)
   kept left (in_number context ds) c front h g =
       let is : front ++ (Plain c ∷ []) ≡ h.0 ++ (ds ++ (Plain c ∷ [])) = rw h.1 (simp append_assoc) in
-      state_if (digit c) _ _ _ _
-      (λ d. grow_kept left context h.0 ds c _ is h.2 h.3.1 (digits_longer ds c h.3.0 d))
+      rw is (state_if (digit c) _ _ _ _
+      (λ d. grow_kept left context h.0 h.2 ds c h.3.1 (digits_longer ds c h.3.0 d))
       (λ no_digit. state_if (designator (half_of context) c) _ _ _ _
-      (group_kept left context h.0 ds c _ is h.2 h.3)
-      (λ no_designator. to_mark context h.0 ds c _ is h.2 h.3 (or_other _ _ g (or_from _ _ no_digit no_designator))))
+      (group_kept left context h.0 h.2 ds c h.3)
+      (λ no_designator. to_mark context h.0 ds c h.2 h.3 (or_other _ _ g (or_from _ _ no_digit no_designator)))))
   kept left (at_mark s dates times ds) c front h g = (h.0, h.1, rw h.2 (simp append_assoc), h.3, h.4, h.5, one_digit c g)
   kept left (in_fraction s dates times ds fs) c front h g =
       let is : front ++ (Plain c ∷ []) ≡ h.0 ++ (ds ++ ((Plain h.1 ∷ fs) ++ (Plain c ∷ []))) = rw h.2 (simp append_assoc) in
-      state_if (digit c) _ _ _ _
-      (λ d. (h.0, h.1, is, h.3, h.4, h.5, digits_longer fs c h.6 d))
+      rw is (state_if (digit c) _ _ _ _
+      (λ d. (h.0, h.1, refl, h.3, h.4, h.5, digits_longer fs c h.6 d))
       (λ misses. let part : IsFraction (Plain h.1 ∷ fs) (fraction_of fs) = record { mark = h.1; ds = fs; is = refl; marks = h.5; some = h.6; value = refl } in
       let last : FractionGroup (ds ++ ((Plain h.1 ∷ fs) ++ (Plain c ∷ []))) (fraction_group ds fs c) = record {
         ds = ds;
@@ -186,8 +163,7 @@ module _ {E : Type 0} (fault : Row → E) (profile : Profile) where
         unit = refl;
         fraction = refl;
       } in
-      order_kept left (in_times s dates times) h.0 _ (fraction_group ds fs c) _ _ is h.3 (inr last)
-      (λ order. (h.0, _, is, h.3, last, order)))
+      order_kept left (in_times s dates times) h.0 h.3 _ (fraction_group ds fs c) _ (inr last) (λ order. (h.0, _, refl, h.3, last, order))))
   kept left (ended s dates times g) c front h goes = absurd (both_ways _ refl goes)
 
 -- ---- a state shows the front of its line, and a duration where the text may end
@@ -254,14 +230,12 @@ is_duration profile s front h ends = absurd ends
 
 -- ---- what reading returns
 
-bad_stops : (l : Line) (rest : Text) → Asks l → Stops l (bad (Bad ∷ rest)) NonAsciiCodePoint (Bad ∷ rest)
-bad_stops (line front goes_on ends at_other) rest asks = (rest, refl, refl, refl)
-bad_stops l rest asks = absurd asks
-
 module _ {E : Type 0} (fault : Row → E) (profile : Profile) where
-  bad_row : (name : LineName) (l : Line) (text : Text) → Asks l → (look_of fault name l).at_bad text ≡ fault (row_of name (bad text) NonAsciiCodePoint)
-  bad_row name (line front goes_on ends at_other) text asks = refl
-  bad_row name l text asks = absurd asks
+  bad_read : (name : LineName) (l : Line) (rest : Text) (stopped : Row → Type 0) → Asks l
+      → (Stops l (bad (Bad ∷ rest)) NonAsciiCodePoint (Bad ∷ rest) → stopped (row_of name (bad (Bad ∷ rest)) NonAsciiCodePoint))
+      → IsRowFault fault ((look_of fault name l).at_bad (Bad ∷ rest)) stopped
+  bad_read name (line front goes_on ends at_other) rest stopped asks at = (row_of name (bad (Bad ∷ rest)) NonAsciiCodePoint, refl, at (rest, refl, refl, refl))
+  bad_read name l rest stopped asks at = absurd asks
 
   end_read : (name : LineName) (l : Line) (d : DurationParseRecord) (found : DurationParseRecord → Type 0) (stopped : Row → Type 0) → Asks l
       → (MayEnd l → found d) → ((e : Fault) → Stops l (end []) e [] → stopped (row_of name (end []) e))
@@ -295,17 +269,9 @@ module _ {E : Type 0} (fault : Row → E) (profile : Profile) where
       end_read (of_duration profile (line_of_state s)) (duration_line profile (line_of_state s)) (finished s) _ _ (state_asks profile s)
       (λ ends. rw (is, append-nil) (is_duration profile s front h ends))
       (λ e at. ([], text, refl, ((refl, refl), refl), (front, [], is, shown profile s front h, at)))
-  run_read s front (Bad ∷ rest) text h is = (
-    row_of (of_duration profile (line_of_state s)) (bad (Bad ∷ rest)) NonAsciiCodePoint,
-    bad_row (of_duration profile (line_of_state s)) (duration_line profile (line_of_state s)) (Bad ∷ rest) (state_asks profile s),
-    (
-      [],
-      text,
-      refl,
-      ((refl, refl), refl),
-      (front, Bad ∷ rest, is, shown profile s front h, bad_stops (duration_line profile (line_of_state s)) rest (state_asks profile s)),
-    ),
-  )
+  run_read s front (Bad ∷ rest) text h is =
+      bad_read (of_duration profile (line_of_state s)) (duration_line profile (line_of_state s)) rest _ (state_asks profile s)
+      (λ at. ([], text, refl, ((refl, refl), refl), (front, Bad ∷ rest, is, shown profile s front h, at)))
   run_read s front (Plain c ∷ rest) text h is =
       letter_read (of_duration profile (line_of_state s)) (duration_line profile (line_of_state s)) c rest _ _ _ (state_asks profile s)
       (λ g. then_state (step fault profile rest s c) _ _ _ _ _ (kept fault profile rest s c front h g)

@@ -1,24 +1,22 @@
 -- What reading a first bracket returns is a zone bracket or a pair, or a row that fits.
 use Rattle.std.proofs.Common.{◌≡◌, ℕ, Bool, true, false, IsTrue, IsFalse, List, Result, Ok, Err, [], ◌∷◌, ◌++◌, drop, refl, sym, ap, ◌∙◌, subst, inl, inr}
 use Rattle.std.proofs.{Common.{arith, append_assoc, if◌then◌else◌}, lemmas.Bool.{eqb-true, Decides.nat_tests}}
-use Rattle.ixdtf_grammar.specs.language.Times.Clock.{MinuteOffset}
-use Rattle.ixdtf_grammar.specs.language.Letters.{Text, Class, ◌or◌, sign, opening, closing, exclamation, slash, zone_lead, zone_char, key_lead}
-use Rattle.ixdtf_grammar.specs.language.{Letters.Letter.{Plain, Bad}, Shapes.{nothing, one, ◌then◌, some}, Offsets.minutes_of}
+use Rattle.ixdtf_grammar.specs.language.{Times.Clock.MinuteOffset, Letters.{Text, ◌or◌, sign, closing, exclamation, slash, zone_lead, zone_char, key_lead}}
+use Rattle.ixdtf_grammar.specs.language.{Letters.Letter.{Plain, Bad}, Shapes.{one, ◌then◌, some}, Offsets.minutes_of}
 use Rattle.ixdtf_grammar.specs.language.{ZoneNames.{Zone, IsZone, IsZoneName}, Brackets.{Opens, IsZoneBracket, ReadsAsName, Pair, IsPair, ReadsAsPair}}
-use Rattle.ixdtf_grammar.specs.table.{Faults.{Fault, Fault.{TzLeadingChar, AnnotationClose, IanaChar}}, LineNames.{ZoneLine, BracketLine, PairLine, LineName}}
-use Rattle.ixdtf_grammar.specs.table.LineNames.LineName.{of_clock, of_zone, of_bracket, of_pair}
-use Rattle.ixdtf_grammar.specs.table.LineNames.ZoneLine.{identifier_start, zone_name_start, in_zone_name, after_zone_slash}
+use Rattle.ixdtf_grammar.specs.table.{Faults.Fault.{AnnotationClose, IanaChar}, LineNames.{BracketLine, PairLine, LineName}}
+use Rattle.ixdtf_grammar.specs.table.LineNames.{LineName.{of_clock, of_zone, of_bracket, of_pair}, ZoneLine.{in_zone_name, after_zone_slash}}
 use Rattle.ixdtf_grammar.specs.table.LineNames.BracketLine.{first_bracket_start, first_critical_start, first_bracket_scan}
 use Rattle.ixdtf_grammar.specs.table.LineNames.PairLine.{key_start, critical_key_start, in_key, value_start, in_value, after_value_hyphen}
-use Rattle.ixdtf_grammar.specs.table.Lines.{Ending, line_of, always, abrupt_zone, zone_letters, zone_line, Line.line, Ending.error}
-use Rattle.ixdtf_grammar.specs.table.Rows.{Row, Place, Stops, FitsHere, front_of, Place.{end, other, bad, anywhere}}
-use Rattle.ixdtf_reading.specs.reading.{Looks.{Read, ◌>>=◌, row_of, letter_at, look_at, next_by}, Times.clock_at, Pairs.pair_at}
+use Rattle.ixdtf_grammar.specs.table.{Lines.{line_of, zone_letters}, Rows.{Row, Stops, FitsHere, front_of, Place.{end, other}}}
+use Rattle.ixdtf_reading.specs.reading.{Looks.{Read, ◌>>=◌, row_of, letter_at, look_at, next_by}, Times.clock_at, Pairs.pair_at, Zones.name_line}
 use Rattle.ixdtf_reading.specs.reading.{Zones.{follow_look, name_look, name_run, as_zone}, Brackets.{Bracket, zoned, paired, sight_at, name_in_bracket_at}}
 use Rattle.ixdtf_reading.specs.reading.Brackets.{name_or_pair_at, offset_in_bracket_at, noted, as_pair, inside_at, critical_bracket_at, bracket_at}
-use Rattle.ixdtf_reading.proofs.parts.Looks.{OnRead, FitsIn, then_read, read_if, read_letter}
+use Rattle.ixdtf_reading.proofs.{parts.Looks.{OnRead, FitsIn, then_read, read_if, read_letter}, to_grammar.Pair.critical_start}
 use Rattle.ixdtf_reading.proofs.{parts.LookAhead.{OnSight, over_letter, sight_read, key_lead_skipped}, to_grammar.Times.{clock_read, clock_next_read}}
 use Rattle.ixdtf_reading.proofs.to_grammar.{ZoneNames.{NameFront, name_read, name_stops_here}, Pair.{PairFront, FitsInPair, pair_read, opened_pair}}
 use Rattle.ixdtf_reading.proofs.to_reading.Pair.{InPair}
+use Rattle.ixdtf_grammar.proofs.parts.Texts.{signed_text}
 
 -- what stands between a core and the front of a line of a first bracket, and what the text has from the front on
 abbrev pub InBracket : LineName → Text → Text → Type 0
@@ -57,50 +55,23 @@ ZoneFront text zone rest = (inside : Text) × (text ≡ inside ++ (Plain 93 ∷ 
 
 -- ---- rows
 
--- no row of a line with nothing before it fits where a code unit goes on
-goes_here : (goes_on : Class) (at_end : Ending) (at_other : ℕ → Fault) (c : ℕ) (more : Text) → IsTrue (goes_on c) → (place : Place) (e : Fault)
-    → Stops (line nothing goes_on at_end at_other) place e (Plain c ∷ more) → ⊥
-goes_here goes_on at_end at_other c more goes (end left) e at = absurd (grind (arith, at.0))
-goes_here goes_on at_end at_other c more goes (other left) e at = absurd cc
-goes_here goes_on at_end at_other c more goes (bad left) e at = absurd (grind (arith, at.1))
-goes_here goes_on at_end at_other c more goes (anywhere left) e at = at
-
--- where a name begins, no row of the lines before it fits
-inside_name : (l : ZoneLine) (place : Place) (e : Fault) (c : ℕ) (more front rest : Text) → IsTrue (zone_lead c) → Plain c ∷ more ≡ front ++ rest
-    → front_of (line_of true (of_zone l)) front → Stops (line_of true (of_zone l)) place e rest → (start text : Text) → some Opens start → ReadsAsName text
-    → InBracket (of_zone l) start text
-inside_name identifier_start place e c more front rest lead is f at start text opens reads =
-    absurd (goes_here (zone_lead or sign) (error abrupt_zone) (always TzLeadingChar) c more (grind (arith, lead, nat_tests)) place e
-    (subst (Stops (zone_line true identifier_start) place e) (sym (is ∙ ap (λ t. t ++ rest) f)) at))
-inside_name zone_name_start place e c more front rest lead is f at start text opens reads =
-    absurd (goes_here zone_lead (error TzLeadingChar) (always TzLeadingChar) c more lead place e
-    (subst (Stops (zone_line true zone_name_start) place e) (sym (is ∙ ap (λ t. t ++ rest) f)) at))
-inside_name l place e c more front rest lead is f at start text opens reads = (opens, reads)
-
 -- a row of a name fits in a bracket
-of_name : (row : Row) (c : ℕ) (text more : Text) → text ≡ Plain c ∷ more → IsTrue (zone_lead c) → ReadsAsName text → FitsIn of_zone true row text
-    → FitsInside text row
-of_name row c text more is lead reads h start opens =
-    (start, text, refl, subst (λ n. InBracket n start text) (sym h.1) (at_line (rw h.1 at h.2)), h.2)
+of_name : (row : Row) (text : Text) → ReadsAsName text → FitsIn name_line true row text → FitsInside text row
+of_name row text reads h start opens = (start, text, refl, rw h.1 (at h.0), h.2)
   where
-    at_line : ((front rest : Text) × (text ≡ front ++ rest) × front_of (line_of true (of_zone h.0)) front
-        × Stops (line_of true (of_zone h.0)) row.place row.error rest) → InBracket (of_zone h.0) start text
-    at_line g = inside_name h.0 row.place row.error c more g.0 g.1 lead (sym is ∙ g.2) g.3 g.4 start text opens reads
+    at : (may_end : Bool) → InBracket (name_line may_end) start text
+    at true = (opens, reads)
+    at false = (opens, reads)
 
 -- a row of an offset fits in a bracket
 of_minutes : (row : Row) (c : ℕ) (text more : Text) → text ≡ Plain c ∷ more → IsTrue (sign c) → FitsIn (of_clock MinuteOffset) true row more
     → FitsInside text row
-of_minutes row c text more is signs h start opens = (
-  start ++ (Plain c ∷ []),
-  more,
-  rw is (simp append_assoc),
-  subst (λ n. InBracket n (start ++ (Plain c ∷ [])) more) (sym h.1) (start, Plain c ∷ [], refl, opens, (c, refl, signs)),
-  h.2,
-)
+of_minutes row c text more is signs h start opens =
+    (start ++ (Plain c ∷ []), more, rw is (simp append_assoc), rw h.1 (start, Plain c ∷ [], refl, opens, (c, refl, signs)), h.2)
 
 -- a row of a pair fits in a bracket
 of_pairs : (row : Row) (text : Text) → ReadsAsPair text → FitsInPair text row → FitsInside text row
-of_pairs row text reads h start opens = (start, text, refl, subst (λ n. InBracket n start text) (sym h.2) (by_line h.0 h.1), h.3)
+of_pairs row text reads h start opens = (start, text, refl, rw h.2 (by_line h.0 h.1), h.3)
   where
     by_line : (l : PairLine) → InPair l → InBracket (of_pair l) start text
     by_line key_start within = absurd within
@@ -112,7 +83,7 @@ module _ {E : Type 0} (fault : Row → E) where
 
   -- a name's code units were read
   after_name_read : (text : Text) (name : List ℕ) (rest : Text) → NameFront text name rest
-      → OnRead fault (next_by (name_look fault true closing) rest) (λ d left. rest ≡ Plain 93 ∷ left) (λ row. FitsIn of_zone true row text)
+      → OnRead fault (next_by (name_look fault true closing) rest) (λ d left. rest ≡ Plain 93 ∷ left) (λ row. FitsIn name_line true row text)
   unfolding next_by look_at
   after_name_read text name [] h =
       (row_of (of_zone in_zone_name) (end []) AnnotationClose, refl, name_stops_here fault true (end []) AnnotationClose text h.0 [] h.1 h.2 (refl, refl, refl))
@@ -135,8 +106,8 @@ module _ {E : Type 0} (fault : Row → E) where
   name_in_bracket_read c text more is lead reads = then_read fault (name_run fault true text) _ _ _ _ _ (name_read fault true c text more is lead)
       (λ name rest h. then_read fault (next_by (name_look fault true closing) rest) _ _ _ _ _ (after_name_read text name rest h)
       (λ d left g. (h.0, h.1 ∙ ap (λ t. h.0 ++ t) g, (h.2, h.3)))
-      (λ r f. of_name r c text more is lead reads f))
-      (λ r f. of_name r c text more is lead reads f)
+      (λ r f. of_name r text reads f))
+      (λ r f. of_name r text reads f)
 
   as_zone_read : (text : Text) (r : Read E (List ℕ)) → OnRead fault r (NameClosed text) (FitsInside text)
       → OnRead fault (as_zone r) (ZoneFront text) (FitsInside text)
@@ -155,7 +126,7 @@ module _ {E : Type 0} (fault : Row → E) where
       (λ d left g. (
         Plain c ∷ h.0,
         is ∙ ap (λ t. Plain c ∷ t) (h.1 ∙ ap (λ t. h.0 ++ t) (g.0 ∙ ap (λ n. Plain n ∷ left) (eqb-true d 93 g.1))),
-        inr (minutes_of c x.1, record { c = c; body = h.0; shape = x.0; time = x.1; is = refl; sign = signs; clock = h.2; value = refl }, refl),
+        inr (minutes_of c x.1, signed_text c h.0 x.0 x.1 refl signs h.2, refl),
       ))
       (λ r f. of_minutes r c text more is signs f))
       (λ r f. of_minutes r c text more is signs f)
@@ -217,33 +188,24 @@ module _ {E : Type 0} (fault : Row → E) where
   -- a row of a line with nothing before it
   at_start : (l : BracketLine) (row : Row) (body front rest : Text) → row.name ≡ of_bracket l → InBracket (of_bracket l) [] body → body ≡ front ++ rest
       → front_of (line_of true (of_bracket l)) front → Stops (line_of true (of_bracket l)) row.place row.error rest → FitsAfterCore row body
-  at_start l row body front rest name inside is shape at =
-      subst (λ n. (prior last : Text) × (body ≡ prior ++ last) × InBracket n prior last ×
-      ((f x : Text) × (last ≡ f ++ x) × front_of (line_of true n) f × Stops (line_of true n) row.place row.error x)) (sym name)
-      ([], body, refl, inside, (front, rest, is, shape, at))
+  at_start l row body front rest name inside is shape at = ([], body, refl, rw name inside, rw name (front, rest, is, shape, at))
 
   -- after `[` and `!`
   critical_read : (text : Text) → BracketRead (Plain 91 ∷ (Plain 33 ∷ text)) (critical_bracket_at fault text)
   unfolding critical_bracket_at
   critical_read text =
       then_read fault (letter_at fault (of_bracket first_critical_start) text) _ _ _ _ _ (read_letter fault (of_bracket first_critical_start) text tt)
-      (λ c rest h. inside_read (Plain 91 ∷ (Plain 33 ∷ [])) true starts c text rest h.0 h.1)
-      (λ r h. at_start first_critical_start r (Plain 91 ∷ (Plain 33 ∷ text)) (Plain 91 ∷ (Plain 33 ∷ [])) text h.0 refl refl starts h.1)
-    where
-      starts : (one opening then one exclamation) (Plain 91 ∷ (Plain 33 ∷ []))
-      starts = (Plain 91 ∷ [], Plain 33 ∷ [], refl, (91, refl, refl), (33, refl, refl))
-
-  from_opening : (text : Text) → BracketRead (Plain 91 ∷ text) (bracket_at fault text)
-  unfolding bracket_at
-  from_opening text =
-      then_read fault (letter_at fault (of_bracket first_bracket_start) text) _ _ _ _ _ (read_letter fault (of_bracket first_bracket_start) text tt)
-      (λ c rest h. read_if fault (exclamation c) _ _ _ _
-      (λ critical. subst (λ t. BracketRead (Plain 91 ∷ t) (critical_bracket_at fault rest))
-      (sym (h.0 ∙ ap (λ n. Plain n ∷ rest) (eqb-true c 33 critical))) (critical_read rest))
-      (λ no_mark. inside_read (Plain 91 ∷ []) false (91, refl, refl) c text rest h.0 (grind (arith, h.1, no_mark, nat_tests))))
-      (λ r h. at_start first_bracket_start r (Plain 91 ∷ text) (Plain 91 ∷ []) text h.0 refl refl (91, refl, refl) h.1)
+      (λ c rest h. inside_read (Plain 91 ∷ (Plain 33 ∷ [])) true critical_start c text rest h.0 h.1)
+      (λ r h. at_start first_critical_start r (Plain 91 ∷ (Plain 33 ∷ text)) (Plain 91 ∷ (Plain 33 ∷ [])) text h.0 refl refl critical_start h.1)
 
   -- after `[`
   pub bracket_read : (body text : Text) → body ≡ Plain 91 ∷ text
       → OnRead fault (bracket_at fault text) (λ bracket rest. (front : Text) × (body ≡ front ++ rest) × IsBracket front bracket) (λ row. FitsAfterCore row body)
-  bracket_read body text is = rw is (from_opening text)
+  unfolding bracket_at
+  bracket_read body text is =
+      rw is (then_read fault (letter_at fault (of_bracket first_bracket_start) text) _ _ _ _ _ (read_letter fault (of_bracket first_bracket_start) text tt)
+      (λ c rest h. read_if fault (exclamation c) _ _ _ _
+      (λ critical. subst (λ t. BracketRead (Plain 91 ∷ t) (critical_bracket_at fault rest))
+      (sym (h.0 ∙ ap (λ n. Plain n ∷ rest) (eqb-true c 33 critical))) (critical_read rest))
+      (λ no_mark. inside_read (Plain 91 ∷ []) false (91, refl, refl) c text rest h.0 (grind (arith, h.1, no_mark, nat_tests))))
+      (λ r h. at_start first_bracket_start r (Plain 91 ∷ text) (Plain 91 ∷ []) text h.0 refl refl (91, refl, refl) h.1))

@@ -1,6 +1,6 @@
 -- What reading a year-month or a month-day returns is one, or is a row that fits.
-use Rattle.std.proofs.Common.{◌≡◌, ℕ, ◌<◌, ◌≤◌, ◌⊎◌, Bool, true, false, [], ◌∷◌, ◌++◌, Ok, refl, ◌∙◌, inl, inr, arith, append_assoc, pos, nat_le, ◌&&◌}
-use Rattle.std.proofs.{Common.if◌then◌else◌, lemmas.Bool.{and_parts, and_from, both_ways, leb-true, le-leb, Decides.nat_tests}}
+use Rattle.std.proofs.Common.{◌≡◌, ℕ, Bool, true, false, [], ◌∷◌, ◌++◌, Ok, refl, ◌∙◌, inl, inr, append_assoc, pos, nat_le, ◌&&◌}
+use Rattle.std.proofs.{Common.if◌then◌else◌, lemmas.Bool.{and_parts, and_from, both_ways, leb-true, le-leb}}
 use Rattle.ixdtf_grammar.specs.{declared.{profile.Profile.Profile, records.DateRecord.DateRecord}, language.Letters.{Text, digit, hyphen, Letter.Plain}}
 use Rattle.ixdtf_grammar.specs.language.{Shapes.{one, ◌then◌, ◌either◌, digits}, Digits.{decimal, TwoDigits}, Dates.Month}
 use Rattle.ixdtf_grammar.specs.language.Months.{Marks, OptionalHyphen, IsYearMonth, MonthDayText, IsMonthDay, greatest_day, least_day}
@@ -14,7 +14,7 @@ use Rattle.ixdtf_reading.specs.reading.{Looks.{Read, digits_at, mark_at}, Dates.
 use Rattle.ixdtf_reading.specs.reading.Months.{year_month_at, marks_at, lone_month_in_range, lone_day_in_range, lone_day_at, month_day_at}
 use Rattle.ixdtf_reading.proofs.parts.Looks.{OnRead, FitsIn, fits_in, fits_whole_in, lift, then_read, read_weaker, read_if, digits_read, further}
 use Rattle.ixdtf_reading.proofs.parts.{Marks.{hyphens_of, Starts, Begun, Stood, optional, mark_read, hyphen_read, stops_after}, Years.in_year_or_month}
-use Rattle.ixdtf_reading.proofs.{to_reading.Months.{no_lone_month, marks_of}, to_grammar.Dates.from_year_read}
+use Rattle.ixdtf_reading.proofs.{to_reading.Months.{no_lone_month, marks_of}, to_grammar.Dates.{from_year_read, NoMonthRow, month_range_read}}
 
 -- a front of the text is of the kind, and the rest stands after it
 abbrev pub FrontIs : (Text → DateRecord → Type 0) → Text → DateRecord → Text → Type 0
@@ -61,18 +61,6 @@ module _ {E : Type 0} (fault : Row → E) (profile : Profile) where
   -- what is known of reading a month-day, or a part of it
   abbrev MonthDayOrRow : Text → Read E DateRecord → Type 0
   MonthDayOrRow text r = OnRead fault r (FrontIs (IsMonthDay profile) text) (λ row. FitsIn line_under true row text)
-
-  -- the row is that of two digits that are no month
-  abbrev NoMonthRow : Text → Text → Row → Type 0
-  NoMonthRow ds left row = (row ≡ no_lone_month left) × ((decimal ds ≡ 0) ⊎ (12 < decimal ds))
-
-  in_month : (ds rest : Text) → OnRead fault (lone_month_in_range fault (ds, rest)) (λ m more. (more ≡ rest) × (m ≡ decimal ds) × (1 ≤ m) × (m ≤ 12))
-      (NoMonthRow ds rest)
-  unfolding lone_month_in_range
-  in_month ds rest = read_if fault (nat_le 1 (decimal ds) && nat_le (decimal ds) 12) _ _ _ _
-      (λ test. let both = and_parts (nat_le 1 (decimal ds)) (nat_le (decimal ds) 12) test in
-      (refl, refl, leb-true _ _ both.0, leb-true _ _ both.1))
-      (λ test. (no_lone_month rest, refl, (refl, grind (arith, nat_tests))))
 
   module _ (text : Text) where
     marks_read : OnRead fault (marks_at fault text) (λ b rest. (text ≡ marks_of b ++ rest) × Starts b rest) (λ row. FitsIn line_under true row text)
@@ -141,7 +129,7 @@ module _ {E : Type 0} (fault : Row → E) (profile : Profile) where
           (λ r h. fits_in line_under true (after_month_day_month, refl) r text (marks_of b ++ ms) rest h.0 is (marks_of b, ms, refl, some_marks b, (m, month))
           h.1)
 
-    month_row : (b : Bool) (ds rest : Text) (row : Row) → text ≡ (marks_of b ++ ds) ++ rest → digits 2 ds → NoMonthRow ds rest row
+    month_row : (b : Bool) (ds rest : Text) (row : Row) → text ≡ (marks_of b ++ ds) ++ rest → digits 2 ds → NoMonthRow no_lone_month ds rest row
         → FitsIn line_under true row text
     month_row b ds rest row is two h = rw h.0 (
       (month_day_month_range, refl),
@@ -150,11 +138,11 @@ module _ {E : Type 0} (fault : Row → E) (profile : Profile) where
     )
 
     front_read : MonthDayOrRow text (month_day_at fault profile text)
-    unfolding month_day_at
+    unfolding month_day_at lone_month_in_range
     front_read = then_read fault (marks_at fault text) _ _ _ _ _ marks_read
         (λ b rest h. then_read fault (digits_at fault (of_month_day month_day_month_digits) 2 rest) _ _ _ _ _
         (digits_read fault (of_month_day month_day_month_digits) (λ c. refl) 2 rest)
-        (λ ds more g. then_read fault (lone_month_in_range fault (ds, more)) _ _ _ _ _ (in_month ds more)
+        (λ ds more g. then_read fault (lone_month_in_range fault (ds, more)) _ _ _ _ _ (month_range_read fault no_lone_month ds more)
         (λ m left k. after_month_read b ds m ((g.1, k.1), k.2, k.3) left (further text (marks_of b) rest ds left h.0 (g.0 ∙ rw k.0)))
         (λ r k. month_row b ds more r (further text (marks_of b) rest ds more h.0 g.0) g.1 k))
         (λ r g. let t = stops_after b (of_month_day month_day_month_digits) rest r (λ c. refl) h.1 g in

@@ -5,8 +5,8 @@ use Rattle.ixdtf_grammar.specs.language.Letters.{Text, ◌or◌, hyphen, equals,
 use Rattle.ixdtf_grammar.specs.language.{Letters.Letter.{Plain, Bad}, Shapes.{Shape, nothing, one, ◌then◌, ◌either◌, some, many}}
 use Rattle.ixdtf_grammar.specs.language.Brackets.{Opens, Pair, Key, ValueRun, Value, IsPair}
 use Rattle.ixdtf_grammar.specs.table.{Faults.Fault.{NonAsciiCodePoint, AnnotationKeyValueSeparator, AnnotationKeyChar}, LineNames.PairLine}
-use Rattle.ixdtf_grammar.specs.table.LineNames.{PairLine.{key_start, critical_key_start, in_key, value_start, in_value, after_value_hyphen}, LineName.of_pair}
-use Rattle.ixdtf_grammar.specs.table.{Lines.{line_of, pair_line}, Rows.{Row, Stops, FitsHere, front_of, Place.{end, other, bad}}}
+use Rattle.ixdtf_grammar.specs.table.LineNames.{PairLine.{key_start, critical_key_start, in_key}, LineName.of_pair}
+use Rattle.ixdtf_grammar.specs.table.{Lines.pair_line, Rows.{Row, Stops, FitsHere, front_of, Place.{end, other, bad}}}
 use Rattle.ixdtf_reading.specs.reading.{Looks.{Read, row_of, letter_at}, Zones.with_letter, Pairs.{value_line, value_end, value_other, value_step, key_run}}
 use Rattle.ixdtf_reading.specs.reading.Pairs.{value_run, pair_at, critical_pair_at, later_pair_at, ValueState, AtStart, Inside, AfterHyphen, ValueStep}
 use Rattle.ixdtf_reading.specs.reading.{Pairs.{GoesOn, Ends, ValueStep as steps}, Chains.{AfterBrackets, FitsAfterBrackets}}
@@ -68,26 +68,22 @@ stays AfterHyphen = inl refl
 abbrev Grows : ℕ → ValueState → ValueState → Type 0
 Grows c state next = (last : ValueState) (text : Text) → Reach next last text → Reach state last (Plain c ∷ text)
 
-grows_start : (c : ℕ) → IsTrue (value_char c) → Grows c AtStart Inside
-grows_start c h AtStart text r = absurd r
-grows_start c h Inside text r = char_value c text h r
-grows_start c h AfterHyphen text r = grow_then Tail Value (one hyphen) c (λ t. char_value c t h) text r
-
-grows_inside : (c : ℕ) → IsTrue (value_char c) → Grows c Inside Inside
-grows_inside c h AtStart text r = absurd r
-grows_inside c h Inside text r = char_tail c text h r
-grows_inside c h AfterHyphen text r = grow_then Tail Tail (one hyphen) c (λ t. char_tail c t h) text r
+grows_char : (c : ℕ) → IsTrue (value_char c) → (state : ValueState) → Grows c state Inside
+grows_char c h AtStart AtStart text r = absurd r
+grows_char c h AtStart Inside text r = char_value c text h r
+grows_char c h AtStart AfterHyphen text r = grow_then Tail Value (one hyphen) c (λ t. char_value c t h) text r
+grows_char c h Inside AtStart text r = absurd r
+grows_char c h Inside Inside text r = char_tail c text h r
+grows_char c h Inside AfterHyphen text r = grow_then Tail Tail (one hyphen) c (λ t. char_tail c t h) text r
+grows_char c h AfterHyphen AtStart text r = absurd r
+grows_char c h AfterHyphen Inside text r = char_value c text h r
+grows_char c h AfterHyphen AfterHyphen text r = inr (grow_then Tail Value (one hyphen) c (λ t. char_value c t h) text r)
 
 grows_hyphen : (c : ℕ) → IsTrue (hyphen c) → Grows c Inside AfterHyphen
 grows_hyphen c h AtStart text r = absurd r
 grows_hyphen c h Inside text r = hyphen_tail c text h r
 grows_hyphen c h AfterHyphen text (inl r) = ([], Plain c ∷ text, refl, no_tail, (c, rw r, h))
 grows_hyphen c h AfterHyphen text (inr r) = grow_then Value Tail (one hyphen) c (λ t. hyphen_tail c t h) text r
-
-grows_again : (c : ℕ) → IsTrue (value_char c) → Grows c AfterHyphen Inside
-grows_again c h AtStart text r = absurd r
-grows_again c h Inside text r = char_value c text h r
-grows_again c h AfterHyphen text r = inr (grow_then Tail Value (one hyphen) c (λ t. char_value c t h) text r)
 
 -- ---- code units
 
@@ -104,13 +100,11 @@ abbrev At : PairLine → Shape → Text → Row → Type 0
 At l shape text row = (part rest : Text) × (text ≡ part ++ rest) × shape part × (row.name ≡ of_pair l) × Stops (pair_line l) row.place row.error rest
 
 fits_here : (l : PairLine) (row : Row) (text : Text) → At l (front_of (pair_line l)) text row → FitsHere true row text
-fits_here l row text h =
-    subst (λ n. (f x : Text) × (text ≡ f ++ x) × front_of (line_of true n) f × Stops (line_of true n) row.place row.error x) (sym h.4)
-    (h.0, h.1, h.2, h.3, h.5)
+fits_here l row text h = rw h.4 (h.0, h.1, h.2, h.3, h.5)
 
--- what reading the rest of a key gave
-abbrev KeyFront : Text → List ℕ → Text → Type 0
-KeyFront text key rest = (part : Text) × (text ≡ part ++ (Plain 61 ∷ rest)) × many (one key_char) part × (part ≡ map Plain key)
+-- what reading a key of the shape gave
+abbrev KeyFront : Shape → Text → List ℕ → Text → Type 0
+KeyFront shape text key rest = (part : Text) × (text ≡ part ++ (Plain 61 ∷ rest)) × shape part × (part ≡ map Plain key)
 
 -- what reading a value gave from a state on, and where it stopped
 abbrev ValueFront : ValueState → Text → List ℕ → Text → Type 0
@@ -119,18 +113,20 @@ ValueFront state text value rest = (part : Text) × (text ≡ part ++ (Plain 93 
 abbrev ValueHalts : ValueState → Text → Row → Type 0
 ValueHalts state text row = (last : ValueState) × At (value_line last) (Reach state last) text row
 
+-- `[` and `!`
+pub critical_start : (one opening then one exclamation) (Plain 91 ∷ (Plain 33 ∷ []))
+critical_start = (Plain 91 ∷ [], Plain 33 ∷ [], refl, (91, refl, refl), (33, refl, refl))
+
 -- a pair's text, after what opens its bracket
 pub opened_pair : (start text : Text) (critical : Bool) (pair : Pair) → Opens start critical → PairText text pair → pair.critical ≡ critical
     → IsPair (start ++ text) pair
 opened_pair start text critical pair opens h flag =
     record {
-      start =
-          start;
+      start = start;
       keys = h.keys;
       values = h.values;
       is = ap (λ t. start ++ t) h.is;
-      opens = subst (Opens start)
-          (sym flag) opens;
+      opens = subst (Opens start) (sym flag) opens;
       is_key = h.is_key;
       is_value = h.is_value;
       key = h.key;
@@ -140,17 +136,21 @@ opened_pair start text critical pair opens h flag =
 module _ {E : Type 0} (fault : Row → E) where
   -- ---- keys
 
-  key_more : (c : ℕ) (rest : Text) → IsTrue (key_char c) → (r : Read E (List ℕ)) → OnRead fault r (KeyFront rest) (At in_key (many (one key_char)) rest)
-      → OnRead fault (with_letter c r) (KeyFront (Plain c ∷ rest)) (At in_key (many (one key_char)) (Plain c ∷ rest))
-  key_more c rest is (Ok x) h = (Plain c ∷ h.0, onto c h.1, one_more (one key_char) c h.0 (c, refl, is) h.2, onto c h.3)
-  key_more c rest is (Err e) h = (h.0, h.1, (Plain c ∷ h.2.0, h.2.1, onto c h.2.2, one_more (one key_char) c h.2.0 (c, refl, is) h.2.3, h.2.4, h.2.5))
+  abbrev ReadsKey : Shape → Text → Read E (List ℕ) → Type 0
+  ReadsKey shape text r = OnRead fault r (KeyFront shape text) (At in_key shape text)
 
-  key_read : (text : Text) → OnRead fault (key_run fault text) (KeyFront text) (At in_key (many (one key_char)) text)
+  -- a code unit in front
+  key_more : (shape grown : Shape) (c : ℕ) (rest : Text) → ((part : Text) → shape part → grown (Plain c ∷ part)) → (r : Read E (List ℕ)) → ReadsKey shape rest r
+      → ReadsKey grown (Plain c ∷ rest) (with_letter c r)
+  key_more shape grown c rest grows (Ok x) h = (Plain c ∷ h.0, onto c h.1, grows h.0 h.2, onto c h.3)
+  key_more shape grown c rest grows (Err e) h = (h.0, h.1, (Plain c ∷ h.2.0, h.2.1, onto c h.2.2, grows h.2.0 h.2.3, h.2.4, h.2.5))
+
+  key_read : (text : Text) → ReadsKey (many (one key_char)) text (key_run fault text)
   unfolding key_run
   key_read [] = (row_of (of_pair in_key) (end []) AnnotationKeyValueSeparator, refl, ([], [], refl, ([], refl), refl, (refl, refl, refl)))
   key_read (Bad ∷ rest) = (row_of (of_pair in_key) (bad (Bad ∷ rest)) NonAsciiCodePoint, refl, ([], Bad ∷ rest, refl, ([], refl), refl, (rest, refl, refl, refl)))
   key_read (Plain c ∷ rest) = read_if fault (key_char c) _ _ _ _
-      (λ goes. key_more c rest goes (key_run fault rest) (key_read rest))
+      (λ goes. key_more _ _ c rest (λ part m. one_more (one key_char) c part (c, refl, goes) m) (key_run fault rest) (key_read rest))
       (λ no_key. read_if fault (equals c) _ _ _ _
       (λ marks. ([], ap (λ n. Plain n ∷ rest) (eqb-true c 61 marks), ([], refl), refl))
       (λ no_equals. (
@@ -160,18 +160,11 @@ module _ {E : Type 0} (fault : Row → E) where
       )))
 
   -- from its first code unit on
-  abbrev WholeKey : Text → List ℕ → Text → Type 0
-  WholeKey text key rest = (part : Text) × (text ≡ part ++ (Plain 61 ∷ rest)) × Key part × (part ≡ map Plain key)
-
-  whole_key : (c : ℕ) (rest : Text) → IsTrue (key_lead c) → (r : Read E (List ℕ)) → OnRead fault r (KeyFront rest) (At in_key (many (one key_char)) rest)
-      → OnRead fault (with_letter c r) (WholeKey (Plain c ∷ rest)) (At in_key Key (Plain c ∷ rest))
-  whole_key c rest is (Ok x) h = (Plain c ∷ h.0, onto c h.1, (Plain c ∷ [], h.0, refl, (c, refl, is), h.2), onto c h.3)
-  whole_key c rest is (Err e) h = (h.0, h.1, (Plain c ∷ h.2.0, h.2.1, onto c h.2.2, (Plain c ∷ [], h.2.0, refl, (c, refl, is), h.2.3), h.2.4, h.2.5))
-
-  whole_key_read : (c : ℕ) (text more : Text) → text ≡ Plain c ∷ more → IsTrue (key_lead c)
-      → OnRead fault (key_run fault text) (WholeKey text) (At in_key Key text)
+  whole_key_read : (c : ℕ) (text more : Text) → text ≡ Plain c ∷ more → IsTrue (key_lead c) → ReadsKey Key text (key_run fault text)
   unfolding key_run
-  whole_key_read c text more is lead = rw is (rw (key_lead_goes c lead) (whole_key c more lead (key_run fault more) (key_read more)))
+  whole_key_read c text more is lead =
+      rw is (rw (key_lead_goes c lead)
+      (key_more _ _ c more (λ part m. (Plain c ∷ [], part, refl, (c, refl, lead), m)) (key_run fault more) (key_read more)))
 
   -- ---- values
 
@@ -198,34 +191,23 @@ module _ {E : Type 0} (fault : Row → E) where
       → ReadsValue state (Plain c ∷ rest) (stepped fault state c rest step) → ReadsValue state (Plain c ∷ rest) (value_run fault state (Plain c ∷ rest))
   at_letter state c rest step is h = subst (ReadsValue state (Plain c ∷ rest)) (sym (by_step fault state c rest step is)) h
 
-  start_letter : (c : ℕ) (rest : Text) → ReadsRest rest → (b : Bool) → value_char c ≡ b
-      → ReadsValue AtStart (Plain c ∷ rest) (value_run fault AtStart (Plain c ∷ rest))
-  start_letter c rest more true is =
-      at_letter AtStart c rest (GoesOn Inside) (rw is) (value_more AtStart Inside c rest (grows_start c is) (value_run fault Inside rest) (more Inside))
-  start_letter c rest more false is = at_letter AtStart c rest steps.Stops (rw is) (value_out AtStart c rest (c, rest, refl, is, refl, refl))
-
-  again_letter : (c : ℕ) (rest : Text) → ReadsRest rest → (b : Bool) → value_char c ≡ b
-      → ReadsValue AfterHyphen (Plain c ∷ rest) (value_run fault AfterHyphen (Plain c ∷ rest))
-  again_letter c rest more true is =
-      at_letter AfterHyphen c rest (GoesOn Inside) (rw is) (value_more AfterHyphen Inside c rest (grows_again c is) (value_run fault Inside rest) (more Inside))
-  again_letter c rest more false is = at_letter AfterHyphen c rest steps.Stops (rw is) (value_out AfterHyphen c rest (c, rest, refl, is, refl, refl))
-
-  inside_letter : (c : ℕ) (rest : Text) → ReadsRest rest → (b d f : Bool) → value_char c ≡ b → hyphen c ≡ d → closing c ≡ f
-      → ReadsValue Inside (Plain c ∷ rest) (value_run fault Inside (Plain c ∷ rest))
-  inside_letter c rest more true d f is dash shut =
-      at_letter Inside c rest (GoesOn Inside) (rw is) (value_more Inside Inside c rest (grows_inside c is) (value_run fault Inside rest) (more Inside))
-  inside_letter c rest more false true f is dash shut =
-      at_letter Inside c rest (GoesOn AfterHyphen) (rw (is, dash)) (value_more Inside AfterHyphen c rest (grows_hyphen c dash)
-      (value_run fault AfterHyphen rest) (more AfterHyphen))
-  inside_letter c rest more false false true is dash shut =
-      at_letter Inside c rest Ends (rw (is, dash, shut)) ([], ap (λ n. Plain n ∷ rest) (eqb-true c 93 shut), no_tail, refl)
-  inside_letter c rest more false false false is dash shut =
-      at_letter Inside c rest steps.Stops (rw (is, dash, shut)) (value_out Inside c rest (c, rest, refl, rw (is, dash, shut), refl, refl))
-
   any_letter : (c : ℕ) (rest : Text) → ReadsRest rest → ReadsRest (Plain c ∷ rest)
-  any_letter c rest more AtStart = start_letter c rest more (value_char c) refl
-  any_letter c rest more Inside = inside_letter c rest more (value_char c) (hyphen c) (closing c) refl refl refl
-  any_letter c rest more AfterHyphen = again_letter c rest more (value_char c) refl
+  any_letter c rest more state = by_char state (value_char c) refl
+    where
+      inside_mark : (d f : Bool) → value_char c ≡ false → hyphen c ≡ d → closing c ≡ f → ReadsValue Inside (Plain c ∷ rest) (value_run fault Inside (Plain c ∷ rest))
+      inside_mark true f is dash shut = at_letter Inside c rest (GoesOn AfterHyphen) (rw (is, dash))
+          (value_more Inside AfterHyphen c rest (grows_hyphen c dash) (value_run fault AfterHyphen rest) (more AfterHyphen))
+      inside_mark false true is dash shut =
+          at_letter Inside c rest Ends (rw (is, dash, shut)) ([], ap (λ n. Plain n ∷ rest) (eqb-true c 93 shut), no_tail, refl)
+      inside_mark false false is dash shut =
+          at_letter Inside c rest steps.Stops (rw (is, dash, shut)) (value_out Inside c rest (c, rest, refl, rw (is, dash, shut), refl, refl))
+
+      by_char : (state : ValueState) (b : Bool) → value_char c ≡ b → ReadsValue state (Plain c ∷ rest) (value_run fault state (Plain c ∷ rest))
+      by_char state true is = at_letter state c rest (GoesOn Inside) (rw is)
+          (value_more state Inside c rest (grows_char c is state) (value_run fault Inside rest) (more Inside))
+      by_char Inside false is = inside_mark (hyphen c) (closing c) is refl refl
+      by_char AtStart false is = at_letter AtStart c rest steps.Stops (rw is) (value_out AtStart c rest (c, rest, refl, is, refl, refl))
+      by_char AfterHyphen false is = at_letter AfterHyphen c rest steps.Stops (rw is) (value_out AfterHyphen c rest (c, rest, refl, is, refl, refl))
 
   at_end : (state : ValueState) → Stops (pair_line (value_line state)) (end []) (value_end state) []
   at_end AtStart = (refl, refl, refl)
@@ -247,23 +229,18 @@ module _ {E : Type 0} (fault : Row → E) where
   -- a row after a key and `=`
   after_key : (text middle : Text) (row : Row) (keys : Text) → text ≡ keys ++ (Plain 61 ∷ middle) → Key keys → ValueHalts AtStart middle row
       → FitsInPair text row
-  after_key text middle row keys is key h = by_state h.0 h.1
+  after_key text middle row keys is key (last, (part, rest, split, reached, name, at)) =
+      let here = is ∙ rw split (simp append_assoc) in
+      (value_line last, in_pair last, name, fits_here (value_line last) row text (keys ++ (Plain 61 ∷ part), rest, here, shown last reached, name, at))
     where
-      split : (part rest : Text) → middle ≡ part ++ rest → text ≡ (keys ++ (Plain 61 ∷ part)) ++ rest
-      split part rest same = is ∙ rw same (simp append_assoc)
+      in_pair : (state : ValueState) → InPair (value_line state)
+      in_pair AtStart = tt
+      in_pair state = tt
 
-      front : (shape : Shape) (part : Text) → shape part → (Key then one equals then shape) (keys ++ (Plain 61 ∷ part))
-      front shape part h = (keys, Plain 61 ∷ part, refl, key, (Plain 61 ∷ [], part, refl, (61, refl, refl), h))
-
-      by_state : (last : ValueState) → At (value_line last) (Reach AtStart last) middle row → FitsInPair text row
-      by_state AtStart g =
-          let shown : front_of (pair_line value_start) (keys ++ (Plain 61 ∷ [])) = (keys, Plain 61 ∷ [], refl, key, (61, refl, refl)) in
-          (value_start, tt, g.4, fits_here value_start row text (keys ++ (Plain 61 ∷ []), g.1, split [] g.1 (rw g.3 at g.2), shown, g.4, g.5))
-      by_state Inside g =
-          (in_value, tt, g.4, fits_here in_value row text (keys ++ (Plain 61 ∷ g.0), g.1, split g.0 g.1 g.2, front Value g.0 g.3, g.4, g.5))
-      by_state AfterHyphen g =
-          let shown = front (Value then one hyphen) g.0 g.3 in
-          (after_value_hyphen, tt, g.4, fits_here after_value_hyphen row text (keys ++ (Plain 61 ∷ g.0), g.1, split g.0 g.1 g.2, shown, g.4, g.5))
+      shown : (state : ValueState) → Reach AtStart state part → front_of (pair_line (value_line state)) (keys ++ (Plain 61 ∷ part))
+      shown AtStart r = (keys, Plain 61 ∷ part, refl, key, (61, rw r, refl))
+      shown Inside r = (keys, Plain 61 ∷ part, refl, key, (Plain 61 ∷ [], part, refl, (61, refl, refl), r))
+      shown AfterHyphen r = (keys, Plain 61 ∷ part, refl, key, (Plain 61 ∷ [], part, refl, (61, refl, refl), r))
 
   pub pair_read : (critical : Bool) (c : ℕ) (text more : Text) → text ≡ Plain c ∷ more → IsTrue (key_lead c)
       → OnRead fault (pair_at fault critical text) (PairFront critical text) (FitsInPair text)
@@ -307,22 +284,17 @@ module _ {E : Type 0} (fault : Row → E) where
   critical_read : (text : Text) → LaterRead (Plain 91 ∷ (Plain 33 ∷ text)) (critical_pair_at fault text)
   unfolding critical_pair_at
   critical_read text = then_read fault (letter_at fault (of_pair critical_key_start) text) _ _ _ _ _ (read_letter fault (of_pair critical_key_start) text tt)
-      (λ c rest h. opened_read (Plain 91 ∷ (Plain 33 ∷ [])) text true starts _ (pair_read true c text rest h.0 h.1))
-      (λ r h. first_row critical_key_start r (Plain 91 ∷ (Plain 33 ∷ text)) refl (Plain 91 ∷ (Plain 33 ∷ []), text, refl, starts, h.0, h.1))
-    where
-      starts : (one opening then one exclamation) (Plain 91 ∷ (Plain 33 ∷ []))
-      starts = (Plain 91 ∷ [], Plain 33 ∷ [], refl, (91, refl, refl), (33, refl, refl))
-
-  from_opening : (text : Text) → LaterRead (Plain 91 ∷ text) (later_pair_at fault text)
-  unfolding later_pair_at
-  from_opening text = then_read fault (letter_at fault (of_pair key_start) text) _ _ _ _ _ (read_letter fault (of_pair key_start) text tt)
-      (λ c rest h. read_if fault (exclamation c) _ _ _ _
-      (λ critical. subst (λ t. LaterRead (Plain 91 ∷ t) (critical_pair_at fault rest)) (sym (h.0 ∙ ap (λ n. Plain n ∷ rest) (eqb-true c 33 critical)))
-      (critical_read rest))
-      (λ no_mark. opened_read (Plain 91 ∷ []) text false (91, refl, refl) _ (pair_read false c text rest h.0 (starts_key c h.1 no_mark))))
-      (λ r h. first_row key_start r (Plain 91 ∷ text) refl (Plain 91 ∷ [], text, refl, (91, refl, refl), h.0, h.1))
+      (λ c rest h. opened_read (Plain 91 ∷ (Plain 33 ∷ [])) text true critical_start _ (pair_read true c text rest h.0 h.1))
+      (λ r h. first_row critical_key_start r (Plain 91 ∷ (Plain 33 ∷ text)) refl (Plain 91 ∷ (Plain 33 ∷ []), text, refl, critical_start, h.0, h.1))
 
   -- after `[`
   pub later_pair_read : (body text : Text) → body ≡ Plain 91 ∷ text
       → OnRead fault (later_pair_at fault text) (λ pair rest. (front : Text) × (body ≡ front ++ rest) × IsPair front pair) (λ row. FitsAfterBrackets row body)
-  later_pair_read body text is = rw is (from_opening text)
+  unfolding later_pair_at
+  later_pair_read body text is =
+      rw is (then_read fault (letter_at fault (of_pair key_start) text) _ _ _ _ _ (read_letter fault (of_pair key_start) text tt)
+      (λ c rest h. read_if fault (exclamation c) _ _ _ _
+      (λ critical. subst (λ t. LaterRead (Plain 91 ∷ t) (critical_pair_at fault rest)) (sym (h.0 ∙ ap (λ n. Plain n ∷ rest) (eqb-true c 33 critical)))
+      (critical_read rest))
+      (λ no_mark. opened_read (Plain 91 ∷ []) text false (91, refl, refl) _ (pair_read false c text rest h.0 (starts_key c h.1 no_mark))))
+      (λ r h. first_row key_start r (Plain 91 ∷ text) refl (Plain 91 ∷ [], text, refl, (91, refl, refl), h.0, h.1)))

@@ -3,7 +3,7 @@ use Rattle.std.proofs.Common.{◌≡◌, ℕ, ◌<◌, ◌≤◌, ◌⊎◌, IsT
 use Rattle.std.proofs.{Common.{nat_le, Bool, true, false, if◌then◌else◌}, lemmas.Bool.{eqb-true, leb-true, leb-false, and_parts, or_from, Decides.nat_tests}}
 use Rattle.ixdtf_grammar.specs.declared.records.TimeRecord.{TimeRecord}
 use Rattle.ixdtf_grammar.specs.language.Times.{Clock, TimeShape, ClockOf, BasicMinuteText, ColonMinuteText, SecondText, greatest_second, has_seconds}
-use Rattle.ixdtf_grammar.specs.language.Times.{Clock.Time, TimeShape.{hours, basic_minutes, colon_minutes, seconds, fractions}}
+use Rattle.ixdtf_grammar.specs.language.Times.TimeShape.{hours, basic_minutes, colon_minutes, seconds, fractions}
 use Rattle.ixdtf_grammar.specs.language.Letters.{Text, ◌or◌, digit, colon, decimal_mark, Letter.{Plain, Bad}}
 use Rattle.ixdtf_grammar.specs.language.{Shapes.{Shape, some, one, fewer_digits_than, ◌then◌, ◌either◌}, Digits.{decimal, UpTo}}
 use Rattle.ixdtf_grammar.specs.{language.Fractions.{FractionParts, SomeDigits, fraction_of}, table.Faults.Fault}
@@ -32,9 +32,7 @@ later clock l = of_clock clock l.0
 
 -- a colon or a digit does not follow a time
 mixed_no_follow : (brackets : Bool) (clock : Clock) (c : ℕ) → IsTrue ((colon or digit) c) → IsFalse ((follow_of brackets clock).letters c)
-mixed_no_follow true Time c h = grind (arith, h, nat_tests)
-mixed_no_follow true clock c h = grind (arith, h, nat_tests)
-mixed_no_follow false clock c h = refl
+mixed_no_follow brackets clock c h = grind (arith, h, nat_tests)
 
 -- what stands before the digits of a minute and of a second, with colons and without
 abbrev marks : Bool → Text

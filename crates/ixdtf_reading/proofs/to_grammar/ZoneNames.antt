@@ -8,6 +8,9 @@ use Rattle.ixdtf_grammar.specs.table.{LineNames.ZoneLine.{identifier_start, zone
 use Rattle.ixdtf_grammar.specs.table.{Lines.Ending.error, Rows.{Row, Place, Stops, front_of, Place.{end, other, bad, anywhere}}}
 use Rattle.ixdtf_reading.specs.reading.{Looks.{Read, row_of}, Zones.{with_letter, name_stops, name_run}}
 use Rattle.ixdtf_reading.proofs.{parts.Looks.{OnRead, FitsIn, read_if, onto}, to_reading.ZoneNames.{NameEnds, lead_char}}
+use Rattle.std.proofs.Common.{arith}
+use Rattle.ixdtf_reading.specs.reading.Zones.{name_line}
+use Rattle.ixdtf_reading.proofs.to_reading.ZoneNames.{StopsName}
 
 -- what reading a name gave
 abbrev pub NameFront : Text → List ℕ → Text → Type 0
@@ -25,8 +28,7 @@ longer front part h item = (h.0, h.1 ++ part, rw (h.2, append_assoc), h.3, joine
 
 -- a test that fails where the other one holds
 by_slash : (b : Bool) → IsFalse (b && true) → IsFalse b
-by_slash true h = h
-by_slash false h = refl
+by_slash b h = grind (arith, h)
 
 -- a name, or a name and a slash, by whether it may end
 abbrev Begun : Bool → Shape
@@ -55,21 +57,21 @@ module _ {E : Type 0} (fault : Row → E) where
 
     -- what is known of reading the rest of a name, after a front
     abbrev ReadsMore : Text → Text → Text → Read E (List ℕ) → Type 0
-    ReadsMore whole front text r = OnRead fault r (More front text) (λ row. FitsIn of_zone brackets row whole)
+    ReadsMore whole front text r = OnRead fault r (More front text) (λ row. FitsIn name_line brackets row whole)
 
     end_read : (may_end : Bool) (whole front : Text) → whole ≡ front ++ [] → Begun may_end front → ReadsMore whole front [] (name_run fault may_end [])
     unfolding name_run
     end_read true whole front is h = ([], refl, rw append-nil h, refl, (tt, tt))
     end_read false whole front is h =
-        (row_of (of_zone after_zone_slash) (end []) IanaCharPostSeparator, refl, (after_zone_slash, refl, (front, [], is, h, (refl, refl, refl))))
+        (row_of (of_zone after_zone_slash) (end []) IanaCharPostSeparator, refl, (false, refl, (front, [], is, h, (refl, refl, refl))))
 
     bad_read : (may_end : Bool) (whole front rest : Text) → whole ≡ front ++ (Bad ∷ rest) → Begun may_end front
         → ReadsMore whole front (Bad ∷ rest) (name_run fault may_end (Bad ∷ rest))
     unfolding name_run
     bad_read true whole front rest is h =
-        (row_of (of_zone in_zone_name) (bad (Bad ∷ rest)) NonAsciiCodePoint, refl, (in_zone_name, refl, (front, Bad ∷ rest, is, h, (rest, refl, refl, refl))))
+        (row_of (of_zone in_zone_name) (bad (Bad ∷ rest)) NonAsciiCodePoint, refl, (true, refl, (front, Bad ∷ rest, is, h, (rest, refl, refl, refl))))
     bad_read false whole front rest is h =
-        (row_of (of_zone after_zone_slash) (bad (Bad ∷ rest)) NonAsciiCodePoint, refl, (after_zone_slash, refl, (front, Bad ∷ rest, is, h, (rest, refl, refl, refl))))
+        (row_of (of_zone after_zone_slash) (bad (Bad ∷ rest)) NonAsciiCodePoint, refl, (false, refl, (front, Bad ∷ rest, is, h, (rest, refl, refl, refl))))
 
     -- a slash where the name may not end is another code unit
     out_read : (may_end : Bool) (c : ℕ) (whole front rest : Text) → whole ≡ front ++ (Plain c ∷ rest) → Begun may_end front → IsFalse (zone_char c)
@@ -79,7 +81,7 @@ module _ {E : Type 0} (fault : Row → E) where
     out_read false c whole front rest is h no_char no_slash = (
       row_of (of_zone after_zone_slash) (other (Plain c ∷ rest)) IanaCharPostSeparator,
       refl,
-      (after_zone_slash, refl, (front, Plain c ∷ rest, is, h, (c, rest, refl, no_char, refl, refl))),
+      (false, refl, (front, Plain c ∷ rest, is, h, (c, rest, refl, no_char, refl, refl))),
     )
 
     slash_may : (may_end : Bool) (front : Text) (c : ℕ) → Begun may_end front → IsTrue (slash c && may_end) → Begun false (front ++ (Plain c ∷ []))
@@ -103,44 +105,13 @@ module _ {E : Type 0} (fault : Row → E) where
 
     -- from its first code unit on
     pub name_read : (c : ℕ) (text more : Text) → text ≡ Plain c ∷ more → IsTrue (zone_lead c)
-        → OnRead fault (name_run fault true text) (NameFront text) (λ row. FitsIn of_zone brackets row text)
+        → OnRead fault (name_run fault true text) (NameFront text) (λ row. FitsIn name_line brackets row text)
     unfolding name_run
     name_read c text more is h =
         rw is (rw (lead_char c h) (letter_done (name_run fault true more)
         (run_read more true (Plain c ∷ more) (Plain c ∷ []) refl (Plain c ∷ [], [], refl, (c, refl, h), ([], refl)))))
       where
         letter_done : (r : Read E (List ℕ)) → ReadsMore (Plain c ∷ more) (Plain c ∷ []) more r
-            → OnRead fault (with_letter c r) (NameFront (Plain c ∷ more)) (λ row. FitsIn of_zone brackets row (Plain c ∷ more))
+            → OnRead fault (with_letter c r) (NameFront (Plain c ∷ more)) (λ row. FitsIn name_line brackets row (Plain c ∷ more))
         letter_done (Ok x) g = (Plain c ∷ g.0, onto c g.1, g.2, onto c g.3, g.4)
         letter_done (Err e) g = g
-
--- a text that begins as a name does stops neither at the line of a name's beginning nor at that of a zone's
-not_at_start : (class : Class) (e : Fault) (others : ℕ → Fault) (c : ℕ) (text more front rest : Text) (place : Place) (d : Fault) → text ≡ Plain c ∷ more
-    → IsTrue (class c) → text ≡ front ++ rest → front ≡ [] → Stops (line nothing class (error e) others) place d rest → ⊥
-not_at_start class e others c text more front rest (end left) d is goes split empty at =
-    let same : Plain c ∷ more ≡ [] = sym is ∙ split ∙ rw (empty, at.0) refl in absurd cc
-not_at_start class e others c text more front rest (other left) d is goes split empty at =
-    let same : Plain c ∷ more ≡ Plain at.0 ∷ at.1 = sym is ∙ split ∙ rw (empty, at.2) refl in let letter : c ≡ at.0 = cc in both_ways _ at.3 (rw letter at goes)
-not_at_start class e others c text more front rest (bad left) d is goes split empty at =
-    let same : Plain c ∷ more ≡ Bad ∷ at.0 = sym is ∙ split ∙ rw (empty, at.1) refl in absurd cc
-not_at_start class e others c text more front rest (anywhere left) d is goes split empty at = absurd at
-
--- the lines at which the reading of a name may stop
-pub name_lines : (brackets : Bool) (row : Row) (c : ℕ) (text more : Text) → text ≡ Plain c ∷ more → IsTrue (zone_lead c) → FitsIn of_zone brackets row text
-    → (row.name ≡ of_zone in_zone_name) ⊎ (row.name ≡ of_zone after_zone_slash)
-name_lines brackets row c text more is lead f = by_line f.0 f.1
-  where
-    here : (l : ZoneLine) → row.name ≡ of_zone l → (front rest : Text) × (text ≡ front ++ rest) × front_of (line_of brackets (of_zone l)) front × Stops
-        (line_of brackets (of_zone l)) row.place row.error rest
-    here l name =
-        subst (λ n. (front rest : Text) × (text ≡ front ++ rest) × front_of (line_of brackets n) front × Stops
-        (line_of brackets n) row.place row.error rest) name f.2
-
-    by_line : (l : ZoneLine) → row.name ≡ of_zone l → (row.name ≡ of_zone in_zone_name) ⊎ (row.name ≡ of_zone after_zone_slash)
-    by_line identifier_start name =
-        let h = here identifier_start name in absurd (not_at_start (zone_lead or sign) _ _ c text more h.0 h.1 row.place row.error is
-        (or_left _ _ lead) h.2 h.3 h.4)
-    by_line zone_name_start name =
-        let h = here zone_name_start name in absurd (not_at_start zone_lead _ _ c text more h.0 h.1 row.place row.error is lead h.2 h.3 h.4)
-    by_line in_zone_name name = inl name
-    by_line after_zone_slash name = inr name

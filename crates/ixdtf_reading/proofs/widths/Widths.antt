@@ -1,8 +1,7 @@
 -- Two widths: numbers from 1 to 126 are the same code units in each, and the first other number is `Bad` as a 16-bit code unit.
-use Rattle.std.proofs.Common.{◌≡◌, ◌⊎◌, ℕ, suc, ◌-◌, length, arith, Bool, true, false, cond, IsTrue, IsFalse, List, [], ◌∷◌, ◌++◌, not, All, Any}
-use Rattle.std.proofs.{Common.{if◌then◌else◌, refl, sym, ◌∙◌, ap, subst, inl, inr}, lemmas.List.length-append}
-use Rattle.std.proofs.lemmas.List.{Elements.{All-nil, All-cons, All-head, All-tail}, Folds.list_any-from_Any}
-use Rattle.std.specs.List.{list_any}
+use Rattle.std.proofs.Common.{◌≡◌, ◌⊎◌, ℕ, suc, ◌-◌, length, arith, Bool, true, false, IsTrue, IsFalse, List, [], ◌∷◌, ◌++◌, All, Any}
+use Rattle.std.proofs.{Common.{if◌then◌else◌, refl, sym, ◌∙◌, ap, subst, inl, inr}, lemmas.{List.length-append, Bool.both_ways}}
+use Rattle.std.proofs.lemmas.List.Elements.{All-nil, All-cons, All-head, All-tail}
 use Rattle.ixdtf_grammar.specs.{Handlers.{UnhandledFault, own_replies}, Places.{UnhandledFaultAt, HasUnhandledFaultAt}, Widths.UnhandledOutcome}
 use Rattle.ixdtf_grammar.specs.Widths.{HasWithPairs, HasAlone, HasUnhandledOutcome, is_shared, wide_text, byte_text, mask, SameWhereShared}
 use Rattle.ixdtf_grammar.specs.Widths.{FaultWhereNotShared, SamePlaceWhereShared, PlaceWhereNotShared, IsFirstNotShared, NonAsciiIsFirst, NonAsciiIsWide}
@@ -13,7 +12,7 @@ use Rattle.ixdtf_grammar.specs.table.{Faults.Fault.NonAsciiCodePoint, Outcomes.{
 use Rattle.ixdtf_grammar.proofs.{theorems.NoRow.fault_of_bad, widths.FirstBad.{Sees, plain_sees_nothing, sees_after, left_moved}}
 use Rattle.ixdtf_grammar.proofs.widths.PlainDurations.{duration_plain}
 use Rattle.ixdtf_grammar.proofs.widths.PlainTexts.{IsPlain, plain_append, signed_plain, zone_plain, plain_name, core_plain, tail_plain}
-use Rattle.ixdtf_reading.proofs.{code.{OneMoreReply.refused_split, Located.left_fits}, theorems.OnePlace.without_place}
+use Rattle.ixdtf_reading.proofs.{code.Located.left_fits, theorems.{OnePlace.without_place, Replies.refused_split}}
 use Rattle.ixdtf_reading.proofs.{theorems.OneUnhandledOutcome.unhandled_outcome, widths.PlainBefore.{row_moved, fits_move}}
 
 -- ---- numbers
@@ -27,15 +26,22 @@ same_letters (n ∷ numbers) all =
     let first = shared_letter n (All-head (λ x. IsTrue (is_shared x)) n numbers all) in
     let others = same_letters numbers (All-tail (λ x. IsTrue (is_shared x)) n numbers all) in λ i. first i ∷ others i
 
--- the mask has the code units before the first number that is not shared
-mask_sees : (numbers : List ℕ) → IsTrue (list_any (λ n. not (is_shared n)) numbers) → Sees (wide_text numbers) (byte_text (mask numbers))
-mask_sees [] h = absurd cc
-mask_sees (n ∷ numbers) h = by_first _ refl (λ is. mask_sees numbers (rw is at h))
+-- the mask has the code units before the first number that is not shared, or each number is shared
+sees_or_shared : (numbers : List ℕ) → Sees (wide_text numbers) (byte_text (mask numbers)) ⊎ All (λ n. IsTrue (is_shared n)) numbers
+sees_or_shared [] = inr (All-nil (λ n. IsTrue (is_shared n)))
+sees_or_shared (n ∷ numbers) = by_first _ refl (sees_or_shared numbers)
   where
-    by_first : (b : Bool) → is_shared n ≡ b → (is_shared n ≡ true → Sees (wide_text numbers) (byte_text (mask numbers)))
-        → Sees (wide_letter n ∷ wide_text numbers) (Plain (if is_shared n then n else 128) ∷ byte_text (mask numbers))
-    by_first true is more = rw is (byte_text (mask numbers), refl, more is)
-    by_first false is more = rw is tt
+    by_first : (b : Bool) → is_shared n ≡ b → Sees (wide_text numbers) (byte_text (mask numbers)) ⊎ All (λ n. IsTrue (is_shared n)) numbers
+        → Sees (wide_letter n ∷ wide_text numbers) (Plain (if is_shared n then n else 128) ∷ byte_text (mask numbers)) ⊎ All (λ n. IsTrue (is_shared n)) (n ∷ numbers)
+    by_first true is (inl more) = rw is (inl (byte_text (mask numbers), refl, more))
+    by_first true is (inr all) = inr (All-cons (λ n. IsTrue (is_shared n)) n numbers is all)
+    by_first false is more = rw is (inl tt)
+
+sees_where_not_shared : (numbers : List ℕ) → Any (λ n. IsFalse (is_shared n)) numbers → Sees (wide_text numbers) (byte_text (mask numbers))
+sees_where_not_shared numbers some = elim (sees_or_shared numbers) [
+  | inl sees ↦ sees
+  | inr all ↦ absurd (both_ways _ some.4 (ap is_shared (sym some.3) ∙ all some.0 some.1 some.2))
+]
 
 -- ---- outcomes
 
@@ -133,9 +139,6 @@ same_where_shared reader numbers all outcome =
     let same = same_letters numbers all in
     (subst (λ t. HasUnhandledOutcome reader t outcome) same, subst (λ t. HasUnhandledOutcome reader t outcome) (sym same))
 
-some_not_shared : (numbers : List ℕ) → Any (λ n. IsFalse (is_shared n)) numbers → IsTrue (list_any (λ n. not (is_shared n)) numbers)
-some_not_shared numbers h = list_any-from_Any (λ n. not _) numbers (h.0, h.1, h.2, h.3, ap not h.4)
-
 pub same_place_where_shared : SamePlaceWhereShared
 same_place_where_shared reader numbers all fault at =
     let same = same_letters numbers all in
@@ -144,7 +147,7 @@ same_place_where_shared reader numbers all fault at =
 pub place_where_not_shared : PlaceWhereNotShared
 place_where_not_shared reader numbers some =
     let outcome = unhandled_outcome reader (wide_text numbers) in
-    let sees = mask_sees numbers (some_not_shared numbers some) in
+    let sees = sees_where_not_shared numbers some in
     let (fault, has) = outcome_fault _ _ sees reader outcome.0 outcome.1 in
     let (at, there) = place_of reader (wide_text numbers) fault has in (
       fault,
@@ -171,18 +174,10 @@ fault_where_not_shared reader numbers some =
 
 -- the first Bad is the first number that is not shared
 not_shared : (n : ℕ) → wide_letter n ≡ Bad → IsFalse (is_shared n)
-not_shared n = by_test (is_shared n)
-  where
-    by_test : (b : Bool) → cond b (Plain n) Bad ≡ Bad → IsFalse b
-    by_test true is = absurd cc
-    by_test false is = refl
+not_shared n is = grind (arith, is)
 
 is_plain : (n c : ℕ) → wide_letter n ≡ Plain c → IsTrue (is_shared n)
-is_plain n c = by_test (is_shared n)
-  where
-    by_test : (b : Bool) → cond b (Plain n) Bad ≡ Plain c → IsTrue b
-    by_test true is = refl
-    by_test false is = absurd cc
+is_plain n c is = grind (arith, is)
 
 first_not_shared : (numbers : List ℕ) (front more : Text) → IsPlain front → wide_text numbers ≡ front ++ (Bad ∷ more)
     → IsFirstNotShared numbers (length front)
@@ -226,24 +221,12 @@ pub non_ascii_is_wide : NonAsciiIsWide
 non_ascii_is_wide (bracketed kind) numbers at h = never_unhandled (bracketed kind) numbers at h
 non_ascii_is_wide reader numbers at h = never_alone reader numbers [] at h
 
--- numbers are the same text in both widths, or one of them is not shared
-sees_or_same : (numbers : List ℕ) → Sees (wide_text numbers) (byte_text (mask numbers)) ⊎ (wide_text numbers ≡ byte_text numbers)
-sees_or_same [] = inr refl
-sees_or_same (n ∷ numbers) = by_first _ refl (sees_or_same numbers)
-  where
-    by_first : (b : Bool) → is_shared n ≡ b → Sees (wide_text numbers) (byte_text (mask numbers)) ⊎ (wide_text numbers ≡ byte_text numbers)
-        → Sees (wide_letter n ∷ wide_text numbers) (Plain (if is_shared n then n else 128) ∷ byte_text (mask numbers))
-        ⊎ (wide_letter n ∷ wide_text numbers ≡ Plain n ∷ byte_text numbers)
-    by_first true is (inl more) = rw is (inl (byte_text (mask numbers), refl, more))
-    by_first true is (inr same) = rw is (inr (ap (λ t. Plain n ∷ t) same))
-    by_first false is more = rw is (inl tt)
-
 pub non_ascii_is_first : NonAsciiIsFirst
-non_ascii_is_first reader numbers at h = elim (sees_or_same numbers) [
+non_ascii_is_first reader numbers at h = elim (sees_or_shared numbers) [
   | inl sees ↦ elim (place_moves _ _ sees reader NonAsciiCodePoint at h) [
     | inl p ↦ let (front, more, plain, is, lengths) = p.1 in
         subst (λ n. IsFirstNotShared numbers n) (sym lengths) (first_not_shared numbers front more plain is)
     | inr q ↦ absurd (non_ascii_is_wide reader (mask numbers) at q)
   ]
-  | inr same ↦ absurd (non_ascii_is_wide reader numbers at (subst (λ t. HasUnhandledFaultAt reader t NonAsciiCodePoint at) same h))
+  | inr all ↦ absurd (non_ascii_is_wide reader numbers at ((same_place_where_shared reader numbers all NonAsciiCodePoint at).0 h))
 ]

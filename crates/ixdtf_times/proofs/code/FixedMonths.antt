@@ -11,9 +11,9 @@ use Rattle.ixdtf_reading.specs.reading.{Months.{year_month_at, marks_at, month_d
 use Rattle.ixdtf_reading.specs.reading.FixedPlaces.{byte_place, number_place, year_place, month_of_year_place, day_of_month_place, ranged_month, ranged_day}
 use Rattle.ixdtf_reading.specs.reading.FixedPlaces.{marks_place, unmarked_at}
 use Rattle.ixdtf_reading.proofs.{parts.{Looks.{onto, digits_go}, Marks.hyphens_of, Years.year_takes}, code.DigitClasses.digit_no_hyphen}
-use Rattle.ixdtf_reading.proofs.code.FixedPlaces.{then_some, Number, number_at_place, hyphen_is, mark_at_place, over_two, byte_in_class, two_digits, two}
+use Rattle.ixdtf_reading.proofs.code.FixedPlaces.{then_some, Number, number_at_place, over_two, two_digits, two}
 use Rattle.ixdtf_reading.proofs.{code.FixedPlaces.year_at_place, to_reading.Dates.{month_is, month_is_none, month_or_none, month_takes, month_out}}
-use Rattle.ixdtf_reading.proofs.to_reading.Months.{over_lone_day}
+use Rattle.ixdtf_reading.proofs.{to_reading.Months.over_lone_day, code.FixedPlaces.byte_is_mark}
 
 -- ---- year-months
 
@@ -52,7 +52,7 @@ month_is_read b text year place date years at_month e =
 pub hyphened_month_is_read : (text : Text) (year : ℕ) (date : DateRecord) → year_place text ≡ Some year → IsTrue (hyphen (byte_place 4 text))
     → month_of_year_place year 5 text ≡ Some date → year_month_at error_of text ≡ ranged_month date (drop 7 text)
 hyphened_month_is_read text year date years mark months =
-    month_is_read true text year 5 date years (mark_at_place hyphen 45 4 text (byte_place 4 text) hyphen_is (byte_in_class hyphen 4 text refl mark)) months
+    month_is_read true text year 5 date years (byte_is_mark 45 4 text refl mark) months
 
 pub basic_month_is_read : (text : Text) (year : ℕ) (date : DateRecord) → year_place text ≡ Some year → month_of_year_place year 4 text ≡ Some date
     → year_month_at error_of text ≡ ranged_month date (drop 6 text)
@@ -85,7 +85,7 @@ pub hyphened_day_is_read : (profile : Profile) (text : Text) (start month : ℕ)
     → unmarked_at profile (drop start text) ≡ ranged_day profile date (drop (start + 2) text) (drop (start + 5) text)
 unfolding day_of_month_place
 hyphened_day_is_read profile text start month date months mark days =
-    let hyphens = mark_at_place hyphen 45 (start + 2) text (byte_place (start + 2) text) hyphen_is (byte_in_class hyphen (start + 2) text refl mark) in
+    let hyphens = byte_is_mark 45 (start + 2) text refl mark in
     let third : suc (start + 2) ≡ start + 3 = omega arith in
     then_some (number_place (start + 3) text) _ date days λ day f e.
     days_are_read true profile text start (start + 2) (start + 3) (start + 5) month day date (number_at_place start text month months)
@@ -105,8 +105,8 @@ pub marked_is_read : (profile : Profile) (text : Text) → IsTrue (marks_place t
 unfolding month_day_at marks_at mark_by next_by look_at
 marked_is_read profile text marks =
     let both = and_parts _ _ marks in
-    let first = mark_at_place hyphen 45 0 text (byte_place 0 text) hyphen_is (byte_in_class hyphen 0 text refl both.0) in
-    let second = mark_at_place hyphen 45 1 text (byte_place 1 text) hyphen_is (byte_in_class hyphen 1 text refl both.1) in
+    let first = byte_is_mark 45 0 text refl both.0 in
+    let second = byte_is_mark 45 1 text refl both.1 in
     ap (month_day_at error_of profile) (first ∙ onto 45 second)
 
 -- a text that begins with a digit has none

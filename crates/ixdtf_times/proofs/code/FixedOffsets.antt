@@ -8,8 +8,7 @@ use Rattle.ixdtf_grammar.specs.language.Times.TimeShape.{colon_minutes}
 use Rattle.ixdtf_reading.specs.reading.{Looks.{error_of, look_at, peek_by}, FixedPlaces.{letter_place, number_place, offset_place}}
 use Rattle.ixdtf_reading.specs.reading.{Times.{time_of, line_after, clock_at}, Zones.{signed_alone_at, offset_alone_at, minute_offset_alone_at}}
 use Rattle.ixdtf_reading.specs.reading.Cores.{with_offset, offset_core_at, core_end_at}
-use Rattle.ixdtf_reading.proofs.parts.Looks.{onto}
-use Rattle.ixdtf_reading.proofs.code.FixedPlaces.{then_some, then_held, Number, number_at_place, mark_at_place, colon_is, two, two_digits, over_two}
+use Rattle.ixdtf_reading.proofs.{parts.Looks.onto, code.FixedPlaces.{then_some, then_held, Number, number_at_place, mark_at_place, two, two_digits, over_two}}
 use Rattle.ixdtf_reading.proofs.to_reading.{Times.{Closed, time_takes}, ClockRows.clock_starts}
 
 -- the code units of an hour, a colon and a minute, the text after them, and the offset that they are
@@ -52,7 +51,7 @@ offset_letters c text offset e =
     then_some (number_place 0 text) _ offset e λ hour f0 e0.
     then_some (letter_place colon 2 text) _ offset e0 λ mark f1 e1.
     then_some (number_place 3 text) _ offset e1 λ minute f2 e2.
-    of_numbers c text offset hour minute (number_at_place 0 text hour f0) (mark_at_place colon 58 2 text mark colon_is f1) (number_at_place 3 text minute f2)
+    of_numbers c text offset hour minute (number_at_place 0 text hour f0) (mark_at_place 58 2 text mark f1) (number_at_place 3 text minute f2)
     (then_held _ _ offset e2)
 
 module _ (c : ℕ) (text : Text) (offset : MinutePrecisionOffset) (found : offset_place c text ≡ Some offset) where

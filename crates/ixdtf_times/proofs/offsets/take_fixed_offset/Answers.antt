@@ -1,8 +1,8 @@
 use Rattle.ixdtf_times.proofs.offsets.take_fixed_offset.Goals as goal
-use Rattle.std.proofs.{Common.{◌≡◌, List, ℕ, IsTrue, [], map, drop, length, Ok, true, false, sym, ap, ◌∙◌, subst, arith}, lemmas.Bool.Decides.nat_tests}
+use Rattle.std.proofs.{Common.{◌≡◌, List, ℕ, IsTrue, [], map, drop, length, Ok, true, false, sym, ap, ◌∙◌, subst, arith, refl}, lemmas.Bool.Decides.nat_tests}
 use Rattle.std.proofs.lemmas.List.{drop-map, drop_all}
 use Rattle.ixdtf_reading.specs.reading.{FixedPlaces.byte_place, Cores.with_offset}
-use Rattle.ixdtf_reading.proofs.code.FixedPlaces.{opening_at_place}
+use Rattle.ixdtf_reading.proofs.code.FixedPlaces.{byte_is_mark}
 use Rattle.ixdtf_grammar.specs.{language.Letters.opening, declared.records.UtcOffsetRecord.TheVariants.MinutePrecision}
 use Rattle.ixdtf_times.proofs.code.FixedOffsets.{ends, goes_into_a_bracket}
 
@@ -26,5 +26,5 @@ returns-clause-read g c date time =
     let mark : IsTrue (opening (byte_place 5 (map letter units))) = subst (λ b. IsTrue (opening b)) next (sym c.if-not-is_annotation_open.ensures) in
     let left : c.advance_by-2.new.self.rest ≡ drop 6 units = c.advance_by-2.ensures.rest ∙ ap (λ (t : List ℕ). drop 6 t) looked in
     goes_into_a_bracket c.args.sign (map letter units) c.in_ok-offset.offset (sym c.in_ok-offset.ensures.there) date time _
-    (opening_at_place 5 (map letter units) mark)
+    (byte_is_mark 91 5 (map letter units) refl mark)
     ∙ ap (λ t. Ok ((with_offset date time (MinutePrecision c.in_ok-offset.offset), true), t)) (drop-map letter 6 units ∙ ap (map letter) (sym left))

@@ -2,7 +2,7 @@ use Rattle.ixdtf_times.proofs.time.count_more_digits.Goals as goal
 use Rattle.std.proofs.Common.{◌≡◌, map, Some, None, Ok, false, ap, arith, rules}
 use Rattle.ixdtf_grammar.specs.language.Letters.{digit}
 use Rattle.ixdtf_reading.specs.reading.Looks.{seen}
-use Rattle.ixdtf_reading.proofs.code.{FractionLoop.{begins, goes_on, ends_at_other, ends_at_end, fails, one_taken}, GrowingDigits.grown_by_count}
+use Rattle.ixdtf_reading.proofs.{code.FractionLoop.{begins, goes_on, ends_at_other, ends_at_end, fails, one_taken}, parts.GrowingDigits.grown_by_count}
 use Rattle.ixdtf_times.proofs.time.count_more_digits.Goals.{in-Some+then-not-is_ascii_digit, in_default}
 
 pub loop-byte-init : goal.loop-byte-init

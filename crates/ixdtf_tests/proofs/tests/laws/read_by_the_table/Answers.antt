@@ -11,8 +11,8 @@ use Rattle.ixdtf.specs.table.Outcomes.Outcome.{derived, refused}
 use Rattle.ixdtf.specs.table.Rows.{Row, Fits}
 use Rattle.ixdtf.specs.Handlers.{own_replies, LastRefused, UnhandledRecord, UnhandledFault}
 use Rattle.ixdtf.specs.Views.{returned, parsed_of}
-use Rattle.ixdtf_reading.proofs.code.OneMoreReply.{nothing_split}
 use Rattle.ixdtf_tests.proofs.tests.laws.read_by_the_table.Goals as goal
+use Rattle.ixdtf_reading.proofs.theorems.Replies.{nothing_split}
 
 -- a reply that is refused is one to some pair
 none_refused : (pairs : List Pair) (fault : Fault) → LastRefused (own_replies pairs) fault → Begins pairs [] → ⊥

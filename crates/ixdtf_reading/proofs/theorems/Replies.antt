@@ -1,5 +1,5 @@
--- One more reply at the end of a list of replies.
-use Rattle.std.proofs.Common.{◌≡◌, ◌⊎◌, List, [], ◌∷◌, ◌++◌, Option, Some, None, refl, ◌∙◌, ap, inl, inr, append_assoc}
+-- Lists of replies: one more at the end, replies of none, and which of them is refused.
+use Rattle.std.proofs.Common.{◌≡◌, ◌⊎◌, List, [], ◌∷◌, ◌++◌, Option, Some, None, refl, ◌∙◌, ap, inl, inr, append_assoc, length, arith, length-append, map}
 use Rattle.std.proofs.lemmas.List.{Elements.filter_map-append, Folds.find-append}
 use Rattle.std.specs.{Prelude.{find, filter_map}, Option.option_or}
 use Rattle.ixdtf_grammar.specs.{table.Faults.{Fault, Fault.{UnrecognizedCritical, CriticalDuplicateCalendar}}, language.Brackets.Pair}
@@ -10,19 +10,35 @@ pub nothing_split : {A : Type 0} (earlier later : List A) (x : A) → [] ≡ ear
 nothing_split [] later x e = cc
 nothing_split (y ∷ earlier) later x e = cc
 
--- an element of a list with one more at the end is that one, or stands in the list
-pub split_more : {A : Type 0} (xs : List A) (a : A) (earlier later : List A) (x : A) → xs ++ a ∷ [] ≡ earlier ++ x ∷ later
-    → ((earlier ≡ xs) × (x ≡ a)) ⊎ ((rest : List A) × (xs ≡ earlier ++ x ∷ rest))
-split_more [] a [] later x e = inl (refl, cc)
-split_more {A} [] a (y ∷ earlier) later x e = let tail : [] ≡ earlier ++ x ∷ later = cc in absurd (nothing_split earlier later x tail)
-split_more (z ∷ xs) a [] later x e = inr (xs, cc)
-split_more {A} (z ∷ xs) a (y ∷ earlier) later x e =
-    let tail : xs ++ a ∷ [] ≡ earlier ++ x ∷ later = cc in
-    let head : z ≡ y = cc in
-    elim (split_more xs a earlier later x tail) [
+-- of two elements of a list one stands before the other, or they are one
+pub two_places : {A : Type 0} (xs ys xs' ys' : List A) (a b : A) → xs ++ a ∷ ys ≡ xs' ++ b ∷ ys'
+    → ((xs ≡ xs') × (a ≡ b)) ⊎ (((rest : List A) × (xs' ≡ xs ++ a ∷ rest)) ⊎ ((rest : List A) × (xs ≡ xs' ++ b ∷ rest)))
+two_places [] ys [] ys' a b e = inl (refl, cc)
+two_places [] ys (x ∷ xs') ys' a b e = inr (inl (xs', cc))
+two_places (x ∷ xs) ys [] ys' a b e = inr (inr (xs, cc))
+two_places {A} (x ∷ xs) ys (x' ∷ xs') ys' a b e =
+    let head : x ≡ x' = cc in
+    let tail : xs ++ a ∷ ys ≡ xs' ++ b ∷ ys' = cc in
+    elim (two_places xs ys xs' ys' a b tail) [
       | inl p ↦ let same = p.0 in inl (cc, p.1)
-      | inr p ↦ let same = p.1 in inr (p.0, cc)
+      | inr (inl p) ↦ let same = p.1 in inr (inl (p.0, cc))
+      | inr (inr p) ↦ let same = p.1 in inr (inr (p.0, cc))
     ]
+
+-- an element of a list with one more at the end is that one, or stands in the list
+split_more : {A : Type 0} (xs : List A) (a : A) (earlier later : List A) (x : A) → xs ++ a ∷ [] ≡ earlier ++ x ∷ later
+    → ((xs ≡ earlier) × (a ≡ x)) ⊎ ((rest : List A) × (xs ≡ earlier ++ x ∷ rest))
+split_more {A} xs a earlier later x e = elim (two_places xs [] earlier later a x e) [
+  | inl p ↦ inl p
+  | inr (inl p) ↦ absurd (omega (arith, ap length e, ap length p.1, length-append {A = A}))
+  | inr (inr p) ↦ inr p
+]
+
+pub same_last : {A : Type 0} (xs ys : List A) (a b : A) → xs ++ a ∷ [] ≡ ys ++ b ∷ [] → (xs ≡ ys) × (a ≡ b)
+same_last {A} xs ys a b e = elim (split_more xs a ys [] b e) [
+  | inl p ↦ p
+  | inr p ↦ absurd (omega (arith, ap length e, ap length p.1, length-append {A = A}))
+]
 
 pub first_calendar-more : (replies : List Reply) (reply : Reply)
     → first_calendar (replies ++ reply ∷ []) ≡ option_or (first_calendar replies) (first_calendar (reply ∷ []))
@@ -38,7 +54,7 @@ pub NoneRefused-more : (replies : List Reply) (reply : Reply) → NoneRefused re
 NoneRefused-more replies reply accepted more = record {
   none = λ earlier later x fault split refused.
       elim (split_more replies reply earlier later x split) [
-        | inl p ↦ more fault (rw (← p.1) (rw (← p.0) refused))
+        | inl p ↦ more fault (rw (p.0, p.1) refused)
         | inr p ↦ accepted.none earlier p.0 x fault p.1 refused
       ];
 }
@@ -68,3 +84,19 @@ neither_refused calendar reply a b fault h = elim (refused_split calendar reply 
   | inl p ↦ a p.1
   | inr p ↦ b p.1
 ]
+
+-- ---- replies of none
+
+-- as many replies as these, each of them none
+abbrev pub nones : {A : Type 0} → List A → List Reply
+nones calls = map (λ call. None) calls
+
+pub first_calendar-nones : {A : Type 0} (calls : List A) → first_calendar (nones calls) ≡ None
+first_calendar-nones [] = refl
+first_calendar-nones (call ∷ calls) = first_calendar-nones calls
+
+pub each_is_none : {A : Type 0} (calls : List A) (earlier later : List Reply) (reply : Reply) → nones calls ≡ earlier ++ reply ∷ later → reply ≡ None
+each_is_none [] [] later reply e = cc
+each_is_none [] (b ∷ earlier) later reply e = cc
+each_is_none (call ∷ calls) [] later reply e = cc
+each_is_none (call ∷ calls) (b ∷ earlier) later reply e = let tail : nones calls ≡ earlier ++ reply ∷ later = cc in each_is_none calls earlier later reply tail

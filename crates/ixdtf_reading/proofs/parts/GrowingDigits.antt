@@ -1,6 +1,6 @@
 -- The number of digits that grow at their end.
-use Rattle.std.proofs.Common.{◌≡◌, ℕ, suc, ◌+◌, ◌-◌, ◌*◌, ◌^◌, ◌≤◌, ◌<◌, Bool, true, false, [], ◌∷◌, ◌++◌, length, take, min, refl, ap, ◌∙◌, arith, take_all}
-use Rattle.std.proofs.{Common.nat_le, lemmas.{Bool.{leb-true, Decides.nat_tests}, List.{length-append, take-append-le}}, Math.Nat.pow-succ'}
+use Rattle.std.proofs.Common.{◌≡◌, ℕ, suc, ◌+◌, ◌-◌, ◌*◌, ◌^◌, ◌≤◌, ◌<◌, [], ◌∷◌, ◌++◌, length, take, min, refl, ap, ◌∙◌, arith, take_all}
+use Rattle.std.proofs.{Common.{inl, inr}, lemmas.{Bool.cases_lt, List.{length-append, take-append-le}}, Math.Nat.pow-succ'}
 use Rattle.ixdtf_grammar.specs.language.{Letters.{Letter, Text, Letter.Plain}, Digits.{decimal, digit_value}}
 use Rattle.ixdtf_grammar.specs.language.Fractions.{FractionParts, fraction_of, value_of}
 
@@ -55,11 +55,7 @@ pub fraction_grows : (ds : Text) (before after : FractionParts) (c : ℕ) → be
 fraction_grows ds before after c is g =
     let count : before.count ≡ min (length ds) 255 = ap (λ f. f.count) is in
     let value : before.value ≡ value_of ds = ap (λ f. f.value) is in
-    same_fraction after _ (omega (arith, length_snoc ds (Plain c), g.count, count)) (by_length (nat_le 18 (length ds)) refl count value)
-  where
-    by_length : (b : Bool) → nat_le 18 (length ds) ≡ b → before.count ≡ min (length ds) 255 → before.value ≡ value_of ds
-        → after.value ≡ value_of (ds ++ (Plain c ∷ []))
-    by_length true h count value = let long = leb-true _ _ h in g.stays (omega arith) ∙ value ∙ rw (value_stays ds c long) refl
-    by_length false h count value =
-        let short : length ds < 18 = grind (arith, nat_tests, h) in
-        g.grows (omega arith) ∙ rw (value, value_grows ds c short) refl
+    same_fraction after _ (omega (arith, length_snoc ds (Plain c), g.count, count)) (elim (cases_lt (length ds) 18) [
+      | inl short ↦ g.grows (omega arith) ∙ rw (value, value_grows ds c short) refl
+      | inr long ↦ g.stays (omega arith) ∙ value ∙ rw (value_stays ds c long) refl
+    ])
