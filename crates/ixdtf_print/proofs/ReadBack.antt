@@ -1,8 +1,8 @@
 -- The canonical text of a record stands for the record.
 use Rattle.ixdtf_grammar.specs.declared.records.UtcOffsetRecord.TheVariants as offsets
 use Rattle.ixdtf_grammar.specs.declared.records.UtcOffsetRecordOrZ.TheVariants as stands
-use Rattle.std.proofs.Common.{ℕ, suc, ◌+◌, ◌-◌, ◌<◌, ◌≤◌, ◌≡◌, min, IsTrue, Bool, true, false, cond, ℤ, pos, negsuc, nat_abs, List, [], ◌∷◌, ◌++◌, map}
-use Rattle.std.proofs.Common.{length, take, replicate, codes, Option, Some, None, refl, sym, ◌∙◌, ap, inl, inr, arith, append-nil, nat_le, nat_eq, ◌||◌}
+use Rattle.std.proofs.Common.{ℕ, suc, ◌+◌, ◌-◌, ◌<◌, ◌≤◌, ◌≡◌, min, IsTrue, Bool, true, false, cond, ℤ, pos, negsuc, nat_abs, List, [], ◌∷◌, ◌++◌, map, length}
+use Rattle.std.proofs.Common.{take, replicate, codes, Option, Some, None, refl, sym, ◌∙◌, ap, inl, inr, arith, append-nil, nat_le, nat_eq, ◌||◌}
 use Rattle.std.proofs.{Common.subst, lemmas.{Bool.{leb-true, Decides.nat_tests}, List.{take_all, nil_from_length, length-append, length-replicate}}}
 use Rattle.std.proofs.Math.Seq.{take-append_seam}
 use Rattle.ixdtf_grammar.specs.declared.records.{DateRecord.DateRecord, MinutePrecisionOffset.MinutePrecisionOffset, Sign.Sign}
