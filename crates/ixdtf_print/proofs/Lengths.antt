@@ -25,17 +25,12 @@ year_four : (year : ℤ) → pos 0 ≤ℤ year → year ≤ℤ pos 9999 → leng
 year_four (pos n) from to = year_few n (omega (arith, ints))
 year_four (negsuc n) from to = absurd (omega (arith, ints))
 
-many : (n : ℕ) → 9999 < n → length (year_text (pos n)) ≡ 7
-unfolding year_text
-many n h = by_test (nat_le n 9999) (grind (arith, nat_tests, h))
-  where
-    by_test : (b : Bool) → IsFalse b → length (cond b (padded_digits 4 n) (Plain 43 ∷ padded_digits 6 n)) ≡ 7
-    by_test true t = absurd cc
-    by_test false t = refl
-
 year_seven : (year : ℤ) → ((pos 9999 <ℤ year) ⊎ (year <ℤ pos 0)) → length (year_text year) ≡ 7
 unfolding year_text
-year_seven (pos n) (inl h) = many n (omega (arith, ints))
+year_seven (pos n) (inl h) =
+    let later : 9999 < n = omega (arith, ints) in
+    let test : nat_le n 9999 ≡ false = grind (arith, nat_tests, later) in
+    rw test refl
 year_seven (pos n) (inr h) = absurd (omega (arith, ints))
 year_seven (negsuc n) h = refl
 

@@ -49,14 +49,8 @@ is_year (pos n) small = by_test (nat_le n 9999) refl
     by_test false h = extended_year 43 n refl small (λ minus. absurd cc)
 is_year (negsuc n) small = extended_year 45 (suc n) refl small (λ minus none. absurd cc)
 
-most_days : (february leap short : Bool) → cond february (cond leap 29 28) (cond short 30 31) ≤ 31
-most_days true true short = omega arith
-most_days true false short = omega arith
-most_days false leap true = omega arith
-most_days false leap false = omega arith
-
 month_length_most : (year : ℤ) (month : ℕ) → month_length year month ≤ 31
-month_length_most year month = most_days (nat_eq month 2) (is_leap year) (nat_eq month 4 || nat_eq month 6 || nat_eq month 9 || nat_eq month 11)
+month_length_most year month = grind (arith, nat_tests)
 
 pub is_date : (date : DateRecord) → IsDay date → IsDate (date_text date) date
 unfolding date_text
