@@ -49,3 +49,14 @@ pub canonical_long : (found : Parsed) → length (canonical_text found)
     ≡ length (core_text found) + length (bracket_text found.zone) + length (calendar_text found.calendar)
 unfolding canonical_text
 canonical_long found = omega (arith, length-append {A = Letter})
+
+pub ruleset lengths = (
+  some_fraction_long,
+  some_time_long,
+  minute_offset_long,
+  full_offset_long,
+  four_digit_date_long,
+  signed_date_long,
+  core_long,
+  canonical_long,
+)
