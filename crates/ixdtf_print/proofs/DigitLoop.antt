@@ -73,3 +73,5 @@ all_digits {old = old} {new = new} {from = from} {place = place} {to = to} {left
     let here : place ≡ from = omega (arith, d.begun) in
     let none : place - from ≡ 0 = omega arith in
     subst (Puts old new from to) (ap (λ k. padded_digits k left ++ d.done) (sym none) ∙ d.whole) (subst (λ k. Puts old new k to d.done) here d.puts)
+
+pub ruleset digit_steps = (length-padded, next_digit)

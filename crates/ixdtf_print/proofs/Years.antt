@@ -20,3 +20,5 @@ pub far_year : (year : ℤ) (distance : ℕ) → distance ≡ nat_abs year → p
 unfolding year_text
 far_year (pos n) distance is h many = let test : nat_le n 9999 ≡ false = grind (arith, nat_tests, many, is) in rw (is, test) refl
 far_year (negsuc n) distance is h many = absurd (omega (arith, ints))
+
+pub ruleset years = (negative_year, four_digit_year, far_year)
