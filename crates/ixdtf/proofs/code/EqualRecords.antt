@@ -10,6 +10,7 @@ use Rattle.ixdtf_grammar.specs.contracts.records.UtcOffsetRecordOrZPartialEq.The
 use Rattle.ixdtf_grammar.specs.contracts.records.FractionPartialEq.TheImpl as fractions
 use Rattle.ixdtf_grammar.specs.contracts.records.TimeDurationRecordPartialEq.TheImpl as time_durations_equal
 use Rattle.std.proofs.Common.{nat_eq, ◌≡◌, ◌↔◌, ℕ, Bool, true, false, ◌&&◌, IsTrue, map, Option, Some, None, option_map, refl, sym, ap, ◌∙◌}
+use Rattle.std.proofs.lemmas.Iterator.Adapters.{option_map_id}
 use Rattle.std.specs.{Bool.one_answer, Cmp.{unsigned_Decides, first_so, second_so, Derive.both_true}, Option.option_eq}
 use Rattle.ixdtf_grammar.specs.declared.records.{UtcOffsetRecord.UtcOffsetRecord, UtcOffsetRecordOrZ.UtcOffsetRecordOrZ, TimeZoneRecord.TimeZoneRecord}
 use Rattle.ixdtf_grammar.specs.{declared.records.TimeDurationRecord.TimeDurationRecord, language.{Fractions.FractionParts, ZoneNames.Zone.{Name, Offset}}}
@@ -56,10 +57,7 @@ on_option exact (Some x) (Some y) = (λ t. ap Some ((exact x y).0 t), λ p. (exa
 
 -- of what may be there, seen as it is
 pub on_option_itself : {K : Type 0} {eq : K → K → Bool} → Exact (λ x. x) eq → Exact (λ o. o) (option_eq eq)
-on_option_itself exact None None = (λ t. refl, λ p. refl)
-on_option_itself exact None (Some y) = (λ t. absurd cc, λ p. absurd cc)
-on_option_itself exact (Some x) None = (λ t. absurd cc, λ p. absurd cc)
-on_option_itself exact (Some x) (Some y) = (λ t. ap Some ((exact x y).0 t), λ p. (exact x y).1 cc)
+on_option_itself exact a b = let both = on_option exact a b in (rw (option_map_id a, option_map_id b) at both)
 
 -- zones, by the tests of their two variants
 pub record ByVariant {T U : Type 0} (eq : TimeZoneRecord T U → TimeZoneRecord T U → Bool) (eq_names : _ → _ → Bool) (eq_offsets : _ → _ → Bool) : Type 0 where
