@@ -1,18 +1,14 @@
 -- What is derived from a text has fields that have texts, and its canonical text is not much longer than the text.
-use Rattle.std.proofs.Common.{ℕ, zero, suc, ◌+◌, ◌-◌, ◌<◌, ◌≤◌, ◌≡◌, ◌^◌, min, IsTrue, Bool, true, false, cond, ℤ, pos, negsuc, neg_ℤ, nat_abs, ◌∷◌, ◌++◌}
-use Rattle.std.proofs.{Common.{length, take, replicate, Some, refl, ◌∙◌, ap, inl, inr, arith, nat_le}, lemmas.Bool.{leb-true, Decides.nat_tests}}
+use Rattle.std.proofs.Common.{ℕ, zero, suc, ◌+◌, ◌-◌, ◌<◌, ◌≤◌, ◌≡◌, ◌^◌, min, IsTrue, Bool, true, false, cond, ℤ, pos, negsuc, neg_ℤ, nat_abs}
+use Rattle.std.proofs.{Common.{length, take, Some, refl, ◌∙◌, ap, inl, inr, arith, nat_le}, lemmas.Bool.{leb-true, Decides.nat_tests}}
 use Rattle.std.proofs.{lemmas.List.{take_all, length-append, length-replicate}, Math.Nat.{pow-succ', mul-le-mul_left}}
 use Rattle.ixdtf_grammar.specs.declared.records.DateRecord.{DateRecord}
-use Rattle.ixdtf_grammar.proofs.PaddedDigits.{length-padded}
-use Rattle.ixdtf.specs.language.{Letters.{Letter, Text, digit, hyphen, Letter.Plain}, Shapes.digits, Digits.{decimal, padded_digits}}
-use Rattle.ixdtf.specs.language.{Dates.{Year, IsDate, DateText, IsDayOfMonth}, Fractions.{FractionParts, IsFraction, places_of}}
+use Rattle.ixdtf_grammar.proofs.{PaddedDigits.length-padded, theorems.CoreSizes.digits_long}
+use Rattle.ixdtf.specs.language.{Letters.{Letter, Text, digit, hyphen, Letter.Plain}, Shapes.digits, Digits.decimal}
+use Rattle.ixdtf.specs.language.{Dates.{Year, IsDate, IsDayOfMonth}, Fractions.{FractionParts, IsFraction, places_of}}
 use Rattle.ixdtf_print.specs.{Canonical.{two_digits, year_text, date_text, fraction_digits, fraction_text}, Spelled.{IsDay, AreDigits}}
 
 -- ---- digits
-
-pub digits_long : (n : ℕ) (text : Text) → digits n text → length text ≡ n
-digits_long zero text h = rw h refl
-digits_long (suc n) text h = rw (h.2, digits_long n h.1 h.4) refl
 
 one_digit : (c : ℕ) → IsTrue (digit c) → c - 48 ≤ 9
 one_digit c h = grind (arith, nat_tests, h)

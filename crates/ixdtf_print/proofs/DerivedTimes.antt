@@ -1,20 +1,21 @@
 -- What is derived as a time, an offset, a zone or a calendar has a text, which is not much longer.
 use Rattle.ixdtf_grammar.specs.declared.records.UtcOffsetRecordOrZ.TheVariants as stands
-use Rattle.std.proofs.Common.{ℕ, ◌+◌, ◌≤◌, ◌≡◌, IsTrue, Bool, true, false, cond, List, [], ◌∷◌, ◌++◌, map, length, Option, Some, None, refl, sym, ap, inl}
+use Rattle.std.proofs.Common.{ℕ, ◌+◌, ◌≤◌, ◌≡◌, IsTrue, Bool, true, false, cond, List, [], ◌∷◌, length, Option, Some, None, refl, sym, inl}
 use Rattle.std.proofs.{Common.{inr, arith}, lemmas.List.length-append}
 use Rattle.std.specs.Cmp.Lexicographic.{same_text}
-use Rattle.ixdtf_grammar.specs.declared.records.{MinutePrecisionOffset.MinutePrecisionOffset, TimeRecord.TimeRecord, UtcOffsetRecord.UtcOffsetRecord}
+use Rattle.ixdtf_grammar.specs.declared.records.{MinutePrecisionOffset.MinutePrecisionOffset, TimeRecord.TimeRecord}
 use Rattle.ixdtf_grammar.specs.declared.records.UtcOffsetRecordOrZ.{UtcOffsetRecordOrZ}
-use Rattle.ixdtf.specs.language.{Letters.{Letter, Text, Letter.Plain}, Fractions.FractionParts}
+use Rattle.ixdtf.specs.language.{Letters.{Letter, Text}, Fractions.FractionParts}
 use Rattle.ixdtf.specs.language.Times.{Clock, TimeShape, SecondText, ClockOf, IsTime, greatest_second, writes_seconds, Clock as clocks}
 use Rattle.ixdtf.specs.language.Times.TimeShape.{hours, basic_minutes, colon_minutes, seconds, fractions}
 use Rattle.ixdtf.specs.language.{Offsets.{IsOffsetOrZ, IsMinuteOffset, offset_of, minutes_of}, ZoneNames.{Zone, IsZone}}
-use Rattle.ixdtf.specs.language.Brackets.{ZoneNote, Opens, OptionalBracket, Pair, Value, IsPair, ArePairs}
+use Rattle.ixdtf.specs.language.Brackets.{ZoneNote, Opens, OptionalBracket, Pair, IsPair, ArePairs}
 use Rattle.ixdtf.specs.Handlers.{own_replies, calendar_key, calendar_value, first_calendar, is_calendar}
 use Rattle.ixdtf_print.specs.Canonical.{two_digits, minutes_text, seconds_text, fraction_text, clock_text, minute_offset_text, offset_text, zone_text}
 use Rattle.ixdtf_print.specs.Canonical.{opening_text, bracket_text, calendar_text}
 use Rattle.ixdtf_print.specs.Spelled.{HasDigits, IsClock, IsDayTime, IsMinuteClock, IsShift, IsZoneText, HasZone, HasCalendar}
-use Rattle.ixdtf_print.proofs.Derived.{digits_long, of_fraction}
+use Rattle.ixdtf_grammar.proofs.theorems.CoreSizes.{digits_long}
+use Rattle.ixdtf_print.proofs.Derived.{of_fraction}
 
 -- ---- clocks
 

@@ -1,10 +1,10 @@
 -- How long the parts of a canonical text are.
-use Rattle.std.proofs.Common.{ℕ, ◌+◌, ◌≡◌, ◌⊎◌, ℤ, pos, negsuc, Bool, true, false, cond, IsFalse, ◌<◌, ◌∷◌, ◌++◌, length, Some, refl, arith, nat_le, inl, inr}
+use Rattle.std.proofs.Common.{◌+◌, ◌≡◌, ◌⊎◌, ℤ, pos, negsuc, false, ◌<◌, length, Some, refl, arith, nat_le, inl, inr}
 use Rattle.std.proofs.lemmas.{Bool.Decides.nat_tests, Int.ints, List.length-append}
 use Rattle.std.specs.Prelude.{◌≤ℤ◌, ◌<ℤ◌}
 use Rattle.ixdtf_grammar.specs.declared.records.{DateRecord.DateRecord, FullPrecisionOffset.FullPrecisionOffset, MinutePrecisionOffset.MinutePrecisionOffset}
 use Rattle.ixdtf_grammar.specs.declared.records.TimeRecord.{TimeRecord}
-use Rattle.ixdtf.specs.language.{Letters.{Letter, Letter.Plain}, Digits.padded_digits, Fractions.FractionParts, Languages.Parsed}
+use Rattle.ixdtf.specs.language.{Letters.Letter, Fractions.FractionParts, Languages.Parsed}
 use Rattle.ixdtf_print.specs.Canonical.{year_text, date_text, fraction_text, time_text, minute_offset_text, full_offset_text, offset_text, bracket_text}
 use Rattle.ixdtf_print.specs.Canonical.{calendar_text, optional_date_text, core_text, canonical_text}
 use Rattle.ixdtf_print.proofs.{Derived.{fraction_long, year_few, date_long}, DerivedTimes.{minutes_long, clock_long}}

@@ -2,22 +2,22 @@
 use Rattle.ixdtf_grammar.specs.declared.records.UtcOffsetRecord.TheVariants as offsets
 use Rattle.ixdtf_grammar.specs.declared.records.UtcOffsetRecordOrZ.TheVariants as stands
 use Rattle.std.proofs.Common.{ℕ, suc, ◌+◌, ◌-◌, ◌<◌, ◌≤◌, ◌≡◌, ◌≢◌, min, IsTrue, Bool, true, false, cond, ℤ, pos, negsuc, nat_abs, List, [], ◌∷◌, ◌++◌, map, length}
-use Rattle.std.proofs.Common.{take, replicate, codes, Option, Some, None, refl, sym, ◌∙◌, ap, inl, inr, arith, append-nil, nat_le, nat_eq, ◌||◌}
-use Rattle.std.proofs.{Common.subst, lemmas.{Bool.{leb-true, Decides.nat_tests}, List.{take_all, nil_from_length, length-append, length-replicate}}}
+use Rattle.std.proofs.Common.{take, replicate, codes, Option, Some, None, refl, sym, ◌∙◌, ap, inl, inr, arith, append-nil, nat_le}
+use Rattle.std.proofs.{Common.subst, lemmas.{Bool.{leb-true, Decides.nat_tests}, List.{take_all, length-append, length-replicate}}}
 use Rattle.std.proofs.Math.Seq.{take-append_seam}
 use Rattle.ixdtf_grammar.specs.declared.records.{DateRecord.DateRecord, MinutePrecisionOffset.MinutePrecisionOffset, Sign.Sign}
 use Rattle.ixdtf_grammar.specs.declared.records.{Sign.TheVariants.{Positive, Negative}, TimeRecord.TimeRecord, UtcOffsetRecordOrZ.UtcOffsetRecordOrZ}
 use Rattle.ixdtf_grammar.proofs.PaddedDigits.{decimal-whole, length-padded}
 use Rattle.ixdtf.specs.language.{Letters.{Text, sign, hyphen, Letter.Plain}, Digits.{decimal, padded_digits}, Shapes.digits}
-use Rattle.ixdtf.specs.language.{Dates.{Year, IsDate, signed as year_of, is_leap, month_length}, Fractions.{FractionParts, IsFraction, places_of}}
+use Rattle.ixdtf.specs.language.{Dates.{Year, IsDate, signed as year_of, month_length}, Fractions.{FractionParts, IsFraction, places_of}}
 use Rattle.ixdtf.specs.language.Times.{Clock, TimeShape, SecondText, ClockOf, IsTime, has_seconds, greatest_second, writes_seconds, Clock as clocks}
 use Rattle.ixdtf.specs.language.Times.TimeShape.{colon_minutes, seconds, fractions}
-use Rattle.ixdtf.specs.language.Offsets.{IsSigned, IsOffsetOrZ, IsMinuteOffset, offset_of, sign_of as sign_at, minutes_of as minutes_at}
+use Rattle.ixdtf.specs.language.Offsets.{IsSigned, IsOffsetOrZ, IsMinuteOffset, sign_of as sign_at, minutes_of as minutes_at}
 use Rattle.ixdtf_reading.proofs.code.OneMoreReply.{NoneRefused-nothing, NoneRefused-more}
 use Rattle.ixdtf.specs.language.ZoneNames.{Zone, IsZone, Zone.{Name, Offset}}
 use Rattle.ixdtf.specs.language.Brackets.{ZoneNote, Opens, OptionalBracket, Pair, Key, Value, IsPair, ArePairs}
 use Rattle.ixdtf.specs.{language.{Cores.{core_of, OptionalOffset, IsDateTimeCore}, Languages.Parsed}, table.Faults.{Fault, Fault.UnrecognizedCritical}}
-use Rattle.ixdtf.specs.Handlers.{Reply, RefusedBeside, NoneRefused, own_replies, calendar_key, calendar_value, first_calendar}
+use Rattle.ixdtf.specs.Handlers.{RefusedBeside, NoneRefused, own_replies, calendar_key, calendar_value, first_calendar}
 use Rattle.ixdtf_print.specs.Canonical.{two_digits, year_text, date_text, minutes_text, seconds_text, fraction_digits, clock_text, time_text, sign_of}
 use Rattle.ixdtf_print.specs.Canonical.{minute_offset_text, offset_text, zone_text, opening_text, bracket_text, calendar_text, optional_date_text, core_text}
 use Rattle.ixdtf_print.specs.{Canonical.canonical_text, Spelled.{IsDay, AreDigits, HasDigits, IsClock, IsDayTime, IsMinuteClock, IsShift, HasDay, HasTime}}

@@ -1,5 +1,5 @@
 -- Years by their signs.
-use Rattle.std.proofs.Common.{ℕ, ◌<◌, ◌≤◌, ◌≡◌, ℤ, pos, negsuc, nat_abs, Bool, true, false, cond, [], ◌∷◌, ◌++◌, refl, arith, nat_le}
+use Rattle.std.proofs.Common.{ℕ, ◌<◌, ◌≤◌, ◌≡◌, ℤ, pos, negsuc, nat_abs, true, false, [], ◌∷◌, ◌++◌, refl, arith, nat_le}
 use Rattle.std.proofs.lemmas.{Bool.Decides.nat_tests, Int.ints}
 use Rattle.std.specs.Prelude.{◌≤ℤ◌, ◌<ℤ◌}
 use Rattle.ixdtf.specs.language.{Letters.Letter.Plain, Digits.padded_digits}

@@ -9,10 +9,10 @@ use Rattle.ixdtf_grammar.specs.contracts.records.UtcOffsetRecordPartialEq.TheImp
 use Rattle.ixdtf_grammar.specs.contracts.records.UtcOffsetRecordOrZPartialEq.TheImpl as offsets_or_z_equal
 use Rattle.ixdtf_grammar.specs.contracts.records.FractionPartialEq.TheImpl as fractions
 use Rattle.ixdtf_grammar.specs.contracts.records.TimeDurationRecordPartialEq.TheImpl as time_durations_equal
-use Rattle.std.proofs.Common.{nat_eq, ◌≡◌, ◌↔◌, ℕ, Bool, true, false, ◌&&◌, IsTrue, map, Option, Some, None, option_map, refl, sym, ap, ◌∙◌}
+use Rattle.std.proofs.Common.{nat_eq, ◌≡◌, ◌↔◌, ℕ, Bool, false, ◌&&◌, IsTrue, map, Option, Some, None, option_map, refl, sym, ap, ◌∙◌}
 use Rattle.std.proofs.lemmas.Iterator.Adapters.{option_map_id}
 use Rattle.std.specs.{Bool.one_answer, Cmp.{unsigned_Decides, first_so, second_so, Derive.both_true}, Option.option_eq}
-use Rattle.ixdtf_grammar.specs.declared.records.{UtcOffsetRecord.UtcOffsetRecord, UtcOffsetRecordOrZ.UtcOffsetRecordOrZ, TimeZoneRecord.TimeZoneRecord}
+use Rattle.ixdtf_grammar.specs.declared.records.{TimeZoneRecord.TimeZoneRecord}
 use Rattle.ixdtf_grammar.specs.{declared.records.TimeDurationRecord.TimeDurationRecord, language.{Fractions.FractionParts, ZoneNames.Zone.{Name, Offset}}}
 use Rattle.ixdtf_grammar.specs.{Laws.IsEqualityBy, Views.zone_of}
 

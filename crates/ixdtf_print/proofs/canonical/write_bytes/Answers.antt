@@ -1,6 +1,5 @@
 use Rattle.ixdtf_print.proofs.canonical.write_bytes.Goals as goal
-use Rattle.std.proofs.{Common.{true, refl, ap, take_all}, Output.{has_written_styled_append, has_written_styled_of_eq}}
-use Rattle.std.specs.Str.{encode_utf8_all}
+use Rattle.std.proofs.{Common.{true, refl}, Output.{has_written_styled_append, has_written_styled_of_eq}}
 use Rattle.ixdtf_print.proofs.Shown.{one_more}
 
 pub loop-byte-preserved : goal.loop-byte-preserved

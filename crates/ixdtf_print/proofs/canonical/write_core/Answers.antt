@@ -1,5 +1,5 @@
 use Rattle.ixdtf_print.proofs.canonical.write_core.Goals as goal
-use Rattle.std.proofs.{Common.{ap, ◌∙◌, arith}, Output.has_written_styled_of_eq}
+use Rattle.std.proofs.{Common.{ap, ◌∙◌}, Output.has_written_styled_of_eq}
 use Rattle.std.specs.Str.{encode_utf8_all}
 use Rattle.ixdtf_print.proofs.Shown.{counted_bytes}
 
