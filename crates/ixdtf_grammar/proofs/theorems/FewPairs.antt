@@ -35,13 +35,13 @@ key_few kind pairs before rest (inr (first, second, is, brackets, opens)) = rw i
 
 before_few : (kind : CoreKind) (name : LineName) (pairs : List Pair) (before rest : Text) → BeforeBracketed kind name pairs before rest
     → length pairs ≤ length before
-before_few kind (of_zone identifier_start) pairs before rest p = absurd p
-before_few kind (of_zone zone_name_start) pairs before rest p = absurd p
-before_few kind (of_bracket after_bracket) pairs before rest p = bracketed_few kind pairs before p
 before_few kind (of_pair key_start) pairs before rest p = bracketed_few kind pairs before p
 before_few kind (of_pair critical_key_start) pairs before rest p = bracketed_few kind pairs before p
 before_few kind (of_pair line) pairs before rest p = key_few kind pairs before rest p
+before_few kind (of_bracket after_bracket) pairs before rest p = bracketed_few kind pairs before p
 before_few kind (of_duration profile line) pairs before rest p = absurd p
+before_few kind (of_zone identifier_start) pairs before rest p = absurd p
+before_few kind (of_zone zone_name_start) pairs before rest p = absurd p
 before_few kind (of_clock Time line) pairs before rest p = none_few pairs before p.1
 before_few kind name pairs before rest p = none_few pairs before p.1
 
