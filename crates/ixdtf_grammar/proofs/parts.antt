@@ -1,3 +1,4 @@
 -- What readings are made of.
+pub mod Classes
 pub mod CoreLetters
 pub mod Texts

@@ -1,18 +1,14 @@
 -- What is derived from a text has fields that have texts, and its canonical text is not much longer than the text.
-use Rattle.std.proofs.Common.{ℕ, zero, suc, ◌+◌, ◌-◌, ◌<◌, ◌≤◌, ◌≡◌, ◌^◌, min, IsTrue, Bool, true, false, cond, ℤ, pos, negsuc, neg_ℤ, nat_abs, ◌∷◌, ◌++◌}
-use Rattle.std.proofs.{Common.{length, take, replicate, Some, refl, ◌∙◌, ap, inl, inr, arith, nat_le}, lemmas.Bool.{leb-true, Decides.nat_tests}}
+use Rattle.std.proofs.Common.{ℕ, zero, suc, ◌+◌, ◌-◌, ◌<◌, ◌≤◌, ◌≡◌, ◌^◌, min, IsTrue, Bool, true, false, cond, ℤ, pos, negsuc, neg_ℤ, nat_abs}
+use Rattle.std.proofs.{Common.{length, take, Some, refl, ◌∙◌, ap, inl, inr, arith, nat_le}, lemmas.Bool.{leb-true, Decides.nat_tests}}
 use Rattle.std.proofs.{lemmas.List.{take_all, length-append, length-replicate}, Math.Nat.{pow-succ', mul-le-mul_left}}
 use Rattle.ixdtf_grammar.specs.declared.records.DateRecord.{DateRecord}
-use Rattle.ixdtf_grammar.proofs.PaddedDigits.{length-padded}
-use Rattle.ixdtf.specs.language.{Letters.{Letter, Text, digit, hyphen, Letter.Plain}, Shapes.digits, Digits.{decimal, padded_digits}}
-use Rattle.ixdtf.specs.language.{Dates.{Year, IsDate, DateText, IsDayOfMonth}, Fractions.{FractionParts, IsFraction, places_of}}
+use Rattle.ixdtf_grammar.proofs.{PaddedDigits.length-padded, theorems.CoreSizes.digits_long}
+use Rattle.ixdtf.specs.language.{Letters.{Letter, Text, digit, hyphen, Letter.Plain}, Shapes.digits, Digits.decimal}
+use Rattle.ixdtf.specs.language.{Dates.{Year, IsDate, IsDayOfMonth}, Fractions.{FractionParts, IsFraction, places_of}}
 use Rattle.ixdtf_print.specs.{Canonical.{two_digits, year_text, date_text, fraction_digits, fraction_text}, Spelled.{IsDay, AreDigits}}
 
 -- ---- digits
-
-pub digits_long : (n : ℕ) (text : Text) → digits n text → length text ≡ n
-digits_long zero text h = rw h refl
-digits_long (suc n) text h = rw (h.2, digits_long n h.1 h.4) refl
 
 one_digit : (c : ℕ) → IsTrue (digit c) → c - 48 ≤ 9
 one_digit c h = grind (arith, nat_tests, h)
@@ -34,20 +30,12 @@ first_digits (suc k) (suc n) text h d = rw d.2 (d.0, take k d.1, refl, d.3, firs
 
 year_most : (year : ℤ) → length (year_text year) ≤ 7
 unfolding year_text
-year_most (pos n) = by_test (nat_le n 9999)
-  where
-    by_test : (b : Bool) → length (cond b (padded_digits 4 n) (Plain 43 ∷ padded_digits 6 n)) ≤ 7
-    by_test true = omega arith
-    by_test false = omega arith
+year_most (pos n) = grind (arith, nat_tests)
 year_most (negsuc n) = omega arith
 
 pub year_few : (n : ℕ) → n ≤ 9999 → length (year_text (pos n)) ≡ 4
 unfolding year_text
-year_few n h = by_test (nat_le n 9999) (grind (arith, nat_tests, h))
-  where
-    by_test : (b : Bool) → IsTrue b → length (cond b (padded_digits 4 n) (Plain 43 ∷ padded_digits 6 n)) ≡ 4
-    by_test true t = refl
-    by_test false t = absurd cc
+year_few n h = let few : nat_le n 9999 ≡ true = grind (arith, nat_tests, h) in rw few refl
 
 signed_abs : (b : Bool) (n : ℕ) → nat_abs (cond b (neg_ℤ (pos n)) (pos n)) ≡ n
 signed_abs true zero = refl
@@ -68,20 +56,19 @@ pub date_long : (date : DateRecord) → length (date_text date) ≡ length (year
 unfolding date_text two_digits
 date_long date = length-append (year_text date.year) _ ∙ refl
 
-of_shape : (text : Text) (date : DateRecord) → DateText text date → IsDayOfMonth date → IsDay date × (length (date_text date) ≤ length text + 2)
-of_shape text date (inl h) day =
-    let year = of_year h.years date.year h.year in
-    let long : length text ≡ length h.years + 4 =
-    rw h.is (omega (arith, length-append {A = Letter}, digits_long 2 _ h.month.0.0, digits_long 2 _ h.day.0)) in
-    (record { year = year.0; month_from = h.month.1; month_to = h.month.2; day = day }, omega (arith, long, year.1, date_long date))
-of_shape text date (inr h) day =
-    let year = of_year h.years date.year h.year in
-    let long : length text ≡ length h.years + 6 =
-    rw h.is (omega (arith, length-append {A = Letter}, digits_long 2 _ h.month.0.0, digits_long 2 _ h.day.0)) in
-    (record { year = year.0; month_from = h.month.1; month_to = h.month.2; day = day }, omega (arith, long, year.1, date_long date))
+of_parts : (years text : Text) (date : DateRecord) → Year years date.year → 1 ≤ date.month → date.month ≤ 12 → IsDayOfMonth date
+    → length years + 4 ≤ length text → IsDay date × (length (date_text date) ≤ length text + 2)
+of_parts years text date is_year from to day long =
+    let year = of_year years date.year is_year in
+    (record { year = year.0; month_from = from; month_to = to; day = day }, omega (arith, long, year.1, date_long date))
 
 pub of_date : (text : Text) (date : DateRecord) → IsDate text date → IsDay date × (length (date_text date) ≤ length text + 2)
-of_date text date h = of_shape text date h.0 h.1
+of_date text date (inl h, day) =
+    of_parts h.years text date h.year h.month.1 h.month.2 day
+    (rw h.is (omega (arith, length-append {A = Letter}, digits_long 2 _ h.month.0.0, digits_long 2 _ h.day.0)))
+of_date text date (inr h, day) =
+    of_parts h.years text date h.year h.month.1 h.month.2 day
+    (rw h.is (omega (arith, length-append {A = Letter}, digits_long 2 _ h.month.0.0, digits_long 2 _ h.day.0)))
 
 -- ---- fractions
 
@@ -97,8 +84,7 @@ below_places n ds d = by_count (nat_le n 18) refl
     by_count true h =
         let few : n ≤ 18 = leb-true _ _ h in
         let places : min (min n 255) 18 ≡ n = omega arith in
-        let all : take 18 ds ≡ ds = take_all 18 ds (omega (arith, digits_long n ds d)) in
-        rw (places, all) (decimal_below n ds d)
+        rw (places, take_all 18 ds (omega (arith, digits_long n ds d))) (decimal_below n ds d)
     by_count false h =
         let many : 18 < n = grind (arith, nat_tests, h) in
         let places : min (min n 255) 18 ≡ 18 = omega arith in

@@ -31,45 +31,43 @@ no_digit out from count number =
       whole = rw (all, append-nil (padded_digits count number)) refl;
     }
 
--- they end with the digits of the whole number
-pub ends_all : (old new : List ℕ) (from place to left count number : ℕ) (d : LastDigits old new from place to left count number) → to ≡ from + count
-ends_all old new from place to left count number d =
-    omega (
-      arith,
-      d.begun,
-      text_long old new place to d.done d.puts,
-      length-append (padded_digits (place - from) left) d.done,
-      ap length d.whole,
-      length-padded (place - from) left,
-      length-padded count number,
-    )
+module _ {old new : List ℕ} {from place to left count number : ℕ} where
+  -- they end with the digits of the whole number
+  ends_all : LastDigits old new from place to left count number → to ≡ from + count
+  ends_all d =
+      omega (
+        arith,
+        d.begun,
+        text_long old new place to d.done d.puts,
+        length-append (padded_digits (place - from) left) d.done,
+        ap length d.whole,
+        length-padded (place - from) left,
+        length-padded count number,
+      )
 
--- there is room before them
-pub inside_room : (old new : List ℕ) (from place to left count number : ℕ) → HasRoom old from (padded_digits count number)
-    → LastDigits old new from place to left count number
-    → (place ≤ length old) × (length new ≡ length old)
-inside_room old new from place to left count number room d =
-    let ends = ends_all old new from place to left count number d in
-    let inside : to ≤ length old = omega (arith, room.room, length-padded count number, ends) in
-    (omega (arith, inside, d.puts.ends), puts_length old new place to d.done d.puts inside)
+  -- there is room before them
+  pub inside_room : HasRoom old from (padded_digits count number) → LastDigits old new from place to left count number
+      → (place ≤ length old) × (length new ≡ length old)
+  inside_room room d =
+      let inside : to ≤ length old = omega (arith, room.room, length-padded count number, ends_all d) in
+      (omega (arith, inside, d.puts.ends), puts_length old new place to d.done d.puts inside)
 
-pub next_digit : {old new : List ℕ} {from place to left count number : ℕ} → HasRoom old from (padded_digits count number) → from < place
-    → LastDigits old new from place to left count number
-    → LastDigits old (set new (place - 1) (48 + left % 10)) from (place - 1) to (left / 10) count number
-next_digit {old = old} {new = new} {from = from} {place = place} {to = to} {left = left} {count = count} {number = number} room more d =
-    let inside = inside_room old new from place to left count number room d in
-    let one_less : place - from ≡ suc (place - 1 - from) = omega arith in
-    record {
-      begun = omega arith;
-      done = Plain (48 + left % 10) ∷ d.done;
-      puts = puts_before (place - 1) (48 + left % 10) (omega arith) inside.0 d.puts;
-      whole = sym (append_assoc (padded_digits (place - 1 - from) (left / 10)) _ d.done)
-          ∙ ap (λ t. t ++ d.done) (sym (last_digit (place - 1 - from) left)) ∙ ap (λ k. padded_digits k left ++ d.done) (sym one_less) ∙ d.whole;
-    }
+  pub next_digit : HasRoom old from (padded_digits count number) → from < place → LastDigits old new from place to left count number
+      → LastDigits old (set new (place - 1) (48 + left % 10)) from (place - 1) to (left / 10) count number
+  next_digit room more d =
+      let one_less : place - from ≡ suc (place - 1 - from) = omega arith in
+      record {
+        begun = omega arith;
+        done = Plain (48 + left % 10) ∷ d.done;
+        puts = puts_before (place - 1) (48 + left % 10) (omega arith) (inside_room room d).0 d.puts;
+        whole = sym (append_assoc (padded_digits (place - 1 - from) (left / 10)) _ d.done)
+            ∙ ap (λ t. t ++ d.done) (sym (last_digit (place - 1 - from) left)) ∙ ap (λ k. padded_digits k left ++ d.done) (sym one_less) ∙ d.whole;
+      }
 
-pub all_digits : {old new : List ℕ} {from place to left count number : ℕ} → place ≤ from → LastDigits old new from place to left count number
-    → Puts old new from to (padded_digits count number)
-all_digits {old = old} {new = new} {from = from} {place = place} {to = to} {left = left} least d =
-    let here : place ≡ from = omega (arith, d.begun) in
-    let none : place - from ≡ 0 = omega arith in
-    subst (Puts old new from to) (ap (λ k. padded_digits k left ++ d.done) (sym none) ∙ d.whole) (subst (λ k. Puts old new k to d.done) here d.puts)
+  pub all_digits : place ≤ from → LastDigits old new from place to left count number → Puts old new from to (padded_digits count number)
+  all_digits least d =
+      let here : place ≡ from = omega (arith, d.begun) in
+      let none : place - from ≡ 0 = omega arith in
+      subst (Puts old new from to) (ap (λ k. padded_digits k left ++ d.done) (sym none) ∙ d.whole) (subst (λ k. Puts old new k to d.done) here d.puts)
+
+pub ruleset digit_steps = (length-padded, next_digit)

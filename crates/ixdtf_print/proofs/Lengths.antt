@@ -1,10 +1,10 @@
 -- How long the parts of a canonical text are.
-use Rattle.std.proofs.Common.{ℕ, ◌+◌, ◌≡◌, ◌⊎◌, ℤ, pos, negsuc, Bool, true, false, cond, IsFalse, ◌<◌, ◌∷◌, ◌++◌, length, Some, refl, arith, nat_le, inl, inr}
+use Rattle.std.proofs.Common.{◌+◌, ◌≡◌, ◌⊎◌, ℤ, pos, negsuc, false, ◌<◌, length, Some, refl, arith, nat_le, inl, inr}
 use Rattle.std.proofs.lemmas.{Bool.Decides.nat_tests, Int.ints, List.length-append}
 use Rattle.std.specs.Prelude.{◌≤ℤ◌, ◌<ℤ◌}
 use Rattle.ixdtf_grammar.specs.declared.records.{DateRecord.DateRecord, FullPrecisionOffset.FullPrecisionOffset, MinutePrecisionOffset.MinutePrecisionOffset}
 use Rattle.ixdtf_grammar.specs.declared.records.TimeRecord.{TimeRecord}
-use Rattle.ixdtf.specs.language.{Letters.{Letter, Letter.Plain}, Digits.padded_digits, Fractions.FractionParts, Languages.Parsed}
+use Rattle.ixdtf.specs.language.{Letters.Letter, Fractions.FractionParts, Languages.Parsed}
 use Rattle.ixdtf_print.specs.Canonical.{year_text, date_text, fraction_text, time_text, minute_offset_text, full_offset_text, offset_text, bracket_text}
 use Rattle.ixdtf_print.specs.Canonical.{calendar_text, optional_date_text, core_text, canonical_text}
 use Rattle.ixdtf_print.proofs.{Derived.{fraction_long, year_few, date_long}, DerivedTimes.{minutes_long, clock_long}}
@@ -25,17 +25,12 @@ year_four : (year : ℤ) → pos 0 ≤ℤ year → year ≤ℤ pos 9999 → leng
 year_four (pos n) from to = year_few n (omega (arith, ints))
 year_four (negsuc n) from to = absurd (omega (arith, ints))
 
-many : (n : ℕ) → 9999 < n → length (year_text (pos n)) ≡ 7
-unfolding year_text
-many n h = by_test (nat_le n 9999) (grind (arith, nat_tests, h))
-  where
-    by_test : (b : Bool) → IsFalse b → length (cond b (padded_digits 4 n) (Plain 43 ∷ padded_digits 6 n)) ≡ 7
-    by_test true t = absurd cc
-    by_test false t = refl
-
 year_seven : (year : ℤ) → ((pos 9999 <ℤ year) ⊎ (year <ℤ pos 0)) → length (year_text year) ≡ 7
 unfolding year_text
-year_seven (pos n) (inl h) = many n (omega (arith, ints))
+year_seven (pos n) (inl h) =
+    let later : 9999 < n = omega (arith, ints) in
+    let test : nat_le n 9999 ≡ false = grind (arith, nat_tests, later) in
+    rw test refl
 year_seven (pos n) (inr h) = absurd (omega (arith, ints))
 year_seven (negsuc n) h = refl
 
@@ -54,3 +49,14 @@ pub canonical_long : (found : Parsed) → length (canonical_text found)
     ≡ length (core_text found) + length (bracket_text found.zone) + length (calendar_text found.calendar)
 unfolding canonical_text
 canonical_long found = omega (arith, length-append {A = Letter})
+
+pub ruleset lengths = (
+  some_fraction_long,
+  some_time_long,
+  minute_offset_long,
+  full_offset_long,
+  four_digit_date_long,
+  signed_date_long,
+  core_long,
+  canonical_long,
+)

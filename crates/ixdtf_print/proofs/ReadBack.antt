@@ -1,22 +1,23 @@
 -- The canonical text of a record stands for the record.
 use Rattle.ixdtf_grammar.specs.declared.records.UtcOffsetRecord.TheVariants as offsets
 use Rattle.ixdtf_grammar.specs.declared.records.UtcOffsetRecordOrZ.TheVariants as stands
-use Rattle.std.proofs.Common.{ℕ, suc, ◌+◌, ◌-◌, ◌<◌, ◌≤◌, ◌≡◌, min, IsTrue, Bool, true, false, cond, ℤ, pos, negsuc, nat_abs, List, [], ◌∷◌, ◌++◌, map}
-use Rattle.std.proofs.Common.{length, take, replicate, codes, Option, Some, None, refl, sym, ◌∙◌, ap, inl, inr, arith, append-nil, nat_le, nat_eq, ◌||◌}
-use Rattle.std.proofs.{Common.subst, lemmas.{Bool.{leb-true, Decides.nat_tests}, List.{take_all, nil_from_length, length-append, length-replicate}}}
+use Rattle.std.proofs.Common.{ℕ, suc, ◌+◌, ◌-◌, ◌<◌, ◌≤◌, ◌≡◌, ◌≢◌, min, IsTrue, Bool, true, false, cond, ℤ, pos, negsuc, nat_abs, List, [], ◌∷◌, ◌++◌, map, length}
+use Rattle.std.proofs.Common.{take, replicate, codes, Option, Some, None, refl, sym, ◌∙◌, ap, inl, inr, arith, append-nil, nat_le}
+use Rattle.std.proofs.{Common.subst, lemmas.{Bool.{leb-true, Decides.nat_tests}, List.{take_all, length-append, length-replicate}}}
 use Rattle.std.proofs.Math.Seq.{take-append_seam}
 use Rattle.ixdtf_grammar.specs.declared.records.{DateRecord.DateRecord, MinutePrecisionOffset.MinutePrecisionOffset, Sign.Sign}
 use Rattle.ixdtf_grammar.specs.declared.records.{Sign.TheVariants.{Positive, Negative}, TimeRecord.TimeRecord, UtcOffsetRecordOrZ.UtcOffsetRecordOrZ}
 use Rattle.ixdtf_grammar.proofs.PaddedDigits.{decimal-whole, length-padded}
-use Rattle.ixdtf.specs.language.{Letters.{Text, sign, Letter.Plain}, Digits.{decimal, padded_digits}, Shapes.digits}
-use Rattle.ixdtf.specs.language.{Dates.{Year, IsDate, is_leap, month_length}, Fractions.{FractionParts, IsFraction, places_of}}
+use Rattle.ixdtf.specs.language.{Letters.{Text, sign, hyphen, Letter.Plain}, Digits.{decimal, padded_digits}, Shapes.digits}
+use Rattle.ixdtf.specs.language.{Dates.{Year, IsDate, signed as year_of, month_length}, Fractions.{FractionParts, IsFraction, places_of}}
 use Rattle.ixdtf.specs.language.Times.{Clock, TimeShape, SecondText, ClockOf, IsTime, has_seconds, greatest_second, writes_seconds, Clock as clocks}
 use Rattle.ixdtf.specs.language.Times.TimeShape.{colon_minutes, seconds, fractions}
-use Rattle.ixdtf.specs.language.Offsets.{IsSigned, IsOffsetOrZ, IsMinuteOffset, full_of, offset_of, sign_of as sign_at, minutes_of as minutes_at}
+use Rattle.ixdtf.specs.language.Offsets.{IsSigned, IsOffsetOrZ, IsMinuteOffset, sign_of as sign_at, minutes_of as minutes_at}
+use Rattle.ixdtf_reading.proofs.code.OneMoreReply.{NoneRefused-nothing, NoneRefused-more}
 use Rattle.ixdtf.specs.language.ZoneNames.{Zone, IsZone, Zone.{Name, Offset}}
 use Rattle.ixdtf.specs.language.Brackets.{ZoneNote, Opens, OptionalBracket, Pair, Key, Value, IsPair, ArePairs}
 use Rattle.ixdtf.specs.{language.{Cores.{core_of, OptionalOffset, IsDateTimeCore}, Languages.Parsed}, table.Faults.{Fault, Fault.UnrecognizedCritical}}
-use Rattle.ixdtf.specs.Handlers.{Reply, RefusedBeside, NoneRefused, own_replies, calendar_key, calendar_value, first_calendar}
+use Rattle.ixdtf.specs.Handlers.{RefusedBeside, NoneRefused, own_replies, calendar_key, calendar_value, first_calendar}
 use Rattle.ixdtf_print.specs.Canonical.{two_digits, year_text, date_text, minutes_text, seconds_text, fraction_digits, clock_text, time_text, sign_of}
 use Rattle.ixdtf_print.specs.Canonical.{minute_offset_text, offset_text, zone_text, opening_text, bracket_text, calendar_text, optional_date_text, core_text}
 use Rattle.ixdtf_print.specs.{Canonical.canonical_text, Spelled.{IsDay, AreDigits, HasDigits, IsClock, IsDayTime, IsMinuteClock, IsShift, HasDay, HasTime}}
@@ -25,43 +26,31 @@ use Rattle.ixdtf_print.proofs.{Parse.HasParts, PaddedDigits.{padded_are, two_are
 
 -- ---- dates
 
-year_by_test : (n : ℕ) (b : Bool) → nat_le n 9999 ≡ b → n ≤ 999999 → Year (cond b (padded_digits 4 n) (Plain 43 ∷ padded_digits 6 n)) (pos n)
-year_by_test n true h small =
-    let few : n ≤ 9999 = leb-true _ _ h in
-    inl (padded_are 4 n, ap pos (sym (decimal-whole 4 n (omega arith))))
-year_by_test n false h small = inr (record {
-  c = 43;
-  ds = padded_digits 6 n;
-  is = refl;
-  sign = refl;
-  digits = padded_are 6 n;
-  no_minus_zero = λ minus. absurd cc;
-  value = ap pos (sym (decimal-whole 6 n (omega arith)));
-})
+-- a sign and six digits
+extended_year : (c n : ℕ) → IsTrue (sign c) → n ≤ 999999 → (IsTrue (hyphen c) → n ≢ 0) → Year (Plain c ∷ padded_digits 6 n) (year_of c n)
+extended_year c n signs small not_zero =
+    let same : decimal (padded_digits 6 n) ≡ n = decimal-whole 6 n (omega arith) in
+    inr (record {
+      c = c;
+      ds = padded_digits 6 n;
+      is = refl;
+      sign = signs;
+      digits = padded_are 6 n;
+      no_minus_zero = rw same not_zero;
+      value = rw same refl;
+    })
 
 is_year : (year : ℤ) → nat_abs year ≤ 999999 → Year (year_text year) year
 unfolding year_text
-is_year (pos n) small = year_by_test n (nat_le n 9999) refl small
-is_year (negsuc n) small =
-    let value : decimal (padded_digits 6 (suc n)) ≡ suc n = decimal-whole 6 (suc n) (omega arith) in
-    inr (record {
-      c = 45;
-      ds = padded_digits 6 (suc n);
-      is = refl;
-      sign = refl;
-      digits = padded_are 6 (suc n);
-      no_minus_zero = λ minus none. absurd (omega (arith, value, none));
-      value = rw value refl;
-    })
-
-most_days : (february leap short : Bool) → cond february (cond leap 29 28) (cond short 30 31) ≤ 31
-most_days true true short = omega arith
-most_days true false short = omega arith
-most_days false leap true = omega arith
-most_days false leap false = omega arith
+is_year (pos n) small = by_test (nat_le n 9999) refl
+  where
+    by_test : (b : Bool) → nat_le n 9999 ≡ b → Year (cond b (padded_digits 4 n) (Plain 43 ∷ padded_digits 6 n)) (pos n)
+    by_test true h = let few : n ≤ 9999 = leb-true _ _ h in inl (padded_are 4 n, ap pos (sym (decimal-whole 4 n (omega arith))))
+    by_test false h = extended_year 43 n refl small (λ minus. absurd cc)
+is_year (negsuc n) small = extended_year 45 (suc n) refl small (λ minus none. absurd cc)
 
 month_length_most : (year : ℤ) (month : ℕ) → month_length year month ≤ 31
-month_length_most year month = most_days (nat_eq month 2) (is_leap year) (nat_eq month 4 || nat_eq month 6 || nat_eq month 9 || nat_eq month 11)
+month_length_most year month = grind (arith, nat_tests)
 
 pub is_date : (date : DateRecord) → IsDay date → IsDate (date_text date) date
 unfolding date_text
@@ -82,20 +71,10 @@ is_date date d = (
 
 -- the first 18 digits are those of the value
 of_value : (value zeros : Text) (count : ℕ) → length value ≡ min count 18 → length zeros ≡ count - 18 → take 18 (value ++ zeros) ≡ value
-of_value value zeros count long more = by_count (nat_le count 18) refl
-  where
-    by_count : (b : Bool) → nat_le count 18 ≡ b → take 18 (value ++ zeros) ≡ value
-    by_count true h =
-        let few : count ≤ 18 = leb-true _ _ h in
-        let none : zeros ≡ [] = nil_from_length zeros (omega arith) in
-        rw (none, append-nil value) (take_all 18 value (omega arith))
-    by_count false h =
-        let many : 18 < count = grind (arith, nat_tests, h) in
-        let e : 18 ≡ length value = omega arith in
-        ap (λ n. take n (value ++ zeros)) e ∙ take-append_seam value zeros
-
-capped : (n : ℕ) → n ≤ 255 → min n 255 ≡ n
-capped n h = omega arith
+of_value value [] count long more = rw (append-nil value) (take_all 18 value (omega arith))
+of_value value (zero ∷ zeros) count long more =
+    let e : 18 ≡ length value = omega (arith, long, more) in
+    ap (λ n. take n (value ++ zero ∷ zeros)) e ∙ take-append_seam value (zero ∷ zeros)
 
 is_fraction : (fraction : FractionParts) → AreDigits fraction → IsFraction (Plain 46 ∷ fraction_digits fraction) fraction
 unfolding fraction_digits
@@ -106,7 +85,7 @@ is_fraction fraction d =
     let many : length zeros ≡ fraction.count - 18 = length-replicate (fraction.count - 18) (Plain 48) in
     let long : length (value ++ zeros) ≡ fraction.count = omega (arith, length-append value zeros, places, many) in
     let all : take 18 (value ++ zeros) ≡ value = of_value value zeros fraction.count places many in
-    let count : fraction.count ≡ min (length (value ++ zeros)) 255 = sym (ap (λ k. min k 255) long ∙ capped fraction.count d.count_to) in
+    let count : fraction.count ≡ min (length (value ++ zeros)) 255 = omega (arith, long, d.count_to) in
     let number : fraction.value ≡ decimal (take 18 (value ++ zeros)) = rw all (sym (decimal-whole (places_of fraction) fraction.value d.value)) in
     record {
       mark = 46;
@@ -180,22 +159,18 @@ minute_clock clock offset at = record {
   no_fraction = refl;
 }
 
-is_sign : (s : Sign) → IsTrue (sign (sign_of s))
-is_sign Positive = refl
-is_sign Negative = refl
-
-same_sign : (s : Sign) → s ≡ sign_at (sign_of s)
-same_sign Positive = refl
-same_sign Negative = refl
+is_sign : (s : Sign) → IsTrue (sign (sign_of s)) × (s ≡ sign_at (sign_of s))
+is_sign Positive = (refl, refl)
+is_sign Negative = (refl, refl)
 
 -- a sign, and what is written after it
 signed : {O : Type 0} {clock : Clock} {record_of : ℕ → TimeShape → TimeRecord → O} {body : Text} {offset : O} (s : Sign) (shape : TimeShape) (time : TimeRecord)
     → ClockOf clock shape body time → offset ≡ record_of (sign_of s) shape time → IsSigned clock record_of (Plain (sign_of s) ∷ body) offset
-signed s shape time clock value = record { c = sign_of s; body = _; shape = shape; time = time; is = refl; sign = is_sign s; clock = clock; value = value }
+signed s shape time clock value = record { c = sign_of s; body = _; shape = shape; time = time; is = refl; sign = (is_sign s).0; clock = clock; value = value }
 
 same_minutes : (offset : MinutePrecisionOffset) (second : ℕ) (part : Option FractionParts)
     → offset ≡ minutes_at (sign_of offset.sign) (time_of offset.hour offset.minute second part)
-same_minutes offset second part = λ i. record { sign = same_sign offset.sign i; hour = offset.hour; minute = offset.minute }
+same_minutes offset second part = λ i. record { sign = (is_sign offset.sign).1 i; hour = offset.hour; minute = offset.minute }
 
 minute_signed : {O : Type 0} (clock : Clock) (record_of : ℕ → TimeShape → TimeRecord → O) (offset : MinutePrecisionOffset) (value : O) → IsMinuteClock offset
     → value ≡ record_of (sign_of offset.sign) colon_minutes (time_of offset.hour offset.minute 0 None)
@@ -204,10 +179,6 @@ minute_signed clock record_of offset value at is = signed offset.sign colon_minu
 
 pub is_minute_offset : (offset : MinutePrecisionOffset) → IsMinuteClock offset → IsMinuteOffset (minute_offset_text offset) offset
 is_minute_offset offset at = minute_signed clocks.MinuteOffset _ offset offset at (same_minutes offset 0 None)
-
-in_full : (c : ℕ) (b : Bool) (time : TimeRecord) → IsTrue b → full_of c time ≡ offset_of c b time
-in_full c true time h = refl
-in_full c false time h = absurd cc
 
 pub is_offset : (offset : UtcOffsetRecordOrZ) → IsShift offset → IsOffsetOrZ (offset_text (Some offset)) offset
 is_offset stands.Z at = inr ((90, refl, refl), refl)
@@ -218,7 +189,7 @@ is_offset (stands.Offset (offsets.FullPrecisionOffset offset)) at =
     let c = clock_of clocks.Offset refl (omega arith) minutes.hour minutes.minute offset.second offset.fraction at offset.fraction at.fraction in
     let time = time_of minutes.hour minutes.minute offset.second offset.fraction in
     let same = ap (λ m. offsets.FullPrecisionOffset (record offset { minute_precision_offset = m })) (same_minutes minutes offset.second offset.fraction) in
-    inl (_, signed minutes.sign c.0 time c.2 (same ∙ in_full (sign_of minutes.sign) (writes_seconds c.0) time c.1), refl)
+    inl (_, signed minutes.sign c.0 time c.2 (same ∙ rw c.1 refl), refl)
 
 -- ---- brackets
 
@@ -269,11 +240,6 @@ is_calendar_pair value h = record {
   value = refl;
 }
 
--- no reply stands in the empty list
-nothing_split : (earlier later : List Reply) (reply : Reply) → [] ≡ earlier ++ reply ∷ later → ⊥
-nothing_split [] later reply split = cc
-nothing_split (first ∷ earlier) later reply split = cc
-
 -- the pairs of a canonical text
 abbrev calendar_pairs : Option (List ℕ) → List Pair
 calendar_pairs None = []
@@ -290,14 +256,8 @@ not_refused value fault h = h
 
 -- no reply is refused where there is one such calendar, or none
 none_refused : (calendar : Option (List ℕ)) → NoneRefused (own_replies (calendar_pairs calendar))
-none_refused None = record { none = λ earlier later reply fault split refused. nothing_split earlier later reply split }
-none_refused (Some value) = record { none = λ earlier later reply fault split refused. at_first earlier later reply fault split refused }
-  where
-    at_first : (earlier later : List Reply) (reply : Reply) (fault : Fault) → Some (calendar_pair value) ∷ [] ≡ earlier ++ reply ∷ later
-        → ¬ (RefusedBeside (first_calendar earlier) reply fault)
-    at_first [] later reply fault split refused =
-        let same : reply ≡ Some (calendar_pair value) = cc in not_refused value fault (subst (λ r. RefusedBeside None r fault) same refused)
-    at_first (first ∷ earlier) later reply fault split refused = let more : [] ≡ earlier ++ reply ∷ later = cc in nothing_split earlier later reply more
+none_refused None = NoneRefused-nothing
+none_refused (Some value) = NoneRefused-more [] (Some (calendar_pair value)) NoneRefused-nothing (not_refused value)
 
 -- they give the calendar
 gives_calendar : (calendar : Option (List ℕ)) → calendar ≡ calendar_value (first_calendar (own_replies (calendar_pairs calendar)))
@@ -306,11 +266,17 @@ gives_calendar (Some value) = refl
 
 -- ---- cores
 
-is_core : (date : DateRecord) (time : Option TimeRecord) (offset : Option UtcOffsetRecordOrZ) → IsDay date → HasTime time offset
-    → IsDateTimeCore (date_text date ++ (time_text time ++ offset_text offset)) (core_of (Some date) time offset)
-is_core date None None d h = inl (date, rw (append-nil (date_text date)) (is_date date d), refl)
-is_core date None (Some offset) d h = absurd h
-is_core date (Some time) offset d h = inr (record {
+-- the time, and the offset where there is one
+timed : (time : TimeRecord) (offset : Option UtcOffsetRecordOrZ) → HasTime (Some time) offset → IsDayTime time × OptionalOffset (offset_text offset) offset
+timed time None h = (h, refl)
+timed time (Some offset) h = (h.0, is_offset offset h.1)
+
+is_core : (date : Option DateRecord) (time : Option TimeRecord) (offset : Option UtcOffsetRecordOrZ) → HasDay date → HasTime time offset
+    → IsDateTimeCore (optional_date_text date ++ (time_text time ++ offset_text offset)) (core_of date time offset)
+is_core None time offset d h = absurd d
+is_core (Some date) None None d h = inl (date, rw (append-nil (date_text date)) (is_date date d), refl)
+is_core (Some date) None (Some offset) d h = absurd h
+is_core (Some date) (Some time) offset d h = inr (record {
   dates = date_text date;
   separator = Plain 84 ∷ [];
   times = clock_text time.hour time.minute time.second time.fraction;
@@ -321,42 +287,27 @@ is_core date (Some time) offset d h = inr (record {
   is = refl;
   is_date = is_date date d;
   separates = (84, refl, refl);
-  is_time = is_time time (time_at offset h);
-  is_offset = offset_at offset h;
+  is_time = is_time time (timed time offset h).0;
+  is_offset = (timed time offset h).1;
   has = refl;
 })
-  where
-    time_at : (offset : Option UtcOffsetRecordOrZ) → HasTime (Some time) offset → IsDayTime time
-    time_at None h = h
-    time_at (Some offset) h = h.0
-
-    offset_at : (offset : Option UtcOffsetRecordOrZ) → HasTime (Some time) offset → OptionalOffset (offset_text offset) offset
-    offset_at None h = refl
-    offset_at (Some offset) h = is_offset offset h.1
 
 -- ---- records
-
-reads_back : (date : Option DateRecord) (time : Option TimeRecord) (offset : Option UtcOffsetRecordOrZ) (bracket : Option ZoneNote) (calendar : Option (List ℕ))
-    → HasDay date → HasTime time offset → HasZone bracket → HasCalendar calendar
-    → HasParts ((optional_date_text date ++ (time_text time ++ offset_text offset)) ++ (bracket_text bracket ++ calendar_text calendar))
-    (record { date = date; time = time; offset = offset; zone = bracket; calendar = calendar })
-reads_back None time offset bracket calendar d t z c = absurd d
-reads_back (Some date) time offset bracket calendar d t z c = record {
-  cores = date_text date ++ (time_text time ++ offset_text offset);
-  zones = bracket_text bracket;
-  pair_texts = calendar_text calendar;
-  core = core_of (Some date) time offset;
-  zone = bracket;
-  pairs = calendar_pairs calendar;
-  is = refl;
-  is_core = is_core date time offset d t;
-  is_bracket = is_bracket bracket z;
-  are_pairs = are_pairs calendar c;
-  accepted = none_refused calendar;
-  has = λ i. record { date = Some date; time = time; offset = offset; zone = bracket; calendar = gives_calendar calendar i };
-}
 
 -- the canonical text of a record whose fields have texts has the parts of the record
 pub canonical_reads_back : (found : Parsed) → IsSpelled found → HasParts (canonical_text found) found
 unfolding canonical_text core_text
-canonical_reads_back found s = reads_back found.date found.time found.offset found.zone found.calendar s.date s.time s.zone s.calendar
+canonical_reads_back found s = record {
+  cores = core_text found;
+  zones = bracket_text found.zone;
+  pair_texts = calendar_text found.calendar;
+  core = core_of found.date found.time found.offset;
+  zone = found.zone;
+  pairs = calendar_pairs found.calendar;
+  is = refl;
+  is_core = is_core found.date found.time found.offset s.date s.time;
+  is_bracket = is_bracket found.zone s.zone;
+  are_pairs = are_pairs found.calendar s.calendar;
+  accepted = none_refused found.calendar;
+  has = λ i. record found { calendar = gives_calendar found.calendar i };
+}

@@ -55,23 +55,24 @@ calendar_key : bytes_of (map Plain (codes "[u-ca=")) ≡ codes "[u-ca="
 unfolding lib.Utf8.encode
 calendar_key = refl
 
-closed : (text : Text) → bytes_of text ++ codes "]" ≡ bytes_of (text ++ (Plain 93 ∷ []))
-closed text = ap (λ l. bytes_of text ++ l) (sym closing) ∙ sym (bytes-append text (Plain 93 ∷ []))
+-- three texts in a row, of which the last is `]`
+closed : (opening inside : Text) → bytes_of opening ++ (bytes_of inside ++ codes "]") ≡ bytes_of (opening ++ (inside ++ (Plain 93 ∷ [])))
+closed opening inside =
+    ap (λ l. bytes_of opening ++ (bytes_of inside ++ l)) (sym closing)
+    ∙ ap (λ l. bytes_of opening ++ l) (sym (bytes-append inside (Plain 93 ∷ [])))
+    ∙ sym (bytes-append opening (inside ++ (Plain 93 ∷ [])))
 
 pub bracket_bytes : (note : ZoneNote) (opening : List ℕ) → map Plain opening ≡ opening_text note.critical
     → encode_utf8_all opening ++ (bytes_of (zone_text note.zone) ++ codes "]") ≡ bytes_of (bracket_text (Some note))
 bracket_bytes note opening is =
-    let zone = zone_text note.zone in
-    ap (λ l. l ++ (bytes_of zone ++ codes "]")) (sym (bytes-plain opening) ∙ ap bytes_of is)
-    ∙ ap (λ l. bytes_of (opening_text note.critical) ++ l) (closed zone)
-    ∙ sym (bytes-append (opening_text note.critical) (zone ++ (Plain 93 ∷ [])))
+    ap (λ l. l ++ (bytes_of (zone_text note.zone) ++ codes "]")) (sym (bytes-plain opening) ∙ ap bytes_of is)
+    ∙ closed (opening_text note.critical) (zone_text note.zone)
 
 pub calendar_bytes : (value : List ℕ) → codes "[u-ca=" ++ (encode_utf8_all value ++ codes "]") ≡ bytes_of (calendar_text (Some value))
 calendar_bytes value =
     ap (λ l. l ++ (encode_utf8_all value ++ codes "]")) (sym calendar_key)
     ∙ ap (λ l. bytes_of (map Plain (codes "[u-ca=")) ++ (l ++ codes "]")) (sym (bytes-plain value))
-    ∙ ap (λ l. bytes_of (map Plain (codes "[u-ca=")) ++ l) (closed (map Plain value))
-    ∙ sym (bytes-append (map Plain (codes "[u-ca=")) (map Plain value ++ (Plain 93 ∷ [])))
+    ∙ closed (map Plain (codes "[u-ca=")) (map Plain value)
 
 -- ---- the whole text
 

@@ -24,6 +24,7 @@ fn distance_of(date: DateRecord) -> u64
 }
 
 /// Puts the year at the place, and returns the place behind it.
+#[tactic(auto, using(crate::proofs::Puts::putting, crate::proofs::Years::years))]
 fn put_year(out: &mut [u8], at: usize, date: DateRecord) -> usize
     requires { HasRoom out.old at (year_text date.year) }
     ensures { Puts out.old out.new at result (year_text date.year) }
@@ -177,6 +178,7 @@ fn put_zone(out: &mut [u8], at: usize, zone: &TimeZoneRecord<'_, Utf8>) -> usize
 }
 
 /// Puts the zone in its bracket at the place, where there is one, and returns the place behind it.
+#[tactic(auto, using(crate::proofs::Puts::putting))]
 fn put_bracket(out: &mut [u8], at: usize, note: &Option<TimeZoneAnnotation<'_, Utf8>>) -> usize
     requires { HasRoom out.old at (bracket_text (option_map (note_of (λ byte. byte)) note.now)) }
     ensures { Puts out.old out.new at result

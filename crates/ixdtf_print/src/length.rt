@@ -1,4 +1,6 @@
 //! How long the text of a record is.
+#![tactic(auto, using(crate::proofs::Lengths::lengths))]
+
 ghost use Rattle.std.specs.Prelude.{◌≡◌, ◌↔◌, ◌<◌, ◌≤◌, ◌+◌, ◌^◌, length, map, option_map, IfSome, OnSome, None};
 ghost use Rattle.ixdtf.specs.Views.{note_of, zone_of};
 ghost use Rattle.ixdtf_print.specs.Printable.{IsPrintable, record_of};

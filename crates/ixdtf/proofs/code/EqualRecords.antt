@@ -3,9 +3,16 @@ use Rattle.ixdtf_grammar.specs.declared.records.UtcOffsetRecord.TheVariants as o
 use Rattle.ixdtf_grammar.specs.declared.records.UtcOffsetRecordOrZ.TheVariants as offsets_or_z
 use Rattle.ixdtf_grammar.specs.declared.records.TimeZoneRecord.TheVariants as zones
 use Rattle.ixdtf_grammar.specs.declared.records.TimeDurationRecord.TheVariants as time_durations
-use Rattle.std.proofs.Common.{◌≡◌, ◌↔◌, ℕ, Bool, true, false, ◌&&◌, IsTrue, map, Option, Some, None, option_map, refl, sym, ap, ◌∙◌}
-use Rattle.std.specs.{Bool.one_answer, Cmp.{first_so, second_so, Derive.both_true}, Option.option_eq}
-use Rattle.ixdtf_grammar.specs.declared.records.{UtcOffsetRecord.UtcOffsetRecord, UtcOffsetRecordOrZ.UtcOffsetRecordOrZ, TimeZoneRecord.TimeZoneRecord}
+use Rattle.ixdtf_grammar.specs.contracts.records.MinutePrecisionOffsetPartialEq.TheImpl as minute_offsets
+use Rattle.ixdtf_grammar.specs.contracts.records.FullPrecisionOffsetPartialEq.TheImpl as full_offsets
+use Rattle.ixdtf_grammar.specs.contracts.records.UtcOffsetRecordPartialEq.TheImpl as offset_records
+use Rattle.ixdtf_grammar.specs.contracts.records.UtcOffsetRecordOrZPartialEq.TheImpl as offsets_or_z_equal
+use Rattle.ixdtf_grammar.specs.contracts.records.FractionPartialEq.TheImpl as fractions
+use Rattle.ixdtf_grammar.specs.contracts.records.TimeDurationRecordPartialEq.TheImpl as time_durations_equal
+use Rattle.std.proofs.Common.{nat_eq, ◌≡◌, ◌↔◌, ℕ, Bool, false, ◌&&◌, IsTrue, map, Option, Some, None, option_map, refl, sym, ap, ◌∙◌}
+use Rattle.std.proofs.lemmas.Iterator.Adapters.{option_map_id}
+use Rattle.std.specs.{Bool.one_answer, Cmp.{unsigned_Decides, first_so, second_so, Derive.both_true}, Option.option_eq}
+use Rattle.ixdtf_grammar.specs.declared.records.{TimeZoneRecord.TimeZoneRecord}
 use Rattle.ixdtf_grammar.specs.{declared.records.TimeDurationRecord.TimeDurationRecord, language.{Fractions.FractionParts, ZoneNames.Zone.{Name, Offset}}}
 use Rattle.ixdtf_grammar.specs.{Laws.IsEqualityBy, Views.zone_of}
 
@@ -50,108 +57,63 @@ on_option exact (Some x) (Some y) = (λ t. ap Some ((exact x y).0 t), λ p. (exa
 
 -- of what may be there, seen as it is
 pub on_option_itself : {K : Type 0} {eq : K → K → Bool} → Exact (λ x. x) eq → Exact (λ o. o) (option_eq eq)
-on_option_itself exact None None = (λ t. refl, λ p. refl)
-on_option_itself exact None (Some y) = (λ t. absurd cc, λ p. absurd cc)
-on_option_itself exact (Some x) None = (λ t. absurd cc, λ p. absurd cc)
-on_option_itself exact (Some x) (Some y) = (λ t. ap Some ((exact x y).0 t), λ p. (exact x y).1 cc)
+on_option_itself exact a b = let both = on_option exact a b in (rw (option_map_id a, option_map_id b) at both)
 
--- the test of two values is another one
-moved : {V : Type 0} {s t : Bool} {a b : V} → s ≡ t → IsTrue t ↔ (a ≡ b) → IsTrue s ↔ (a ≡ b)
-moved same exact = (λ u. exact.0 (sym same ∙ u), λ e. same ∙ exact.1 e)
+-- zones, by the tests of their two variants
+pub record ByVariant {T U : Type 0} (eq : TimeZoneRecord T U → TimeZoneRecord T U → Bool) (eq_names : _ → _ → Bool) (eq_offsets : _ → _ → Bool) : Type 0 where
+  pub names : (u v : _) → eq (zones.Name u) (zones.Name v) ≡ eq_names u v
+  pub offsets : (o p : _) → eq (zones.Offset o) (zones.Offset p) ≡ eq_offsets o p
+  pub name_first : (u o : _) → eq (zones.Name u) (zones.Offset o) ≡ false
+  pub offset_first : (o u : _) → eq (zones.Offset o) (zones.Name u) ≡ false
 
--- values that are seen apart are not equal
-apart : {V : Type 0} {s : Bool} {a b : V} → s ≡ false → ¬ (a ≡ b) → IsTrue s ↔ (a ≡ b)
-apart is_false differ = (λ t. absurd cc, λ e. absurd (differ e))
-
--- a value of one of two variants, by what is in it
-pub record OfTwo {K X Y : Type 0} (eq : K → K → Bool) (first : X → K) (second : Y → K) (eq_first : X → X → Bool) (eq_second : Y → Y → Bool) : Type 0 where
-  pub firsts : (x y : X) → eq (first x) (first y) ≡ eq_first x y
-  pub seconds : (x y : Y) → eq (second x) (second y) ≡ eq_second x y
-  pub before : (x : X) (y : Y) → eq (first x) (second y) ≡ false
-  pub after : (x : X) (y : Y) → eq (second y) (first x) ≡ false
-
--- zones
 module _ {T U : Type 0} (number : U → ℕ) {eq : TimeZoneRecord T U → TimeZoneRecord T U → Bool} where
-  pub zones_exact : {E : _ → _ → Bool} {F : _ → _ → Bool} →
-      OfTwo eq zones.Name zones.Offset E F → Exact (λ units. map number units.now) E → Exact (λ o. o) F → Exact (zone_of number) eq
-  zones_exact of names shifts (zones.Name u) (zones.Name v) =
-      moved (of.firsts u v) (λ t. ap Name ((names u v).0 t), λ e. (names u v).1 cc)
-  zones_exact of names shifts (zones.Offset o) (zones.Offset p) =
-      moved (of.seconds o p) (λ t. ap Offset ((shifts o p).0 t), λ e. (shifts o p).1 cc)
-  zones_exact of names shifts (zones.Name u) (zones.Offset p) = apart (of.before u p) (λ e. cc)
-  zones_exact of names shifts (zones.Offset o) (zones.Name v) = apart (of.after v o) (λ e. cc)
+  pub zones_exact : {E F : _ → _ → Bool} → ByVariant eq E F → Exact (λ units. map number units.now) E → Exact (λ o. o) F → Exact (zone_of number) eq
+  zones_exact by names shifts (zones.Name u) (zones.Name v) = rw (by.names u v) (λ t. ap Name ((names u v).0 t), λ e. (names u v).1 cc)
+  zones_exact by names shifts (zones.Offset o) (zones.Offset p) = rw (by.offsets o p) (λ t. ap Offset ((shifts o p).0 t), λ e. (shifts o p).1 cc)
+  zones_exact by names shifts (zones.Name u) (zones.Offset p) = rw (by.name_first u p) (λ t. absurd cc, λ e. absurd cc)
+  zones_exact by names shifts (zones.Offset o) (zones.Name v) = rw (by.offset_first o v) (λ t. absurd cc, λ e. absurd cc)
 
 -- offsets
-module _ {eq : UtcOffsetRecord → UtcOffsetRecord → Bool} where
-  pub offsets_exact : {E : _ → _ → Bool} {F : _ → _ → Bool} →
-      OfTwo eq offsets.MinutePrecision offsets.FullPrecisionOffset E F → Exact (λ o. o) E → Exact (λ o. o) F → Exact (λ o. o) eq
-  offsets_exact of short long (offsets.MinutePrecision o) (offsets.MinutePrecision p) =
-      moved (of.firsts o p) (λ t. ap offsets.MinutePrecision ((short o p).0 t), λ e. (short o p).1 cc)
-  offsets_exact of short long (offsets.FullPrecisionOffset o) (offsets.FullPrecisionOffset p) =
-      moved (of.seconds o p) (λ t. ap offsets.FullPrecisionOffset ((long o p).0 t), λ e. (long o p).1 cc)
-  offsets_exact of short long (offsets.MinutePrecision o) (offsets.FullPrecisionOffset p) = apart (of.before o p) (λ e. cc)
-  offsets_exact of short long (offsets.FullPrecisionOffset o) (offsets.MinutePrecision p) = apart (of.after p o) (λ e. cc)
-
--- a value of two variants, of which one has nothing in it
-pub record OfOne {K X : Type 0} (eq : K → K → Bool) (some : X → K) (bare : K) (eq_some : X → X → Bool) : Type 0 where
-  pub somes : (x y : X) → eq (some x) (some y) ≡ eq_some x y
-  pub itself : eq bare bare ≡ true
-  pub before : (x : X) → eq (some x) bare ≡ false
-  pub after : (x : X) → eq bare (some x) ≡ false
+pub offsets_exact : Exact (λ o. o) minute_offsets.eq-value.it → Exact (λ o. o) full_offsets.eq-value.it → Exact (λ o. o) offset_records.eq-value.it
+offsets_exact short long (offsets.MinutePrecision o) (offsets.MinutePrecision p) =
+    (λ t. ap offsets.MinutePrecision ((short o p).0 t), λ e. (short o p).1 cc)
+offsets_exact short long (offsets.FullPrecisionOffset o) (offsets.FullPrecisionOffset p) =
+    (λ t. ap offsets.FullPrecisionOffset ((long o p).0 t), λ e. (long o p).1 cc)
+offsets_exact short long o p = (λ t. absurd cc, λ e. absurd cc)
 
 -- offsets, or `Z`
-module _ {eq : UtcOffsetRecordOrZ → UtcOffsetRecordOrZ → Bool} where
-  pub offsets_or_z_exact : {E : _ → _ → Bool} → OfOne eq offsets_or_z.Offset offsets_or_z.Z E → Exact (λ o. o) E → Exact (λ o. o) eq
-  offsets_or_z_exact of shifts (offsets_or_z.Offset o) (offsets_or_z.Offset p) =
-      moved (of.somes o p) (λ t. ap offsets_or_z.Offset ((shifts o p).0 t), λ e. (shifts o p).1 cc)
-  offsets_or_z_exact of shifts offsets_or_z.Z offsets_or_z.Z = (λ t. refl, λ e. of.itself)
-  offsets_or_z_exact of shifts (offsets_or_z.Offset o) offsets_or_z.Z = apart (of.before o) (λ e. cc)
-  offsets_or_z_exact of shifts offsets_or_z.Z (offsets_or_z.Offset o) = apart (of.after o) (λ e. cc)
-
--- a value of one of three variants, by what is in it
-pub record OfThree {K X Y Z : Type 0} (eq : K → K → Bool) (first : X → K) (second : Y → K) (third : Z → K) (eq_first : X → X → Bool) (eq_second : Y → Y → Bool)
-    (eq_third : Z → Z → Bool) : Type 0 where
-  pub firsts : (x y : X) → eq (first x) (first y) ≡ eq_first x y
-  pub seconds : (x y : Y) → eq (second x) (second y) ≡ eq_second x y
-  pub thirds : (x y : Z) → eq (third x) (third y) ≡ eq_third x y
-  pub first_second : (x : X) (y : Y) → eq (first x) (second y) ≡ false
-  pub first_third : (x : X) (y : Z) → eq (first x) (third y) ≡ false
-  pub second_first : (x : Y) (y : X) → eq (second x) (first y) ≡ false
-  pub second_third : (x : Y) (y : Z) → eq (second x) (third y) ≡ false
-  pub third_first : (x : Z) (y : X) → eq (third x) (first y) ≡ false
-  pub third_second : (x : Z) (y : Y) → eq (third x) (second y) ≡ false
+pub offsets_or_z_exact : Exact (λ o. o) offset_records.eq-value.it → Exact (λ o. o) offsets_or_z_equal.eq-value.it
+offsets_or_z_exact shifts (offsets_or_z.Offset o) (offsets_or_z.Offset p) =
+    (λ t. ap offsets_or_z.Offset ((shifts o p).0 t), λ e. (shifts o p).1 cc)
+offsets_or_z_exact shifts offsets_or_z.Z offsets_or_z.Z = (λ t. refl, λ e. refl)
+offsets_or_z_exact shifts o p = (λ t. absurd cc, λ e. absurd cc)
 
 -- what stands in the time groups of a duration
-abbrev pub InHours : Type 0
+abbrev InHours : Type 0
 InHours = ℕ × Option FractionParts
 
-abbrev pub hours_of : InHours → TimeDurationRecord
+abbrev hours_of : InHours → TimeDurationRecord
 hours_of p = time_durations.Hours p.0 p.1
 
-abbrev pub minutes_of : ℕ × InHours → TimeDurationRecord
+abbrev minutes_of : ℕ × InHours → TimeDurationRecord
 minutes_of p = time_durations.Minutes p.0 p.1.0 p.1.1
 
-abbrev pub seconds_of : ℕ × (ℕ × InHours) → TimeDurationRecord
+abbrev seconds_of : ℕ × (ℕ × InHours) → TimeDurationRecord
 seconds_of p = time_durations.Seconds p.0 p.1.0 p.1.1.0 p.1.1.1
 
+-- one more number before the others
+with_number : {V : Type 0} {eq : V → V → Bool} → Exact (λ v. v) eq → Exact (λ p. p) (λ (p q : ℕ × V). nat_eq p.0 q.0 && eq p.1 q.1)
+with_number exact = on_both (on_part (λ p. p.0) unsigned_Decides) (on_part (λ p. p.1) exact)
+
 -- the time groups of a duration
-module _ {eq : TimeDurationRecord → TimeDurationRecord → Bool} where
-  pub time_durations_exact : {E : _ → _ → Bool} {F : _ → _ → Bool} {G : _ → _ → Bool} →
-      OfThree eq hours_of minutes_of seconds_of E F G → Exact (λ p. p) E → Exact (λ p. p) F → Exact (λ p. p) G → Exact (λ o. o) eq
-  time_durations_exact of hours minutes seconds (time_durations.Hours h f) (time_durations.Hours i g) =
-      moved (of.firsts (h, f) (i, g)) (λ t. ap hours_of ((hours (h, f) (i, g)).0 t), λ e. (hours (h, f) (i, g)).1 cc)
-  time_durations_exact of hours minutes seconds (time_durations.Minutes h m f) (time_durations.Minutes i n g) =
-      moved (of.seconds (h, (m, f)) (i, (n, g))) (λ t. ap minutes_of ((minutes (h, (m, f)) (i, (n, g))).0 t), λ e. (minutes (h, (m, f)) (i, (n, g))).1 cc)
-  time_durations_exact of hours minutes seconds (time_durations.Seconds h m s f) (time_durations.Seconds i n u g) =
-      moved (of.thirds (h, (m, (s, f))) (i, (n, (u, g))))
-      (λ t. ap seconds_of ((seconds (h, (m, (s, f))) (i, (n, (u, g)))).0 t), λ e. (seconds (h, (m, (s, f))) (i, (n, (u, g)))).1 cc)
-  time_durations_exact of hours minutes seconds (time_durations.Hours h f) (time_durations.Minutes i n g) = apart (of.first_second (h, f) (i, (n, g))) (λ e. cc)
-  time_durations_exact of hours minutes seconds (time_durations.Hours h f) (time_durations.Seconds i n u g) =
-      apart (of.first_third (h, f) (i, (n, (u, g)))) (λ e. cc)
-  time_durations_exact of hours minutes seconds (time_durations.Minutes h m f) (time_durations.Hours i g) = apart (of.second_first (h, (m, f)) (i, g)) (λ e. cc)
-  time_durations_exact of hours minutes seconds (time_durations.Minutes h m f) (time_durations.Seconds i n u g) =
-      apart (of.second_third (h, (m, f)) (i, (n, (u, g)))) (λ e. cc)
-  time_durations_exact of hours minutes seconds (time_durations.Seconds h m s f) (time_durations.Hours i g) =
-      apart (of.third_first (h, (m, (s, f))) (i, g)) (λ e. cc)
-  time_durations_exact of hours minutes seconds (time_durations.Seconds h m s f) (time_durations.Minutes i n g) =
-      apart (of.third_second (h, (m, (s, f))) (i, (n, g))) (λ e. cc)
+pub time_durations_exact : Exact (λ f. f) (option_eq fractions.eq-value.it) → Exact (λ o. o) time_durations_equal.eq-value.it
+time_durations_exact fraction (time_durations.Hours h f) (time_durations.Hours i g) =
+    let hours = with_number fraction (h, f) (i, g) in
+    (λ t. ap hours_of (hours.0 t), λ e. hours.1 cc)
+time_durations_exact fraction (time_durations.Minutes h m f) (time_durations.Minutes i n g) =
+    let minutes = with_number (with_number fraction) (h, (m, f)) (i, (n, g)) in
+    (λ t. ap minutes_of (minutes.0 t), λ e. minutes.1 cc)
+time_durations_exact fraction (time_durations.Seconds h m s f) (time_durations.Seconds i n u g) =
+    let seconds = with_number (with_number (with_number fraction)) (h, (m, (s, f))) (i, (n, (u, g))) in
+    (λ t. ap seconds_of (seconds.0 t), λ e. seconds.1 cc)
+time_durations_exact fraction a b = (λ t. absurd cc, λ e. absurd cc)

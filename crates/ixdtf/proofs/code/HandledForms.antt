@@ -29,49 +29,24 @@ use Rattle.ixdtf.specs.contracts.parsers.IxdtfParser.read_as.F-FnOnce as GO
 use Rattle.ixdtf.proofs.parsers.IxdtfParser.read_as.Met as G_met
 use Rattle.ixdtf.specs.contracts.parsers.IxdtfParser.read_as.Key as G_key
 use Rattle.ixdtf.proofs.parsers.IxdtfParser.read_as.Symbol as G_symbol
-use mir.Syntax.{Dict}
-use mir.Syntax.{Callee}
-use mir.Syntax.{a_type}
-use mir.Syntax.{dcons}
-use mir.Syntax.{dnil}
-use mir.Syntax.{named}
+use mir.Syntax.{Dict, Callee, a_type, dcons, dnil, named}
 use mir.Raw.{raw as bare}
 use seplogic.Ra.Ura.{Ura}
-use base.Logic.{SProp}
-use base.Logic.{ent}
-use base.Logic.{sep}
-use base.Logic.{ex_i}
-use base.Logic.{ex_e}
-use base.Logic.{mono_r}
-use base.Logic.{via}
-use base.Logic.{id⊢}
-use base.Logic.{fst∗}
-use base.Logic.{snd∗}
+use base.Logic.{SProp, ent, sep, ex_i, ex_e, mono_r, via, id⊢, fst∗, snd∗}
 use base.Fml.{Lft}
 use prog.Model.{Model}
-use prog.Wp.{Tables}
-use prog.Wp.{Closed}
+use prog.Wp.{Tables, Closed}
 use prog.Wired.{Wired}
-use types.Logic.{Logic}
-use types.Logic.{sem}
+use types.Logic.{Logic, sem}
 use contract.Lifetimes.{Lfts}
-use contract.Monad.{Fun}
-use contract.Monad.{fact}
-use contract.Monad.{fact_use}
-use contract.Running.{Running}
-use contract.Running.{tables}
-use denote.Exit.{yes}
-use denote.Exit.{no}
-use denote.RattleType.{RattleType}
-use denote.RattleType.{Denots}
+use contract.Monad.{Fun, fact, fact_use}
+use contract.Running.{Running, tables}
+use denote.Exit.{yes, no}
+use denote.RattleType.{RattleType, Denots}
 use denote.Ref.{NamedLft}
-use denote.Param.{param}
-use denote.Param.{arg}
-use denote.Param.{layout}
-use denote.Param.{bounded}
+use denote.Param.{param, arg, layout, bounded}
 use denote.Param.Laws.{Laws, arg_laws}
-use denote.Signature.{Signature}
-use denote.Signature.{types_at}
+use denote.Signature.{Signature, types_at}
 use denote.Triple.Impl.{implements, insides_in, with_fact}
 use denote.Triple.Carry.{insides}
 use denote.Triple.End.{Fins, Outs, outs, lasts_of}

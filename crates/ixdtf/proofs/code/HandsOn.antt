@@ -5,94 +5,23 @@ use mathlib.Core.List.{List, [], ◌∷◌, ◌++◌}
 use Prim.Native.Nat.{ℕ}
 use lib.Dec.{T}
 use seplogic.Ra.Ura.{Ura}
-use mir.Syntax.{Ty}
-use mir.Syntax.{ty_ref}
-use mir.Syntax.{mut}
-use mir.Syntax.{Lifetime}
-use mir.Syntax.{local}
-use mir.Syntax.{value_local}
-use mir.Syntax.{place}
-use mir.Syntax.{deref}
-use mir.Syntax.{addr_of}
-use mir.Syntax.{rv_opd}
-use mir.Syntax.{copy}
-use mir.Syntax.{assign}
-use mir.Syntax.{call}
-use mir.Syntax.{seq}
-use mir.Syntax.{return}
-use mir.Syntax.{Callee}
-use mir.Syntax.{Fn}
-use mir.Syntax.{Kind}
-use mir.Val.{Val}
-use mir.Val.{vptr}
-use mir.Val.{has_ty}
-use mir.Val.{WT}
-use base.Logic.{SProp}
-use base.Logic.{ent}
-use base.Logic.{sep}
-use base.Logic.{ex}
-use base.Logic.{ex_i}
-use base.Logic.{via}
-use base.Logic.{id⊢}
-use base.Logic.{fst∗}
-use base.Logic.{snd∗}
-use prog.Wp.{WpFn}
-use prog.Wp.{Tables}
-use prog.Wp.{Closed}
-use types.Logic.{Logic}
-use types.Logic.{sem}
-use types.Kit.{‵}
-use types.Kit.{raw}
-use types.Kit.{◌⊛◌}
-use types.Kit.{some}
-use types.Kit.{later}
-use types.Kit.{◌$◌}
-use types.Kit.{◌∵◌}
-use types.Kit.{ ! }
-use types.Kit.{qed}
-use types.Kit.{done}
-use types.Kit.{move}
-use types.Kit.{use1}
-use types.Kit.{split}
-use types.Kit.{join}
-use types.Kit.{pick}
-use types.Kit.{suffices}
-use types.Kit.{await}
-use types.Run.{stop}
-use types.Run.{addr}
-use types.Run.{no_more}
-use types.Run.{and_then}
-use types.Run.{of_opd}
-use types.Run.{returns}
-use types.Run.{enter}
-use types.ByLocal.{alloc_all}
-use types.ByLocal.{pass_all}
-use types.ByLocal.{free_all}
-use types.ByLocal.{look_at}
-use types.ByLocal.{get}
-use types.ByLocal.{through}
-use types.ByLocal.{sets}
-use types.ByLocal.{lands_as}
-use contract.Lifetimes.{Lfts}
-use contract.Lifetimes.{Outlives}
+use mir.Syntax.{Ty, ty_ref, mut, Lifetime, local, value_local, place, deref, addr_of, rv_opd, copy, assign, call, seq, return, Callee, Fn, Kind}
+use mir.Val.{Val, vptr, has_ty, WT}
+use base.Logic.{SProp, ent, sep, ex, ex_i, via, id⊢, fst∗, snd∗}
+use prog.Wp.{WpFn, Tables, Closed}
+use types.Logic.{Logic, sem}
+use types.Kit.{‵, raw, ◌⊛◌, some, later, ◌$◌, ◌∵◌, !, qed, done, move, use1, split, join, pick, suffices, await}
+use types.Run.{stop, addr, no_more, and_then, of_opd, returns, enter}
+use types.ByLocal.{alloc_all, pass_all, free_all, look_at, get, through, sets, lands_as}
+use contract.Lifetimes.{Lfts, Outlives}
 use contract.Monad.{fact_use}
 use sound.WpLaws.{fm_of}
-use denote.RattleType.{RattleType}
-use denote.RattleType.{owns}
-use denote.Laws.{Is}
-use denote.Laws.{Are}
-use denote.Laws.{Ises}
-use denote.Laws.{shows}
-use denote.Laws.{owns_show}
-use denote.Laws.{showss}
-use denote.Param.{layout}
-use denote.Param.{param}
+use denote.RattleType.{RattleType, owns}
+use denote.Laws.{Is, Are, Ises, shows, owns_show, showss}
+use denote.Param.{layout, param}
 use denote.Param.Laws.{Laws, param_laws}
 use denote.Param.Steps.{one_value}
-use denote.Signature.{Signature}
-use denote.Signature.{plain}
-use denote.Signature.{mut_ref_to}
-use denote.Signature.{types_at}
+use denote.Signature.{Signature, plain, mut_ref_to, types_at}
 use denote.Steps.{peeks}
 use denote.Triple.Call.{calls_at}
 use denote.Triple.Entry.{on_entry, alive}

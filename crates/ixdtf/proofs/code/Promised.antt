@@ -48,41 +48,17 @@ unhandled letter number step handler last found kind old new (Err why) own read 
       profile = read.profile;
     }
 
-module _ {X : Type 0} (letter : ℕ → Letter) (view : X → Parsed) (reader : Reader) (old new : UnreadUnder) (is : IsTextReader old.profile reader) where
-  module _ {E : Type 0} (fault : E → Fault) where
-    pub reads_ok : (found : X) → ReadsUnhandled letter (view found) reader old ended new → ReadsText letter fault view reader old (Ok found) new
-    reads_ok found read = record {
-      ok = read.form.ok;
-      err = tt;
-      no_row = read.form.no_row;
-      no_other_reader = read.form.no_other_reader old.profile is;
-      only = tt;
-      leaves = leaves_ok fault found read.leaves;
-      profile = read.profile;
-    }
-
-    pub reads_err : (found : Parsed) (e : E) (why : StopAt) → fault e ≡ fault_of_stop_at why → ReadsUnhandled letter found reader old (stopped why) new
-        → ReadsText letter fault view reader old (Err e) new
-    reads_err found e why same read = let gives = rw (← same) at read.form in record {
-      ok = gives.ok;
-      err = gives.err;
-      no_row = tt;
-      no_other_reader = tt;
-      only = gives.only;
-      leaves = leaves_err fault e why same read.leaves;
-      profile = read.profile;
-    }
-
-  pub reads_ok_at : (found : X) → ReadsUnhandled letter (view found) reader old ended new → ReadsTextAt letter view reader old (Ok found) new
-  reads_ok_at found read = let plain = reads_ok fault_of_located found read in record {
-    ok = plain.ok;
-    err = tt;
-    place = tt;
-    no_row = plain.no_row;
-    no_other_reader = plain.no_other_reader;
-    only = tt;
-    leaves = plain.leaves;
-    profile = plain.profile;
+module _ {X : Type 0} (letter : ℕ → Letter) (view : X → Parsed) (reader : Reader) (old new : UnreadUnder) where
+  pub reads_err : {E : Type 0} (fault : E → Fault) (found : Parsed) (e : E) (why : StopAt) → fault e ≡ fault_of_stop_at why
+      → ReadsUnhandled letter found reader old (stopped why) new → ReadsText letter fault view reader old (Err e) new
+  reads_err fault found e why same read = let gives = rw (← same) at read.form in record {
+    ok = gives.ok;
+    err = gives.err;
+    no_row = tt;
+    no_other_reader = tt;
+    only = gives.only;
+    leaves = leaves_err fault e why same read.leaves;
+    profile = read.profile;
   }
 
   pub reads_err_at : (found : Parsed) (e : LocatedError) (why : StopAt) → fault_of_located e ≡ fault_of_stop_at why → e.at ≡ why.at

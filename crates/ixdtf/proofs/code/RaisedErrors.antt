@@ -7,13 +7,10 @@ use lib.Dec.{T}
 use Prim.Native.Nat.{ℕ, suc}
 use mir.Syntax.{Ty}
 use mir.Raw.{raw as bare}
-use mir.Val.{Val}
-use mir.Val.{has_ty}
-use mir.Val.{WT}
+use mir.Val.{Val, has_ty, WT}
 use denote.Exit.{no}
 use denote.Laws.{Is}
-use denote.Param.{layout}
-use denote.Param.{arg}
+use denote.Param.{layout, arg}
 use denote.Param.Laws.{Laws, param_laws, arg_laws}
 use denote.Enum.Loose.{loose_lawful}
 use types.Logic.{Logic}

@@ -1,25 +1,20 @@
 -- Code units that no core has: `[`, and `P` and `p`, which begin a duration. So where cores stand before the end or a bracket,
 -- those of one text are one core's text, a front without these code units is a front of the core, and none begins as a
 -- duration.
-use Rattle.std.proofs.Common.{◌≡◌, ℕ, zero, suc, IsTrue, IsFalse, ◌⊎◌, ℤ, [], ◌∷◌, ◌++◌, refl, sym, ◌∙◌, subst, inl, inr, arith}
-use Rattle.std.proofs.lemmas.Bool.{both_ways, eqb-true, or_parts, Decides.nat_tests}
+use Rattle.std.proofs.Common.{◌≡◌, ℕ, IsTrue, ◌&&◌, ◌||◌, not, ◌⊎◌, ℤ, [], ◌∷◌, ◌++◌, refl, sym, ◌∙◌, subst, inl, inr, arith}
+use Rattle.std.proofs.lemmas.Bool.{both_ways, eqb-true, Decides.nat_tests}
 use Rattle.ixdtf_grammar.specs.declared.records.{DateRecord.DateRecord, Sign.Sign}
-use Rattle.ixdtf_grammar.specs.language.Letters.{Class, ◌or◌, Letter, Text, digit, hyphen, sign, opening, duration_designator, Letter.{Plain, Bad}}
-use Rattle.ixdtf_grammar.specs.language.{Shapes.{Shape, one, digits}, Dates.Year, Durations.SignedDesignator}
+use Rattle.ixdtf_grammar.specs.language.Letters.{Class, Letter, Text, hyphen, sign, opening, duration_designator, Letter.Plain}
+use Rattle.ixdtf_grammar.specs.language.{Shapes.{Shape, digits}, Dates.Year, Durations.SignedDesignator}
 use Rattle.ixdtf_grammar.specs.{language.Months.{OptionalHyphen, Marks, IsYearMonth, MonthDayText}, table.Before.AtCoreEnd}
+use Rattle.ixdtf_grammar.proofs.parts.Classes.{ascii, IsOf, AllOf, all_append, Within, PlainOf, plain_nothing, one_of, ◌and_then◌, ◌or_else◌, all_digits}
 
-abbrev pub outside : Class
-outside = opening or duration_designator
+-- the other code units of ASCII
+abbrev pub core_unit : Class
+core_unit c = ascii c && not (opening c || duration_designator c)
 
--- no such code unit
-abbrev pub Inside : Letter → Type 0
-Inside (Plain c) = IsFalse (outside c)
-Inside Bad = Unit {0}
-
--- none anywhere
 abbrev pub AllInside : Shape
-AllInside [] = Unit {0}
-AllInside (c ∷ rest) = Inside c × AllInside rest
+AllInside = AllOf core_unit
 
 -- ---- what stands after a core
 
@@ -31,12 +26,12 @@ pub core_ends : (rest : Text) → AtCoreEnd rest → CoreEnds rest
 core_ends rest (inl is) = inl is
 core_ends rest (inr h) = let bracket : h.3.0 ≡ 91 = eqb-true h.3.0 91 h.3.2 in inr (h.1, rw (h.2, h.3.1, bracket) refl)
 
-not_at_end : (c : Letter) (more rest : Text) → Inside c → CoreEnds rest → rest ≡ c ∷ more → ⊥
+not_at_end : (c : Letter) (more rest : Text) → IsOf core_unit c → CoreEnds rest → rest ≡ c ∷ more → ⊥
 not_at_end c more rest none (inl h) is = let cells : [] ≡ c ∷ more = sym h ∙ is in absurd cc
 not_at_end c more rest none (inr h) is =
     let cells : c ∷ more ≡ Plain 91 ∷ h.0 = sym is ∙ h.1 in
     let same : c ≡ Plain 91 = cc in
-    both_ways _ (subst Inside same none) refl
+    both_ways (core_unit 91) refl (subst (IsOf core_unit) same none)
 
 -- a front with none of these code units is one of the core
 pub in_core : (front after cores rest : Text) → AllInside front → CoreEnds rest → cores ++ rest ≡ front ++ after → (more : Text) × (cores ≡ front ++ more)
@@ -70,7 +65,8 @@ no_designator [] rest after c inside (inr h) designates is =
     both_ways (duration_designator 91) refl (subst (λ n. IsTrue (duration_designator n)) same designates)
 no_designator (d ∷ cores) rest after c inside ends designates is =
     let same : d ≡ Plain c = cc in
-    both_ways (duration_designator c) (or_parts _ _ (subst Inside same inside.0)).1 designates
+    let unit : IsTrue (core_unit c) = subst (IsOf core_unit) same inside.0 in
+    grind (arith, nat_tests, unit, designates)
 
 -- with its designator, or with a sign and its designator
 pub no_duration : (cores rest start after : Text) (s : Sign) → AllInside cores → CoreEnds rest → SignedDesignator start s → cores ++ rest ≡ start ++ after → ⊥
@@ -86,44 +82,31 @@ no_duration (d ∷ cores) rest start after s inside ends (inr h) is =
 
 -- ---- the parts of dates
 
-pub inside_append : (a b : Text) → AllInside a → AllInside b → AllInside (a ++ b)
-inside_append [] b f g = g
-inside_append (c ∷ a) b f g = (f.0, inside_append a b f.1 g)
-
-of_digit : (c : ℕ) → IsTrue (digit c) → IsFalse (outside c)
-of_digit c h = grind (arith, nat_tests, h)
-
-pub of_sign : (c : ℕ) → IsTrue (sign c) → IsFalse (outside c)
+pub of_sign : Within sign core_unit
 of_sign c h = grind (arith, nat_tests, h)
 
-of_hyphen : (c : ℕ) → IsTrue (hyphen c) → IsFalse (outside c)
+of_hyphen : Within hyphen core_unit
 of_hyphen c h = grind (arith, nat_tests, h)
 
-pub in_one : (class : Class) → ((c : ℕ) → IsTrue (class c) → IsFalse (outside c)) → (text : Text) → one class text → AllInside text
-in_one class none text h = rw h.1 (none h.0 h.2, tt)
-
 pub in_digits : (n : ℕ) (text : Text) → digits n text → AllInside text
-in_digits zero text h = rw h tt
-in_digits (suc n) text h = rw h.2 (of_digit h.0 h.3, in_digits n h.1 h.4)
+in_digits n text h = all_digits (λ c d. grind (arith, nat_tests, d)) n text h
 
 pub in_year : (text : Text) (year : ℤ) → Year text year → AllInside text
 in_year text year (inl h) = in_digits 4 text h.0
 in_year text year (inr h) = rw h.is (of_sign h.c h.sign, in_digits 6 h.ds h.digits)
 
-in_hyphens : (text : Text) → OptionalHyphen text → AllInside text
-in_hyphens text (inl none) = rw none tt
-in_hyphens text (inr h) = in_one hyphen of_hyphen text h
+pub in_hyphens : PlainOf core_unit OptionalHyphen
+in_hyphens = plain_nothing or_else one_of of_hyphen
 
-in_marks : (text : Text) → Marks text → AllInside text
-in_marks text (inl none) = rw none tt
-in_marks text (inr h) = rw h.2 (inside_append h.0 h.1 (in_one hyphen of_hyphen h.0 h.3) (in_one hyphen of_hyphen h.1 h.4))
+pub in_marks : PlainOf core_unit Marks
+in_marks = plain_nothing or_else one_of of_hyphen and_then one_of of_hyphen
 
 pub in_year_month : (text : Text) (date : DateRecord) → IsYearMonth text date → AllInside text
 in_year_month text date h =
-    rw h.is (inside_append h.years _ (in_year h.years date.year h.year)
-    (inside_append h.hyphens _ (in_hyphens h.hyphens h.hyphen) (in_digits 2 h.months h.month.0.0)))
+    rw h.is (all_append _ h.years _ (in_year h.years date.year h.year)
+    (all_append _ h.hyphens _ (in_hyphens.plain _ h.hyphen) (in_digits 2 h.months h.month.0.0)))
 
 pub in_month_day : (text : Text) (date : DateRecord) → MonthDayText text date → AllInside text
 in_month_day text date h =
-    rw h.is (inside_append h.marks _ (in_marks h.marks h.mark) (inside_append h.months _ (in_digits 2 h.months h.month.0.0)
-    (inside_append h.hyphens _ (in_hyphens h.hyphens h.hyphen) (in_digits 2 h.days h.day.0))))
+    rw h.is (all_append _ h.marks _ (in_marks.plain _ h.mark) (all_append _ h.months _ (in_digits 2 h.months h.month.0.0)
+    (all_append _ h.hyphens _ (in_hyphens.plain _ h.hyphen) (in_digits 2 h.days h.day.0))))

@@ -1,14 +1,14 @@
--- Where the core of a text ends: no core has one of the code units of `outside`, and after a core stands the end or a bracket.
-use Rattle.std.proofs.Common.{◌≡◌, ℕ, suc, Bool, true, false, IsTrue, IsFalse, List, [], ◌∷◌, ◌++◌, Option, Some, None, refl, ◌∙◌, inl, inr, arith}
+-- Where the core of a text ends: a core has code units of `core_unit` alone, and after a core stands the end or a bracket.
+use Rattle.std.proofs.Common.{◌≡◌, ℕ, suc, Bool, true, false, IsTrue, List, [], ◌∷◌, ◌++◌, Option, Some, None, refl, ◌∙◌, inl, inr, arith}
 use Rattle.std.proofs.{Common.append_assoc, lemmas.Bool.Decides.nat_tests}
 use Rattle.ixdtf_grammar.specs.declared.records.{DateRecord.DateRecord, TimeRecord.TimeRecord, UtcOffsetRecordOrZ.UtcOffsetRecordOrZ}
-use Rattle.ixdtf_grammar.specs.language.{Letters.{Text, opening, zulu, decimal_mark, time_letter, date_time_separator}, Fractions.{FractionParts, IsFraction}}
+use Rattle.ixdtf_grammar.specs.language.{Letters.{Text, opening}, Fractions.{FractionParts, IsFraction}, Offsets.IsSigned}
 use Rattle.ixdtf_grammar.specs.language.{Dates.DateText, Times.{Clock, Clock as clocks, TimeShape, SecondText, ClockOf}}
 use Rattle.ixdtf_grammar.specs.language.{Times.TimeShape.{hours, basic_minutes, colon_minutes, seconds, fractions}, Brackets.{ZoneNote, Opens, Pair, IsTail}}
 use Rattle.ixdtf_grammar.specs.language.{Cores.{Core, OptionalOffset, IsDateTimeCore, TimeMark, MarkedTime, IsCore}, Readers.CoreKind}
 use Rattle.ixdtf_grammar.specs.language.Readers.CoreKind.{date_time, year_month, month_day, time_of_day}
-use Rattle.ixdtf_grammar.proofs.parts.CoreLetters.{outside, AllInside, CoreEnds, inside_append, of_sign, in_one, in_digits, in_year, in_year_month}
-use Rattle.ixdtf_grammar.proofs.parts.CoreLetters.{in_month_day}
+use Rattle.ixdtf_grammar.proofs.parts.Classes.{all_append, PlainOf, plain_nothing, one_of, ◌or_else◌}
+use Rattle.ixdtf_grammar.proofs.parts.CoreLetters.{core_unit, AllInside, CoreEnds, of_sign, in_digits, in_year, in_year_month, in_month_day}
 
 -- ---- what stands after a core
 
@@ -26,66 +26,57 @@ tail_ends text (Some note) pairs h = let z = h.3 in rw (h.2, z.is, append_assoc)
 
 -- ---- the parts of cores
 
-of_zulu : (c : ℕ) → IsTrue (zulu c) → IsFalse (outside c)
-of_zulu c h = grind (arith, nat_tests, h)
-
-of_mark : (c : ℕ) → IsTrue (decimal_mark c) → IsFalse (outside c)
-of_mark c h = grind (arith, nat_tests, h)
-
-of_time_letter : (c : ℕ) → IsTrue (time_letter c) → IsFalse (outside c)
-of_time_letter c h = grind (arith, nat_tests, h)
-
-of_separator : (c : ℕ) → IsTrue (date_time_separator c) → IsFalse (outside c)
-of_separator c h = grind (arith, nat_tests, h)
-
-in_date : (text : Text) (date : DateRecord) → DateText text date → AllInside text
+pub in_date : (text : Text) (date : DateRecord) → DateText text date → AllInside text
 in_date text date (inl h) =
-    rw h.is (inside_append h.years _ (in_year h.years date.year h.year)
-    (inside_append h.months _ (in_digits 2 h.months h.month.0.0) (in_digits 2 h.days h.day.0)))
+    rw h.is (all_append _ h.years _ (in_year h.years date.year h.year)
+    (all_append _ h.months _ (in_digits 2 h.months h.month.0.0) (in_digits 2 h.days h.day.0)))
 in_date text date (inr h) =
-    rw h.is (inside_append h.years _ (in_year h.years date.year h.year)
-    (refl, inside_append h.months _ (in_digits 2 h.months h.month.0.0) (refl, in_digits 2 h.days h.day.0)))
+    rw h.is (all_append _ h.years _ (in_year h.years date.year h.year)
+    (refl, all_append _ h.months _ (in_digits 2 h.months h.month.0.0) (refl, in_digits 2 h.days h.day.0)))
 
 in_seconds : (clock : Clock) (text : Text) (time : TimeRecord) → SecondText clock text time → AllInside text
 in_seconds clock text time (inl h) =
-    rw h.is (inside_append h.hs _ (in_digits 2 h.hs h.hour.0) (inside_append h.ms _ (in_digits 2 h.ms h.minute.0) (in_digits 2 h.ss h.second.0)))
+    rw h.is (all_append _ h.hs _ (in_digits 2 h.hs h.hour.0) (all_append _ h.ms _ (in_digits 2 h.ms h.minute.0) (in_digits 2 h.ss h.second.0)))
 in_seconds clock text time (inr h) =
-    rw h.is (inside_append h.hs _ (in_digits 2 h.hs h.hour.0) (refl, inside_append h.ms _ (in_digits 2 h.ms h.minute.0) (refl, in_digits 2 h.ss h.second.0)))
+    rw h.is (all_append _ h.hs _ (in_digits 2 h.hs h.hour.0) (refl, all_append _ h.ms _ (in_digits 2 h.ms h.minute.0) (refl, in_digits 2 h.ss h.second.0)))
 
-in_fraction : (text : Text) (fraction : FractionParts) → IsFraction text fraction → AllInside text
-in_fraction text fraction h = rw h.is (of_mark h.mark h.marks, in_digits (suc h.some.0) h.ds h.some.1)
+pub in_fraction : (text : Text) (fraction : FractionParts) → IsFraction text fraction → AllInside text
+in_fraction text fraction h = let mark : IsTrue (core_unit h.mark) = grind (arith, nat_tests, h.marks) in rw h.is (mark, in_digits (suc h.some.0) h.ds h.some.1)
 
-in_clock : (clock : Clock) (shape : TimeShape) (text : Text) (time : TimeRecord) → ClockOf clock shape text time → AllInside text
+pub in_clock : (clock : Clock) (shape : TimeShape) (text : Text) (time : TimeRecord) → ClockOf clock shape text time → AllInside text
 in_clock clock hours text time h = in_digits 2 text h.hour.0
-in_clock clock basic_minutes text time h = rw h.is (inside_append h.hs _ (in_digits 2 h.hs h.hour.0) (in_digits 2 h.ms h.minute.0))
-in_clock clock colon_minutes text time h = rw h.is (inside_append h.hs _ (in_digits 2 h.hs h.hour.0) (refl, in_digits 2 h.ms h.minute.0))
+in_clock clock basic_minutes text time h = rw h.is (all_append _ h.hs _ (in_digits 2 h.hs h.hour.0) (in_digits 2 h.ms h.minute.0))
+in_clock clock colon_minutes text time h = rw h.is (all_append _ h.hs _ (in_digits 2 h.hs h.hour.0) (refl, in_digits 2 h.ms h.minute.0))
 in_clock clock seconds text time h = in_seconds clock text time h
-in_clock clock fractions text time h = rw h.is (inside_append h.whole _ (in_seconds clock h.whole _ h.second) (in_fraction h.part h.fraction h.is_fraction))
+in_clock clock fractions text time h = rw h.is (all_append _ h.whole _ (in_seconds clock h.whole _ h.second) (in_fraction h.part h.fraction h.is_fraction))
+
+pub in_signed : {O : Type 0} (clock : Clock) (record_of : ℕ → TimeShape → TimeRecord → O) (text : Text) (offset : O) → IsSigned clock record_of text offset
+    → AllInside text
+in_signed clock record_of text offset h = rw h.is (of_sign h.c h.sign, in_clock clock h.shape h.body h.time h.clock)
 
 in_offset : (text : Text) (offset : Option UtcOffsetRecordOrZ) → OptionalOffset text offset → AllInside text
 in_offset text None h = rw h tt
-in_offset text (Some offset) (inl h) = let o = h.1 in rw o.is (of_sign o.c o.sign, in_clock clocks.Offset o.shape o.body o.time o.clock)
-in_offset text (Some offset) (inr h) = in_one zulu of_zulu text h.0
+in_offset text (Some offset) (inl h) = in_signed _ _ text h.0 h.1
+in_offset text (Some offset) (inr h) = (one_of (λ c z. grind (arith, nat_tests, z))).plain text h.0
 
-in_time_mark : (text : Text) → TimeMark text → AllInside text
-in_time_mark text (inl none) = rw none tt
-in_time_mark text (inr h) = in_one time_letter of_time_letter text h
+in_time_mark : PlainOf core_unit TimeMark
+in_time_mark = plain_nothing or_else one_of (λ c h. grind (arith, nat_tests, h))
 
 -- ---- cores
 
 in_date_time : (text : Text) (core : Core) → IsDateTimeCore text core → AllInside text
 in_date_time text core (inl h) = in_date text h.0 h.1.0
 in_date_time text core (inr h) =
-    rw h.is (inside_append h.dates _ (in_date h.dates h.date h.is_date.0)
-    (inside_append h.separator _ (in_one date_time_separator of_separator h.separator h.separates)
-    (inside_append h.times _ (in_clock clocks.Time h.is_time.0 h.times h.time h.is_time.1) (in_offset h.offsets h.offset h.is_offset))))
+    rw h.is (all_append _ h.dates _ (in_date h.dates h.date h.is_date.0)
+    (all_append _ h.separator _ ((one_of (λ c t. grind (arith, nat_tests, t))).plain _ h.separates)
+    (all_append _ h.times _ (in_clock clocks.Time h.is_time.0 h.times h.time h.is_time.1) (in_offset h.offsets h.offset h.is_offset))))
 
-in_marked_time : (text : Text) (core : Core) → MarkedTime text core → AllInside text
+pub in_marked_time : (text : Text) (core : Core) → MarkedTime text core → AllInside text
 in_marked_time text core h =
-    rw h.is (inside_append h.marks _ (in_time_mark h.marks h.mark)
-    (inside_append h.times _ (in_clock clocks.Time h.is_time.0 h.times h.time h.is_time.1) (in_offset h.offsets h.offset h.is_offset)))
+    rw h.is (all_append _ h.marks _ (in_time_mark.plain _ h.mark)
+    (all_append _ h.times _ (in_clock clocks.Time h.is_time.0 h.times h.time h.is_time.1) (in_offset h.offsets h.offset h.is_offset)))
 
--- no core has one of the code units of `outside`
+-- a core has code units of `core_unit` alone
 pub core_inside : (kind : CoreKind) (text : Text) (core : Core) → IsCore kind text core → AllInside text
 core_inside date_time text core h = in_date_time text core h
 core_inside year_month text core h = in_year_month text h.0 h.1

@@ -29,7 +29,7 @@ AtLeast a c text = (IsTrue (begins digit text) × (a ≤ length text)) ⊎ (IsTr
 
 -- ---- parts
 
-digits_long : (n : ℕ) (text : Text) → digits n text → length text ≡ n
+pub digits_long : (n : ℕ) (text : Text) → digits n text → length text ≡ n
 digits_long zero text h = rw h refl
 digits_long (suc n) text h = rw (h.2, digits_long n h.1 h.4) refl
 

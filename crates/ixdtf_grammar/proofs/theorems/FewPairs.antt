@@ -1,11 +1,9 @@
 -- A text has no more pairs than code units.
 use Rattle.std.proofs.{Common.{◌≡◌, ℕ, ◌≤◌, List, [], ◌∷◌, ◌++◌, length, inl, inr, arith}, lemmas.List.length-append}
-use Rattle.ixdtf_grammar.specs.language.{Letters.Text, Times.Clock.{Time, Offset, MinuteOffset}, Brackets.{Pair, IsPair, ArePairs}, Readers.CoreKind}
+use Rattle.ixdtf_grammar.specs.language.{Letters.Text, Times.Clock.Time, Brackets.{Pair, IsPair, ArePairs}, Readers.CoreKind}
 use Rattle.ixdtf_grammar.specs.{language.{Readers.Reader.bracketed, Languages.{Found, Derives, Derives.as_parsed}}, table.{Faults.Fault, LineNames.LineName}}
-use Rattle.ixdtf_grammar.specs.table.LineNames.ZoneLine.{identifier_start, zone_name_start, in_zone_name, after_zone_slash}
-use Rattle.ixdtf_grammar.specs.table.LineNames.BracketLine.{first_bracket_start, first_critical_start, first_bracket_scan, after_bracket}
-use Rattle.ixdtf_grammar.specs.table.LineNames.PairLine.{key_start, critical_key_start, in_key, value_start, in_value, after_value_hyphen}
-use Rattle.ixdtf_grammar.specs.table.LineNames.LineName.{of_core, of_clock, of_offset, of_zone, of_bracket, of_pair, of_duration}
+use Rattle.ixdtf_grammar.specs.table.LineNames.{ZoneLine.{identifier_start, zone_name_start}, BracketLine.after_bracket}
+use Rattle.ixdtf_grammar.specs.table.LineNames.{PairLine.{key_start, critical_key_start}, LineName.{of_clock, of_zone, of_bracket, of_pair, of_duration}}
 use Rattle.ixdtf_grammar.specs.{table.{Before.{BeforeBracketed, Bracketed, BeforeKey}, Outcomes.HasFault}, Handlers.{Reply, GivesFault}}
 
 -- a part of a text is no longer than it
@@ -37,26 +35,15 @@ key_few kind pairs before rest (inr (first, second, is, brackets, opens)) = rw i
 
 before_few : (kind : CoreKind) (name : LineName) (pairs : List Pair) (before rest : Text) → BeforeBracketed kind name pairs before rest
     → length pairs ≤ length before
-before_few kind (of_core line) pairs before rest p = none_few pairs before p.1
-before_few kind (of_clock Time line) pairs before rest p = none_few pairs before p.1
-before_few kind (of_clock Offset line) pairs before rest p = none_few pairs before p.1
-before_few kind (of_clock MinuteOffset line) pairs before rest p = none_few pairs before p.1
-before_few kind (of_offset line) pairs before rest p = none_few pairs before p.1
-before_few kind (of_zone identifier_start) pairs before rest p = absurd p
-before_few kind (of_zone zone_name_start) pairs before rest p = absurd p
-before_few kind (of_zone in_zone_name) pairs before rest p = none_few pairs before p.1
-before_few kind (of_zone after_zone_slash) pairs before rest p = none_few pairs before p.1
-before_few kind (of_bracket first_bracket_start) pairs before rest p = none_few pairs before p.1
-before_few kind (of_bracket first_critical_start) pairs before rest p = none_few pairs before p.1
-before_few kind (of_bracket first_bracket_scan) pairs before rest p = none_few pairs before p.1
-before_few kind (of_bracket after_bracket) pairs before rest p = bracketed_few kind pairs before p
 before_few kind (of_pair key_start) pairs before rest p = bracketed_few kind pairs before p
 before_few kind (of_pair critical_key_start) pairs before rest p = bracketed_few kind pairs before p
-before_few kind (of_pair in_key) pairs before rest p = key_few kind pairs before rest p
-before_few kind (of_pair value_start) pairs before rest p = key_few kind pairs before rest p
-before_few kind (of_pair in_value) pairs before rest p = key_few kind pairs before rest p
-before_few kind (of_pair after_value_hyphen) pairs before rest p = key_few kind pairs before rest p
+before_few kind (of_pair line) pairs before rest p = key_few kind pairs before rest p
+before_few kind (of_bracket after_bracket) pairs before rest p = bracketed_few kind pairs before p
 before_few kind (of_duration profile line) pairs before rest p = absurd p
+before_few kind (of_zone identifier_start) pairs before rest p = absurd p
+before_few kind (of_zone zone_name_start) pairs before rest p = absurd p
+before_few kind (of_clock Time line) pairs before rest p = none_few pairs before p.1
+before_few kind name pairs before rest p = none_few pairs before p.1
 
 fault_few : (kind : CoreKind) (text : Text) (pairs : List Pair) (fault : Fault) → HasFault (bracketed kind) text pairs fault → length pairs ≤ length text
 fault_few kind text pairs fault (row, (before, rest, is, stands, here), has) =

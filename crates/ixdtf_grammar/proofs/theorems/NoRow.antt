@@ -1,19 +1,16 @@
 -- The errors that no row of the fault table has: those that never come, and those of refused replies; and that of Bad, which stands at Bad alone.
-use Rattle.std.proofs.Common.{◌≡◌, ◌⊎◌, ℕ, Bool, true, false, ◌||◌, cond, IsFalse, List, ◌∷◌, ◌++◌, refl, sym, ap, ◌∙◌, ◌≢◌, inl, inr, append_assoc}
+use Rattle.std.proofs.Common.{◌≡◌, ◌⊎◌, ℕ, Bool, true, false, ◌||◌, cond, IsFalse, List, ◌∷◌, ◌++◌, refl, sym, ap, subst, ◌∙◌, ◌≢◌, inl, inr, append_assoc}
 use Rattle.std.proofs.lemmas.Bool.{both_ways, or_parts}
 use Rattle.ixdtf_grammar.specs.language.{Letters.{Text, hyphen, colon, digit, Letter.Bad}, Times.{Clock, Clock as clocks}, Durations.{Half, Half as halves}}
 use Rattle.ixdtf_grammar.specs.{language.{Brackets.Pair, Readers.{Reader, has_brackets}}, table.Faults.{Fault, never_comes, is_refusal}}
 use Rattle.ixdtf_grammar.specs.table.Faults.Fault.{NonAsciiCodePoint, UnrecognizedCritical, CriticalDuplicateCalendar, DateSeparator, DateDay, InvalidEnd}
-use Rattle.ixdtf_grammar.specs.table.{Faults.Fault.IanaChar, LineNames.{LineName, of_date, of_year_month, of_month_day, of_time}}
-use Rattle.ixdtf_grammar.specs.table.LineNames.DateLine.{minus_zero_year, month_range, after_basic_month, day_range, after_date}
-use Rattle.ixdtf_grammar.specs.table.LineNames.{YearMonthLine.after_year_month, MonthDayLine.{month_day_month_range, month_day_range, after_month_day}}
-use Rattle.ixdtf_grammar.specs.table.LineNames.{TimeLine.{time_reads_as_month_day, time_reads_as_year_month}, ClockLine.{hour_range, after_hour}}
-use Rattle.ixdtf_grammar.specs.table.LineNames.ClockLine.{minute_range, after_basic_minute, after_colon_minute, second_digits, second_range, after_second}
-use Rattle.ixdtf_grammar.specs.table.LineNames.{ClockLine.after_fraction, OffsetLine.after_zulu, ZoneLine.in_zone_name}
-use Rattle.ixdtf_grammar.specs.table.LineNames.{BracketLine.{first_bracket_scan, after_bracket}, PairLine.key_start, DurationLine.after_date_groups}
-use Rattle.ixdtf_grammar.specs.table.LineNames.DurationLine.{group_digits, group_value_range, unit_order, date_unit_range, after_time_groups}
-use Rattle.ixdtf_grammar.specs.table.LineNames.{DurationLine.after_fraction_group, LineName.{of_clock, of_offset, of_zone, of_bracket, of_pair, of_duration}}
-use Rattle.ixdtf_grammar.specs.table.Lines.{Line, Ending, Follow, follow_of, mixed, second_fault, zone_line, no_designator, order_fault, line_of}
+use Rattle.ixdtf_grammar.specs.table.{Faults.Fault.IanaChar, LineNames.{LineName, of_date, of_year_month, of_month_day, of_time, DateLine.after_basic_month}}
+use Rattle.ixdtf_grammar.specs.table.LineNames.{YearMonthLine.after_year_month, MonthDayLine.month_day_month_range, TimeLine.time_reads_as_year_month}
+use Rattle.ixdtf_grammar.specs.table.LineNames.{OffsetLine.after_zulu, BracketLine.after_bracket, PairLine.key_start}
+use Rattle.ixdtf_grammar.specs.table.LineNames.ClockLine.{after_hour, after_basic_minute, after_colon_minute, second_digits, second_range, after_second}
+use Rattle.ixdtf_grammar.specs.table.LineNames.{ClockLine.after_fraction, ZoneLine.in_zone_name, DurationLine.{group_digits, unit_order}}
+use Rattle.ixdtf_grammar.specs.table.LineNames.LineName.{of_clock, of_offset, of_zone, of_bracket, of_pair, of_duration}
+use Rattle.ixdtf_grammar.specs.table.Lines.{Line, Ending, Follow, follow_of, mixed, second_fault, after_minute, zone_line, no_designator, order_fault, line_of}
 use Rattle.ixdtf_grammar.specs.table.{Lines.{Line.{line, scanned, whole}, Ending.{ok, error}}, Rows.{Place, Stops, Place.{end, other, bad, anywhere}}}
 use Rattle.ixdtf_grammar.specs.table.Outcomes.{HasFault}
 
@@ -26,15 +23,16 @@ is_of_bad fault = false
 abbrev no_row : Fault → Bool
 no_row fault = (never_comes fault || is_refusal fault) || is_of_bad fault
 
+-- the text may end here, or its end is an error that a row may have
 abbrev EndHas : Ending → Type 0
-EndHas ok = Unit {0}
+EndHas ok = IsFalse false
 EndHas (error fault) = IsFalse (no_row fault)
 
 -- each error of the line is one that a row may have
 abbrev LineHas : Line → Type 0
 LineHas (line front goes_on at_end at_other) = EndHas at_end × ((c : ℕ) → IsFalse (no_row (at_other c)))
-LineHas (scanned front fault) = IsFalse (no_row fault)
-LineHas (whole front fault) = IsFalse (no_row fault)
+LineHas (scanned front fault) = EndHas (error fault) × ((c : ℕ) → IsFalse (no_row fault))
+LineHas (whole front fault) = EndHas (error fault) × ((c : ℕ) → IsFalse (no_row fault))
 
 either_has : (b : Bool) (x y : Fault) → IsFalse (no_row x) → IsFalse (no_row y) → IsFalse (no_row (cond b x y))
 either_has true x y p q = p
@@ -46,7 +44,7 @@ FollowHas follow = EndHas follow.at_end × IsFalse (no_row follow.at_other)
 
 follow_has : (brackets : Bool) (clock : Clock) → FollowHas (follow_of brackets clock)
 follow_has true clocks.MinuteOffset = (refl, refl)
-follow_has brackets clock = (tt, refl)
+follow_has brackets clock = (refl, refl)
 
 clock_has : (clock : Clock) → IsFalse (no_row (mixed clock)) × IsFalse (no_row (second_fault clock))
 clock_has clocks.Time = (refl, refl)
@@ -55,52 +53,40 @@ clock_has clocks.MinuteOffset = (refl, refl)
 
 zone_has : (brackets : Bool) → LineHas (zone_line brackets in_zone_name)
 zone_has true = (refl, λ c. refl)
-zone_has false = (tt, λ c. either_has _ InvalidEnd IanaChar refl refl)
+zone_has false = (refl, λ c. either_has _ InvalidEnd IanaChar refl refl)
 
 half_has : (half : Half) → IsFalse (no_row (no_designator half)) × IsFalse (no_row (order_fault half))
 half_has halves.date = (refl, refl)
 half_has halves.time = (refl, refl)
 
+minute_has : (brackets : Bool) (clock : Clock) → EndHas (follow_of brackets clock).at_end
+    × ((c : ℕ) → IsFalse (no_row (after_minute (follow_of brackets clock) clock c)))
+minute_has brackets clock =
+    let f = follow_has brackets clock in (f.0, λ c. either_has (colon c || digit c) (mixed clock) (follow_of brackets clock).at_other (clock_has clock).0 f.1)
+
+-- one line of each group is written out, so that the last case tells the others apart
 line_has : (brackets : Bool) (name : LineName) → LineHas (line_of brackets name)
-line_has brackets (of_date minus_zero_year) = refl
-line_has brackets (of_date month_range) = refl
 line_has brackets (of_date after_basic_month) = (refl, λ c. either_has (hyphen c) DateSeparator DateDay refl refl)
-line_has brackets (of_date day_range) = refl
-line_has brackets (of_date after_date) = (tt, λ c. refl)
-line_has brackets (of_year_month after_year_month) = (tt, λ c. refl)
-line_has brackets (of_month_day month_day_month_range) = refl
-line_has brackets (of_month_day (month_day_range profile)) = refl
-line_has brackets (of_month_day (after_month_day profile)) = (tt, λ c. refl)
-line_has brackets (of_time (time_reads_as_month_day profile)) = refl
-line_has brackets (of_time time_reads_as_year_month) = refl
-line_has brackets (of_clock clock hour_range) = refl
 line_has brackets (of_clock clock after_hour) = let f = follow_has brackets clock in (f.0, λ c. f.1)
-line_has brackets (of_clock clock minute_range) = refl
-line_has brackets (of_clock clock after_basic_minute) =
-    let f = follow_has brackets clock in (f.0, λ c. either_has (colon c || digit c) (mixed clock) (follow_of brackets clock).at_other (clock_has clock).0 f.1)
-line_has brackets (of_clock clock after_colon_minute) =
-    let f = follow_has brackets clock in (f.0, λ c. either_has (colon c || digit c) (mixed clock) (follow_of brackets clock).at_other (clock_has clock).0 f.1)
+line_has brackets (of_clock clock after_basic_minute) = minute_has brackets clock
+line_has brackets (of_clock clock after_colon_minute) = minute_has brackets clock
 line_has brackets (of_clock clock second_digits) = (refl, λ c. (clock_has clock).1)
-line_has brackets (of_clock clock second_range) = (clock_has clock).1
+line_has brackets (of_clock clock second_range) = let has = (clock_has clock).1 in (has, λ c. has)
 line_has brackets (of_clock clock after_second) = let f = follow_has brackets clock in (f.0, λ c. f.1)
 line_has brackets (of_clock clock after_fraction) = let f = follow_has brackets clock in (f.0, λ c. f.1)
-line_has brackets (of_offset after_zulu) = (tt, λ c. refl)
 line_has brackets (of_zone in_zone_name) = zone_has brackets
-line_has brackets (of_bracket first_bracket_scan) = refl
-line_has brackets (of_bracket after_bracket) = (tt, λ c. refl)
-line_has brackets (of_pair key_start) = (refl, λ c. refl)
-line_has brackets (of_duration profile after_date_groups) = (tt, λ c. refl)
 line_has brackets (of_duration profile (group_digits half)) = let has = (half_has half).0 in (has, λ c. has)
-line_has brackets (of_duration profile (group_value_range half)) = refl
-line_has brackets (of_duration profile (unit_order half)) = (half_has half).1
-line_has brackets (of_duration profile date_unit_range) = refl
-line_has brackets (of_duration profile after_time_groups) = (tt, λ c. refl)
-line_has brackets (of_duration profile after_fraction_group) = (tt, λ c. refl)
+line_has brackets (of_duration profile (unit_order half)) = let has = (half_has half).1 in (has, λ c. has)
+line_has brackets (of_year_month after_year_month) = (refl, λ c. refl)
+line_has brackets (of_month_day month_day_month_range) = (refl, λ c. refl)
+line_has brackets (of_time time_reads_as_year_month) = (refl, λ c. refl)
+line_has brackets (of_offset after_zulu) = (refl, λ c. refl)
+line_has brackets (of_bracket after_bracket) = (refl, λ c. refl)
+line_has brackets (of_pair key_start) = (refl, λ c. refl)
 line_has brackets name = (refl, λ c. refl)
 
 end_has : (at_end : Ending) (fault : Fault) → EndHas at_end → at_end ≡ error fault → IsFalse (no_row fault)
-end_has ok fault has is = absurd cc
-end_has (error e) fault has is = let same : e ≡ fault = cc in ap no_row (sym same) ∙ has
+end_has at_end fault has is = subst EndHas is has
 
 -- the text begins with a Bad, and the fault is that of it
 abbrev pub BeginsBad : Fault → Text → Type 0
@@ -110,9 +96,9 @@ stop_has : (l : Line) (place : Place) (fault : Fault) (rest : Text) → LineHas 
 stop_has (line front goes_on at_end at_other) (end left) fault rest has h = inr (end_has at_end fault has.0 h.1)
 stop_has (line front goes_on at_end at_other) (other left) fault rest has h = inr (ap no_row h.4 ∙ has.1 h.0)
 stop_has (line front goes_on at_end at_other) (bad left) fault rest has h = inl (h.0, h.1, h.2)
-stop_has (scanned front e) (end left) fault rest has h = inr (ap no_row h.1 ∙ has)
+stop_has (scanned front e) (end left) fault rest has h = inr (ap no_row h.1 ∙ has.0)
 stop_has (scanned front e) (bad left) fault rest has h = inl (h.0, h.1, h.2)
-stop_has (whole front e) (anywhere left) fault rest has h = inr (ap no_row h.0 ∙ has)
+stop_has (whole front e) (anywhere left) fault rest has h = inr (ap no_row h.0 ∙ has.0)
 stop_has l place fault rest has h = absurd h
 
 -- a Bad stands in the text

@@ -13,16 +13,16 @@ Sees (Plain c ∷ rest) other_text = (more : Text) × (other_text ≡ Plain c �
 
 pub plain_sees_nothing : (text other_text : Text) → IsPlain text → ¬ (Sees text other_text)
 plain_sees_nothing [] other_text plain sees = sees
-plain_sees_nothing (Bad ∷ text) other_text plain sees = plain
-plain_sees_nothing (Plain c ∷ text) other_text plain sees = plain_sees_nothing text sees.0 plain sees.2
+plain_sees_nothing (Bad ∷ text) other_text plain sees = plain.0
+plain_sees_nothing (Plain c ∷ text) other_text plain sees = plain_sees_nothing text sees.0 plain.1 sees.2
 
 -- what is plain in front of a text with Bad is in front of the other
 pub sees_after : (front rest other_text : Text) → IsPlain front → Sees (front ++ rest) other_text
     → (more : Text) × (other_text ≡ front ++ more) × Sees rest more
 sees_after [] rest other_text plain sees = (other_text, refl, sees)
-sees_after (Bad ∷ front) rest other_text plain sees = absurd plain
+sees_after (Bad ∷ front) rest other_text plain sees = absurd plain.0
 sees_after (Plain c ∷ front) rest other_text plain sees =
-    let next = sees_after front rest sees.0 plain sees.2 in
+    let next = sees_after front rest sees.0 plain.1 sees.2 in
     (next.0, sees.1 ∙ ap (λ t. Plain c ∷ t) next.1, next.2)
 
 -- ---- what a text has up to the first Bad

@@ -1,6 +1,7 @@
 -- The front of each line is plain.
 use Rattle.std.proofs.Common.{Bool}
-use Rattle.ixdtf_grammar.specs.{declared.profile.Profile.Profile, language.{Shapes.some, Times.{Clock, TimeShape, BasicMinuteText, ColonMinuteText, ClockOf}}}
+use Rattle.ixdtf_grammar.specs.{declared.{profile.Profile.Profile, records.DateRecord.DateRecord}, language.{Shapes.some, Dates.{Year, Month}}}
+use Rattle.ixdtf_grammar.specs.language.{Months.MonthDayText, Times.{Clock, TimeShape, BasicMinuteText, ColonMinuteText, ClockOf}}
 use Rattle.ixdtf_grammar.specs.{language.Times.{Clock.Time, TimeShape.{hours, basic_minutes, colon_minutes, seconds, fractions}}, table.LineNames.DateLine}
 use Rattle.ixdtf_grammar.specs.table.LineNames.{YearMonthLine, MonthDayLine, TimeLine, CoreLine, ClockLine, OffsetLine, ZoneLine, BracketLine, PairLine}
 use Rattle.ixdtf_grammar.specs.table.LineNames.{DurationLine, LineName, DateLine.{year_start, year_digits, extended_year_digits, minus_zero_year, after_year}}
@@ -22,48 +23,57 @@ use Rattle.ixdtf_grammar.specs.table.{LineNames.LineName.{of_core, of_clock, of_
 use Rattle.ixdtf_grammar.specs.table.Lines.{year_month_line, month_day_line, time_line, core_line, clock_line, offset_line, zone_line, bracket_line}
 use Rattle.ixdtf_grammar.specs.table.{Lines.{pair_line, duration_line, Hour, line_of}, Rows.front_of}
 use Rattle.ixdtf_grammar.proofs.widths.PlainTexts.{PlainShape, plain_nothing, plain_one, ◌and_then◌, ◌or_else◌, plain_digits, plain_fewer, plain_some_digits}
-use Rattle.ixdtf_grammar.proofs.widths.PlainTexts.{plain_many, plain_with, plain_where, plain_some, year_plain, month_plain, date_text_plain, date_plain}
-use Rattle.ixdtf_grammar.proofs.widths.PlainTexts.{plain_hyphen, plain_marks, year_month_plain, month_day_text_plain, month_day_plain, clock_plain}
+use Rattle.ixdtf_grammar.proofs.widths.PlainTexts.{plain_many, plain_with, plain_where, plain_some, plain_inside, plain_shape, date_plain}
+use Rattle.ixdtf_grammar.proofs.{parts.CoreLetters.{in_year, in_hyphens, in_marks, in_year_month, in_month_day}, theorems.CoreEnds.{in_date, in_clock}}
 use Rattle.ixdtf_grammar.proofs.widths.{PlainTexts.{plain_name, plain_key, plain_value}, PlainDurations.{designator_plain, plain_number, plain_in_context}}
 use Rattle.ixdtf_grammar.proofs.widths.PlainDurations.{plain_after_dates, plain_after_time, plain_after_times, plain_value_past, plain_out_of_order}
 use Rattle.ixdtf_grammar.proofs.widths.PlainDurations.{plain_unit_past, plain_last_group}
 
 -- ---- cores
 
+plain_year : PlainShape (some Year)
+plain_year = plain_inside in_year
+
+plain_month : PlainShape (some Month)
+plain_month = plain_some (λ text month h. (plain_digits 2).plain text h.0.0)
+
+plain_month_day : {more : DateRecord → Type 0} → PlainShape (some (λ text date. MonthDayText text date × more date))
+plain_month_day = plain_inside (λ text date h. in_month_day text date h.0)
+
 plain_date_line : (name : DateLine) → PlainShape (front_of (date_line name))
 plain_date_line year_start = plain_nothing
 plain_date_line year_digits = plain_one and_then plain_fewer
 plain_date_line extended_year_digits = plain_one and_then plain_fewer
 plain_date_line minus_zero_year = plain_one and_then plain_with (plain_digits 6)
-plain_date_line after_year = plain_some year_plain
-plain_date_line month_digits = plain_some year_plain and_then (plain_one or_else plain_one and_then plain_one or_else plain_one)
-plain_date_line month_range = plain_some year_plain and_then (plain_nothing or_else plain_one) and_then plain_with (plain_digits 2)
-plain_date_line after_hyphened_month = plain_some year_plain and_then plain_one and_then plain_some month_plain
-plain_date_line after_basic_month = plain_some year_plain and_then plain_some month_plain
+plain_date_line after_year = plain_year
+plain_date_line month_digits = plain_year and_then (plain_one or_else plain_one and_then plain_one or_else plain_one)
+plain_date_line month_range = plain_year and_then (plain_nothing or_else plain_one) and_then plain_with (plain_digits 2)
+plain_date_line after_hyphened_month = plain_year and_then plain_one and_then plain_month
+plain_date_line after_basic_month = plain_year and_then plain_month
 plain_date_line day_digits =
-    plain_some year_plain and_then plain_some month_plain and_then plain_one
-    or_else plain_some year_plain and_then plain_one and_then plain_some month_plain and_then plain_one and_then plain_fewer
-plain_date_line day_range = plain_some (λ text date h. date_text_plain text date h.0)
+    plain_year and_then plain_month and_then plain_one
+    or_else plain_year and_then plain_one and_then plain_month and_then plain_one and_then plain_fewer
+plain_date_line day_range = plain_inside (λ text date h. in_date text date h.0)
 plain_date_line after_date = plain_some date_plain
 
 plain_year_month_line : (name : YearMonthLine) → PlainShape (front_of (year_month_line name))
-plain_year_month_line after_year_in_year_month = plain_some year_plain
-plain_year_month_line after_year_month = plain_some year_month_plain
+plain_year_month_line after_year_in_year_month = plain_year
+plain_year_month_line after_year_month = plain_inside in_year_month
 
 plain_month_day_line : (name : MonthDayLine) → PlainShape (front_of (month_day_line name))
 plain_month_day_line month_day_start = plain_nothing
 plain_month_day_line month_day_hyphen = plain_one
-plain_month_day_line month_day_month_digits = plain_one and_then plain_one or_else plain_marks and_then plain_one
-plain_month_day_line month_day_month_range = plain_marks and_then plain_with (plain_digits 2)
-plain_month_day_line after_month_day_month = plain_marks and_then plain_some month_plain
-plain_month_day_line month_day_day_digits = plain_marks and_then plain_some month_plain and_then (plain_one or_else plain_hyphen and_then plain_one)
-plain_month_day_line (month_day_range profile) = plain_some (λ text date h. month_day_text_plain text date h.0)
-plain_month_day_line (after_month_day profile) = plain_some (month_day_plain profile)
+plain_month_day_line month_day_month_digits = plain_one and_then plain_one or_else plain_shape in_marks and_then plain_one
+plain_month_day_line month_day_month_range = plain_shape in_marks and_then plain_with (plain_digits 2)
+plain_month_day_line after_month_day_month = plain_shape in_marks and_then plain_month
+plain_month_day_line month_day_day_digits = plain_shape in_marks and_then plain_month and_then (plain_one or_else plain_shape in_hyphens and_then plain_one)
+plain_month_day_line (month_day_range profile) = plain_month_day
+plain_month_day_line (after_month_day profile) = plain_month_day
 
 plain_time_line : (name : TimeLine) → PlainShape (front_of (time_line name))
 plain_time_line time_start = plain_nothing
-plain_time_line (time_reads_as_month_day profile) = plain_some (month_day_plain profile)
-plain_time_line time_reads_as_year_month = plain_some year_month_plain
+plain_time_line (time_reads_as_month_day profile) = plain_month_day
+plain_time_line time_reads_as_year_month = plain_inside in_year_month
 
 plain_core_line : (name : CoreLine) → PlainShape (front_of (core_line name))
 plain_core_line (dates name) = plain_date_line name
@@ -74,17 +84,17 @@ plain_core_line (times name) = plain_time_line name
 -- ---- times, and offsets after their sign
 
 plain_clock : (clock : Clock) (shape : TimeShape) → PlainShape (some (ClockOf clock shape))
-plain_clock clock shape = plain_some (clock_plain clock shape)
+plain_clock clock shape = plain_inside (in_clock clock shape)
 
 plain_hour : PlainShape (some Hour)
 plain_hour = plain_some (λ text hour h. (plain_digits 2).plain text h.0)
 
 -- a minute, before the digits of a second
 plain_minute : PlainShape (some BasicMinuteText)
-plain_minute = plain_some (clock_plain Time basic_minutes)
+plain_minute = plain_inside (in_clock Time basic_minutes)
 
 colon_minute : PlainShape (some ColonMinuteText)
-colon_minute = plain_some (clock_plain Time colon_minutes)
+colon_minute = plain_inside (in_clock Time colon_minutes)
 
 plain_clock_line : (follow : Follow) (clock : Clock) (name : ClockLine) → PlainShape (front_of (clock_line follow clock name))
 plain_clock_line follow clock hour_start = plain_nothing

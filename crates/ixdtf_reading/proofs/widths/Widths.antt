@@ -185,11 +185,11 @@ first_not_shared [] [] more plain is = absurd cc
 first_not_shared [] (x ∷ front) more plain is = absurd cc
 first_not_shared (n ∷ numbers) [] more plain is =
     let head : wide_letter n ≡ Bad = cc in ([], numbers, n, refl, refl, All-nil (λ x. IsTrue (is_shared x)), not_shared n head)
-first_not_shared (n ∷ numbers) (Bad ∷ front) more plain is = absurd plain
+first_not_shared (n ∷ numbers) (Bad ∷ front) more plain is = absurd plain.0
 first_not_shared (n ∷ numbers) (Plain c ∷ front) more plain is =
     let head : wide_letter n ≡ Plain c = cc in
     let tail : wide_text numbers ≡ front ++ (Bad ∷ more) = cc in
-    let (first, rest, m, splits, lengths, all, not_so) = first_not_shared numbers front more plain tail in (
+    let (first, rest, m, splits, lengths, all, not_so) = first_not_shared numbers front more plain.1 tail in (
       n ∷ first,
       rest,
       m,

@@ -40,19 +40,15 @@ returns-clause-full_offset g c =
     on_both (on_part (λ o. o.minute_precision_offset) minutes) (on_both (on_part (λ o. o.second) unsigned_Decides) (on_part (λ o. o.fraction) fraction))))
 
 pub returns-clause-offset : goal.returns-clause-offset
-returns-clause-offset g c =
-    by_exact (offsets_exact (record { firsts = λ o p. refl; seconds = λ o p. refl; before = λ o p. refl; after = λ o p. refl })
-    (returns-clause-minute_offset g c).exact (returns-clause-full_offset g c).exact)
+returns-clause-offset g c = by_exact (offsets_exact (returns-clause-minute_offset g c).exact (returns-clause-full_offset g c).exact)
 
 pub returns-clause-offset_or_z : goal.returns-clause-offset_or_z
-returns-clause-offset_or_z g c =
-    by_exact (offsets_or_z_exact (record { somes = λ o p. refl; itself = refl; before = λ o. refl; after = λ o. refl })
-    (returns-clause-offset g c).exact)
+returns-clause-offset_or_z g c = by_exact (offsets_or_z_exact (returns-clause-offset g c).exact)
 
 pub returns-clause-zone : goal.returns-clause-zone
 returns-clause-zone g c =
     by_exact (zones_exact g.T.EncodingType.number
-    (record { firsts = λ u v. refl; seconds = λ o p. refl; before = λ u o. refl; after = λ u o. refl })
+    (record { names = λ u v. refl; offsets = λ o p. refl; name_first = λ u o. refl; offset_first = λ o u. refl })
     (returns-clause-units g c).exact (returns-clause-minute_offset g c).exact)
 
 pub returns-clause-zone_annotation : goal.returns-clause-zone_annotation
@@ -77,22 +73,7 @@ pub returns-clause-date_duration : goal.returns-clause-date_duration
 returns-clause-date_duration g c = by_exact (λ a b. search rules)
 
 pub returns-clause-time_duration : goal.returns-clause-time_duration
-returns-clause-time_duration g c =
-    let fraction = on_option_itself (returns-clause-fraction g c).exact in
-    let hours = on_both (on_part (λ p. p.0) unsigned_Decides) (on_part (λ p. p.1) fraction) in
-    let minutes = on_both (on_part (λ p. p.0) unsigned_Decides) (on_part (λ p. p.1) hours) in
-    let seconds = on_both (on_part (λ p. p.0) unsigned_Decides) (on_part (λ p. p.1) minutes) in
-    by_exact (time_durations_exact (record {
-      firsts = λ p q. refl;
-      seconds = λ p q. refl;
-      thirds = λ p q. refl;
-      first_second = λ p q. refl;
-      first_third = λ p q. refl;
-      second_first = λ p q. refl;
-      second_third = λ p q. refl;
-      third_first = λ p q. refl;
-      third_second = λ p q. refl;
-    }) hours minutes seconds)
+returns-clause-time_duration g c = by_exact (time_durations_exact (on_option_itself (returns-clause-fraction g c).exact))
 
 pub returns-clause-sign : goal.returns-clause-sign
 returns-clause-sign g c = by_exact (λ a b. search rules)

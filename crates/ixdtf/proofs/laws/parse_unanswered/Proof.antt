@@ -13,8 +13,8 @@ use Rattle.ixdtf.proofs.laws.parse_unanswered_as.Met as G_met
 use Rattle.ixdtf.proofs.laws.parse_unanswered.Statement as stated
 use Rattle.ixdtf.proofs.laws.parse_unanswered.Code as code
 use Rattle.ixdtf.proofs.code.RaisedErrors.{refl, subst, named, sep, via, id⊢, fst∗, snd∗, Lft, Tables, ⊑_refl, ⊑_static, Lfts, fact, fact_use, tables}
-use Rattle.ixdtf.proofs.code.RaisedErrors.{tables_of, Denots, param, NamedLft, types_at, implements, insides_in, with_fact, SpecAt, run_framed, hands_on}
-use Rattle.ixdtf.proofs.code.RaisedErrors.{taken, taken_laws, Under, Got, lands}
+use Rattle.ixdtf.proofs.code.RaisedErrors.{tables_of, Denots, param, NamedLft, types_at, implements, insides_in, with_fact, SpecAt, run_framed, hands_on, taken}
+use Rattle.ixdtf.proofs.code.RaisedErrors.{taken_laws, Under, Got, lands}
 
 pub parse_unanswered_spec : {M : Type 1} → stated.statement M
 unfolding tables_of

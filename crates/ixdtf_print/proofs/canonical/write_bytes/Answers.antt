@@ -1,6 +1,5 @@
 use Rattle.ixdtf_print.proofs.canonical.write_bytes.Goals as goal
-use Rattle.std.proofs.{Common.{true, refl, ap, take_all}, Output.{has_written_styled_append, has_written_styled_of_eq}}
-use Rattle.std.specs.Str.{encode_utf8_all}
+use Rattle.std.proofs.{Common.{true, refl}, Output.{has_written_styled_append, has_written_styled_of_eq}}
 use Rattle.ixdtf_print.proofs.Shown.{one_more}
 
 pub loop-byte-preserved : goal.loop-byte-preserved
@@ -8,7 +7,3 @@ loop-byte-preserved g c = λ flush.
     let so_far = c.loop-byte.invariant flush in
     has_written_styled_of_eq _ _ _ _ _ (one_more c.args.bytes.now c.loop-byte.byte-index _ c.loop-byte-test.true)
     (has_written_styled_append _ _ _ _ _ _ so_far (c.in_ok-write_byte.ensures so_far.flush (refl {a = true})))
-
-pub returns : goal.returns
-returns g c = λ flush ok.
-    has_written_styled_of_eq _ _ _ _ _ (ap encode_utf8_all (take_all c.loop-byte.byte-index c.args.bytes.now c.loop-byte-test.false)) (c.loop-byte.invariant flush)

@@ -1,10 +1,7 @@
 use Rattle.ixdtf_print.proofs.canonical.write_core.Goals as goal
-use Rattle.std.proofs.{Common.{ap, ◌∙◌, arith}, Output.has_written_styled_of_eq}
+use Rattle.std.proofs.{Common.{ap, ◌∙◌}, Output.has_written_styled_of_eq}
 use Rattle.std.specs.Str.{encode_utf8_all}
 use Rattle.ixdtf_print.proofs.Shown.{counted_bytes}
-
-pub put_core-requires : goal.put_core-requires
-put_core-requires g c = record { room = omega (arith, c.core_length.ensures.length, c.core_length.ensures.small) }
 
 pub returns : goal.returns
 returns g c = λ flush ok.

@@ -1,14 +1,9 @@
 use Rattle.ixdtf_print.proofs.fields.put_year.Goals as goal
 use Rattle.std.proofs.{Common.{pos, arith}, lemmas.Int.ints}
 use Rattle.std.specs.Prelude.{◌≤ℤ◌, ◌<ℤ◌}
-use Rattle.ixdtf_print.proofs.{Years.{negative_year, four_digit_year, far_year}, Puts.{puts_then, room_first, room_then}}
+use Rattle.ixdtf_print.proofs.{Years.{negative_year, far_year}, Puts.{puts_then, room_then}}
 
 -- ---- before year 0
-
-pub put_byte-digits-requires : goal.put_byte-digits-requires
-put_byte-digits-requires c =
-    let sign : c.args.date.year <ℤ pos 0 = omega (arith, ints) in
-    room_first _ (rw (negative_year _ _ c.distance_of-distance.ensures sign) at c.requires)
 
 pub put_digits-requires : goal.put_digits-requires
 put_digits-requires c =
@@ -21,24 +16,7 @@ returns-then-date-lt0 c =
     let is = negative_year _ _ c.distance_of-distance.ensures sign in
     rw is (puts_then (rw is at c.requires) c.put_byte-digits.ensures c.put_digits.ensures)
 
--- ---- up to year 9999
-
-pub put_digits-requires-then-distance-le9999 : goal.put_digits-requires-then-distance-le9999
-put_digits-requires-then-distance-le9999 c =
-    let sign : pos 0 ≤ℤ c.args.date.year = omega (arith, ints) in
-    rw (four_digit_year _ _ c.distance_of-distance.ensures sign c.if-distance-le9999.true) at c.requires
-
-pub returns-then-distance-le9999 : goal.returns-then-distance-le9999
-returns-then-distance-le9999 c =
-    let sign : pos 0 ≤ℤ c.args.date.year = omega (arith, ints) in
-    rw (four_digit_year _ _ c.distance_of-distance.ensures sign c.if-distance-le9999.true) c.put_digits-then-distance-le9999.ensures
-
--- ---- later years
-
-pub put_byte-digits-requires-2 : goal.put_byte-digits-requires-2
-put_byte-digits-requires-2 c =
-    let sign : pos 0 ≤ℤ c.args.date.year = omega (arith, ints) in
-    room_first _ (rw (far_year _ _ c.distance_of-distance.ensures sign c.if-distance-le9999.false) at c.requires)
+-- ---- after year 9999
 
 pub put_digits-requires-2 : goal.put_digits-requires-2
 put_digits-requires-2 c =

@@ -1,9 +1,5 @@
 use Rattle.ixdtf.proofs.parsers.IxdtfParser.parse_time.Goals as goal
-use Rattle.std.proofs.Common.{refl}
-use Rattle.ixdtf.proofs.code.Promised.{reads_ok, reads_err}
-
-pub returns : goal.returns
-returns g c = record { reads = reads_ok _ _ _ _ _ refl _ _ c.in-Ok.ensures.reads }
+use Rattle.ixdtf.proofs.code.Promised.{reads_err}
 
 pub returns-in-Err : goal.returns-in-Err
-returns-in-Err g c = record { reads = reads_err _ _ _ _ _ refl _ _ _ _ c.error.ensures c.in-Err.ensures.reads }
+returns-in-Err g c = record { reads = reads_err _ _ _ _ _ _ _ _ _ c.error.ensures c.in-Err.ensures.reads }

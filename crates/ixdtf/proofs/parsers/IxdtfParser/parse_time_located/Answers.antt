@@ -1,9 +1,6 @@
 use Rattle.ixdtf.proofs.parsers.IxdtfParser.parse_time_located.Goals as goal
 use Rattle.std.proofs.Common.{refl}
-use Rattle.ixdtf.proofs.code.Promised.{reads_ok_at, reads_err_at}
-
-pub returns : goal.returns
-returns g c = record { reads = reads_ok_at _ _ _ _ _ refl _ c.in-Ok.ensures.reads }
+use Rattle.ixdtf.proofs.code.Promised.{reads_err_at}
 
 pub returns-in-Err : goal.returns-in-Err
-returns-in-Err g c = record { reads = reads_err_at _ _ _ _ _ refl _ _ _ c.error.ensures refl c.in-Err.ensures.reads }
+returns-in-Err g c = record { reads = reads_err_at _ _ _ _ _ _ _ _ c.error.ensures refl c.in-Err.ensures.reads }

@@ -3,15 +3,6 @@ use Rattle.std.proofs.{Common.{map, length, refl, sym, ap, ◌∙◌, List, ℕ,
 use Rattle.ixdtf_grammar.specs.Views.{Unread}
 use Rattle.ixdtf_reading.proofs.theorems.{Handled.{handled, handled_comes}, HandledAt.left_fits}
 
-pub returns-in-Ok : goal.returns-in-Ok
-returns-in-Ok g c = record {
-  reads = record {
-    replied = rw (← c.self.view_is, ← c.fork-here.ensures.same) c.in-Ok.ensures.replied;
-    leaves = search rules;
-    profile = search rules;
-  };
-}
-
 pub returns-in-Err : goal.returns-in-Err
 returns-in-Err g c =
     let letter = g.T.EncodingType.letter in

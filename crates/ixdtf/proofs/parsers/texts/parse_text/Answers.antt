@@ -21,12 +21,6 @@ returns-then-not-branch-clause-empty g c =
     let read = rw (c.fork-here.ensures.same, c.if-not-branch.true) at c.in_ok-read.ensures.core in
     no_units g.T.EncodingType.letter _ (core_ends_text (g.C.CoreReader.kind c.args.profile) _ _ _ read)
 
--- a core, and brackets
-pub returns-clause-replied : goal.returns-clause-replied
-returns-clause-replied g c =
-    let read = rw (c.fork-here.ensures.same, c.if-not-branch.false) at c.in_ok-read.ensures.core in
-    c.parse_brackets.ensures.replied (g.C.CoreReader.kind c.args.profile) _ read
-
 -- the first bracket is looked through once more than it is read
 pub returns-clause-looks : goal.returns-clause-looks
 returns-clause-looks g c =

@@ -28,9 +28,6 @@ returns-then-self-le9-clause-small c =
 power_is : (power k : ℕ) → power ≡ 10 ^ k → max power 1 ≡ 10 ^ k
 power_is power k is = omega (arith, ten_pos k)
 
-pub nonzero_div-result : goal.nonzero_div-result
-nonzero_div-result c = omega (arith, c.max.ensures)
-
 pub overflow_cast-result-else-self-le9 : goal.overflow_cast-result-else-self-le9
 overflow_cast-result-else-self-le9 c =
     rw c.number-value.ensures (omega (
