@@ -1,6 +1,6 @@
 -- More bytes at the end of what was split into lines.
-use Rattle.std.proofs.Common.{◌≡◌, ℕ, zero, suc, ◌+◌, ◌<◌, ◌≤◌, Bool, true, false, if◌then◌else◌, ◌==◌, List, [], ◌∷◌, ◌++◌, length, take, get_or, Option}
-use Rattle.std.proofs.{Common.{Some, None, position, cond, nat_lt, refl, sym, ap, ◌∙◌, arith, append_assoc}, lemmas.List.{append-nil, take_all, take_more}}
+use Rattle.std.proofs.Common.{◌≡◌, ℕ, zero, suc, ◌+◌, ◌-◌, ◌<◌, ◌≤◌, Bool, true, false, if◌then◌else◌, ◌==◌, List, [], ◌∷◌, ◌++◌, length, take, drop, get_or, Option}
+use Rattle.std.proofs.{Common.{Some, None, position, cond, nat_lt, refl, sym, ap, ◌∙◌, arith, append_assoc}, lemmas.List.{append-nil, take_all, take_more, length-drop, take-append-drop}}
 use Rattle.std.proofs.lemmas.{List.{Quantifiers.position-Some, Sums.fails_before_first}, Option.none-some, Bool.{eqb-true, ltb-false}}
 use Rattle.std.specs.List.{position_or_len}
 use Rattle.ixdtf_buffers.specs.Lines.{newline, is_byte, Split, before_split, split_of, ended_lines_of, unended_of}
@@ -68,6 +68,12 @@ unfolding split_of
 ended_lines_of-append [] more = (ended_lines_of more, refl)
 ended_lines_of-append (byte ∷ bytes) more =
     step_more (byte == newline) byte (split_of bytes) (split_of (bytes ++ more)) (ended_lines_of-append bytes more)
+
+-- behind a prefix of the bytes n more were taken
+pub taken_on : (bytes front rest : List ℕ) (n : ℕ) → bytes ≡ front ++ rest → bytes ≡ (front ++ take n rest) ++ take (length rest - n) (drop n rest)
+taken_on bytes front rest n whole =
+    let all : take (length rest - n) (drop n rest) ≡ drop n rest = take_all _ (drop n rest) (omega (arith, length-drop n rest)) in
+    rw (all, append_assoc, take-append-drop) whole
 
 -- one more byte of a chunk
 pub take_step : (read bytes : List ℕ) (i : ℕ) → i < length bytes
