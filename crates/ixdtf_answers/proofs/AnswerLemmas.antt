@@ -25,26 +25,6 @@ pub IsReaderAnswer-word : (name text answer : List ℕ) (word : Word) → name �
     → IsReaderAnswer name text answer
 IsReaderAnswer-word name text answer word is outcome = inl (word, is, outcome)
 
--- the remaining input of a reader, which is the text, gives it the value
-pub Gives-text : (reader : Reader) (text rest : List ℕ) (found : Found) → rest ≡ text → Gives reader (letters rest) found → Gives reader (letters text) found
-Gives-text reader text rest found same gives = subst (λ (t : List ℕ). Gives reader (letters t) found) same gives
-
--- it is refused with the fault
-pub Refuses-text : (reader : Reader) (text rest : List ℕ) (fault : Fault) → rest ≡ text → Refuses reader (letters rest) fault
-    → Refuses reader (letters text) fault
-Refuses-text reader text rest fault same has = subst (λ (t : List ℕ). Refuses reader (letters t) fault) same has
-
--- the same of a reader that has a profile, under the parser's own
-pub Gives-under : (reader : Profile → Reader) (own wanted : Profile) (text rest : List ℕ) (found : Found) → own ≡ wanted → rest ≡ text
-    → Gives (reader own) (letters rest) found → Gives (reader wanted) (letters text) found
-Gives-under reader own wanted text rest found same_profile same gives =
-    subst (λ p. Gives (reader p) (letters text) found) same_profile (Gives-text (reader own) text rest found same gives)
-
-pub Refuses-under : (reader : Profile → Reader) (own wanted : Profile) (text rest : List ℕ) (fault : Fault) → own ≡ wanted → rest ≡ text
-    → Refuses (reader own) (letters rest) fault → Refuses (reader wanted) (letters text) fault
-Refuses-under reader own wanted text rest fault same_profile same has =
-    subst (λ p. Refuses (reader p) (letters text) fault) same_profile (Refuses-text (reader own) text rest fault same has)
-
 pub IsOutcome-ok : (word : Word) (text : List ℕ) (found : Found) (shown : List ℕ) → Gives (reader_of word) (letters text) found
     → shown ≡ shown_of word found → IsOutcome word text (codes "ok" ++ shown)
 IsOutcome-ok word text found shown has same = inl (found, has, ap (λ (t : List ℕ). codes "ok" ++ t) same)

@@ -67,9 +67,6 @@ module _ {W : Type 0} {contents : W → Option (List ℕ)} where
     err = (same ∙ failed.err.0, rw (← append_assoc) (AppendsFront-more ys failed.err.1));
   }
 
--- puts one after the other, as far as they go
-pub ruleset puts_in_turn = (Puts-after, Puts-exit)
-
 joined-parts : (pieces : List (Bor (List ℕ))) (n : ℕ) → joined (take n pieces) ++ joined (drop n pieces) ≡ joined pieces
 joined-parts pieces n = sym (flat_map-append _ (take n pieces) (drop n pieces)) ∙ ap joined (take-append-drop n pieces)
 
