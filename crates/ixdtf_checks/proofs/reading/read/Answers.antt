@@ -1,16 +1,18 @@
 -- What each reader returned, and what it refused.
 use Rattle.ixdtf_checks.proofs.reading.read.Goals as goal
 use Rattle.std.proofs.Common.{refl}
+use Rattle.ixdtf_grammar.specs.language.Languages.Found.{parsed}
 
 pub returns-in-Ok-clause-ok : goal.returns-in-Ok-clause-ok
-returns-in-Ok-clause-ok c = rw (c.in-DateTime.is, ← c.from_utf8.ensures.rest) (_, (c.in-Ok.ensures.reads.ok _).0 refl)
+returns-in-Ok-clause-ok c =
+    rw c.in-DateTime.is (parsed _, rw c.from_utf8.ensures.rest at ((c.in-Ok.ensures.reads.ok _).0 refl))
 
 pub returns-in-Err-clause-err : goal.returns-in-Err-clause-err
 returns-in-Err-clause-err c = rw (c.in-DateTime.is, ← c.from_utf8.ensures.rest) c.in-Err.ensures.reads.err
 
 pub returns-in-Ok-parse_year_month_located-clause-ok : goal.returns-in-Ok-parse_year_month_located-clause-ok
 returns-in-Ok-parse_year_month_located-clause-ok c =
-    rw (c.in-YearMonth.is, ← c.from_utf8-in-YearMonth.ensures.rest) (_, (c.in-Ok-parse_year_month_located.ensures.reads.ok _).0 refl)
+    rw c.in-YearMonth.is (parsed _, rw c.from_utf8-in-YearMonth.ensures.rest at ((c.in-Ok-parse_year_month_located.ensures.reads.ok _).0 refl))
 
 pub returns-in-Err-parse_year_month_located-clause-err : goal.returns-in-Err-parse_year_month_located-clause-err
 returns-in-Err-parse_year_month_located-clause-err c =
@@ -18,7 +20,7 @@ returns-in-Err-parse_year_month_located-clause-err c =
 
 pub returns-in-Ok-parse_month_day_located-clause-ok : goal.returns-in-Ok-parse_month_day_located-clause-ok
 returns-in-Ok-parse_month_day_located-clause-ok c =
-    rw (c.in-MonthDay.is, ← c.parser.ensures.profile, ← c.parser.ensures.rest) (_, (c.in-Ok-parse_month_day_located.ensures.reads.ok _).0 refl)
+    rw c.in-MonthDay.is (parsed _, rw (c.parser.ensures.profile, c.parser.ensures.rest) at ((c.in-Ok-parse_month_day_located.ensures.reads.ok _).0 refl))
 
 pub returns-in-Err-parse_month_day_located-clause-err : goal.returns-in-Err-parse_month_day_located-clause-err
 returns-in-Err-parse_month_day_located-clause-err c =
@@ -26,7 +28,7 @@ returns-in-Err-parse_month_day_located-clause-err c =
 
 pub returns-in-Ok-parse_time_located-clause-ok : goal.returns-in-Ok-parse_time_located-clause-ok
 returns-in-Ok-parse_time_located-clause-ok c =
-    rw (c.in-Time.is, ← c.parser-in-Time.ensures.profile, ← c.parser-in-Time.ensures.rest) (_, (c.in-Ok-parse_time_located.ensures.reads.ok _).0 refl)
+    rw c.in-Time.is (parsed _, rw (c.parser-in-Time.ensures.profile, c.parser-in-Time.ensures.rest) at ((c.in-Ok-parse_time_located.ensures.reads.ok _).0 refl))
 
 pub returns-in-Err-parse_time_located-clause-err : goal.returns-in-Err-parse_time_located-clause-err
 returns-in-Err-parse_time_located-clause-err c =
@@ -34,7 +36,7 @@ returns-in-Err-parse_time_located-clause-err c =
 
 pub returns-in-Ok-parse_offset_located-clause-ok : goal.returns-in-Ok-parse_offset_located-clause-ok
 returns-in-Ok-parse_offset_located-clause-ok c =
-    rw (c.in-Offset.is, ← c.from_utf8-in-Offset.ensures.rest) (_, (c.in-Ok-parse_offset_located.ensures.reads.ok _).0 refl)
+    rw c.in-Offset.is (_, rw c.from_utf8-in-Offset.ensures.rest at ((c.in-Ok-parse_offset_located.ensures.reads.ok _).0 refl))
 
 pub returns-in-Err-parse_offset_located-clause-err : goal.returns-in-Err-parse_offset_located-clause-err
 returns-in-Err-parse_offset_located-clause-err c =
@@ -42,7 +44,7 @@ returns-in-Err-parse_offset_located-clause-err c =
 
 pub returns-in-Ok-parse_identifier_located-clause-ok : goal.returns-in-Ok-parse_identifier_located-clause-ok
 returns-in-Ok-parse_identifier_located-clause-ok c =
-    rw (c.in-Zone.is, ← c.from_utf8-in-Zone.ensures.rest) (_, (c.in-Ok-parse_identifier_located.ensures.reads.ok _).0 refl)
+    rw c.in-Zone.is (_, rw c.from_utf8-in-Zone.ensures.rest at ((c.in-Ok-parse_identifier_located.ensures.reads.ok _).0 refl))
 
 pub returns-in-Err-parse_identifier_located-clause-err : goal.returns-in-Err-parse_identifier_located-clause-err
 returns-in-Err-parse_identifier_located-clause-err c =
@@ -50,7 +52,7 @@ returns-in-Err-parse_identifier_located-clause-err c =
 
 pub returns-in-Ok-parse_iana_identifier_located-clause-ok : goal.returns-in-Ok-parse_iana_identifier_located-clause-ok
 returns-in-Ok-parse_iana_identifier_located-clause-ok c =
-    rw (c.in-ZoneName.is, ← c.from_utf8-in-ZoneName.ensures.rest) (_, (c.in-Ok-parse_iana_identifier_located.ensures.reads.ok _).0 refl)
+    rw c.in-ZoneName.is (_, rw c.from_utf8-in-ZoneName.ensures.rest at ((c.in-Ok-parse_iana_identifier_located.ensures.reads.ok _).0 refl))
 
 pub returns-in-Err-parse_iana_identifier_located-clause-err : goal.returns-in-Err-parse_iana_identifier_located-clause-err
 returns-in-Err-parse_iana_identifier_located-clause-err c =
@@ -58,7 +60,7 @@ returns-in-Err-parse_iana_identifier_located-clause-err c =
 
 pub returns-in-Ok-parse_located-clause-ok : goal.returns-in-Ok-parse_located-clause-ok
 returns-in-Ok-parse_located-clause-ok c =
-    rw (c.in-Duration.is, ← c.duration_parser.ensures.profile, ← c.duration_parser.ensures.rest) (_, (c.in-Ok-parse_located.ensures.reads.ok _).0 refl)
+    rw c.in-Duration.is (_, rw (c.duration_parser.ensures.profile, c.duration_parser.ensures.rest) at ((c.in-Ok-parse_located.ensures.reads.ok _).0 refl))
 
 pub returns-in-Err-parse_located-clause-err : goal.returns-in-Err-parse_located-clause-err
 returns-in-Err-parse_located-clause-err c =
