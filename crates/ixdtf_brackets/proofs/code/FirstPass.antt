@@ -142,8 +142,7 @@ unfolding name_or_pair_at
 sighted critical text b e = rw e refl
 
 not_both : (sighted : Result Bool Placed) (b : Bool) (fault : Placed) → sighted ≡ Ok b → sighted ≡ Err fault → ⊥
-not_both (Ok x) b fault p q = absurd cc
-not_both (Err x) b fault p q = absurd cc
+not_both sighted b fault p q = absurd cc
 
 module _ (critical : Bool) (letters : KeyLetters) (text : Text) where
   pub pass_failed : (fault : Placed) → letters_by key_after letters text ≡ Err fault → read_at critical text ≡ Err fault
