@@ -130,9 +130,3 @@ first_digit text start month e =
 pub on_both : {A : Type 0} (found : Option A) {P R Q : A → Type 0} → ((x : A) → P x → R x → Q x) → IfSome found P → IfSome found R → IfSome found Q
 on_both None go is also = is
 on_both (Some x) go is also = go x is also
-
--- what was returned for a reading is what was returned for another one with the same result
-pub yields_as : {X Y : Type 0} (view : X → Y) (result : Result X Stop) (left : Text) (wanted wanted' : Result Y Placed) → wanted' ≡ wanted
-    → YieldsAt view result left wanted → YieldsAt view result left wanted'
-yields_as view (Ok x) left wanted wanted' same is = same ∙ is
-yields_as view (Err stop) left wanted wanted' same is = same ∙ is

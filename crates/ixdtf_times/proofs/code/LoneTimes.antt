@@ -10,12 +10,6 @@ ok_again : {A E : Type 0} → (r : Result A E) → (r >>= λ x. Ok x) ≡ r
 ok_again (Ok x) = refl
 ok_again (Err e) = refl
 
--- what was read of one text is what is read so of another
-pub reads_as : {X Y : Type 0} (letter : ℕ → Letter) (view : X → Y) (old old' new : Unread) (result : Result X Stop) (reading reading' : Text → Read Placed Y)
-    → reading' (map letter old'.rest) ≡ reading (map letter old.rest) → Reads letter view old result new reading → Reads letter view old' result new reading'
-reads_as letter view old old' new (Ok x) reading reading' e is = e ∙ is
-reads_as letter view old old' new (Err stop) reading reading' e is = e ∙ is
-
 no_month_day : (c : ℕ) → time_letter c ≡ true → (hyphen or digit) c ≡ false
 no_month_day c is = grind (arith, nat_tests)
 
