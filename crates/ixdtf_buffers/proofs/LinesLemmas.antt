@@ -1,6 +1,6 @@
 -- More bytes at the end of what was split into lines.
 use Rattle.std.proofs.Common.{◌≡◌, ◌≢◌, ◌↔◌, ℕ, suc, ◌+◌, ◌-◌, ◌<◌, Bool, true, false, IsTrue, if◌then◌else◌, ◌==◌, List, [], ◌∷◌, ◌++◌, length, take, drop, get_or}
-use Rattle.std.proofs.Common.{Option, Some, None, position, cond, nat_lt, refl, sym, ap, ◌∙◌, true≢false, arith, append_assoc}
+use Rattle.std.proofs.Common.{Some, None, position, cond, nat_lt, refl, sym, ap, ◌∙◌, true≢false, arith, append_assoc}
 use Rattle.std.proofs.lemmas.List.{append-nil, length-take-le, get_or-take, take_all, take_more, length-drop, take-append-drop}
 use Rattle.std.proofs.lemmas.{List.{Quantifiers.position-Some, Sums.fails_before_first}, Option.none-some, Bool.{eqb-true, ltb-false}}
 use Rattle.std.specs.List.{position_or_len}

@@ -1,7 +1,7 @@
 -- What calls, one after the other, do to what is written and to what waits.
-use Rattle.std.proofs.Common.{◌≡◌, ℕ, suc, ◌+◌, ◌-◌, ◌<◌, List, [], ◌∷◌, ◌++◌, length, take, drop, get_or, Option, Some, None, Result, Ok, Err, OnOk, IfSome}
-use Rattle.std.proofs.{Common.{IsErrAnd, Bor, refl, sym, ap, subst, ◌∙◌, arith, append_assoc}, Math.Seq.drop-cons, lemmas.Fmt.contents_after_writes}
-use Rattle.std.proofs.{lemmas.{Grind.flat_map-append, List.{append-nil, take_all, take_more, length-drop, take-append-drop}}, KnownBytes.Appends-trans}
+use Rattle.std.proofs.Common.{◌≡◌, ℕ, ◌+◌, ◌-◌, ◌<◌, List, [], ◌++◌, length, take, drop, get_or, Option, Some, None, Result, Ok, Err, OnOk, IfSome}
+use Rattle.std.proofs.{Common.{IsErrAnd, Bor, refl, sym, ap, ◌∙◌, append_assoc}, lemmas.Fmt.contents_after_writes}
+use Rattle.std.proofs.{lemmas.{Grind.flat_map-append, List.{append-nil, take_more, take-append-drop}}, KnownBytes.Appends-trans}
 use Rattle.std.specs.{Fmt.WritesText, Io.KnownBytes.Appends}
 use Rattle.ixdtf_buffers.proofs.LinesLemmas.{taken_on}
 use Rattle.ixdtf_buffers.specs.{declared.{error.RunError.RunError, output.Output.Output}, Output.{AppendsFront, Writes, Sent, written, Puts, joined}}

@@ -1,5 +1,5 @@
 -- One pass over a first bracket that begins as a key may: the code units of a key, and then those of a name.
-use Rattle.std.proofs.Common.{◌≡◌, ℕ, ◌&&◌, ◌||◌, not, Bool, true, false, IsTrue, List, [], ◌∷◌, ◌++◌, drop, Option, Some, None, option_map, Result, Ok, Err}
+use Rattle.std.proofs.Common.{◌≡◌, ℕ, ◌&&◌, Bool, true, false, IsTrue, List, [], ◌∷◌, ◌++◌, drop, Option, Some, None, Result, Ok, Err}
 use Rattle.std.proofs.{Common.{refl, sym, ap, subst, ◌∙◌, arith, if◌then◌else◌}, lemmas.Bool.{and_parts, Decides.nat_tests}}
 use Rattle.ixdtf_reading.specs.{declared.annotations.KeyLetters.KeyLetters, reading.Looks.{Placed, Read, ◌>>=◌, seen, next_by, error_of}}
 use Rattle.ixdtf_reading.specs.reading.{Zones.{with_letter, name_run, as_zone}, Pairs.{AtStart, value_run, pair_at}, Runs.{Taken, letters_by, key_after}}
@@ -11,7 +11,7 @@ use Rattle.ixdtf_reading.proofs.{code.PairLoops.{key_closed, key_refused}, parts
 use Rattle.ixdtf_reading.proofs.parts.Steps.{steps, with_letters, letters_before, letters_err}
 use Rattle.ixdtf_brackets.specs.{declared.{brackets.BracketLetters.BracketLetters, zone.NameState.NameState}, BracketTypes.{name_after, bracket_after}}
 use Rattle.ixdtf_brackets.proofs.code.NameLoop.{name_start, name_ended, name_refused, some_next}
-use Rattle.ixdtf_grammar.specs.language.{Letters.{Text, equals, closing, slash, key_char, zone_char, Letter.{Plain, Bad}}, ZoneNames.Zone.Name}
+use Rattle.ixdtf_grammar.specs.language.{Letters.{Text, equals, closing, key_char, zone_char, Letter.{Plain, Bad}}, ZoneNames.Zone.Name}
 use Rattle.ixdtf_grammar.specs.{language.Brackets.skipped, table.Faults.Fault.{NonAsciiCodePoint, AnnotationKeyChar, IanaCharPostSeparator}}
 use Rattle.ixdtf_grammar.specs.table.Lines.{abrupt_bracket}
 

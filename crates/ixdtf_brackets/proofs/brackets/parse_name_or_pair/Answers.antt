@@ -1,8 +1,8 @@
 use Rattle.ixdtf_brackets.proofs.brackets.parse_name_or_pair.Goals as goal
-use Rattle.std.proofs.Common.{◌≡◌, ◌&&◌, true, false, None, Err, List, ◌++◌, map, ℕ, length, arith, refl, sym, ap, ◌∙◌, append_assoc, rules}
+use Rattle.std.proofs.Common.{◌≡◌, ◌&&◌, true, false, None, Err, List, ◌++◌, ℕ, length, arith, refl, sym, ap, ◌∙◌, append_assoc, rules}
 use Rattle.std.proofs.lemmas.{List.length-map, Result.err_from_is_err_and}
 use Rattle.ixdtf_grammar.specs.language.Letters.{closing}
-use Rattle.ixdtf_reading.specs.reading.{Brackets.{next_is, refusal, name_fault, sight_at}, Looks.error_of}
+use Rattle.ixdtf_reading.specs.reading.{Brackets.{next_is}}
 use Rattle.ixdtf_reading.proofs.code.LetterLoops.{front_is}
 use Rattle.ixdtf_brackets.proofs.code.FirstPass.{pass_failed, value_failed, pair_read, more_failed, name_unended, name_read, name_refuses}
 use Rattle.ixdtf_brackets.proofs.brackets.parse_name_or_pair.Goals.{else-more-via-then-more+else-ends_bracket, else-more-via-else-more}

@@ -1,5 +1,5 @@
 use Rattle.ixdtf_times.proofs.fixed.take_fixed_date.Goals as goal
-use Rattle.std.proofs.{Common.{◌≡◌, pos, map, drop, Some, true, sym, ◌∙◌}, lemmas.List.drop-map}
+use Rattle.std.proofs.{Common.{◌≡◌, pos, map, Some, true, sym}, lemmas.List.drop-map}
 use Rattle.ixdtf_grammar.specs.language.Letters.{hyphen}
 use Rattle.ixdtf_reading.specs.reading.{Dates.{date_at, days_at}, Looks.error_of, FixedPlaces.{byte_place, days_place, basic_days_place}}
 use Rattle.ixdtf_reading.proofs.code.FixedPlaces.{hyphened_is_read, basic_is_read, reads_tested, reads_on, year_is_read}
