@@ -2,7 +2,7 @@
 use Rattle.std.proofs.Common.{◌≡◌, ℕ, ◌+◌, List, [], ◌∷◌, ◌++◌, take, Option, Some, None, position, Result, Ok, Err, OnOk, MatchResult, refl, sym, subst, append_assoc}
 use Rattle.std.proofs.lemmas.List.{append-nil}
 use Rattle.ixdtf_buffers.specs.{declared.{line.Line.Line, output.Output.Output, error.RunError.RunError}, Line.Holds}
-use Rattle.ixdtf_buffers.specs.{Lines.{newline, is_byte, ended_lines_of, unended_of}, Output.{Sent, written, Puts}}
+use Rattle.ixdtf_buffers.specs.{Lines.{newline, is_byte, ended_lines_of, unended_of}, Output.{written, Puts}}
 use Rattle.ixdtf_buffers.proofs.LinesLemmas.{split_of-line, split_of-rest, ended_lines_of-line}
 use Rattle.ixdtf_buffers.proofs.OutputLemmas.{Sent-trans, Sent-front, Sent-all, Sent-written}
 use Rattle.ixdtf_answers.specs.{Answer.{IsAnswer, line_limit}, Progress.{TakesAnswers, Stands, Rests, Fails}, Run.{AreAnswers, WritesAnswers, WritesFront}}

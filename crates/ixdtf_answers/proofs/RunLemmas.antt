@@ -1,5 +1,5 @@
 -- The start and the ends of a run.
-use Rattle.std.proofs.{Common.{◌≡◌, ℕ, List, [], take, Option, Result, Ok, Err, MatchResult, IsErrAnd, refl, subst}, lemmas.List.append-nil}
+use Rattle.std.proofs.{Common.{◌≡◌, ℕ, List, [], take, Option, Result, Ok, Err, MatchResult, IsErrAnd, refl}, lemmas.List.append-nil}
 use Rattle.std.proofs.KnownBytes.{Appends-nil, Consumes-trans, Consumes-whole}
 use Rattle.std.specs.Io.KnownBytes.{Consumes, IsAtEnd}
 use Rattle.ixdtf_buffers.specs.{declared.{error.RunError.{RunError, TheVariants.Read}, line.Line.Line, output.Output.Output}, Line.Holds}

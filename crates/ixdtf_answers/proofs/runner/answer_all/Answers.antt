@@ -1,7 +1,7 @@
 -- The start, each read, and the ends.
 use Rattle.ixdtf_answers.proofs.runner.answer_all.Goals as goal
-use Rattle.std.proofs.{Common.{[], ◌++◌, take, arith, refl, ◌∙◌}, KnownBytes.{Consumes-nil, Consumes-trans, Consumes-kept}}
-use Rattle.ixdtf_answers.proofs.RunLemmas.{Rests-nil, Consumes-last, Runs-end, Runs-failed, Runs-stopped}
+use Rattle.std.proofs.{Common.{[], ◌++◌, take, arith, refl, ◌∙◌}, KnownBytes.{Consumes-nil, Consumes-trans}}
+use Rattle.ixdtf_answers.proofs.RunLemmas.{Rests-nil, Consumes-last, Runs-end, Runs-failed}
 
 pub reads-init : goal.reads-init
 reads-init g c = ([], Consumes-nil _, Rests-nil _ c.requires c.new-line.ensures, refl)

@@ -1,7 +1,6 @@
 -- A line ends.
 use Rattle.ixdtf_answers.proofs.runner.end_line.Goals as goal
 use Rattle.std.proofs.{Common.◌++◌, lemmas.Result.err_from_is_err_and}
-use Rattle.ixdtf_answers.specs.AnswerText.{answer_text_of}
 use Rattle.ixdtf_answers.proofs.Progress.{answered}
 
 pub returns-in_err-put_answer-clause-answers : goal.returns-in_err-put_answer-clause-answers
