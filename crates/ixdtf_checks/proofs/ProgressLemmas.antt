@@ -5,7 +5,7 @@ use Rattle.std.proofs.{lemmas.List.append-nil, KnownBytes.{Appends-nil, Consumes
 use Rattle.std.specs.Io.KnownBytes.{Consumes, IsAtEnd}
 use Rattle.ixdtf_buffers.specs.{declared.{error.RunError.RunError, line.Line.Line, output.Output.Output}, Line.Holds}
 use Rattle.ixdtf_buffers.specs.Lines.{newline, is_byte, Split, before_split, split_of, ended_lines_of, unended_of, last_line_of, lines_of}
-use Rattle.ixdtf_buffers.specs.Output.{AppendsFront, Sent, written, Puts}
+use Rattle.ixdtf_buffers.specs.Output.{AppendsFront, written, Puts}
 use Rattle.ixdtf_buffers.proofs.LinesLemmas.{split_of-line, split_of-rest, ended_lines_of-line}
 use Rattle.ixdtf_buffers.proofs.OutputLemmas.{Sent-trans, Sent-front, Sent-all, Sent-written}
 use Rattle.ixdtf_checks.specs.{declared.{request.Request.Request, tally.Tally.Tally}, Checks.{Counts, Reports, ReportsFront}}
@@ -76,7 +76,7 @@ module _ {W : Type 0} {contents : W → Option (List ℕ)} {start : Option (List
   reported {lines = lines} {r = Err e} text verdict number p is one same puts = (
     puts.err.0,
     ReportsFront-of _ (p.verdicts ++ verdict ∷ []) (AreVerdicts-more request lines p.verdicts text verdict p.are is)
-    (rw (← all_reports request p.verdicts verdict number p.counts same) (Sent-front _ p.sent puts.err.1)),
+        (rw (← all_reports request p.verdicts verdict number p.counts same) (Sent-front _ p.sent puts.err.1)),
   )
 
   -- what waits was written, or that failed

@@ -1,14 +1,14 @@
 -- What a reader returns for the text of a line.
-use Rattle.std.proofs.Common.{◌≡◌, ℕ, ◌+◌, ◌≤◌, List, length, Option, Some, None, MatchOption, IsUtf8, Bor, inl, inr, refl, ap, subst, arith, length-append}
+use Rattle.std.proofs.Common.{◌≡◌, ℕ, ◌+◌, ◌≤◌, List, length, Option, Some, None, MatchOption, IsUtf8, Bor, inl, inr, refl, ap, arith, length-append}
 use Rattle.std.proofs.lemmas.List.{length-map}
 use Rattle.ixdtf_grammar.specs.{declared.profile.Profile.Profile, Handlers.UnhandledRecord, Places.HasUnhandledFaultAt}
-use Rattle.ixdtf_grammar.specs.{Widths.{HasUnhandledOutcome, byte_text, UnhandledOutcome.read_as}, language.Languages.{Parsed, Found}}
+use Rattle.ixdtf_grammar.specs.{Widths.{byte_text}, language.Languages.{Parsed}}
 use Rattle.ixdtf_grammar.specs.language.{Letters.{Text, Letter, byte_letter}, Readers.{Reader, parse}}
 use Rattle.ixdtf_grammar.specs.language.Readers.Reader.{bracketed, parse_offset, parse_identifier, parse_iana_identifier, parse_duration}
 use Rattle.ixdtf_grammar.specs.table.Faults.{Fault}
 use Rattle.ixdtf_print.specs.{Canonical.canonical_text, Laws.CanonicalFits}
 use Rattle.ixdtf_checks.specs.{Printed.FitsArray, Seen.lines_at, Kinds.reader_of, Parts.{Text as Part}, Refusals.IsRefusal}
-use Rattle.ixdtf_checks.specs.{Verdicts.{Verdict, IsRead, ShowsPlace, IsTextVerdict, Verdict.{accepted, printed, refused}}, declared.kind.Kind.Kind}
+use Rattle.ixdtf_checks.specs.{Verdicts.{Verdict, ShowsPlace, IsTextVerdict, Verdict.{accepted, printed, refused}}, declared.kind.Kind.Kind}
 use Rattle.ixdtf_checks.specs.declared.request.Task.TheVariants.{Check, Print}
 
 -- no fault stands past the end of the text
