@@ -1,38 +1,22 @@
 -- Each line has an answer.
 use Rattle.std.proofs.Common.{◌≡◌, ◌≢◌, ◌⊎◌, ℕ, ◌+◌, Bool, true, false, List, [], ◌∷◌, ◌++◌, length, take, drop, Option, Some, None, MatchOption, position}
-use Rattle.std.proofs.{Common.{refl, sym, ap, subst, true≢false, ◌∙◌, inl, inr, append_assoc, nat_lt}, lemmas.Slice.Eq.bytes_eq-Decides}
+use Rattle.std.proofs.{Common.{refl, sym, ap, subst, true≢false, ◌∙◌, inl, inr, append_assoc, nat_lt, arith}, lemmas.Slice.Eq.bytes_eq-Decides}
 use Rattle.std.specs.Bool.{MatchBool}
-use Rattle.ixdtf.specs.{language.{Languages.{Found, Found.parsed}, Letters.Text, Readers.{Reader, Reader.bracketed}}, table.Faults.Fault}
 use Rattle.ixdtf.specs.Widths.{UnhandledOutcome, HasUnhandledOutcome, UnhandledOutcome.{read_as, faulted}}
 use Rattle.ixdtf_reading.proofs.theorems.OneUnhandledOutcome.{one_unhandled_outcome}
-use Rattle.ixdtf_answers.specs.Answer.{line_limit, too_long, unknown_reader, is_space, letters, ok_answer_of, error_answer_of, Gives, Refuses, IsOutcome}
+use Rattle.ixdtf_answers.specs.Answer.{line_limit, too_long, unknown_reader, is_space, letters, ok_answer_of, error_answer_of, IsOutcome}
 use Rattle.ixdtf_answers.specs.{Answer.{IsReaderAnswer, IsAnswer}, Run.AreAnswers, Word.{name_of, reader_of, IsNoWord}, declared.word.Word.Word}
 use Rattle.ixdtf_answers.specs.declared.word.Word.TheVariants.{Parse, YearMonth, MonthDay, Time, Offset, Zone, Iana, Duration, StrictMonthDay, StrictTime}
 use Rattle.ixdtf_answers.specs.declared.word.Word.TheVariants.{StrictDuration, Canonical}
 use Rattle.ixdtf_buffers.specs.Lines.{newline}
 
--- ---- each text has an outcome
-
-abbrev HasOutcome : Reader → Text → Type 0
-HasOutcome reader text = ((found : Found) × Gives reader text found) ⊎ ((fault : Fault) × Refuses reader text fault)
-
-of_plain : (reader : Reader) (text : Text) (x : UnhandledOutcome) → HasUnhandledOutcome reader text x → HasOutcome reader text
-of_plain (bracketed kind) text (read_as (parsed found)) h = inl (parsed found, h)
-of_plain (bracketed kind) text (faulted fault) h = inr (fault, h)
-of_plain (bracketed kind) text (read_as found) h = absurd h
-of_plain reader text (read_as found) h = inl (found, h)
-of_plain reader text (faulted fault) h = inr (fault, h)
-
-each_outcome : (reader : Reader) (text : Text) → HasOutcome reader text
-each_outcome reader text = let outcome = one_unhandled_outcome reader text in of_plain reader text outcome.0 outcome.1
-
--- ---- each line has an answer
-
+-- each text has an outcome
 outcome_answer : (word : Word) (text : List ℕ) → (answer : List ℕ) × IsOutcome word text answer
-outcome_answer word text = elim (each_outcome (reader_of word) (letters text)) [
-  | inl p ↦ (ok_answer_of word p.0, inl (p.0, p.1, refl))
-  | inr p ↦ (error_answer_of p.0, inr (p.0, p.1, refl))
-]
+outcome_answer word text = let outcome = one_unhandled_outcome (reader_of word) (letters text) in go outcome.0 outcome.1
+  where
+    go : (outcome : UnhandledOutcome) → HasUnhandledOutcome (reader_of word) (letters text) outcome → (answer : List ℕ) × IsOutcome word text answer
+    go (read_as found) has = (ok_answer_of word found, inl (found, has, refl))
+    go (faulted fault) has = (error_answer_of fault, inr (fault, has, refl))
 
 -- two lists of bytes are equal, or not
 same_bytes : (xs ys : List ℕ) → (xs ≡ ys) ⊎ (xs ≢ ys)
@@ -58,20 +42,7 @@ abbrev all_words : List Word
 all_words = Parse ∷ YearMonth ∷ MonthDay ∷ Time ∷ Offset ∷ Zone ∷ Iana ∷ Duration ∷ StrictMonthDay ∷ StrictTime ∷ StrictDuration ∷ Canonical ∷ []
 
 no_word : (name : List ℕ) → NoneOf name all_words → IsNoWord name
-no_word name (a, (b, (c, (d, (e, (f, (g, (h, (i, (j, (k, (l, end)))))))))))) = elim [
-  | Parse ↦ a
-  | YearMonth ↦ b
-  | MonthDay ↦ c
-  | Time ↦ d
-  | Offset ↦ e
-  | Zone ↦ f
-  | Iana ↦ g
-  | Duration ↦ h
-  | StrictMonthDay ↦ i
-  | StrictTime ↦ j
-  | StrictDuration ↦ k
-  | Canonical ↦ l
-]
+no_word name none word is = grind arith
 
 word_or_none : (name : List ℕ) → ((word : Word) × (name ≡ name_of word)) ⊎ IsNoWord name
 word_or_none name = elim (word_among name all_words) [ inl p ↦ inl p | inr none ↦ inr (no_word name none) ]

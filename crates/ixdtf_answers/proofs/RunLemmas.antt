@@ -1,5 +1,5 @@
 -- The start and the ends of a run.
-use Rattle.std.proofs.{Common.{◌≡◌, ℕ, List, [], take, Option, Result, Ok, Err, MatchResult, IsErrAnd, refl, subst}, lemmas.List.append-nil}
+use Rattle.std.proofs.{Common.{◌≡◌, ℕ, List, [], take, Option, Result, Ok, Err, MatchResult, IsErrAnd, refl}, lemmas.List.append-nil}
 use Rattle.std.proofs.KnownBytes.{Appends-nil, Consumes-trans, Consumes-whole}
 use Rattle.std.specs.Io.KnownBytes.{Consumes, IsAtEnd}
 use Rattle.ixdtf_buffers.specs.{declared.{error.RunError.{RunError, TheVariants.Read}, line.Line.Line, output.Output.Output}, Line.Holds}
@@ -16,7 +16,7 @@ Rests-nil contents {x = x} none empty = record { pending = empty; none = none; a
 -- the last read returned no byte
 pub Consumes-last : (a b c : Option (List ℕ)) (xs ys : List ℕ) (count : ℕ) → count ≡ 0 → Consumes a b xs → Consumes b c (take count ys) → Consumes a c xs
 Consumes-last a b c xs ys count none p q =
-    subst (Consumes a c) (append-nil xs) (Consumes-trans a b c xs [] p (subst (λ n. Consumes b c (take n ys)) none q))
+    rw append-nil at (Consumes-trans a b c xs [] p (rw none at q))
 
 -- all was read, and the last line was answered, or writing failed
 pub Runs-end : {a b s n : Option (List ℕ)} {r : Result (Unit {0}) RunError} (read : List ℕ)
@@ -36,10 +36,10 @@ Runs-end {r = Err e} read consumed end (is, front) = record {
 pub Runs-failed : {a b s n : Option (List ℕ)} {r : Result (Unit {0}) RunError} {e : RunError} (read : List ℕ)
     → IsErrAnd r (λ y. y ≡ e) → Consumes a b read → Fails s n (ended_lines_of read) e → Runs a b s n r
 Runs-failed {r = Ok u} read same consumed fails = absurd same
-Runs-failed {s = s} {n = n} {r = Err y} read same consumed (is, front) = record {
+Runs-failed {r = Err y} read same consumed (is, front) = record {
   ok = tt;
   read = λ other. absurd (cc);
-  write = λ _. (read, consumed, WritesFront-append s n (ended_lines_of read) (last_line_of (unended_of read)) front);
+  write = λ _. (read, consumed, WritesFront-append (ended_lines_of read) (last_line_of (unended_of read)) front);
 }
 
 -- reading failed

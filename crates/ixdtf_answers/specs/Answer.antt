@@ -1,8 +1,7 @@
 -- The answer to one line, without its newline.
-use Rattle.std.specs.{Prelude.{◌≡◌, ℕ, ◌+◌, Bool, ◌==◌, ◌⊎◌, List, [], ◌++◌, map, length, take, drop, nat_lt, MatchOption, position, codes}, Bool.MatchBool}
-use Rattle.ixdtf.specs.{table.{ErrorTexts.message_of, Faults.Fault, Outcomes.HasFault}, Handlers.{UnhandledRecord, UnhandledFault}}
-use Rattle.ixdtf.specs.language.{Languages.{Found, Derives, Found.{parsed, shifted, identified, named, lasting}}, Letters.{Text, byte_letter}, Readers.Reader}
-use Rattle.ixdtf.specs.language.Readers.Reader.{bracketed, parse_offset, parse_identifier, parse_iana_identifier, parse_duration}
+use Rattle.std.specs.{Prelude.{◌≡◌, ℕ, ◌+◌, Bool, ◌==◌, ◌⊎◌, List, ◌++◌, map, length, take, drop, nat_lt, MatchOption, position, codes}, Bool.MatchBool}
+use Rattle.ixdtf.specs.{table.{ErrorTexts.message_of, Faults.Fault}, Widths.{HasUnhandledOutcome, UnhandledOutcome.{read_as, faulted}}}
+use Rattle.ixdtf.specs.language.{Languages.Found, Letters.{Text, byte_letter}, Readers.Reader}
 use Rattle.ixdtf_answers.specs.{Fields.{fields_of, canonical_field_of}, Word.{name_of, reader_of, IsNoWord}, declared.word.Word.{Word, TheVariants.Parse}}
 use Rattle.ixdtf_answers.specs.declared.word.Word.TheVariants.{YearMonth, MonthDay, Time, Offset, Zone, Iana, Duration, StrictMonthDay, StrictTime}
 use Rattle.ixdtf_answers.specs.declared.word.Word.TheVariants.{StrictDuration, Canonical}
@@ -50,24 +49,12 @@ error_answer_of fault = codes "error " ++ message_of fault
 -- the text gives the reader the value: to one with brackets a record, where each pair is its own reply, and to each other
 -- what it derives, with no pairs
 abbrev pub Gives : Reader → Text → Found → Type 0
-Gives (bracketed kind) text (parsed found) = UnhandledRecord (bracketed kind) text found
-Gives (bracketed kind) text (shifted offset) = ⊥
-Gives (bracketed kind) text (identified zone) = ⊥
-Gives (bracketed kind) text (named name) = ⊥
-Gives (bracketed kind) text (lasting duration) = ⊥
-Gives parse_offset text found = Derives parse_offset text found []
-Gives parse_identifier text found = Derives parse_identifier text found []
-Gives parse_iana_identifier text found = Derives parse_iana_identifier text found []
-Gives (parse_duration profile) text found = Derives (parse_duration profile) text found []
+Gives reader text found = HasUnhandledOutcome reader text (read_as found)
 
 -- the reader refuses the text with the fault: a reader with brackets with one that the text gives, where each pair is its own
 -- reply, and any other reader with one that the text has, with no pairs
 abbrev pub Refuses : Reader → Text → Fault → Type 0
-Refuses (bracketed kind) text fault = UnhandledFault (bracketed kind) text fault
-Refuses parse_offset text fault = HasFault parse_offset text [] fault
-Refuses parse_identifier text fault = HasFault parse_identifier text [] fault
-Refuses parse_iana_identifier text fault = HasFault parse_iana_identifier text [] fault
-Refuses (parse_duration profile) text fault = HasFault (parse_duration profile) text [] fault
+Refuses reader text fault = HasUnhandledOutcome reader text (faulted fault)
 
 -- the answer of the word's reader, to which the text gives a value, or which refuses the text
 abbrev pub IsOutcome : Word → List ℕ → List ℕ → Type 0

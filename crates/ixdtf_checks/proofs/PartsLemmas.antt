@@ -17,10 +17,6 @@ field_start-some separator (suc left) place line some is =
     let e : suc left - 1 ≡ left = omega arith in
     rw (← is, e) refl
 
-pub option_map-zero : (o : Option ℕ) → o ≡ option_map (λ more. 0 + more) o
-option_map-zero None = refl
-option_map-zero (Some n) = ap Some (omega arith)
-
 pub option_map-more : (a b c : ℕ) (o : Option ℕ) → c ≡ a + b → option_map (λ more. a + more) (option_map (λ more. b + more) o) ≡ option_map (λ more. c + more) o
 option_map-more a b c None is = refl
 option_map-more a b c (Some n) is = ap Some (omega (arith, is))

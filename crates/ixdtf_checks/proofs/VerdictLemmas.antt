@@ -1,37 +1,15 @@
 -- What a reader returns for the text of a line.
-use Rattle.std.proofs.Common.{◌≡◌, ℕ, ◌+◌, ◌≤◌, List, length, Option, Some, None, MatchOption, IsUtf8, Bor, inl, inr, refl, ap, subst, arith, length-append}
+use Rattle.std.proofs.Common.{◌≡◌, ℕ, ◌+◌, ◌≤◌, List, length, Option, Some, None, MatchOption, IsUtf8, Bor, inl, inr, refl, ap, arith, length-append}
 use Rattle.std.proofs.lemmas.List.{length-map}
 use Rattle.ixdtf_grammar.specs.{declared.profile.Profile.Profile, Handlers.UnhandledRecord, Places.HasUnhandledFaultAt}
-use Rattle.ixdtf_grammar.specs.{Widths.{HasUnhandledOutcome, byte_text, UnhandledOutcome.read_as}, language.Languages.{Parsed, Found}}
+use Rattle.ixdtf_grammar.specs.{Widths.{byte_text}, language.Languages.{Parsed}}
 use Rattle.ixdtf_grammar.specs.language.{Letters.{Text, Letter, byte_letter}, Readers.{Reader, parse}}
 use Rattle.ixdtf_grammar.specs.language.Readers.Reader.{bracketed, parse_offset, parse_identifier, parse_iana_identifier, parse_duration}
 use Rattle.ixdtf_grammar.specs.table.Faults.{Fault}
 use Rattle.ixdtf_print.specs.{Canonical.canonical_text, Laws.CanonicalFits}
 use Rattle.ixdtf_checks.specs.{Printed.FitsArray, Seen.lines_at, Kinds.reader_of, Parts.{Text as Part}, Refusals.IsRefusal}
-use Rattle.ixdtf_checks.specs.{Verdicts.{Verdict, IsRead, ShowsPlace, IsTextVerdict, Verdict.{accepted, printed, refused}}, declared.kind.Kind.Kind}
+use Rattle.ixdtf_checks.specs.{Verdicts.{Verdict, ShowsPlace, IsTextVerdict, Verdict.{accepted, printed, refused}}, declared.kind.Kind.Kind}
 use Rattle.ixdtf_checks.specs.declared.request.Task.TheVariants.{Check, Print}
-
--- the remaining input of a reader, which is the text, is read
-pub read_text : (reader : Reader) (text rest : List ℕ) (found : Found) → rest ≡ text → HasUnhandledOutcome reader (byte_text rest) (read_as found)
-    → IsRead reader text
-read_text reader text rest found same has =
-    (found, subst (λ (t : List ℕ). HasUnhandledOutcome reader (byte_text t) (read_as found)) same has)
-
--- it is refused
-pub refused_text : (reader : Reader) (text rest : List ℕ) (fault : Fault) (at : ℕ) → rest ≡ text → HasUnhandledFaultAt reader (byte_text rest) fault at
-    → HasUnhandledFaultAt reader (byte_text text) fault at
-refused_text reader text rest fault at same has = subst (λ (t : List ℕ). HasUnhandledFaultAt reader (byte_text t) fault at) same has
-
--- the same of a reader that has a profile, under the parser's own
-pub read_under : (reader : Profile → Reader) (own wanted : Profile) (text rest : List ℕ) (found : Found) → own ≡ wanted → rest ≡ text
-    → HasUnhandledOutcome (reader own) (byte_text rest) (read_as found) → IsRead (reader wanted) text
-read_under reader own wanted text rest found same_profile same has =
-    subst (λ p. IsRead (reader p) text) same_profile (read_text (reader own) text rest found same has)
-
-pub refused_under : (reader : Profile → Reader) (own wanted : Profile) (text rest : List ℕ) (fault : Fault) (at : ℕ) → own ≡ wanted → rest ≡ text
-    → HasUnhandledFaultAt (reader own) (byte_text rest) fault at → HasUnhandledFaultAt (reader wanted) (byte_text text) fault at
-refused_under reader own wanted text rest fault at same_profile same has =
-    subst (λ p. HasUnhandledFaultAt (reader p) (byte_text text) fault at) same_profile (refused_text (reader own) text rest fault at same has)
 
 -- no fault stands past the end of the text
 at_most : (reader : Reader) (text : Text) (fault : Fault) (at : ℕ) → HasUnhandledFaultAt reader text fault at → at ≤ length text

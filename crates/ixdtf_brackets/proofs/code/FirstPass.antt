@@ -1,5 +1,5 @@
 -- One pass over a first bracket that begins as a key may: the code units of a key, and then those of a name.
-use Rattle.std.proofs.Common.{◌≡◌, ℕ, ◌&&◌, ◌||◌, not, Bool, true, false, IsTrue, List, [], ◌∷◌, ◌++◌, drop, Option, Some, None, option_map, Result, Ok, Err}
+use Rattle.std.proofs.Common.{◌≡◌, ℕ, ◌&&◌, Bool, true, false, IsTrue, List, [], ◌∷◌, ◌++◌, drop, Option, Some, None, Result, Ok, Err}
 use Rattle.std.proofs.{Common.{refl, sym, ap, subst, ◌∙◌, arith, if◌then◌else◌}, lemmas.Bool.{and_parts, Decides.nat_tests}}
 use Rattle.ixdtf_reading.specs.{declared.annotations.KeyLetters.KeyLetters, reading.Looks.{Placed, Read, ◌>>=◌, seen, next_by, error_of}}
 use Rattle.ixdtf_reading.specs.reading.{Zones.{with_letter, name_run, as_zone}, Pairs.{AtStart, value_run, pair_at}, Runs.{Taken, letters_by, key_after}}
@@ -11,7 +11,7 @@ use Rattle.ixdtf_reading.proofs.{code.PairLoops.{key_closed, key_refused}, parts
 use Rattle.ixdtf_reading.proofs.parts.Steps.{steps, with_letters, letters_before, letters_err}
 use Rattle.ixdtf_brackets.specs.{declared.{brackets.BracketLetters.BracketLetters, zone.NameState.NameState}, BracketTypes.{name_after, bracket_after}}
 use Rattle.ixdtf_brackets.proofs.code.NameLoop.{name_start, name_ended, name_refused, some_next}
-use Rattle.ixdtf_grammar.specs.language.{Letters.{Text, equals, closing, slash, key_char, zone_char, Letter.{Plain, Bad}}, ZoneNames.Zone.Name}
+use Rattle.ixdtf_grammar.specs.language.{Letters.{Text, equals, closing, key_char, zone_char, Letter.{Plain, Bad}}, ZoneNames.Zone.Name}
 use Rattle.ixdtf_grammar.specs.{language.Brackets.skipped, table.Faults.Fault.{NonAsciiCodePoint, AnnotationKeyChar, IanaCharPostSeparator}}
 use Rattle.ixdtf_grammar.specs.table.Lines.{abrupt_bracket}
 
@@ -71,11 +71,7 @@ bracket_ended letters text rest taken e is =
     sight_goes_on bracket_after bracket_over letters text rest taken e ∙ sight_at_end rest (next_shown bracket_after letters text rest taken e ∙ ap Ok is)
 
 bracket_other : (letters : BracketLetters) (c : ℕ) → bracket_after letters c ≡ None → equals c ≡ false → closing c ≡ true
-bracket_other letters c e is = go _ (rw is at e)
-  where
-    go : (b : Bool) → (if not (false || b) then Some letters else None) ≡ None → b ≡ true
-    go true e = refl
-    go false e = absurd cc
+bracket_other letters c e is = grind (arith, nat_tests)
 
 pub bracket_sighted : (letters : BracketLetters) (text rest : Text) (taken : Taken BracketLetters) (c : ℕ)
     → letters_by bracket_after letters text ≡ Ok (taken, rest) → taken.next ≡ Some c → sight_at error_of text ≡ Ok (equals c)
@@ -101,14 +97,7 @@ key_over : (state next : KeyLetters) (c : ℕ) → key_after state c ≡ Some ne
 key_over state next c e = key_char_skipped c (test_held (key_char c) state next e)
 
 name_over : (state next : NameState) (c : ℕ) → name_after state c ≡ Some next → IsTrue (skipped c)
-name_over state next c e = go _ refl (slash c) refl e
-  where
-    go : (b : Bool) → zone_char c ≡ b → (d : Bool) → slash c ≡ d
-        → option_map (λ may_end. record { may_end = may_end }) (if b then Some true else (if d && state.may_end then Some false else None)) ≡ Some next
-        → IsTrue (skipped c)
-    go true p d q e = zone_char_skipped c p
-    go false p true q e = slash_skipped c q
-    go false p false q e = absurd cc
+name_over state next c e = grind (arith, zone_char_skipped, slash_skipped)
 
 key_is_zone : (c : ℕ) → key_char c ≡ true → zone_char c ≡ true
 key_is_zone c is = grind (arith, nat_tests)
@@ -141,10 +130,6 @@ sighted : (critical : Bool) (text : Text) (b : Bool) → sight text ≡ Ok b
 unfolding name_or_pair_at
 sighted critical text b e = rw e refl
 
-not_both : (sighted : Result Bool Placed) (b : Bool) (fault : Placed) → sighted ≡ Ok b → sighted ≡ Err fault → ⊥
-not_both (Ok x) b fault p q = absurd cc
-not_both (Err x) b fault p q = absurd cc
-
 module _ (critical : Bool) (letters : KeyLetters) (text : Text) where
   pub pass_failed : (fault : Placed) → letters_by key_after letters text ≡ Err fault → read_at critical text ≡ Err fault
   pass_failed fault e = unseen critical text fault (sight_fails key_after key_over letters text fault e)
@@ -156,24 +141,22 @@ module _ (critical : Bool) (letters : KeyLetters) (text : Text) where
     key_next : (o : Option ℕ) → key.next ≡ o → seen rest ≡ Ok o
     key_next o is = next_shown key_after letters text rest key keys ∙ ap Ok is
 
-    -- a pair, or a value that is refused
-    as_pair_is : read_at critical text ≡ as_pair (pair_at error_of critical text) → next_is equals key.next ≡ true → read_at critical text
-        ≡ as_pair (value_run error_of AtStart (drop 1 rest) >>= λ value. Ok (record { critical = critical; key = key.letters; value = value.0 }, value.1))
-    unfolding pair_at
-    as_pair_is e is =
-        let found = some_next equals key.next is in
-        e ∙ rw (key_closed letters text rest key keys found.0 found.1 found.2) refl
-
     module _ (is : next_is equals key.next ≡ true) where
-      pair_seen : sight text ≡ Ok true
-      pair_seen = let found = some_next equals key.next is in sight_is ∙ sight_at_equals rest found.0 (key_next _ found.1) found.2
+      -- a pair, or a value that is refused
+      pair_is : read_at critical text ≡ as_pair (
+          value_run error_of AtStart (drop 1 rest) >>= λ value. Ok (record { critical = critical; key = key.letters; value = value.0 }, value.1))
+      unfolding pair_at
+      pair_is =
+          let found = some_next equals key.next is in
+          sighted critical text true (sight_is ∙ sight_at_equals rest found.0 (key_next _ found.1) found.2)
+          ∙ rw (key_closed letters text rest key keys found.0 found.1 found.2) refl
 
       pub value_failed : (fault : Placed) → value_run error_of AtStart (drop 1 rest) ≡ Err fault → read_at critical text ≡ Err fault
-      value_failed fault e = as_pair_is (sighted critical text true pair_seen) is ∙ rw e refl
+      value_failed fault e = pair_is ∙ rw e refl
 
       pub pair_read : (value : List ℕ) (after : Text) → value_run error_of AtStart (drop 1 rest) ≡ Ok (value, after)
           → read_at critical text ≡ Ok (paired (record { critical = critical; key = key.letters; value = value }), after)
-      pair_read value after e = as_pair_is (sighted critical text true pair_seen) is ∙ rw e refl
+      pair_read value after e = pair_is ∙ rw e refl
 
     pub more_failed : (fault : Placed) → letters_by name_after name_start rest ≡ Err fault → read_at critical text ≡ Err fault
     more_failed fault e = unseen critical text fault (sight_is ∙ sight_fails name_after name_over name_start rest fault e)
@@ -210,7 +193,7 @@ module _ (critical : Bool) (letters : KeyLetters) (text : Text) where
       pair_refused no_key p = go key.next refl no_key
         where
           go : (next : Option ℕ) → key.next ≡ next → next_is equals next ≡ false → as_pair (pair_at error_of critical text) ≡ Err (AnnotationKeyChar, rest)
-          go None e other = absurd (not_both (sight rest) true (abrupt_bracket, rest) p (sight_at_end rest (key_next _ e)))
+          go None e other = let ends = sight_at_end rest (key_next _ e) in absurd cc
           go (Some c) e other = rw (key_refused letters text rest key keys c e other) refl
 
       zone_refused : (more.state.may_end && next_is closing more.next) ≡ false → sight after ≡ Ok false
@@ -221,7 +204,7 @@ module _ (critical : Bool) (letters : KeyLetters) (text : Text) where
           go : (b : Bool) → more.state.may_end ≡ b → (next : Option ℕ) → more.next ≡ next → (b && next_is closing next) ≡ false
               → noted critical (as_zone (name_in_bracket_at error_of text)) ≡ Err (name_fault more.state.may_end, after)
           go false q next e test = rw (name_refused_so q, q) refl
-          go true q None e test = absurd (not_both (sight after) false (abrupt_bracket, after) p (sight_at_end after (more_next _ e)))
+          go true q None e test = let ends = sight_at_end after (more_next _ e) in absurd cc
           go true q (Some c) e test =
               let next = more_next (Some c) e in
               rw (name_ends_so q, next, test, q) refl

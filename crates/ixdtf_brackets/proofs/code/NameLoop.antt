@@ -1,6 +1,6 @@
 -- The code units of a zone name, taken one by one.
-use Rattle.std.proofs.Common.{◌≡◌, ℕ, ◌&&◌, Bool, true, false, List, ◌∷◌, ◌++◌, map, drop, Option, Some, None, option_map, IsSome, Ok, Err, refl, ap, subst}
-use Rattle.std.proofs.Common.{◌∙◌, if◌then◌else◌}
+use Rattle.std.proofs.Common.{◌≡◌, ℕ, ◌&&◌, Bool, true, false, List, ◌∷◌, ◌++◌, map, drop, Option, Some, None, option_map, IsSome, Ok, Err, refl, ap}
+use Rattle.std.proofs.{Common.{◌∙◌, if◌then◌else◌}, Math.Bool.and-false}
 use Rattle.ixdtf_brackets.specs.{declared.zone.{NameState.NameState, PartLetters.PartLetters}, BracketTypes.{part_after, name_after}}
 use Rattle.ixdtf_grammar.specs.language.Letters.{Letter, Text, Class, zone_char, slash, Letter.{Plain, Bad}}
 use Rattle.ixdtf_grammar.specs.table.Faults.Fault.{NonAsciiCodePoint, IanaCharPostSeparator}
@@ -82,11 +82,7 @@ part_last letters (Some c) stays other = rw (part_stays letters c stays, other) 
 -- behind a slash, where no part follows
 pub slash_last : (next : Option ℕ) → next_is zone_char next ≡ false → Stays name_after name_slash next
 slash_last None other = tt
-slash_last (Some c) other = go _ refl
-  where
-    go : (b : Bool) → slash c ≡ b → name_after name_slash c ≡ None
-    go true p = rw (other, p) refl
-    go false p = rw (other, p) refl
+slash_last (Some c) other = rw (other, and-false (slash c)) refl
 
 -- the slash behind a part goes on
 pub part_slashed : (letters : PartLetters) (c : ℕ) → part_after letters c ≡ None → slash c ≡ true → name_after name_start c ≡ Some name_slash
@@ -105,7 +101,7 @@ pub is_some : (class : Class) (next : Option ℕ) → next_is class next ≡ tru
 is_some class None e = absurd cc
 is_some class (Some c) e = refl
 
-module _ (letter : ℕ → Letter) (faithful : (unit n : ℕ) → letter unit ≡ Plain n → n ≡ unit) (whole rest : List ℕ)
+module _ {letter : ℕ → Letter} (faithful : (unit n : ℕ) → letter unit ≡ Plain n → n ≡ unit) {whole rest : List ℕ}
     (far : IsSoFar name_after letter name_start whole rest name_start) (letters : PartLetters) where
   -- a part is refused
   pub part_fails : (fault : Placed) → letters_by part_after letters (map letter rest) ≡ Err fault → letters_by name_after name_start (map letter whole) ≡ Err fault
@@ -116,8 +112,8 @@ module _ (letter : ℕ → Letter) (faithful : (unit n : ℕ) → letter unit �
     part_passed : IsSoFar name_after letter name_start whole left name_start
     part_passed = goes_over part_after name_after name_start part_within letter name_start whole rest far left taken.letters letters taken split passed refl
 
-    next_seen : (next : Option ℕ) → taken.next ≡ next → seen (map letter left) ≡ Ok next
-    next_seen next is = next_shown part_after letters (map letter rest) (map letter left) taken passed ∙ ap Ok is
+    next_seen : seen (map letter left) ≡ Ok taken.next
+    next_seen = next_shown part_after letters (map letter rest) (map letter left) taken passed
 
     stays_so : Stays part_after taken.state taken.next
     stays_so = next_stays part_after letters (map letter rest) (map letter left) taken passed
@@ -129,18 +125,17 @@ module _ (letter : ℕ → Letter) (faithful : (unit n : ℕ) → letter unit �
     part_ceases other = (
       part_passed.taken,
       part_passed.units,
-      ceases name_after letter faithful name_start whole left name_start part_passed taken.next (next_seen _ refl) (part_last taken.state taken.next stays_so other),
+      ceases name_after letter faithful name_start whole left name_start part_passed taken.next next_seen (part_last taken.state taken.next stays_so other),
     )
 
     -- a slash follows it
     pub part_slashes : (after : List ℕ) → next_is slash taken.next ≡ true → after ≡ drop 1 left → IsSoFar name_after letter name_start whole after name_slash
     part_slashes after is moved =
         let found = some_next slash taken.next is in
-        let stays = subst (λ next. Stays part_after taken.state next) found.1 stays_so in
-        goes_on name_after letter faithful name_start whole left name_start part_passed after name_slash found.0 (next_seen _ found.1)
-        (part_slashed taken.state found.0 stays found.2) moved
+        goes_on name_after letter faithful name_start whole left name_start part_passed after name_slash found.0 (next_seen ∙ ap Ok found.1)
+        (part_slashed taken.state found.0 (rw found.1 at stays_so) found.2) moved
 
-module _ (letter : ℕ → Letter) (faithful : (unit n : ℕ) → letter unit ≡ Plain n → n ≡ unit) (whole rest : List ℕ)
+module _ {letter : ℕ → Letter} (faithful : (unit n : ℕ) → letter unit ≡ Plain n → n ≡ unit) {whole rest : List ℕ}
     (far : IsSoFar name_after letter name_start whole rest name_slash) where
   -- behind a slash the look failed
   pub slash_fails : (fault : Placed) → seen (map letter rest) ≡ Err fault → letters_by name_after name_start (map letter whole) ≡ Err fault

@@ -1,12 +1,12 @@
 -- A year-month, and a month-day, at fixed places: what is found there is read so.
-use Rattle.std.proofs.Common.{subst, ◌≡◌, ℕ, suc, ◌+◌, Bool, true, false, IsTrue, [], ◌∷◌, drop, Option, Some, None, Result, Ok, Err, refl, sym, ap, ◌∙◌, pos}
+use Rattle.std.proofs.Common.{subst, ◌≡◌, ℕ, suc, ◌+◌, Bool, true, false, IsTrue, [], ◌∷◌, drop, Option, Some, None, Ok, refl, sym, ap, ◌∙◌, pos}
 use Rattle.std.proofs.{Common.{arith, ◌++◌, append_assoc, inl, inr}, lemmas.Bool.and_parts}
 use Rattle.std.specs.Prelude.{IfSome}
 use Rattle.ixdtf_grammar.specs.{declared.{profile.Profile.Profile, records.DateRecord.DateRecord}, language.Letters.{Text, digit, hyphen}}
 use Rattle.ixdtf_grammar.specs.{language.Letters.Letter.{Plain, Bad}, table.LineNames.{of_year_month, of_month_day, YearMonthLine.after_year_in_year_month}}
 use Rattle.ixdtf_grammar.specs.table.LineNames.MonthDayLine.{month_day_month_digits}
-use Rattle.ixdtf_reading.specs.{declared.stop.Stop.Stop, reading.{Clauses.YieldsAt, Dates.{date_of, month_at}}}
-use Rattle.ixdtf_reading.specs.reading.Looks.{Placed, error_of, look_at, next_by, mark_by, digits_by, ◌>>=◌}
+use Rattle.ixdtf_reading.specs.{reading.{Dates.{date_of, month_at}}}
+use Rattle.ixdtf_reading.specs.reading.Looks.{error_of, look_at, next_by, mark_by, digits_by, ◌>>=◌}
 use Rattle.ixdtf_reading.specs.reading.{Months.{year_month_at, marks_at, month_day_at, lone_month_in_range, lone_day_at}, FixedPlaces.first_byte}
 use Rattle.ixdtf_reading.specs.reading.FixedPlaces.{byte_place, number_place, year_place, month_of_year_place, day_of_month_place, ranged_month, ranged_day}
 use Rattle.ixdtf_reading.specs.reading.FixedPlaces.{marks_place, unmarked_at}
@@ -130,9 +130,3 @@ first_digit text start month e =
 pub on_both : {A : Type 0} (found : Option A) {P R Q : A → Type 0} → ((x : A) → P x → R x → Q x) → IfSome found P → IfSome found R → IfSome found Q
 on_both None go is also = is
 on_both (Some x) go is also = go x is also
-
--- what was returned for a reading is what was returned for another one with the same result
-pub yields_as : {X Y : Type 0} (view : X → Y) (result : Result X Stop) (left : Text) (wanted wanted' : Result Y Placed) → wanted' ≡ wanted
-    → YieldsAt view result left wanted → YieldsAt view result left wanted'
-yields_as view (Ok x) left wanted wanted' same is = same ∙ is
-yields_as view (Err stop) left wanted wanted' same is = same ∙ is

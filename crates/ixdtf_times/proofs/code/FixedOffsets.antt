@@ -1,8 +1,8 @@
 -- An offset that stands at its places behind its sign, where the core ends with it, is read so.
-use Rattle.std.proofs.Common.{◌≡◌, ℕ, ◌≤◌, IsTrue, ◌∷◌, [], ◌++◌, drop, Option, Some, None, Ok, true, false, nat_le, ◌&&◌, refl, ap, ◌∙◌, arith}
-use Rattle.std.proofs.lemmas.Bool.Decides.{nat_tests}
+use Rattle.std.proofs.Common.{◌≡◌, ℕ, ◌≤◌, IsTrue, List, ◌∷◌, [], ◌++◌, map, length, drop, Option, Some, None, Ok, true, false, nat_le, ◌&&◌, refl, ap, ◌∙◌, arith}
+use Rattle.std.proofs.lemmas.{Bool.Decides.nat_tests, List.{drop-map, drop_all}}
 use Rattle.ixdtf_grammar.specs.declared.records.{DateRecord.DateRecord, TimeRecord.TimeRecord, MinutePrecisionOffset.MinutePrecisionOffset}
-use Rattle.ixdtf_grammar.specs.{declared.records.UtcOffsetRecord.TheVariants.MinutePrecision, language.Letters.{Text, colon, Letter.Plain}}
+use Rattle.ixdtf_grammar.specs.{declared.records.UtcOffsetRecord.TheVariants.MinutePrecision, language.Letters.{Text, Letter, colon, Letter.Plain}}
 use Rattle.ixdtf_grammar.specs.language.{Offsets.minutes_of, ZoneNames.Zone, Times.{ColonMinuteText, Clock, Clock.{Offset, MinuteOffset}}}
 use Rattle.ixdtf_grammar.specs.language.Times.TimeShape.{colon_minutes}
 use Rattle.ixdtf_reading.specs.reading.{Looks.{error_of, look_at, peek_by}, FixedPlaces.{letter_place, number_place, offset_place}}
@@ -10,6 +10,10 @@ use Rattle.ixdtf_reading.specs.reading.{Times.{time_of, line_after, clock_at}, Z
 use Rattle.ixdtf_reading.specs.reading.Cores.{with_offset, offset_core_at, core_end_at}
 use Rattle.ixdtf_reading.proofs.{parts.Looks.onto, code.FixedPlaces.{then_some, then_held, Number, number_at_place, mark_at_place, two, two_digits, over_two}}
 use Rattle.ixdtf_reading.proofs.to_reading.{Times.{Closed, time_takes}, ClockRows.clock_starts}
+
+-- behind five code units that are all nothing is left
+pub nothing_left : (letter : ℕ → Letter) (units : List ℕ) → length units ≡ 5 → (drop 5 units ≡ []) × (drop 5 (map letter units) ≡ [])
+nothing_left letter units size = let none = drop_all 5 units (omega arith) in (none, drop-map letter 5 units ∙ ap (map letter) none)
 
 -- the code units of an hour, a colon and a minute, the text after them, and the offset that they are
 record OffsetLetters (c : ℕ) (text : Text) (offset : MinutePrecisionOffset) : Type 0 where

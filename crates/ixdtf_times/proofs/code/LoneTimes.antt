@@ -1,9 +1,10 @@
 -- A time that stands alone, by what the first look at it finds.
-use Rattle.std.proofs.{Common.{◌≡◌, ℕ, true, false, drop, map, Option, Some, None, Result, Ok, Err, refl, ◌∙◌, arith}, lemmas.Bool.Decides.nat_tests}
+use Rattle.std.proofs.{Common.{◌≡◌, ℕ, true, false, drop, map, Option, Some, None, Result, Ok, Err, refl, arith}, lemmas.Bool.Decides.nat_tests}
 use Rattle.ixdtf_grammar.specs.{declared.{profile.Profile.Profile, records.DateRecord.DateRecord}, Views.Unread}
 use Rattle.ixdtf_grammar.specs.language.Letters.{Letter, Text, ◌or◌, digit, sign, hyphen, time_letter}
 use Rattle.ixdtf_reading.specs.{declared.stop.Stop.Stop, reading.{Looks.{Read, Placed, ◌>>=◌, error_of, seen, next_by, mark_by}, Brackets.next_is}}
 use Rattle.ixdtf_reading.specs.reading.{Dates.year_at, Months.{year_month_at, marks_at, month_day_at, year_month_begins, month_day_begins}, Times.clock_at}
+use Rattle.ixdtf_reading.proofs.code.FixedPlaces.{reads_on}
 use Rattle.ixdtf_reading.specs.reading.{Cores.{unfronted, lone_time_at, marked_time_at, marked_core_at, time_alone_core_at}, Clauses.{Reads, timed_core_at}}
 
 ok_again : {A E : Type 0} → (r : Result A E) → (r >>= λ x. Ok x) ≡ r
@@ -13,8 +14,7 @@ ok_again (Err e) = refl
 -- what was read of one text is what is read so of another
 pub reads_as : {X Y : Type 0} (letter : ℕ → Letter) (view : X → Y) (old old' new : Unread) (result : Result X Stop) (reading reading' : Text → Read Placed Y)
     → reading' (map letter old'.rest) ≡ reading (map letter old.rest) → Reads letter view old result new reading → Reads letter view old' result new reading'
-reads_as letter view old old' new (Ok x) reading reading' e is = e ∙ is
-reads_as letter view old old' new (Err stop) reading reading' e is = e ∙ is
+reads_as letter view old old' new result reading reading' e is = reads_on letter view old' old new result reading' reading e is
 
 no_month_day : (c : ℕ) → time_letter c ≡ true → (hyphen or digit) c ≡ false
 no_month_day c is = grind (arith, nat_tests)

@@ -1,22 +1,10 @@
 -- The start, each read, and the ends.
 use Rattle.ixdtf_answers.proofs.runner.answer_all.Goals as goal
-use Rattle.std.proofs.{Common.{[], ◌++◌, take, arith, refl, ◌∙◌}, KnownBytes.{Consumes-nil, Consumes-trans, Consumes-kept}}
-use Rattle.ixdtf_answers.proofs.RunLemmas.{Rests-nil, Consumes-last, Runs-end, Runs-failed, Runs-stopped}
+use Rattle.std.proofs.{Common.{[], ◌++◌, take, arith, refl, ◌∙◌}, KnownBytes.{Consumes-nil, Consumes-trans}}
+use Rattle.ixdtf_answers.proofs.RunLemmas.{Rests-nil, Consumes-last, Runs-end, Runs-failed}
 
 pub reads-init : goal.reads-init
 reads-init g c = ([], Consumes-nil _, Rests-nil _ c.requires c.new-line.ensures, refl)
-
-pub returns-in_err-count-clause-same : goal.returns-in_err-count-clause-same
-returns-in_err-count-clause-same g c = let (read, consumed, rests, same) = c.reads.invariant in same
-
-pub returns-in_err-count-clause-runs : goal.returns-in_err-count-clause-runs
-returns-in_err-count-clause-runs g c =
-    let (read, consumed, rests, same) = c.reads.invariant in
-    let failed = c.in_err-count.ensures.err in
-    Runs-stopped read c.from_residual.ensures.1 failed.0 (Consumes-kept _ _ _ read consumed failed.1) rests.answered
-
-pub returns-then-count-eq0-clause-same : goal.returns-then-count-eq0-clause-same
-returns-then-count-eq0-clause-same g c = let (read, consumed, rests, same) = c.reads.invariant in c.finish.ensures.same ∙ same
 
 pub returns-then-count-eq0-clause-runs : goal.returns-then-count-eq0-clause-runs
 returns-then-count-eq0-clause-runs g c =
@@ -24,9 +12,6 @@ returns-then-count-eq0-clause-runs g c =
     let none = c.if-count-eq0.true in
     Runs-end read (Consumes-last _ _ _ read _ _ none consumed c.in_ok-count.ensures.ok) (c.in_ok-count.ensures.end none (omega arith))
     (c.finish.ensures.answers _ read rests)
-
-pub returns-in_err-answer_bytes-clause-same : goal.returns-in_err-answer_bytes-clause-same
-returns-in_err-answer_bytes-clause-same g c = let (read, consumed, rests, same) = c.reads.invariant in c.in_err-answer_bytes.ensures.same ∙ same
 
 pub returns-in_err-answer_bytes-clause-runs : goal.returns-in_err-answer_bytes-clause-runs
 returns-in_err-answer_bytes-clause-runs g c =
@@ -42,11 +27,3 @@ reads-preserved g c =
       c.in_ok-answer_bytes.ensures.answers _ read rests,
       c.in_ok-answer_bytes.ensures.same ∙ same,
     )
-
-pub returns-clause-same : goal.returns-clause-same
-returns-clause-same g c = let (read, consumed, rests, same) = c.reads.invariant in same
-
-pub returns-clause-runs : goal.returns-clause-runs
-returns-clause-runs g c =
-    let (read, consumed, rests, same) = c.reads.invariant in
-    Runs-stopped read refl refl consumed rests.answered

@@ -1,18 +1,15 @@
 -- A line ends.
 use Rattle.ixdtf_answers.proofs.runner.end_line.Goals as goal
 use Rattle.std.proofs.{Common.◌++◌, lemmas.Result.err_from_is_err_and}
-use Rattle.ixdtf_answers.specs.AnswerText.{answer_text_of}
-use Rattle.ixdtf_answers.proofs.Progress.{TakesAnswers-more, WritesFront-more}
+use Rattle.ixdtf_answers.proofs.Progress.{answered}
 
 pub returns-in_err-put_answer-clause-answers : goal.returns-in_err-put_answer-clause-answers
 returns-in_err-put_answer-clause-answers g c = λ start lines text holds takes.
     let line = text ++ c.args.bytes.now in
-    let is = c.answer_to.ensures line (c.push_all.ensures text holds) in
     let p = err_from_is_err_and c.from_residual.result c.from_residual.ensures.1 in
-    rw (p.1, p.2) (c.in_err-put_answer.ensures.err.0, WritesFront-more line (answer_text_of c.answer_to.result) takes is c.in_err-put_answer.ensures.err.1)
+    rw (p.1, p.2) (answered line _ (c.answer_to.ensures line (c.push_all.ensures text holds)) takes c.in_err-put_answer.ensures)
 
 pub returns-clause-answers : goal.returns-clause-answers
 returns-clause-answers g c = λ start lines text holds takes.
     let line = text ++ c.args.bytes.now in
-    let is = c.answer_to.ensures line (c.push_all.ensures text holds) in
-    TakesAnswers-more line (answer_text_of c.answer_to.result) takes is c.in_ok-put_answer.ensures.ok
+    answered line _ (c.answer_to.ensures line (c.push_all.ensures text holds)) takes c.in_ok-put_answer.ensures

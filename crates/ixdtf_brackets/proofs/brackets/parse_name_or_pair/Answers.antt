@@ -1,8 +1,8 @@
 use Rattle.ixdtf_brackets.proofs.brackets.parse_name_or_pair.Goals as goal
-use Rattle.std.proofs.Common.{◌≡◌, ◌&&◌, true, false, None, Err, List, ◌++◌, map, ℕ, length, arith, refl, sym, ap, ◌∙◌, append_assoc, rules}
+use Rattle.std.proofs.Common.{◌≡◌, ◌&&◌, true, false, None, Err, List, ◌++◌, ℕ, length, arith, refl, sym, ap, ◌∙◌, append_assoc, rules}
 use Rattle.std.proofs.lemmas.{List.length-map, Result.err_from_is_err_and}
 use Rattle.ixdtf_grammar.specs.language.Letters.{closing}
-use Rattle.ixdtf_reading.specs.reading.{Brackets.{next_is, refusal, name_fault, sight_at}, Looks.error_of}
+use Rattle.ixdtf_reading.specs.reading.{Brackets.{next_is}}
 use Rattle.ixdtf_reading.proofs.code.LetterLoops.{front_is}
 use Rattle.ixdtf_brackets.proofs.code.FirstPass.{pass_failed, value_failed, pair_read, more_failed, name_unended, name_read, name_refuses}
 use Rattle.ixdtf_brackets.proofs.brackets.parse_name_or_pair.Goals.{else-more-via-then-more+else-ends_bracket, else-more-via-else-more}
@@ -35,8 +35,7 @@ pub returns-then-ends_bracket-clause-bracket : goal.returns-then-ends_bracket-cl
 returns-then-ends_bracket-clause-bracket g c =
     let keys = c.in_ok-passed.ensures.letters in
     let passed = c.in_ok-more.ensures.letters in
-    let split : c.args.cursor.now.rest ≡ (keys.0 ++ passed.0) ++ c.pass_name.new.cursor.rest =
-    keys.1 ∙ ap (λ (t : List ℕ). keys.0 ++ t) passed.1 ∙ sym (append_assoc keys.0 passed.0 c.pass_name.new.cursor.rest) in
+    let split : c.args.cursor.now.rest ≡ (keys.0 ++ passed.0) ++ c.pass_name.new.cursor.rest = rw (keys.1, passed.1, append_assoc) refl in
     let front = front_is g.T.EncodingType.number c.rest-start.result.now c.rest.result.now (keys.0 ++ passed.0) c.pass_name.new.cursor.rest _ c.rest-start.ensures
     split c.rest.ensures in
     let is : (c.in_ok-more.more.state.may_end && next_is closing c.in_ok-more.more.next) ≡ true =
@@ -51,16 +50,13 @@ returns-then-is_none-clause-bracket g c =
 
 pub returns-clause-bracket : goal.returns-clause-bracket
 returns-clause-bracket g c =
-    let letter = g.T.EncodingType.letter in
     let passed = c.in_ok-more.ensures.letters in
     let is : (c.in_ok-more.more.state.may_end && next_is closing c.in_ok-more.more.next) ≡ false = elim c.else-more.branch [
       | else-more-via-then-more+else-ends_bracket w ↦ rw w.if-more.true (sym w.ends_bracket.ensures ∙ w.if-ends_bracket.false)
       | else-more-via-else-more w ↦ rw w.if-more.false refl
     ] in
     name_refuses _ _ _ _ _ c.in_ok-passed.ensures.letters.2 _ _ passed.2 (sym c.ends_key.ensures ∙ c.if-ends_key.false) is
-    ∙ ap Err (ap (λ (units : List ℕ). refusal (sight_at error_of (map letter c.pass_name.new.cursor.rest))
-    (name_fault c.in_ok-more.more.state.may_end) (map letter units) (map letter c.pass_name.new.cursor.rest)) (sym c.rest-behind_key.ensures)
-    ∙ sym (rw c.fork.ensures.same at c.refuse_bracket-refused.ensures.stop))
+    ∙ ap Err (sym (rw (c.fork.ensures.same, c.rest-behind_key.ensures) at c.refuse_bracket-refused.ensures.stop))
 
 pub returns-clause-looks : goal.returns-clause-looks
 returns-clause-looks g c =

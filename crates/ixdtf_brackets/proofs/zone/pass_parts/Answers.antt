@@ -10,71 +10,66 @@ loop-part-init g c = record { far = begins _ _ _ _; looks = omega arith; counted
 pub returns-in_err-part-clause-letters : goal.returns-in_err-part-clause-letters
 returns-in_err-part-clause-letters g c =
     let p = err_from_is_err_and c.from_residual.result c.from_residual.ensures.1 in
-    rw (p.1, p.2) (part_fails g.T.EncodingType.letter g.met.T.EncodingType.faithful _ _ c.loop-part.invariant.far _ _ c.in_err-part.ensures.letters)
+    rw (p.1, p.2) (part_fails g.met.T.EncodingType.faithful c.loop-part.invariant.far _ _ c.in_err-part.ensures.letters)
 
 -- no slash follows a part
 pub returns-then-not-ends_part-clause-letters : goal.returns-then-not-ends_part-clause-letters
 returns-then-not-ends_part-clause-letters g c =
     let passed = c.in_ok-part.ensures.letters in
-    part_ceases g.T.EncodingType.letter g.met.T.EncodingType.faithful _ _ c.loop-part.invariant.far _ _ _ passed.2 passed.1
-    (sym c.ends_part.ensures ∙ c.if-not-ends_part.true)
+    part_ceases g.met.T.EncodingType.faithful c.loop-part.invariant.far _ _ _ passed.2 passed.1 (sym c.ends_part.ensures ∙ c.if-not-ends_part.true)
 
 -- the look behind a slash failed
 pub returns-in_err-next-clause-letters : goal.returns-in_err-next-clause-letters
 returns-in_err-next-clause-letters g c =
+    let faithful = g.met.T.EncodingType.faithful in
     let p = err_from_is_err_and c.from_residual-in_err-next.result c.from_residual-in_err-next.ensures.1 in
     let passed = c.in_ok-part.ensures.letters in
-    let far = part_slashes g.T.EncodingType.letter g.met.T.EncodingType.faithful _ _ c.loop-part.invariant.far _ _ _ passed.2 passed.1 _
-    (sym c.ends_part.ensures ∙ c.if-not-ends_part.false) c.advance.ensures.rest in
-    rw (p.1, p.2, c.look.ensures.rest) (slash_fails g.T.EncodingType.letter g.met.T.EncodingType.faithful _ _ far _ c.in_err-next.ensures.letter)
+    let is = sym c.ends_part.ensures ∙ c.if-not-ends_part.false in
+    let far = part_slashes faithful c.loop-part.invariant.far _ _ _ passed.2 passed.1 _ is c.advance.ensures.rest in
+    rw (p.1, p.2, c.look.ensures.rest) (slash_fails faithful far _ c.in_err-next.ensures.letter)
 
 -- no part follows a slash
 pub returns-then-not-starts_part-clause-letters : goal.returns-then-not-starts_part-clause-letters
 returns-then-not-starts_part-clause-letters g c =
+    let faithful = g.met.T.EncodingType.faithful in
     let passed = c.in_ok-part.ensures.letters in
-    let far = part_slashes g.T.EncodingType.letter g.met.T.EncodingType.faithful _ _ c.loop-part.invariant.far _ _ _ passed.2 passed.1 _
-    (sym c.ends_part.ensures ∙ c.if-not-ends_part.false) c.advance.ensures.rest in
-    rw c.look.ensures.rest (slash_ceases g.T.EncodingType.letter g.met.T.EncodingType.faithful _ _ far _ c.in_ok-next.ensures.letter
-    (sym c.starts_part.ensures ∙ c.if-not-starts_part.true))
+    let is = sym c.ends_part.ensures ∙ c.if-not-ends_part.false in
+    let far = part_slashes faithful c.loop-part.invariant.far _ _ _ passed.2 passed.1 _ is c.advance.ensures.rest in
+    rw c.look.ensures.rest (slash_ceases faithful far _ c.in_ok-next.ensures.letter (sym c.starts_part.ensures ∙ c.if-not-starts_part.true))
 
 pub loop-part-preserved : goal.loop-part-preserved
 loop-part-preserved g c =
+    let faithful = g.met.T.EncodingType.faithful in
     let passed = c.in_ok-part.ensures.letters in
-    let far = part_slashes g.T.EncodingType.letter g.met.T.EncodingType.faithful _ _ c.loop-part.invariant.far _ _ _ passed.2 passed.1 _
-    (sym c.ends_part.ensures ∙ c.if-not-ends_part.false) c.advance.ensures.rest in
-    let paid = c.in_ok-part.ensures.stays (is_some slash _ (sym c.ends_part.ensures ∙ c.if-not-ends_part.false)) in
-    let found = some_next zone_char _ (sym c.starts_part.ensures ∙ c.if-not-starts_part.false) in
-    let joined = stepped g.T.EncodingType.letter _ found.0 (c.in_ok-next.ensures.letter ∙ ap Ok found.1) in
+    let is = sym c.ends_part.ensures ∙ c.if-not-ends_part.false in
+    let far = part_slashes faithful c.loop-part.invariant.far _ _ _ passed.2 passed.1 _ is c.advance.ensures.rest in
+    let starts = sym c.starts_part.ensures ∙ c.if-not-starts_part.false in
+    let found = some_next zone_char _ starts in
     let moved = c.advance-in-loop-part.ensures.rest ∙ ap (λ t. drop 1 t) c.look.ensures.rest in
     let counts = c.loop-part.invariant in
     let walked = c.in_ok-part.ensures in
+    let paid = walked.stays (is_some slash _ is) in
+    let joined = stepped g.T.EncodingType.letter _ found.0 (c.in_ok-next.ensures.letter ∙ ap Ok found.1) in
     let off = ap (λ (t : List ℕ). length t) c.advance.ensures.rest in
     let off_too = ap (λ (t : List ℕ). length t) moved in
     record {
-      far = slash_goes_on g.T.EncodingType.letter g.met.T.EncodingType.faithful _ _ far _ _ c.in_ok-next.ensures.letter
-          (sym c.starts_part.ensures ∙ c.if-not-starts_part.false) moved;
-      looks = omega (arith, counts.looks, walked.looks, paid, joined, off, off_too, c.advance.ensures.looks, c.look.ensures.looks, c.advance-in-loop-part.ensures.looks);
-      counted = omega (arith, counts.counted, walked.looks, c.advance.ensures.looks, c.look.ensures.looks, c.advance-in-loop-part.ensures.looks);
+      far = slash_goes_on faithful far _ _ c.in_ok-next.ensures.letter starts moved;
+      looks = omega (arith, counts.looks, walked.looks, paid, joined, off, off_too);
+      counted = omega (arith, counts.counted, walked.looks);
       shorter = omega (arith, counts.shorter, walked.shorter, paid, joined, off, off_too);
     }
 
 -- the slash pays for the look at it
 pub returns-then-not-starts_part-clause-looks : goal.returns-then-not-starts_part-clause-looks
 returns-then-not-starts_part-clause-looks g c =
-    let paid = c.in_ok-part.ensures.stays (is_some slash _ (sym c.ends_part.ensures ∙ c.if-not-ends_part.false)) in
-    let counts = c.loop-part.invariant in
     let walked = c.in_ok-part.ensures in
-    let off = ap (λ (t : List ℕ). length t) (c.look.ensures.rest ∙ c.advance.ensures.rest) in (
-      omega (arith, counts.looks, walked.looks, paid, off, c.advance.ensures.looks, c.look.ensures.looks),
-      omega (arith, counts.counted, walked.looks, c.advance.ensures.looks, c.look.ensures.looks),
-    )
+    let paid = walked.stays (is_some slash _ (sym c.ends_part.ensures ∙ c.if-not-ends_part.false)) in
+    let off = ap (λ (t : List ℕ). length t) (c.look.ensures.rest ∙ c.advance.ensures.rest) in
+    (omega (arith, c.loop-part.invariant.looks, walked.looks, paid, off), omega (arith, c.loop-part.invariant.counted, walked.looks))
 
 pub returns-in_err-next-clause-looks : goal.returns-in_err-next-clause-looks
 returns-in_err-next-clause-looks g c =
-    let paid = c.in_ok-part.ensures.stays (is_some slash _ (sym c.ends_part.ensures ∙ c.if-not-ends_part.false)) in
-    let counts = c.loop-part.invariant in
     let walked = c.in_ok-part.ensures in
-    let off = ap (λ (t : List ℕ). length t) (c.look.ensures.rest ∙ c.advance.ensures.rest) in (
-      omega (arith, counts.looks, walked.looks, paid, off, c.advance.ensures.looks, c.look.ensures.looks),
-      omega (arith, counts.counted, walked.looks, c.advance.ensures.looks, c.look.ensures.looks),
-    )
+    let paid = walked.stays (is_some slash _ (sym c.ends_part.ensures ∙ c.if-not-ends_part.false)) in
+    let off = ap (λ (t : List ℕ). length t) (c.look.ensures.rest ∙ c.advance.ensures.rest) in
+    (omega (arith, c.loop-part.invariant.looks, walked.looks, paid, off), omega (arith, c.loop-part.invariant.counted, walked.looks))

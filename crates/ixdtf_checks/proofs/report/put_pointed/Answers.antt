@@ -4,7 +4,7 @@ use Rattle.ixdtf_buffers.proofs.OutputLemmas.{Puts-after, Puts-exit}
 
 pub returns-in_err-put_display : goal.returns-in_err-put_display
 returns-in_err-put_display g c =
-    rw c.in-Some.is (Puts-exit _ c.from_residual.ensures.1 (rw (c.in_text.ensures.text, c.in_text.ensures.place) at c.in_err-put_display.ensures))
+    rw c.in-Some.is (Puts-exit _ (rw (c.in_text.ensures.text, c.in_text.ensures.place) at c.in_err-put_display.ensures) c.from_residual.ensures.1)
 
 pub returns : goal.returns
 returns g c =

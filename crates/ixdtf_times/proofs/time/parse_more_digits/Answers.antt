@@ -4,6 +4,7 @@ use Rattle.ixdtf_grammar.specs.language.Letters.{digit, Letter.Plain}
 use Rattle.ixdtf_reading.specs.reading.{Looks.seen, Clauses.more_digits_at}
 use Rattle.ixdtf_reading.proofs.{code.FractionLoop.{goes_on, hands_on, ends_at_other, ends_at_end, fails, one_taken}, parts.GrowingDigits.grown_by_digit}
 use Rattle.ixdtf_times.proofs.{code.LoneTimes.reads_as, time.parse_more_digits.Goals.{in_default-via-in-Some+else-is_ascii_digit, in_default-via-in_default}}
+use Rattle.ixdtf_reading.proofs.code.FixedPlaces.{reads_on}
 
 pub loop-cursor-smaller : goal.loop-cursor-smaller
 loop-cursor-smaller g c =
@@ -45,5 +46,5 @@ returns-clause-fraction g c =
     let far = c.loop-cursor.invariant.far in
     let front = Plain c.args.first ∷ [] in
     let more = Plain c.args.first ∷ far.ds in
-    reads_as g.T.EncodingType.letter (λ fraction. fraction) c.loop-cursor.cursor c.args.cursor.now c.count_more_digits.new.cursor
-    c.count_more_digits.result (more_digits_at more) (more_digits_at front) (hands_on front _ _ _ far) (c.count_more_digits.ensures.fraction more far.value)
+    reads_on g.T.EncodingType.letter (λ fraction. fraction) c.args.cursor.now c.loop-cursor.cursor c.count_more_digits.new.cursor
+    c.count_more_digits.result (more_digits_at front) (more_digits_at more) (hands_on front _ _ _ far) (c.count_more_digits.ensures.fraction more far.value)

@@ -8,4 +8,4 @@ returns-then-bytes-gt-WAITING_LIMIT g c =
     Puts-after c.in_ok-hand_on.ensures.puts (Puts-through refl c.in_ok-hand_on.ensures.empty c.in_ok-hand_on.ensures.empty c.write_whole.ensures)
 
 pub returns-in_err-hand_on : goal.returns-in_err-hand_on
-returns-in_err-hand_on g c = Puts-exit _ c.from_residual.ensures.1 c.in_err-hand_on.ensures.puts
+returns-in_err-hand_on g c = Puts-exit _ c.in_err-hand_on.ensures.puts c.from_residual.ensures.1
