@@ -7,7 +7,6 @@ use Rattle.ixdtf_grammar.specs.{language.Fractions.SomeDigits, table.{Faults.Fau
 use Rattle.ixdtf_grammar.specs.table.{Lines.{Line.{line, scanned, whole}, Ending.{ok, error}}, DurationFronts.Context.{in_dates, in_times}, Rows.{Row, Place, Stops}}
 use Rattle.ixdtf_reading.specs.reading.{Looks.{Read, ◌>>=◌, row_of, look_of}, Durations.{State, line_of_state, step, at_end, finished, run, State.between}}
 use Rattle.ixdtf_reading.proofs.{parts.Looks.{ReadsOver, Halts, Goes, LooksAs, row_here}}
-use Rattle.ixdtf_grammar.specs.table.Rows.Place.{end, other, bad, anywhere}
 use Rattle.ixdtf_reading.proofs.parts.GrowingDigits.{decimal_snoc}
 
 -- ---- digits

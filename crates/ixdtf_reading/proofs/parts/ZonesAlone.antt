@@ -16,7 +16,7 @@ use Rattle.ixdtf_reading.specs.reading.Zones.{identifier_at}
 use Rattle.ixdtf_reading.proofs.parts.Looks.{lift, RowsRead, OnRead, then_read, read_weaker, read_if, FitsIn, goes, stops, read_letter, Peeked, peek_end}
 use Rattle.ixdtf_reading.proofs.{parts.Looks.{peek_stops, peek_read, NotNext, ReadsAllRows}, to_reading.ZoneNames.{InNameOrBehind, name_takes, name_row}}
 use Rattle.ixdtf_reading.proofs.to_reading.{ZoneNames.slash_row, Times.{closed_at_end, stops_behind}, ClockRows.{Refuses, over_clock, clock_rows}}
-use Rattle.ixdtf_reading.proofs.to_grammar.{ZoneNames.{NameFront, name_read, name_stops_here, name_lines}, Times.{TimeFront, clock_read, clock_peek_read}}
+use Rattle.ixdtf_reading.proofs.to_grammar.{ZoneNames.{NameFront, name_read, name_stops_here}, Times.{TimeFront, clock_read, clock_peek_read}}
 use Rattle.std.proofs.Common.{true, Bool}
 use Rattle.std.proofs.lemmas.Bool.{or_cases, both_ways}
 use Rattle.ixdtf_grammar.specs.language.Letters.{◌or◌}
@@ -24,12 +24,9 @@ use Rattle.ixdtf_grammar.specs.language.Brackets.{Pair}
 use Rattle.ixdtf_grammar.specs.table.Faults.{Fault}
 use Rattle.ixdtf_grammar.specs.table.Lines.{line_of, follow_of}
 use Rattle.ixdtf_grammar.specs.table.Rows.{Place}
-use Rattle.ixdtf_grammar.specs.table.Rows.Place.{end, bad, anywhere}
 use Rattle.ixdtf_reading.specs.reading.Zones.{name_line, name_run, name_look}
 use Rattle.ixdtf_reading.proofs.parts.Looks.{peek_other}
-use Rattle.ixdtf_reading.proofs.to_reading.ZoneNames.{StopsName}
 use Rattle.ixdtf_reading.proofs.to_reading.Times.{Closed, StopsAfter}
-use Rattle.ixdtf_reading.proofs.to_reading.ClockRows.{peek_stops_after}
 
 -- what a name begins with is no sign
 pub lead_no_sign : (c : ℕ) → IsTrue (zone_lead c) → IsFalse (sign c)

@@ -13,7 +13,6 @@ use Rattle.ixdtf_reading.specs.reading.Dates.{date_of, month_in_range, month_by,
 use Rattle.ixdtf_reading.proofs.parts.Looks.{OnRead, FitsIn, StopsHere, fits_in, fits_whole_in, then_read, read_weaker, read_if, digits_read, one_as_digits}
 use Rattle.ixdtf_reading.proofs.parts.{Looks.{further, LooksFor}, Marks.{hyphens_of, Starts, Begun, Stood, optional, mark_read, hyphen_read, stops_after}}
 use Rattle.ixdtf_reading.proofs.{parts.Years.{in_year_or_month, year_read}, to_reading.Dates.no_month}
-use Rattle.ixdtf_reading.proofs.parts.Marks.{LooksForHyphen}
 use Rattle.ixdtf_reading.proofs.parts.Looks.{Looks}
 
 -- what reading a date gave

@@ -10,7 +10,6 @@ use Rattle.ixdtf_reading.specs.reading.{Looks.{Read, row_of}, Zones.{with_letter
 use Rattle.ixdtf_reading.proofs.{parts.Looks.{OnRead, FitsIn, read_if, onto}, to_reading.ZoneNames.{NameEnds, lead_char}}
 use Rattle.std.proofs.Common.{arith}
 use Rattle.ixdtf_reading.specs.reading.Zones.{name_line}
-use Rattle.ixdtf_reading.proofs.to_reading.ZoneNames.{StopsName}
 
 -- what reading a name gave
 abbrev pub NameFront : Text → List ℕ → Text → Type 0
@@ -52,8 +51,8 @@ module _ {E : Type 0} (fault : Row → E) where
   module _ (brackets : Bool) where
     -- the row where a name stops
     pub name_stops_here : (place : Place) (e : Fault) (text front rest : Text) → text ≡ front ++ rest → ZoneName front
-        → Stops (line_of brackets (of_zone in_zone_name)) place e rest → FitsIn of_zone brackets (row_of (of_zone in_zone_name) place e) text
-    name_stops_here place e text front rest is name at = (in_zone_name, refl, (front, rest, is, name, at))
+        → Stops (line_of brackets (of_zone in_zone_name)) place e rest → FitsIn name_line brackets (row_of (of_zone in_zone_name) place e) text
+    name_stops_here place e text front rest is name at = (true, refl, (front, rest, is, name, at))
 
     -- what is known of reading the rest of a name, after a front
     abbrev ReadsMore : Text → Text → Text → Read E (List ℕ) → Type 0
