@@ -13,7 +13,7 @@ use Rattle.ixdtf.specs.language.{Dates.{Year, IsDate, signed as year_of, month_l
 use Rattle.ixdtf.specs.language.Times.{Clock, TimeShape, SecondText, ClockOf, IsTime, has_seconds, greatest_second, writes_seconds, Clock as clocks}
 use Rattle.ixdtf.specs.language.Times.TimeShape.{colon_minutes, seconds, fractions}
 use Rattle.ixdtf.specs.language.Offsets.{IsSigned, IsOffsetOrZ, IsMinuteOffset, sign_of as sign_at, minutes_of as minutes_at}
-use Rattle.ixdtf_reading.proofs.code.OneMoreReply.{NoneRefused-nothing, NoneRefused-more}
+use Rattle.ixdtf_reading.proofs.theorems.Replies.{NoneRefused-nothing, NoneRefused-more}
 use Rattle.ixdtf.specs.language.ZoneNames.{Zone, IsZone, Zone.{Name, Offset}}
 use Rattle.ixdtf.specs.language.Brackets.{ZoneNote, Opens, OptionalBracket, Pair, Key, Value, IsPair, ArePairs}
 use Rattle.ixdtf.specs.{language.{Cores.{core_of, OptionalOffset, IsDateTimeCore}, Languages.Parsed}, table.Faults.{Fault, Fault.UnrecognizedCritical}}

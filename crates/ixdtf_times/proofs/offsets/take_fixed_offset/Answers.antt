@@ -5,7 +5,6 @@ use Rattle.ixdtf_reading.specs.reading.{FixedPlaces.byte_place, Cores.with_offse
 use Rattle.ixdtf_reading.proofs.code.FixedPlaces.{byte_is_mark}
 use Rattle.ixdtf_grammar.specs.{language.Letters.opening, declared.records.UtcOffsetRecord.TheVariants.MinutePrecision}
 use Rattle.ixdtf_times.proofs.code.FixedOffsets.{ends, goes_into_a_bracket}
-use Rattle.ixdtf_reading.proofs.code.FixedPlaces.{opening_at_place}
 use Rattle.ixdtf_times.proofs.code.FixedOffsets.{nothing_left}
 
 pub returns-then-remaining-eq5-clause-read : goal.returns-then-remaining-eq5-clause-read
@@ -20,4 +19,4 @@ returns-clause-read g c date time =
     let units = c.args.cursor.now.rest in
     let mark : opening (byte_place 5 (map letter units)) ≡ true = cc (c.byte_at-next.ensures.there, c.fixed_offset.ensures.rest, c.if-not-is_annotation_open.ensures) in
     rw (c.advance_by-2.ensures.rest, c.byte_at-next.ensures.rest, c.fixed_offset.ensures.rest, ← drop-map letter 6 units)
-    (goes_into_a_bracket c.args.sign _ _ (sym c.in_ok-offset.ensures.there) date time _ (opening_at_place 5 (map letter units) mark))
+    (goes_into_a_bracket c.args.sign _ _ (sym c.in_ok-offset.ensures.there) date time _ (byte_is_mark 91 5 (map letter units) refl mark))
