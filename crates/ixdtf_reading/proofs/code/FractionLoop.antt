@@ -11,12 +11,10 @@ abbrev with_front : Text → Read Placed Text → Read Placed Text
 with_front front read = read >>= λ more. Ok (front ++ more.0, more.1)
 
 with_nothing : (read : Read Placed Text) → with_front [] read ≡ read
-with_nothing (Ok more) = refl
-with_nothing (Err e) = refl
+with_nothing read = grind arith
 
 with_both : (a b : Text) (read : Read Placed Text) → with_front a (with_front b read) ≡ with_front (a ++ b) read
-with_both a b (Ok more) = ap (λ t. Ok (t, more.1)) (sym (append_assoc a b more.0))
-with_both a b (Err e) = refl
+with_both a b read = grind (arith, append_assoc {A = Letter})
 
 abbrev run_of : Text → Read Placed Text
 run_of text = digit_run (before NonAsciiCodePoint) text
@@ -51,8 +49,7 @@ abbrev in_fraction : Text → Read Placed Text → Read Placed FractionParts
 in_fraction front read = read >>= λ more. Ok (fraction_of (front ++ more.0), more.1)
 
 over : (front ds : Text) (read : Read Placed Text) → in_fraction front (with_front ds read) ≡ in_fraction (front ++ ds) read
-over front ds (Ok more) = ap (λ t. Ok (fraction_of t, more.1)) (sym (append_assoc front ds more.0))
-over front ds (Err e) = refl
+over front ds read = grind (arith, append_assoc {A = Letter})
 
 -- what is read from here on, with these digits before it, is what is read of the whole
 pub hands_on : (front whole rest : Text) (fraction : FractionParts) (far : IsSoFar front whole rest fraction)

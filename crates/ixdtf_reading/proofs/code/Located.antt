@@ -36,17 +36,12 @@ module _ {U A : Type 0} (letter : ℕ → Letter) (view : U → A) (reader : Rea
     pub err : IfErr result (λ e. HasFaultAt reader (map letter old.rest) [] (fault_of_located e) e.at)
     pub place : IfErr result (λ e. OnlyPlace reader (map letter old.rest) (fault_of_located e) e.at)
 
-  -- the row of a fault
-  row_at : (fault : Fault) (left : Text) → reading (map letter old.rest) ≡ Err (fault, left)
-      → (row : Row) × ((fault, left) ≡ error_of row) × Fits reader row [] (map letter old.rest)
-  row_at fault left is = rw is at gives
-
-  -- it fits, and so many code units stand before its place
+  -- the row of a fault fits, and so many code units stand before its place
   fault_at : (start : List ℕ) → start ≡ old.rest → (stop : Stop) (e : LocatedError) → reading (map letter old.rest) ≡ Err (fault_of_stop stop, map letter new.rest)
       → fault_of_located e ≡ fault_of_stop stop → stands_behind (length start - length new.rest) e
       → HasFaultAt reader (map letter old.rest) [] (fault_of_located e) e.at
   fault_at start is stop e h named at =
-      let row = row_at (fault_of_stop stop) (map letter new.rest) h in
+      let row = rw h at gives in
       let left : map letter new.rest ≡ left_at row.0.place = ap (λ p. p.1) row.1 in
       let short = left_fits reader row.0 [] (map letter old.rest) row.2 in (
         row.0,

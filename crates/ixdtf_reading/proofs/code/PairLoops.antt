@@ -105,13 +105,12 @@ value_unstarted state fault at_end other marks (Plain c ∷ rest) placed e =
 -- the code unit that a component begins with
 started : (fault : Fault) (text left : Text) (c : ℕ) → next_by (component_look fault) text ≡ Ok (c, left) → (seen text ≡ Ok (Some c)) × (value_char c ≡ true)
 unfolding next_by look_at
-started fault [] left c e = absurd cc
-started fault (Bad ∷ rest) left c e = absurd cc
 started fault (Plain n ∷ rest) left c e =
     let is : value_char n ≡ true = grind (arith, e) in
     let both : ◌≡◌ {A = ℕ × Text} (n, rest) (c, left) = cc (rw is at e) in
     let same : n ≡ c = ap (λ x. x.0) both in
     (ap (λ m. Ok (Some m)) same, ap value_char (sym same) ∙ is)
+started fault text left c e = absurd cc
 
 -- a component inside a value
 component_over : (state next : ComponentLetters) (c : ℕ) (rest : Text) → component_after state c ≡ Some next

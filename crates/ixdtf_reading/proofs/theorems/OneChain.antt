@@ -1,13 +1,13 @@
 -- A handler that replies to the pairs of a text is called with one list of them, and there is one result.
 use Rattle.std.proofs.Common.{◌≡◌, ◌≢◌, ◌⊎◌, ℕ, Bool, true, false, List, [], ◌∷◌, ◌++◌, Option, Some, None, Result, Ok, Err, IsTrue, refl, sym, ap, subst}
-use Rattle.std.proofs.{Common.{◌∙◌, inl, inr, append_assoc, true≢false}, lemmas.{List.append-nil, Slice.Eq.bytes_eq-Decides}}
+use Rattle.std.proofs.{Common.{◌∙◌, inl, inr, append_assoc, true≢false}, lemmas.{List.append-nil, Slice.Eq.bytes_eq-Decides, Bool.{cases_Bool, both_ways}}}
 use Rattle.ixdtf_grammar.specs.Handlers.{Reply, calendar_key, first_calendar, calendar_value, with_calendar, RefusedBeside, NoneRefused, LastRefused}
 use Rattle.ixdtf_grammar.specs.{Handlers.HasFront, Laws.{GivesResult, OneResult, replies_to, OneChain}, language.Brackets.{Pair, ZoneNote, ArePairs, IsTail}}
 use Rattle.ixdtf_grammar.specs.language.{Cores.{Core, IsCore}, Languages.{Parsed, parsed_with, Derives, Derives.as_parsed, Found.parsed}, Letters.Text}
 use Rattle.ixdtf_grammar.specs.{language.{Readers.{CoreKind, Reader.bracketed}, Times.Clock.Time}, table.Faults.Fault, Handlers.{GivesRecord, GivesFault}}
 use Rattle.ixdtf_grammar.specs.table.{Faults.Fault.{UnrecognizedCritical, CriticalDuplicateCalendar}, LineNames.{LineName, BracketLine.after_bracket}}
 use Rattle.ixdtf_grammar.specs.table.LineNames.{LineName.{of_clock, of_zone, of_bracket, of_pair, of_duration}, ZoneLine.{identifier_start, zone_name_start}}
-use Rattle.ixdtf_grammar.specs.table.{LineNames.PairLine.{key_start, critical_key_start}, Before.{Bracketed, BeforeKey, BeforeBracketed}}
+use Rattle.ixdtf_grammar.specs.table.{LineNames.PairLine.{key_start, critical_key_start}, Before.{Bracketed, BeforeBracketed}}
 use Rattle.ixdtf_grammar.specs.{table.{Outcomes.{ExactlyOne, Outcome, Outcome.{derived, refused}, Holds}, Rows.{Row, Fits}}, language.Readers.Reader}
 use Rattle.ixdtf_grammar.proofs.parts.Texts.{bracketed_text}
 use Rattle.ixdtf_reading.proofs.theorems.{Replies.{nothing_split, NoneRefused-nothing, two_places, same_last}, OneOutcome.same_outcome}
@@ -17,11 +17,10 @@ use Rattle.ixdtf_reading.proofs.theorems.Replies.{refused_last, refused_split, n
 -- ---- a refused reply, or none
 
 pub same_bytes : (xs ys : List ℕ) → (xs ≡ ys) ⊎ (xs ≢ ys)
-same_bytes xs ys = go _ (bytes_eq-Decides xs ys)
-  where
-    go : (test : Bool) → (test ≡ true → xs ≡ ys) × (xs ≡ ys → test ≡ true) → (xs ≡ ys) ⊎ (xs ≢ ys)
-    go true p = inl (p.0 refl)
-    go false p = inr (λ same. true≢false (sym (p.1 same)))
+same_bytes xs ys = elim (cases_Bool _) [
+  | inl is ↦ inl ((bytes_eq-Decides xs ys).0 is)
+  | inr is ↦ inr (λ same. both_ways _ is ((bytes_eq-Decides xs ys).1 same))
+]
 
 holds_or_not : (test : Bool) → IsTrue test ⊎ ¬ (IsTrue test)
 holds_or_not true = inl refl
@@ -280,10 +279,6 @@ NoneOrBracketed kind pairs before = (pairs ≡ []) ⊎ ((front more : Text) × (
 whole_bracketed : (kind : CoreKind) (pairs : List Pair) (before : Text) → Bracketed kind pairs before → NoneOrBracketed kind pairs before
 whole_bracketed kind pairs before h = inr (before, [], sym (append-nil before), h)
 
-before_key : (kind : CoreKind) (pairs : List Pair) (before rest : Text) → BeforeKey kind pairs before rest → NoneOrBracketed kind pairs before
-before_key kind pairs before rest (inl p) = inl p.2
-before_key kind pairs before rest (inr p) = inr (p.0, p.1, p.2, p.3)
-
 before_row : (kind : CoreKind) (name : LineName) (pairs : List Pair) (before rest : Text) → BeforeBracketed kind name pairs before rest
     → NoneOrBracketed kind pairs before
 before_row kind (of_clock Time name) pairs before rest h = inl h.1
@@ -292,7 +287,8 @@ before_row kind (of_zone zone_name_start) pairs before rest h = absurd h
 before_row kind (of_bracket after_bracket) pairs before rest h = whole_bracketed kind pairs before h
 before_row kind (of_pair key_start) pairs before rest h = whole_bracketed kind pairs before h
 before_row kind (of_pair critical_key_start) pairs before rest h = whole_bracketed kind pairs before h
-before_row kind (of_pair line) pairs before rest h = before_key kind pairs before rest h
+before_row kind (of_pair line) pairs before rest (inl p) = inl p.2
+before_row kind (of_pair line) pairs before rest (inr p) = inr (p.0, p.1, p.2, p.3)
 before_row kind (of_duration profile name) pairs before rest h = absurd h
 before_row kind name pairs before rest h = inl h.1
 
