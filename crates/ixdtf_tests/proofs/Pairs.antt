@@ -7,7 +7,7 @@ use Rattle.ixdtf.specs.table.Faults.Fault.{AnnotationValueCharPostHyphen}
 use Rattle.ixdtf.specs.table.LineNames.{LineName}
 use Rattle.ixdtf.specs.table.LineNames.LineName.{of_pair}
 use Rattle.ixdtf.specs.table.LineNames.PairLine.{key_start, critical_key_start, in_key, value_start, in_value, after_value_hyphen}
-use Rattle.ixdtf_tests.proofs.Helpers.{all_readings, zone_named, tagged, annotated, Example, Compute, gives, ends, goes_off, meets_bad, three, three_after}
+use Rattle.ixdtf_tests.proofs.Helpers.{all_readings, zone_named, tagged, annotated, Example, Compute, gives, ends, goes_off, three, three_after, cut_off}
 use Rattle.ixdtf_tests.proofs.Helpers.{ShowEachRow}
 
 abbrev pair_lines : List LineName
@@ -60,14 +60,6 @@ each_row_in_a_first_bracket : ShowEachRow parse (map of_pair (value_start ∷ in
 unfolding all_readings
 each_row_in_a_first_bracket = (refl, refl)
 
-keys_in_a_first_bracket : Compute parse (
-    goes_off (codes "2020-01-01[u-c") (codes "A=iso8601]") (of_pair in_key) AnnotationKeyChar
-    ∷ goes_off (codes "2020-01-01[_") (codes "!=]") (of_pair in_key) AnnotationKeyChar
-    ∷ goes_off (codes "2020-01-01[!a") (codes "/b=c]") (of_pair in_key) AnnotationKeyChar
-    ∷ [])
-unfolding all_readings
-keys_in_a_first_bracket = refl
-
 -- ---- pairs
 
 pairs : Compute parse (
@@ -84,16 +76,14 @@ pairs = refl
 -- ---- texts with another pair
 
 no_pair : Compute parse (
-    goes_off (codes "2020-01-01[u-ca=iso8601") (codes ")") (of_pair in_value) AnnotationValueChar
-    ∷ goes_off (codes "2020-01-01[u-ca=") (codes "-iso]") (of_pair value_start) AnnotationValueChar
-    ∷ goes_off (codes "2020-01-01[u-ca=iso-") (codes "]") (of_pair after_value_hyphen) AnnotationValueCharPostHyphen
-    ∷ goes_off (codes "2020-01-01[u-ca=iso-") (codes "-8601]") (of_pair after_value_hyphen) AnnotationValueCharPostHyphen
-    ∷ goes_off (codes "2020-01-01[u][") (codes "Europe/London]") (of_pair key_start) AnnotationKeyLeadingChar
-    ∷ goes_off (codes "2020-01-01[u][") (codes "]") (of_pair key_start) AnnotationKeyLeadingChar
-    ∷ goes_off (codes "2020-01-01[u][!") (codes "]") (of_pair critical_key_start) AnnotationKeyLeadingChar
-    ∷ ends (codes "2020-01-01[u][a-1") (of_pair in_key) AnnotationKeyValueSeparator
-    ∷ ends (codes "2020-01-01[a=b-c") (of_pair in_value) AnnotationClose
-    ∷ meets_bad (codes "2020-01-01[a=b-c") (of_pair in_value)
-    ∷ [])
+    (goes_off (of_pair in_value) AnnotationValueChar (codes "2020-01-01[u-ca=iso8601|)") ∷ [])
+    ++ (goes_off (of_pair value_start) AnnotationValueChar (codes "2020-01-01[u-ca=|-iso]") ∷ [])
+    ++ map (goes_off (of_pair after_value_hyphen) AnnotationValueCharPostHyphen) (codes "2020-01-01[u-ca=iso-|]" ∷ codes "2020-01-01[u-ca=iso-|-8601]" ∷ [])
+    ++ map (goes_off (of_pair key_start) AnnotationKeyLeadingChar) (codes "2020-01-01[u][|Europe/London]" ∷ codes "2020-01-01[u][|]" ∷ [])
+    ++ (goes_off (of_pair critical_key_start) AnnotationKeyLeadingChar (codes "2020-01-01[u][!|]") ∷ [])
+    ++ (ends (of_pair in_key) AnnotationKeyValueSeparator (codes "2020-01-01[u][a-1") ∷ [])
+    ++ cut_off (of_pair in_value) AnnotationClose (codes "2020-01-01[a=b-c" ∷ [])
+    -- in a first bracket
+    ++ map (goes_off (of_pair in_key) AnnotationKeyChar) (codes "2020-01-01[u-c|A=iso8601]" ∷ codes "2020-01-01[_|!=]" ∷ codes "2020-01-01[!a|/b=c]" ∷ []))
 unfolding all_readings
 no_pair = refl

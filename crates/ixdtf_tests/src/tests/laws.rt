@@ -128,27 +128,17 @@ fn refuses_one_hyphen<'a>(bytes: &'a [u8]) -> ParserResult<IxdtfParseRecord<'a, 
 }
 
 // What a caller concludes from the law.
-fn default_date() -> DateRecord
-    ensures { result ≡ record { year = pos 0; month = 0; day = 0 } }
+fn defaults() -> (DateRecord, TimeRecord, DateDurationRecord)
+    ensures date { result.0 ≡ record { year = pos 0; month = 0; day = 0 } }
+    ensures time { result.1 ≡ record { hour = 0; minute = 0; second = 0; fraction = None } }
+    ensures days { result.2 ≡ record { years = 0; months = 0; weeks = 0; days = 0 } }
 {
     defaults_are_zero();
-    DateRecord::default()
-}
-
-// What a caller concludes from the law.
-fn default_time() -> TimeRecord
-    ensures { result ≡ record { hour = 0; minute = 0; second = 0; fraction = None } }
-{
-    defaults_are_zero();
-    TimeRecord::default()
-}
-
-// What a caller concludes from the law.
-fn default_date_units() -> DateDurationRecord
-    ensures { result ≡ record { years = 0; months = 0; weeks = 0; days = 0 } }
-{
-    defaults_are_zero();
-    DateDurationRecord::default()
+    (
+        DateRecord::default(),
+        TimeRecord::default(),
+        DateDurationRecord::default(),
+    )
 }
 
 // What a caller concludes from the law: bytes that are a date, or a date and a time, are not a year-month.
@@ -334,31 +324,15 @@ fn reads_dates_by_their_hyphens(rt: HostRuntime) {
     check(&rt, "2024-0302", is_refused);
 }
 
-const YEAR_ZERO: DateRecord = DateRecord {
-    year: 0,
-    month: 0,
-    day: 0,
-};
-
-const MIDNIGHT: TimeRecord = TimeRecord {
-    hour: 0,
-    minute: 0,
-    second: 0,
-    fraction: None,
-};
-
-const NO_DAYS: DateDurationRecord = DateDurationRecord {
-    years: 0,
-    months: 0,
-    weeks: 0,
-    days: 0,
-};
-
 #[test]
 fn defaults_are_zero_in_each_field(rt: HostRuntime) {
-    check(&rt, "a date", default_date() == YEAR_ZERO);
-    check(&rt, "a time", default_time() == MIDNIGHT);
-    check(&rt, "a duration", default_date_units() == NO_DAYS);
+    let (date, time, days) = defaults();
+    let is_zero = date.year == 0 && date.month == 0 && date.day == 0;
+    check(&rt, "a date", is_zero);
+    let is_zero = time.hour == 0 && time.minute == 0 && time.second == 0;
+    check(&rt, "a time", is_zero && time.fraction == None);
+    let is_zero = days.years == 0 && days.months == 0 && days.weeks == 0 && days.days == 0;
+    check(&rt, "a duration", is_zero);
 }
 
 // The result for a text where the handler drops every annotation.
