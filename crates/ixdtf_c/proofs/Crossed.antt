@@ -1,10 +1,10 @@
 -- From what a reader ensures to what an exported function ensures.
-use Rattle.std.proofs.{Common.{◌≡◌, ◌↔◌, ℕ, List, map, Result, Ok, Err, IfErr, OnOk, refl, ap, ◌∙◌}, lemmas.Simd.map-map}
+use Rattle.std.proofs.{Common.{◌≡◌, ◌↔◌, ℕ, List, map, Result, Ok, Err, IfErr, OnOk, refl, sym, ap, ◌∙◌}, lemmas.Simd.map-map}
 use Rattle.ixdtf_grammar.specs.declared.{located.LocatedError.LocatedError, profile.Profile.Profile, records.DurationParseRecord.DurationParseRecord}
-use Rattle.ixdtf.specs.{table.Faults.fault_of_located, Views.{Unread, returned_by}, Laws.InNoOther, Promises.ReadsPartAt}
+use Rattle.ixdtf.specs.{table.{ErrorEquality.location_of, Faults.{fault_of_located, stands_behind}}, Views.{Unread, returned_by}, Laws.InNoOther, Promises.ReadsPartAt}
 use Rattle.ixdtf.specs.language.{Languages.{Parsed, Found, Found.lasting}, Letters.Letter, Readers.{Reader, Reader.parse_duration}}
 use Rattle.ixdtf_c.specs.Crossing.{Contents, DurationContents, Gives, GivesDuration, record_for, duration_for}
-use Rattle.ixdtf_c.specs.{Located.{FaultAt, fault_at, returned_at}, Numbers.{number_for, location_of}, Outcomes.{ReadsPart, GivesPart, GivesLasting}}
+use Rattle.ixdtf_c.specs.{Located.{FaultAt, HasOutcome, fault_at, returned_at}, Numbers.number_for, Outcomes.{ReadsPart, GivesPart, GivesLasting}}
 
 -- an equation of values beside errors of another type
 pub same_ok : {X E F : Type 0} (x y : X) → ◌≡◌ {A = Result X E} (Ok x) (Ok y) → ◌≡◌ {A = Result X F} (Ok x) (Ok y)
@@ -35,12 +35,33 @@ crossed_ok P view (Err e) holds = tt
 
 -- what a call returned and wrote is that of what a reader returned
 module _ {X A : Type 0} (alone : A → Parsed) (view : X → A) (r : Result X LocatedError) (old : Contents) {new : Contents} where
-  pub gives_ok : {x : X} → r ≡ Ok x → new ≡ record_for (alone (view x)) → Gives alone (returned_at view r) 0 old new
+  gives_ok : {x : X} → r ≡ Ok x → new ≡ record_for (alone (view x)) → Gives alone (returned_at view r) 0 old new
   gives_ok is written = rw is (refl, written)
 
-  pub gives_err : {e : LocatedError} {number : ℕ} → r ≡ Err e → number ≡ number_for (fault_of_located e)
+  gives_err : {e : LocatedError} {number : ℕ} → r ≡ Err e → number ≡ number_for (fault_of_located e)
       → new ≡ record old { location = location_of (fault_of_located e); place = e.at } → Gives alone (returned_at view r) number old new
   gives_err is named written = rw is (named, written)
+
+-- the outcome of a reader whose errors tell their places
+outcome_is : {X : Type 0} (view : X → Parsed) (r : Result X LocatedError) {outcome : Result Parsed FaultAt}
+    → HasOutcome fault_of_located stands_behind view r outcome → outcome ≡ returned_at view r
+outcome_is view (Ok x) has = has
+outcome_is view (Err e) (at, there, is) = is ∙ λ i. Err (record { fault = fault_of_located e; at = sym there i })
+
+-- what is said of it is said of what is returned and written
+module _ {X : Type 0} (view : X → Parsed) (r : Result X LocatedError) {Says : Result Parsed FaultAt → Type 0}
+    (read : (outcome : Result Parsed FaultAt) × HasOutcome fault_of_located stands_behind view r outcome × Says outcome)
+    (old : Contents) {new : Contents} where
+  pub outcome_ok : {x : X} → r ≡ Ok x → new ≡ record_for (view x)
+      → (outcome : Result Parsed FaultAt) × Says outcome × Gives (λ found. found) outcome 0 old new
+  outcome_ok is written = let (outcome, has, says) = read in
+      (outcome, says, rw (outcome_is view r has) (gives_ok (λ found. found) view r old is written))
+
+  pub outcome_err : {e : LocatedError} {number : ℕ} → r ≡ Err e → number ≡ number_for (fault_of_located e)
+      → new ≡ record old { location = location_of (fault_of_located e); place = e.at }
+      → (outcome : Result Parsed FaultAt) × Says outcome × Gives (λ found. found) outcome number old new
+  outcome_err is named written = let (outcome, has, says) = read in
+      (outcome, says, rw (outcome_is view r has) (gives_err (λ found. found) view r old is named written))
 
 -- A reader had the code units of the text to read, and this is what it says of what it returned.
 module _ {U X A : Type 0} {letter : ℕ → Letter} (number : U → ℕ) (units : List U) {view : X → A} {part : A → Found} {reader : Reader}

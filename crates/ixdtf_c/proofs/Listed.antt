@@ -1,14 +1,14 @@
 -- From a chain of calls that list annotations to what a listing says of a text.
 use Rattle.std.proofs.Common.{◌≡◌, ◌↔◌, ℕ, ◌+◌, ◌≤◌, min, List, [], ◌∷◌, ◌++◌, length, slice_set, map, Option, None, option_map, Result, Ok, Err, OnOk, refl}
 use Rattle.std.proofs.{Common.{sym, ◌∙◌, ap, subst, inl, inr, arith}, lemmas.List.{append-nil, append_assoc, length-append, length-map}}
-use Rattle.ixdtf_grammar.specs.declared.{located.LocatedError.LocatedError, profile.Profile.Profile, records.Annotation.Annotation}
+use Rattle.ixdtf_grammar.specs.declared.{profile.Profile.Profile, records.Annotation.Annotation}
 use Rattle.ixdtf_grammar.proofs.theorems.FewPairs.{derived_few, gives_few}
 use Rattle.ixdtf.specs.language.{Brackets.Pair, Letters.Text, Readers.{Reader, CoreKind, Reader.bracketed}, Languages.{Parsed, Derives, Derives.as_parsed}}
-use Rattle.ixdtf.specs.{language.Languages.Found.parsed, table.{Faults.{Fault, fault_of_located, stands_behind}, Outcomes.{HasFaultAt, NoRowFits}}}
+use Rattle.ixdtf.specs.{language.Languages.Found.parsed, table.{Faults.Fault, Outcomes.{HasFaultAt, NoRowFits}}}
 use Rattle.ixdtf.specs.{Laws.InNoOther, Places.{GivesFaultAt, HandledToAt}, Handlers.{Reply, first_calendar, calendar_value, with_calendar, RefusedBeside}}
 use Rattle.ixdtf.specs.Handlers.{NoneRefused, LastRefused, GivesRecord, GivesFault, pair_of, Calls, handed, replies_of, Step, IsChain}
 use Rattle.ixdtf_reading.proofs.theorems.{OneOutcome.place_once, OnlyOutcome.only_fault}
-use Rattle.ixdtf_c.specs.{Listing.{PassesOver, overwritten, Lists}, Located.{FaultAt, HasOutcome, returned_at}}
+use Rattle.ixdtf_c.specs.{Listing.{PassesOver, overwritten, Lists}, Located.{FaultAt, HasOutcome}}
 use Rattle.ixdtf_c.proofs.Crossed.{same_ok}
 
 -- ---- what is written
@@ -121,11 +121,11 @@ pub lists_left : {A : Type 0} {view : A → Pair} {profile : Profile} {reader : 
     → slots ≡ new → number ≡ count → Lists view profile reader text old new count outcome → Lists view profile reader text old slots number outcome
 lists_left same as_many listing = rw (same, as_many) listing
 
--- the outcome of what a reader of the library returned, whose errors tell their places
-pub outcome_is : {X : Type 0} (view : X → Parsed) (r : Result X LocatedError) {outcome : Result Parsed FaultAt}
-    → HasOutcome fault_of_located stands_behind view r outcome → outcome ≡ returned_at view r
-outcome_is view (Ok x) has = has
-outcome_is view (Err e) (at, there, is) = is ∙ λ i. Err (record { fault = fault_of_located e; at = sym there i })
+pub slots_left : {A : Type 0} {view : A → Pair} {profile : Profile} {reader : Reader} {text : Text} {old new slots : List A} {count : ℕ}
+    {Has : Result Parsed FaultAt → Type 0}
+    → slots ≡ new → (outcome : Result Parsed FaultAt) × Has outcome × Lists view profile reader text old new count outcome
+    → (outcome : Result Parsed FaultAt) × Has outcome × Lists view profile reader text old slots count outcome
+slots_left same (outcome, has, listing) = (outcome, has, lists_left same refl listing)
 
 -- ---- a chain of calls that list
 

@@ -1,5 +1,5 @@
 -- The numbers of errors.
-use Rattle.std.proofs.Common.{◌≡◌, ◌≢◌, ℕ, ◌+◌, ◌-◌, ◌≤◌, ◌<◌, suc, zero, List, [], ◌∷◌, get_or, Option, refl, ◌∙◌, ap, inl, inr, arith, lit≤}
+use Rattle.std.proofs.Common.{◌≡◌, ◌≢◌, ℕ, ◌+◌, ◌-◌, ◌≤◌, ◌<◌, suc, zero, List, [], ◌∷◌, get_or, Option, refl, ◌∙◌, ap, inl, inr, arith}
 use Rattle.std.proofs.Math.ListN.{get_or-map}
 use Rattle.ixdtf.specs.table.Faults.{Fault, Fault.{ImplAssert, NonAsciiCodePoint, ParseFloat, AbruptEnd, InvalidEnd, InvalidMonthRange, InvalidDayRange}}
 use Rattle.ixdtf.specs.table.Faults.Fault.{DateYear, DateExtendedYear, DateMonth, DateDay, DateUnexpectedEnd, TimeRequired, TimeHour, TimeMinuteSecond}
@@ -11,7 +11,8 @@ use Rattle.ixdtf.specs.table.Faults.Fault.{MonthDayHyphen, DurationDisgnator, Du
 use Rattle.ixdtf.specs.{table.Faults.Fault.{TimeDurationDesignator, AmbiguousTimeMonthDay, AmbiguousTimeYearMonth, InvalidMonthDay}, language.Brackets.Pair}
 use Rattle.ixdtf.specs.Handlers.{Reply, RefusedBeside}
 use Rattle.ixdtf_reading.proofs.code.OneMoreReply.{refused_split}
-use Rattle.ixdtf_c.specs.Numbers.{number_for, location_of}
+use Rattle.ixdtf.specs.table.ErrorEquality.{location_of}
+use Rattle.ixdtf_c.specs.Numbers.{number_for}
 
 -- the errors in the order of their numbers, from 1 on
 abbrev faults_at : List ℕ → List Fault
@@ -27,56 +28,8 @@ faults_at location =
     ∷ DateDurationPartOrder ∷ TimeDurationPartOrder ∷ TimeDurationDesignator ∷ AmbiguousTimeMonthDay ∷ AmbiguousTimeYearMonth
     ∷ InvalidMonthDay ∷ []
 
-pub bounds : (fault : Fault) → (1 ≤ number_for fault) × (number_for fault ≤ 46)
-bounds ImplAssert = (lit≤ tt, lit≤ tt)
-bounds NonAsciiCodePoint = (lit≤ tt, lit≤ tt)
-bounds ParseFloat = (lit≤ tt, lit≤ tt)
-bounds (AbruptEnd location) = (lit≤ tt, lit≤ tt)
-bounds InvalidEnd = (lit≤ tt, lit≤ tt)
-bounds InvalidMonthRange = (lit≤ tt, lit≤ tt)
-bounds InvalidDayRange = (lit≤ tt, lit≤ tt)
-bounds DateYear = (lit≤ tt, lit≤ tt)
-bounds DateExtendedYear = (lit≤ tt, lit≤ tt)
-bounds DateMonth = (lit≤ tt, lit≤ tt)
-bounds DateDay = (lit≤ tt, lit≤ tt)
-bounds DateUnexpectedEnd = (lit≤ tt, lit≤ tt)
-bounds TimeRequired = (lit≤ tt, lit≤ tt)
-bounds TimeHour = (lit≤ tt, lit≤ tt)
-bounds TimeMinuteSecond = (lit≤ tt, lit≤ tt)
-bounds TimeSecond = (lit≤ tt, lit≤ tt)
-bounds FractionPart = (lit≤ tt, lit≤ tt)
-bounds DateSeparator = (lit≤ tt, lit≤ tt)
-bounds TimeSeparator = (lit≤ tt, lit≤ tt)
-bounds DecimalSeparator = (lit≤ tt, lit≤ tt)
-bounds InvalidAnnotation = (lit≤ tt, lit≤ tt)
-bounds AnnotationOpen = (lit≤ tt, lit≤ tt)
-bounds AnnotationClose = (lit≤ tt, lit≤ tt)
-bounds AnnotationChar = (lit≤ tt, lit≤ tt)
-bounds AnnotationKeyValueSeparator = (lit≤ tt, lit≤ tt)
-bounds AnnotationKeyLeadingChar = (lit≤ tt, lit≤ tt)
-bounds AnnotationKeyChar = (lit≤ tt, lit≤ tt)
-bounds AnnotationValueCharPostHyphen = (lit≤ tt, lit≤ tt)
-bounds AnnotationValueChar = (lit≤ tt, lit≤ tt)
-bounds InvalidMinutePrecisionOffset = (lit≤ tt, lit≤ tt)
-bounds CriticalDuplicateCalendar = (lit≤ tt, lit≤ tt)
-bounds UnrecognizedCritical = (lit≤ tt, lit≤ tt)
-bounds TzLeadingChar = (lit≤ tt, lit≤ tt)
-bounds IanaCharPostSeparator = (lit≤ tt, lit≤ tt)
-bounds IanaChar = (lit≤ tt, lit≤ tt)
-bounds UtcTimeSeparator = (lit≤ tt, lit≤ tt)
-bounds OffsetNeedsSign = (lit≤ tt, lit≤ tt)
-bounds MonthDayHyphen = (lit≤ tt, lit≤ tt)
-bounds DurationDisgnator = (lit≤ tt, lit≤ tt)
-bounds DurationValueExceededRange = (lit≤ tt, lit≤ tt)
-bounds DateDurationPartOrder = (lit≤ tt, lit≤ tt)
-bounds TimeDurationPartOrder = (lit≤ tt, lit≤ tt)
-bounds TimeDurationDesignator = (lit≤ tt, lit≤ tt)
-bounds AmbiguousTimeMonthDay = (lit≤ tt, lit≤ tt)
-bounds AmbiguousTimeYearMonth = (lit≤ tt, lit≤ tt)
-bounds InvalidMonthDay = (lit≤ tt, lit≤ tt)
-
 pub number_some : (fault : Fault) → number_for fault ≢ 0
-number_some fault is = omega (arith, (bounds fault).0, is)
+number_some fault is = omega (arith, is)
 
 -- the numbers from one on
 counted : ℕ → ℕ → List ℕ

@@ -3,11 +3,12 @@
 ghost use Rattle.std.specs.Prelude.{◌≡◌, ◌≢◌, Option, map, option_map, IfSome};
 ghost use Rattle.ixdtf.specs.Handlers.{calendar_key, pair_of};
 ghost use Rattle.ixdtf.specs.language.Brackets.{Pair};
+ghost use Rattle.ixdtf.specs.table.ErrorEquality.{location_of};
 ghost use Rattle.ixdtf.specs.table.Faults.{fault_of_located};
 ghost use Rattle.ixdtf.specs.Views.{note_of, parsed_of};
 ghost use Rattle.ixdtf_c.specs.Crossing.{Contents, ZoneContents, record_for, zone_for};
 ghost use Rattle.ixdtf_c.specs.Fielded.{keyed};
-ghost use Rattle.ixdtf_c.specs.Numbers.{number_for, location_of};
+ghost use Rattle.ixdtf_c.specs.Numbers.{number_for};
 
 use crate::forms::is_negative;
 use ixdtf::LocatedError;
