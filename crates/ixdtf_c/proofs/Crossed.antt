@@ -1,10 +1,10 @@
 -- From what a reader ensures to what an exported function ensures.
-use Rattle.std.proofs.Common.{◌≡◌, ◌↔◌, ℕ, [], Result, Ok, Err, IfErr, OnOk}
+use Rattle.std.proofs.{Common.{◌≡◌, ◌↔◌, ℕ, List, map, Result, Ok, Err, IfErr, OnOk, refl, sym, ap, ◌∙◌}, lemmas.Simd.map-map}
 use Rattle.ixdtf_grammar.specs.declared.{located.LocatedError.LocatedError, profile.Profile.Profile, records.DurationParseRecord.DurationParseRecord}
-use Rattle.ixdtf.specs.{table.{Faults.fault_of_located, Outcomes.{HasFaultAt, OnlyFault, OnlyPlace, NoRowFits}}, Views.returned_by, Laws.InNoOther}
-use Rattle.ixdtf.specs.language.{Languages.{Parsed, Found, Derives, Found.lasting}, Letters.Text, Readers.{Reader, Reader.parse_duration}}
-use Rattle.ixdtf_c.specs.{Crossing.{Contents, DurationContents, Gives, GivesDuration}, Located.{FaultAt, fault_at, returned_at}}
-use Rattle.ixdtf_c.specs.Outcomes.{ReadsPart, GivesPart, GivesLasting}
+use Rattle.ixdtf.specs.{table.{ErrorEquality.location_of, Faults.{fault_of_located, stands_behind}}, Views.{Unread, returned_by}, Laws.InNoOther, Promises.ReadsPartAt}
+use Rattle.ixdtf.specs.language.{Languages.{Parsed, Found, Found.lasting}, Letters.Letter, Readers.{Reader, Reader.parse_duration}}
+use Rattle.ixdtf_c.specs.Crossing.{Contents, DurationContents, Gives, GivesDuration, record_for, duration_for}
+use Rattle.ixdtf_c.specs.{Located.{FaultAt, HasOutcome, fault_at, returned_at}, Numbers.number_for, Outcomes.{ReadsPart, GivesPart, GivesLasting}}
 
 -- an equation of values beside errors of another type
 pub same_ok : {X E F : Type 0} (x y : X) → ◌≡◌ {A = Result X E} (Ok x) (Ok y) → ◌≡◌ {A = Result X F} (Ok x) (Ok y)
@@ -33,53 +33,82 @@ crossed_ok : {X Y : Type 0} (P : Type 0) (view : X → Y) (r : Result X LocatedE
 crossed_ok P view (Ok x) holds = holds
 crossed_ok P view (Err e) holds = tt
 
--- Each says of a call what its reader's clauses say, and what is written of the reader's result, where the text that the reader
--- had still to read is the call's, and its profile is.
+-- what a call returned and wrote is that of what a reader returned
+module _ {X A : Type 0} (alone : A → Parsed) (view : X → A) (r : Result X LocatedError) (old : Contents) {new : Contents} where
+  gives_ok : {x : X} → r ≡ Ok x → new ≡ record_for (alone (view x)) → Gives alone (returned_at view r) 0 old new
+  gives_ok is written = rw is (refl, written)
 
--- the clauses of a reader of one part
-reads_part : {X A : Type 0} (reader : Reader) (part : A → Found) (text : Text) (view : X → A) (r : Result X LocatedError)
-    → ((found : A) → (returned_by fault_of_located view r ≡ Ok found) ↔ Derives reader text (part found) [])
-    → IfErr r (λ e. HasFaultAt reader text [] (fault_of_located e) e.at)
-    → OnOk r (NoRowFits reader text)
-    → IfErr r (λ e. OnlyFault reader text [] (fault_of_located e))
-    → IfErr r (λ e. OnlyPlace reader text (fault_of_located e) e.at)
-    → ReadsPart reader part text (returned_at view r)
-reads_part reader part text view r ok err no_row only place = record {
-  ok = λ found. crossed_found view r found (Derives reader text (part found) []) (ok found);
-  err = crossed_err (λ e. HasFaultAt reader text [] e.fault e.at) view r err;
-  no_row = crossed_ok (NoRowFits reader text) view r no_row;
-  only = crossed_err (λ e. OnlyFault reader text [] e.fault) view r only;
-  place = crossed_err (λ e. OnlyPlace reader text e.fault e.at) view r place;
-}
+  gives_err : {e : LocatedError} {number : ℕ} → r ≡ Err e → number ≡ number_for (fault_of_located e)
+      → new ≡ record old { location = location_of (fault_of_located e); place = e.at } → Gives alone (returned_at view r) number old new
+  gives_err is named written = rw is (named, written)
 
--- a reader of one part
-pub crossed_part : {X A : Type 0} (reader : Reader) (part : A → Found) (alone : A → Parsed) {text units : Text} (view : X → A)
-    (r : Result X LocatedError) (number : ℕ) (old new : Contents)
-    → ((found : A) → (returned_by fault_of_located view r ≡ Ok found) ↔ Derives reader units (part found) [])
-    → IfErr r (λ e. HasFaultAt reader units [] (fault_of_located e) e.at)
-    → OnOk r (NoRowFits reader units)
-    → IfErr r (λ e. OnlyFault reader units [] (fault_of_located e))
-    → IfErr r (λ e. OnlyPlace reader units (fault_of_located e) e.at)
-    → Gives alone (returned_at view r) number old new
-    → units ≡ text → GivesPart reader part alone text number old new
-crossed_part reader part alone {units = units} view r number old new ok err no_row only place gives same_text =
-    rw (← same_text) (returned_at view r, reads_part reader part units view r ok err no_row only place, gives)
+-- the outcome of a reader whose errors tell their places
+outcome_is : {X : Type 0} (view : X → Parsed) (r : Result X LocatedError) {outcome : Result Parsed FaultAt}
+    → HasOutcome fault_of_located stands_behind view r outcome → outcome ≡ returned_at view r
+outcome_is view (Ok x) has = has
+outcome_is view (Err e) (at, there, is) = is ∙ λ i. Err (record { fault = fault_of_located e; at = sym there i })
 
--- a reader of durations
-pub crossed_lasting : {X : Type 0} {profile given : Profile} {text units : Text} (view : X → DurationParseRecord)
-    (r : Result X LocatedError) (number : ℕ) (old new : DurationContents)
-    → ((found : DurationParseRecord) → (returned_by fault_of_located view r ≡ Ok found) ↔ Derives (parse_duration given) units (lasting found) [])
-    → IfErr r (λ e. HasFaultAt (parse_duration given) units [] (fault_of_located e) e.at)
-    → OnOk r (NoRowFits (parse_duration given) units)
-    → IfErr r (λ e. OnlyFault (parse_duration given) units [] (fault_of_located e))
-    → IfErr r (λ e. OnlyPlace (parse_duration given) units (fault_of_located e) e.at)
-    → OnOk r (InNoOther given (parse_duration given) units)
-    → GivesDuration (returned_at view r) number old new
-    → units ≡ text → given ≡ profile → GivesLasting profile text number old new
-crossed_lasting {given = given} {units = units} view r number old new ok err no_row only place no_other_reader gives same_text same_profile =
-    rw (← same_text, ← same_profile) (
-      returned_at view r,
-      reads_part (parse_duration given) lasting units view r ok err no_row only place,
-      crossed_ok (InNoOther given (parse_duration given) units) view r no_other_reader,
-      gives,
-    )
+-- what is said of it is said of what is returned and written
+module _ {X : Type 0} (view : X → Parsed) (r : Result X LocatedError) {Says : Result Parsed FaultAt → Type 0}
+    (read : (outcome : Result Parsed FaultAt) × HasOutcome fault_of_located stands_behind view r outcome × Says outcome)
+    (old : Contents) {new : Contents} where
+  pub outcome_ok : {x : X} → r ≡ Ok x → new ≡ record_for (view x)
+      → (outcome : Result Parsed FaultAt) × Says outcome × Gives (λ found. found) outcome 0 old new
+  outcome_ok is written = let (outcome, has, says) = read in
+      (outcome, says, rw (outcome_is view r has) (gives_ok (λ found. found) view r old is written))
+
+  pub outcome_err : {e : LocatedError} {number : ℕ} → r ≡ Err e → number ≡ number_for (fault_of_located e)
+      → new ≡ record old { location = location_of (fault_of_located e); place = e.at }
+      → (outcome : Result Parsed FaultAt) × Says outcome × Gives (λ found. found) outcome number old new
+  outcome_err is named written = let (outcome, has, says) = read in
+      (outcome, says, rw (outcome_is view r has) (gives_err (λ found. found) view r old is named written))
+
+-- A reader had the code units of the text to read, and this is what it says of what it returned.
+module _ {U X A : Type 0} {letter : ℕ → Letter} (number : U → ℕ) (units : List U) {view : X → A} {part : A → Found} {reader : Reader}
+    {parser after : Unread} {r : Result X LocatedError}
+    (reads : ReadsPartAt letter view part reader parser r after) (rest : parser.rest ≡ map number units) where
+  same_text : map letter parser.rest ≡ map (λ unit. letter (number unit)) units
+  same_text = ap (map letter) rest ∙ map-map letter number units
+
+  reads_part : ReadsPart reader part (map (λ unit. letter (number unit)) units) (returned_at view r)
+  reads_part = rw (← same_text) (record {
+    ok = λ found. crossed_found view r found _ (reads.ok found);
+    err = crossed_err _ view r reads.err;
+    no_row = crossed_ok _ view r reads.no_row;
+    only = crossed_err _ view r reads.only;
+    place = crossed_err _ view r reads.place;
+  })
+
+  module _ (alone : A → Parsed) (old : Contents) {new : Contents} where
+    pub part_ok : {x : X} {found : Parsed} → r ≡ Ok x → found ≡ alone (view x) → new ≡ record_for found
+        → GivesPart reader part alone (map (λ unit. letter (number unit)) units) 0 old new
+    part_ok is stands written = (returned_at view r, reads_part, gives_ok alone view r old is (written ∙ ap record_for stands))
+
+    pub part_err : {e : LocatedError} {count : ℕ} → r ≡ Err e → count ≡ number_for (fault_of_located e)
+        → new ≡ record old { location = location_of (fault_of_located e); place = e.at }
+        → GivesPart reader part alone (map (λ unit. letter (number unit)) units) count old new
+    part_err is named written = (returned_at view r, reads_part, gives_err alone view r old is named written)
+
+-- the same of a duration
+module _ {U : Type 0} {letter : ℕ → Letter} (number : U → ℕ) (units : List U) {given profile : Profile} {parser after : Unread}
+    {r : Result DurationParseRecord LocatedError} (old : DurationContents) {new : DurationContents}
+    (reads : ReadsPartAt letter (λ duration. duration) lasting (parse_duration given) parser r after)
+    (no_other_reader : OnOk r (InNoOther given (parse_duration given) (map letter parser.rest)))
+    (rest : parser.rest ≡ map number units) (under : given ≡ profile) where
+  lasts : {count : ℕ} → GivesDuration (returned_at (λ duration. duration) r) count old new
+      → GivesLasting profile (map (λ unit. letter (number unit)) units) count old new
+  lasts gives = rw (← under) (
+    returned_at _ r,
+    reads_part number units reads rest,
+    crossed_ok _ _ r (rw (same_text number units reads rest) at no_other_reader),
+    gives,
+  )
+
+  pub lasts_ok : {x : DurationParseRecord} → r ≡ Ok x → new ≡ duration_for x
+      → GivesLasting profile (map (λ unit. letter (number unit)) units) 0 old new
+  lasts_ok is written = lasts (rw is (refl, written))
+
+  pub lasts_err : {e : LocatedError} {count : ℕ} → r ≡ Err e → count ≡ number_for (fault_of_located e)
+      → new ≡ record old { location = location_of (fault_of_located e); place = e.at }
+      → GivesLasting profile (map (λ unit. letter (number unit)) units) count old new
+  lasts_err is named written = lasts (rw is (named, written))

@@ -1,10 +1,10 @@
 -- From a chain of calls that list annotations to what a listing says of a text.
 use Rattle.std.proofs.Common.{◌≡◌, ◌↔◌, ℕ, ◌+◌, ◌≤◌, min, List, [], ◌∷◌, ◌++◌, length, slice_set, map, Option, None, option_map, Result, Ok, Err, OnOk, refl}
-use Rattle.std.proofs.{Common.{sym, ◌∙◌, ap, subst, inl, inr, arith}, lemmas.List.{append-nil, append_assoc, length-append}}
-use Rattle.ixdtf_grammar.specs.declared.{located.LocatedError.LocatedError, profile.Profile.Profile, records.Annotation.Annotation}
+use Rattle.std.proofs.{Common.{sym, ◌∙◌, ap, subst, inl, inr, arith}, lemmas.List.{append-nil, append_assoc, length-append, length-map}}
+use Rattle.ixdtf_grammar.specs.declared.{profile.Profile.Profile, records.Annotation.Annotation}
 use Rattle.ixdtf_grammar.proofs.theorems.FewPairs.{derived_few, gives_few}
 use Rattle.ixdtf.specs.language.{Brackets.Pair, Letters.Text, Readers.{Reader, CoreKind, Reader.bracketed}, Languages.{Parsed, Derives, Derives.as_parsed}}
-use Rattle.ixdtf.specs.{language.Languages.Found.parsed, table.{Faults.{Fault, fault_of_located, stands_behind}, Outcomes.{HasFaultAt, NoRowFits}}}
+use Rattle.ixdtf.specs.{language.Languages.Found.parsed, table.{Faults.Fault, Outcomes.{HasFaultAt, NoRowFits}}}
 use Rattle.ixdtf.specs.{Laws.InNoOther, Places.{GivesFaultAt, HandledToAt}, Handlers.{Reply, first_calendar, calendar_value, with_calendar, RefusedBeside}}
 use Rattle.ixdtf.specs.Handlers.{NoneRefused, LastRefused, GivesRecord, GivesFault, pair_of, Calls, handed, replies_of, Step, IsChain}
 use Rattle.ixdtf_reading.proofs.theorems.{OneOutcome.place_once, OnlyOutcome.only_fault, Replies.{nones, first_calendar-nones, each_is_none}}
@@ -108,20 +108,20 @@ pub lists_left : {A : Type 0} {view : A → Pair} {profile : Profile} {reader : 
     → slots ≡ new → number ≡ count → Lists view profile reader text old new count outcome → Lists view profile reader text old slots number outcome
 lists_left same as_many listing = rw (same, as_many) listing
 
--- the outcome of what a reader of the library returned, whose errors tell their places
-pub outcome_is : {X : Type 0} (view : X → Parsed) (r : Result X LocatedError) {outcome : Result Parsed FaultAt}
-    → HasOutcome fault_of_located stands_behind view r outcome → outcome ≡ returned_at view r
-outcome_is view (Ok x) has = has
-outcome_is view (Err e) (at, there, is) = is ∙ λ i. Err (record { fault = fault_of_located e; at = sym there i })
+pub slots_left : {A : Type 0} {view : A → Pair} {profile : Profile} {reader : Reader} {text : Text} {old new slots : List A} {count : ℕ}
+    {Has : Result Parsed FaultAt → Type 0}
+    → slots ≡ new → (outcome : Result Parsed FaultAt) × Has outcome × Lists view profile reader text old new count outcome
+    → (outcome : Result Parsed FaultAt) × Has outcome × Lists view profile reader text old slots count outcome
+slots_left same (outcome, has, listing) = (outcome, has, lists_left same refl listing)
 
 -- ---- a chain of calls that list
 
--- each call replies none, writes its annotation to its slot, as the pair that it is, and counts it
-abbrev pub ListsEach : {T U A F : Type 0} → (U → ℕ) → (A → Pair) → Step T U F → (F → ℕ) → (F → List A) → (Annotation T U → A) → ℕ → Type 0
-ListsEach {T} {U} {A} {F} number view step count slots item limit =
+-- each call replies none, writes an item to its slot that is its annotation, and counts it
+abbrev pub ListsEach : {T U A F : Type 0} → (U → ℕ) → (A → Pair) → Step T U F → (F → ℕ) → (F → List A) → ℕ → Type 0
+ListsEach {T} {U} {A} {F} number view step count slots limit =
     (state : F) (annotation : Annotation T U) (reply : Option (Annotation T U)) (next : F) → step state annotation reply next
-    → (reply ≡ None) × (count next ≡ min (count state + 1) limit) × (slots next ≡ slice_set (slots state) (count state) (item annotation))
-    × (view (item annotation) ≡ pair_of number annotation)
+    → (reply ≡ None) × (count next ≡ min (count state + 1) limit)
+    × (item : A) × (view item ≡ pair_of number annotation) × (slots next ≡ slice_set (slots state) (count state) item)
 
 -- what each call keeps is kept by all of them
 pub kept : {T U F X : Type 0} (step : Step T U F) (name : F → X)
@@ -131,22 +131,8 @@ kept step name each [] state last chain = ap name chain
 kept step name each (call ∷ calls) state last (next, stepped, chain) =
     sym (each state call.0 call.1 next stepped) ∙ kept step name each calls next last chain
 
--- what is written of each annotation
-abbrev items : {T U A : Type 0} → (Annotation T U → A) → Calls T U → List A
-items item calls = map (λ call. item call.0) calls
-
-items_length : {T U A : Type 0} (number : U → ℕ) (item : Annotation T U → A) (calls : Calls T U) → length (items item calls) ≡ length (handed number calls)
-items_length number item [] = refl
-items_length number item (call ∷ calls) = let tail = items_length number item calls in omega (arith, tail)
-
-module _ {T U A F : Type 0} (number : U → ℕ) (view : A → Pair) (step : Step T U F) (count : F → ℕ) (slots : F → List A) (item : Annotation T U → A) (limit : ℕ)
-    (each : ListsEach number view step count slots item limit) where
-  items_seen : (calls : Calls T U) (state last : F) → IsChain step state calls last → map view (items item calls) ≡ handed number calls
-  items_seen [] state last chain = refl
-  items_seen (call ∷ calls) state last (next, stepped, chain) =
-      let head = (each state call.0 call.1 next stepped).3 in
-      let tail = items_seen calls next last chain in λ i. head i ∷ tail i
-
+module _ {T U A F : Type 0} (number : U → ℕ) (view : A → Pair) (step : Step T U F) (count : F → ℕ) (slots : F → List A) (limit : ℕ)
+    (each : ListsEach number view step count slots limit) where
   replies_none : (calls : Calls T U) (state last : F) → IsChain step state calls last → replies_of number calls ≡ nones calls
   replies_none [] state last chain = refl
   replies_none (call ∷ calls) state last (next, stepped, chain) =
@@ -155,17 +141,20 @@ module _ {T U A F : Type 0} (number : U → ℕ) (view : A → Pair) (step : Ste
 
   -- with these items written before
   listed : (old : List A) (calls : Calls T U) (state last : F) → IsChain step state calls last → (before : List A)
-      → count state ≡ length before → slots state ≡ overwritten old before → length before + length (items item calls) ≤ limit
-      → (count last ≡ length (before ++ items item calls)) × (slots last ≡ overwritten old (before ++ items item calls))
-  listed old [] state last chain before counted written fits = rw (append-nil before, ← chain) (counted, written)
+      → count state ≡ length before → slots state ≡ overwritten old before → length before + length calls ≤ limit
+      → (items : List A) × (map view items ≡ handed number calls)
+      × (count last ≡ length (before ++ items)) × (slots last ≡ overwritten old (before ++ items))
+  listed old [] state last chain before counted written fits =
+      ([], refl, rw (append-nil before, ← chain) counted, rw (append-nil before, ← chain) written)
   listed old (call ∷ calls) state last (next, stepped, chain) before counted written fits =
-      let one = each state call.0 call.1 next stepped in
-      let more : List A = before ++ (item call.0 ∷ []) in
-      let longer : length more ≡ length before + 1 = length-append before (item call.0 ∷ []) in
-      let counted_more : count next ≡ length more = omega (arith, one.1, counted, longer, fits) in
-      let written_more : slots next ≡ overwritten old more = one.2 ∙ rw (counted, written) (overwritten-more old before (item call.0)) in
-      let whole : more ++ items item calls ≡ before ++ (item call.0 ∷ items item calls) = append_assoc before (item call.0 ∷ []) (items item calls) in
-      rw (← whole) (listed old calls next last chain more counted_more written_more (omega (arith, longer, fits)))
+      let (none, one_more, item, seen, set) = each state call.0 call.1 next stepped in
+      let more : List A = before ++ (item ∷ []) in
+      let longer : length more ≡ length before + 1 = length-append before (item ∷ []) in
+      let counted_more : count next ≡ length more = omega (arith, one_more, counted, longer, fits) in
+      let written_more : slots next ≡ overwritten old more = set ∙ rw (counted, written) (overwritten-more old before item) in
+      let (items, shown, counted_all, written_all) = listed old calls next last chain more counted_more written_more (omega (arith, longer, fits)) in
+      let whole : more ++ items ≡ before ++ (item ∷ items) = append_assoc before (item ∷ []) items in
+      (item ∷ items, (λ i. seen i ∷ shown i), rw (← whole) counted_all, rw (← whole) written_all)
 
   -- what a form with a handler that lists says
   pub lists : (profile : Profile) (kind : CoreKind) (text : Text) (state last : F)
@@ -191,13 +180,14 @@ module _ {T U A F : Type 0} (number : U → ℕ) (view : A → Pair) (step : Ste
           let calls = h.plain.calls in
           let pairs = handed number calls in
           let shorter : length pairs ≤ length text = few kind text calls pairs outcome ok err in
-          let all = listed (slots state) calls state last h.plain.chain [] zero (sym (overwritten-none (slots state)))
-          (omega (arith, items_length number item calls, shorter, fits)) in
+          let as_many : length pairs ≡ length calls = length-map calls _ in
+          let (items, shown, counted, written) = listed (slots state) calls state last h.plain.chain [] zero (sym (overwritten-none (slots state)))
+          (omega (arith, as_many, shorter, fits)) in
           record {
-            annotations = items item calls;
-            counted = all.0;
-            written = all.1;
-            read = rw (items_seen calls state last h.plain.chain) (passes_over kind text profile calls pairs outcome ok err no_row no_other_reader);
+            annotations = items;
+            counted = counted;
+            written = written;
+            read = rw shown (passes_over kind text profile calls pairs outcome ok err no_row no_other_reader);
           }
 
       of_outcome : (r : Result X E) (h : HandledToAt number step state last (bracketed kind) text named stands seen r)

@@ -1,5 +1,5 @@
 -- The numbers of errors.
-use Rattle.std.proofs.Common.{◌≡◌, ◌≢◌, ℕ, ◌+◌, ◌-◌, ◌≤◌, ◌<◌, suc, zero, List, [], ◌∷◌, get_or, Option, Some, None, refl, ◌∙◌, arith, lit≤}
+use Rattle.std.proofs.Common.{◌≡◌, ◌≢◌, ℕ, ◌+◌, ◌-◌, ◌≤◌, ◌<◌, suc, zero, List, [], ◌∷◌, get_or, Option, refl, ◌∙◌, ap, inl, inr, arith}
 use Rattle.std.proofs.Math.ListN.{get_or-map}
 use Rattle.ixdtf.specs.table.Faults.{Fault, Fault.{ImplAssert, NonAsciiCodePoint, ParseFloat, AbruptEnd, InvalidEnd, InvalidMonthRange, InvalidDayRange}}
 use Rattle.ixdtf.specs.table.Faults.Fault.{DateYear, DateExtendedYear, DateMonth, DateDay, DateUnexpectedEnd, TimeRequired, TimeHour, TimeMinuteSecond}
@@ -10,7 +10,9 @@ use Rattle.ixdtf.specs.table.Faults.Fault.{UnrecognizedCritical, TzLeadingChar, 
 use Rattle.ixdtf.specs.table.Faults.Fault.{MonthDayHyphen, DurationDisgnator, DurationValueExceededRange, DateDurationPartOrder, TimeDurationPartOrder}
 use Rattle.ixdtf.specs.{table.Faults.Fault.{TimeDurationDesignator, AmbiguousTimeMonthDay, AmbiguousTimeYearMonth, InvalidMonthDay}, language.Brackets.Pair}
 use Rattle.ixdtf.specs.Handlers.{Reply, RefusedBeside}
-use Rattle.ixdtf_c.specs.Numbers.{number_for, location_of}
+use Rattle.ixdtf_reading.proofs.code.OneMoreReply.{refused_split}
+use Rattle.ixdtf.specs.table.ErrorEquality.{location_of}
+use Rattle.ixdtf_c.specs.Numbers.{number_for}
 
 -- the errors in the order of their numbers, from 1 on
 abbrev faults_at : List ℕ → List Fault
@@ -26,56 +28,8 @@ faults_at location =
     ∷ DateDurationPartOrder ∷ TimeDurationPartOrder ∷ TimeDurationDesignator ∷ AmbiguousTimeMonthDay ∷ AmbiguousTimeYearMonth
     ∷ InvalidMonthDay ∷ []
 
-pub bounds : (fault : Fault) → (1 ≤ number_for fault) × (number_for fault ≤ 46)
-bounds ImplAssert = (lit≤ tt, lit≤ tt)
-bounds NonAsciiCodePoint = (lit≤ tt, lit≤ tt)
-bounds ParseFloat = (lit≤ tt, lit≤ tt)
-bounds (AbruptEnd location) = (lit≤ tt, lit≤ tt)
-bounds InvalidEnd = (lit≤ tt, lit≤ tt)
-bounds InvalidMonthRange = (lit≤ tt, lit≤ tt)
-bounds InvalidDayRange = (lit≤ tt, lit≤ tt)
-bounds DateYear = (lit≤ tt, lit≤ tt)
-bounds DateExtendedYear = (lit≤ tt, lit≤ tt)
-bounds DateMonth = (lit≤ tt, lit≤ tt)
-bounds DateDay = (lit≤ tt, lit≤ tt)
-bounds DateUnexpectedEnd = (lit≤ tt, lit≤ tt)
-bounds TimeRequired = (lit≤ tt, lit≤ tt)
-bounds TimeHour = (lit≤ tt, lit≤ tt)
-bounds TimeMinuteSecond = (lit≤ tt, lit≤ tt)
-bounds TimeSecond = (lit≤ tt, lit≤ tt)
-bounds FractionPart = (lit≤ tt, lit≤ tt)
-bounds DateSeparator = (lit≤ tt, lit≤ tt)
-bounds TimeSeparator = (lit≤ tt, lit≤ tt)
-bounds DecimalSeparator = (lit≤ tt, lit≤ tt)
-bounds InvalidAnnotation = (lit≤ tt, lit≤ tt)
-bounds AnnotationOpen = (lit≤ tt, lit≤ tt)
-bounds AnnotationClose = (lit≤ tt, lit≤ tt)
-bounds AnnotationChar = (lit≤ tt, lit≤ tt)
-bounds AnnotationKeyValueSeparator = (lit≤ tt, lit≤ tt)
-bounds AnnotationKeyLeadingChar = (lit≤ tt, lit≤ tt)
-bounds AnnotationKeyChar = (lit≤ tt, lit≤ tt)
-bounds AnnotationValueCharPostHyphen = (lit≤ tt, lit≤ tt)
-bounds AnnotationValueChar = (lit≤ tt, lit≤ tt)
-bounds InvalidMinutePrecisionOffset = (lit≤ tt, lit≤ tt)
-bounds CriticalDuplicateCalendar = (lit≤ tt, lit≤ tt)
-bounds UnrecognizedCritical = (lit≤ tt, lit≤ tt)
-bounds TzLeadingChar = (lit≤ tt, lit≤ tt)
-bounds IanaCharPostSeparator = (lit≤ tt, lit≤ tt)
-bounds IanaChar = (lit≤ tt, lit≤ tt)
-bounds UtcTimeSeparator = (lit≤ tt, lit≤ tt)
-bounds OffsetNeedsSign = (lit≤ tt, lit≤ tt)
-bounds MonthDayHyphen = (lit≤ tt, lit≤ tt)
-bounds DurationDisgnator = (lit≤ tt, lit≤ tt)
-bounds DurationValueExceededRange = (lit≤ tt, lit≤ tt)
-bounds DateDurationPartOrder = (lit≤ tt, lit≤ tt)
-bounds TimeDurationPartOrder = (lit≤ tt, lit≤ tt)
-bounds TimeDurationDesignator = (lit≤ tt, lit≤ tt)
-bounds AmbiguousTimeMonthDay = (lit≤ tt, lit≤ tt)
-bounds AmbiguousTimeYearMonth = (lit≤ tt, lit≤ tt)
-bounds InvalidMonthDay = (lit≤ tt, lit≤ tt)
-
 pub number_some : (fault : Fault) → number_for fault ≢ 0
-number_some fault is = omega (arith, (bounds fault).0, is)
+number_some fault is = omega (arith, is)
 
 -- the numbers from one on
 counted : ℕ → ℕ → List ℕ
@@ -97,50 +51,7 @@ numbered number other from to =
 
 -- a reply that is refused is so without a location
 pub nowhere : (first : Option Pair) (reply : Reply) (fault : Fault) → RefusedBeside first reply fault → location_of fault ≡ []
-nowhere first None fault refused = absurd refused
-nowhere first (Some pair) ImplAssert refused = refl
-nowhere first (Some pair) NonAsciiCodePoint refused = refl
-nowhere first (Some pair) ParseFloat refused = refl
-nowhere first (Some pair) (AbruptEnd location) refused = absurd refused
-nowhere first (Some pair) InvalidEnd refused = refl
-nowhere first (Some pair) InvalidMonthRange refused = refl
-nowhere first (Some pair) InvalidDayRange refused = refl
-nowhere first (Some pair) DateYear refused = refl
-nowhere first (Some pair) DateExtendedYear refused = refl
-nowhere first (Some pair) DateMonth refused = refl
-nowhere first (Some pair) DateDay refused = refl
-nowhere first (Some pair) DateUnexpectedEnd refused = refl
-nowhere first (Some pair) TimeRequired refused = refl
-nowhere first (Some pair) TimeHour refused = refl
-nowhere first (Some pair) TimeMinuteSecond refused = refl
-nowhere first (Some pair) TimeSecond refused = refl
-nowhere first (Some pair) FractionPart refused = refl
-nowhere first (Some pair) DateSeparator refused = refl
-nowhere first (Some pair) TimeSeparator refused = refl
-nowhere first (Some pair) DecimalSeparator refused = refl
-nowhere first (Some pair) InvalidAnnotation refused = refl
-nowhere first (Some pair) AnnotationOpen refused = refl
-nowhere first (Some pair) AnnotationClose refused = refl
-nowhere first (Some pair) AnnotationChar refused = refl
-nowhere first (Some pair) AnnotationKeyValueSeparator refused = refl
-nowhere first (Some pair) AnnotationKeyLeadingChar refused = refl
-nowhere first (Some pair) AnnotationKeyChar refused = refl
-nowhere first (Some pair) AnnotationValueCharPostHyphen refused = refl
-nowhere first (Some pair) AnnotationValueChar refused = refl
-nowhere first (Some pair) InvalidMinutePrecisionOffset refused = refl
-nowhere first (Some pair) CriticalDuplicateCalendar refused = refl
-nowhere first (Some pair) UnrecognizedCritical refused = refl
-nowhere first (Some pair) TzLeadingChar refused = refl
-nowhere first (Some pair) IanaCharPostSeparator refused = refl
-nowhere first (Some pair) IanaChar refused = refl
-nowhere first (Some pair) UtcTimeSeparator refused = refl
-nowhere first (Some pair) OffsetNeedsSign refused = refl
-nowhere first (Some pair) MonthDayHyphen refused = refl
-nowhere first (Some pair) DurationDisgnator refused = refl
-nowhere first (Some pair) DurationValueExceededRange refused = refl
-nowhere first (Some pair) DateDurationPartOrder refused = refl
-nowhere first (Some pair) TimeDurationPartOrder refused = refl
-nowhere first (Some pair) TimeDurationDesignator refused = refl
-nowhere first (Some pair) AmbiguousTimeMonthDay refused = refl
-nowhere first (Some pair) AmbiguousTimeYearMonth refused = refl
-nowhere first (Some pair) InvalidMonthDay refused = refl
+nowhere first reply fault refused = elim (refused_split first reply fault refused) [
+  | inl p ↦ ap location_of p.0
+  | inr p ↦ ap location_of p.0
+]

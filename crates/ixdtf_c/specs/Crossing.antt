@@ -7,8 +7,9 @@ use Rattle.ixdtf_grammar.specs.declared.records.{DateRecord.DateRecord, TimeReco
 use Rattle.ixdtf_grammar.specs.declared.records.{DateDurationRecord.DateDurationRecord, DurationParseRecord.DurationParseRecord}
 use Rattle.ixdtf_grammar.specs.declared.records.{TimeDurationRecord.TimeDurationRecord, UtcOffsetRecord.UtcOffsetRecord}
 use Rattle.ixdtf_grammar.specs.declared.records.UtcOffsetRecordOrZ.{UtcOffsetRecordOrZ}
+use Rattle.ixdtf.specs.table.ErrorEquality.{location_of}
 use Rattle.ixdtf.specs.language.{Brackets.ZoneNote, Fractions.FractionParts, Languages.Parsed, ZoneNames.{Zone as SomeZone, Zone.{Name, Offset as ByOffset}}}
-use Rattle.ixdtf_c.specs.{declared.forms.{Date.Date, Time.Time, Offset.Offset}, Located.FaultAt, Numbers.{location_of, outcome_number}}
+use Rattle.ixdtf_c.specs.{declared.forms.{Date.Date, Time.Time, Offset.Offset}, Located.FaultAt, Numbers.outcome_number}
 
 -- ---- the contents of a record: its fields, with the units of its slices
 

@@ -29,17 +29,14 @@ fn read_as<'a, E: FromStop, T: EncodingType, C: CoreReader>(
 ) -> Result<IxdtfParseRecord<'a, T>, E>
 where
     T::CodeUnit: 'a,
-    ensures reads { (outcome : Result Parsed FaultAt)
+    ensures { (outcome : Result Parsed FaultAt)
         × HasOutcome E.fault E.stands (parsed_of T.number) result outcome
         × ReadsRecord profile (bracketed (C.kind profile))
         (map (λ unit. T.letter (T.number unit)) text.now) outcome }
 {
     let mut parser = IxdtfParser::<T>::new(text).with_profile(profile);
     let mut handler = |annotation| Some(annotation);
-    match parser.read_lending_handler::<E, C, _>(&mut handler) {
-        Ok(found) => Ok(found),
-        Err(error) => return Err(error),
-    }
+    parser.read_lending_handler::<E, C, _>(&mut handler)
 }
 
 /// A record in which no more than an offset and a zone stand.

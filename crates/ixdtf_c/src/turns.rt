@@ -10,8 +10,8 @@ ghost use Rattle.ixdtf_c.specs.Located.{FaultAt, unplaced};
 ghost use Rattle.ixdtf_c.specs.Narrow.{annotation_by, calendar_by, contents};
 ghost use Rattle.ixdtf_c.specs.Turns.{HandsOver, InTurn};
 
+use crate::exports::{ixdtf_parse_with_annotations, ixdtf_reply};
 use crate::narrow::{Annotation, Calendar, Record};
-use crate::narrow_annotations::{ixdtf_parse_with_annotations, ixdtf_reply};
 use ixdtf::encoding::Utf8;
 use ixdtf::records;
 

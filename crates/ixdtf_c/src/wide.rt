@@ -1,21 +1,17 @@
 //! Records of 16-bit sources, as C sees them.
 
-ghost use Rattle.std.specs.Prelude.{◌≡◌, ◌≢◌, [], map, option_map, IfSome};
-ghost use Rattle.ixdtf.specs.Handlers.{calendar_key, pair_of};
-ghost use Rattle.ixdtf.specs.table.Faults.{fault_of_located};
-ghost use Rattle.ixdtf.specs.Views.{parsed_of, note_of, zone_of};
-ghost use Rattle.ixdtf_c.specs.Crossing.{record_for, zone_for, area_for, units_for, is_there};
+ghost use Rattle.std.specs.Prelude.{◌≡◌, option_map};
+ghost use Rattle.ixdtf.specs.Handlers.{pair_of};
 ghost use Rattle.ixdtf_c.specs.Fielded.{keyed};
-ghost use Rattle.ixdtf_c.specs.Numbers.{number_for, location_of};
 ghost use Rattle.ixdtf_c.specs.Wide.{contents as record_contents, zone_contents, SameButError, annotation_by, calendar_by};
 
 use crate::errors::number_and_location;
-use crate::forms::{Date, Offset, Time, is_negative};
+use crate::forms::{Date, Offset, Time};
 use crate::slices::{Slice, from_c, to_c};
-use crate::widths::{AnnotationOf, CalendarOf, RecordOf};
+use crate::widths::{AnnotationOf, CalendarOf, RecordOf, ZoneOf, put_zone};
 use ixdtf::LocatedError;
 use ixdtf::encoding::Utf16;
-use ixdtf::records::{self, IxdtfParseRecord, TimeZoneAnnotation, TimeZoneRecord};
+use ixdtf::records::{self, IxdtfParseRecord};
 
 /// A time zone, where it is there.
 #[derive(Clone, Copy)]
@@ -84,65 +80,40 @@ pub struct Calendar<'a> {
 /// The key of calendars.
 const CALENDAR_KEY: &[u16] = &[0x75, 0x2d, 0x63, 0x61];
 
-impl<'a> Zone<'a> {
-    // Writes the numbers of the zone, and zeros where there is none.
-    #[inline(always)]
-    fn put(&mut self, zone: &Option<TimeZoneAnnotation<'a, Utf16>>)
-        ensures { zone_contents self.new ≡ zone_for (option_map (note_of (λ unit. unit)) zone.now) }
-    {
-        match zone {
-            None => {
-                *self = Zone {
-                    name: to_c(&[]),
-                    form: 0,
-                    is_critical: false,
-                    is_negative: false,
-                    hour: 0,
-                    minute: 0,
-                }
-            }
-            Some(it) => self.put_area(it.critical, &it.tz),
-        }
-    }
+impl<'a> ZoneOf<'a, Utf16> for Zone<'a> {
+    ghost contents = { zone_contents };
 
-    // Writes the numbers of a name or an offset.
     #[inline(always)]
-    fn put_area(&mut self, is_critical: bool, zone: &TimeZoneRecord<'a, Utf16>)
-        ensures { zone_contents self.new ≡ area_for is_critical (zone_of (λ unit. unit) zone.now) }
-    {
-        match zone {
-            TimeZoneRecord::Name(name) => {
-                self.name = to_c(name);
-                self.form = 1;
-                self.is_critical = is_critical;
-                self.is_negative = false;
-                self.hour = 0;
-                self.minute = 0;
-            }
-            TimeZoneRecord::Offset(offset) => {
-                self.name = to_c(&[]);
-                self.form = 2;
-                self.is_critical = is_critical;
-                self.is_negative = is_negative(offset.sign);
-                self.hour = offset.hour;
-                self.minute = offset.minute;
-            }
-        }
+    fn put(
+        &mut self,
+        name: &'a [u16],
+        form: u8,
+        is_critical: bool,
+        is_negative: bool,
+        hour: u8,
+        minute: u8,
+    ) {
+        self.name = to_c(name);
+        self.form = form;
+        self.is_critical = is_critical;
+        self.is_negative = is_negative;
+        self.hour = hour;
+        self.minute = minute;
     }
 }
 
-impl<'a> Record<'a> {
-    /// Writes the calendar, where there is one, and that there is no error.
-    #[inline(always)]
-    fn put_rest(&mut self, calendar: Option<&'a [u16]>)
-        ensures { record_contents self.new ≡ record (record_contents self.old) {
-          calendar = units_for (option_map (λ units. map (λ unit. unit) units.now) calendar.entry);
-          has_calendar = is_there (option_map (λ units. map (λ unit. unit) units.now) calendar.entry);
-          location = [];
-          place = 0;
-        } }
-    {
-        match calendar {
+impl<'a> RecordOf<'a, Utf16> for Record<'a> {
+    ghost contents = { record_contents };
+
+    ghost same_but_error = { SameButError };
+
+    #[inline(never)]
+    fn write(&mut self, found: &IxdtfParseRecord<'a, Utf16>) {
+        self.date.put(found.date);
+        self.time.put(found.time);
+        self.offset.put(found.offset);
+        put_zone::<Utf16, Zone<'a>>(&mut self.zone, &found.tz);
+        match found.calendar {
             None => {
                 self.calendar = to_c(&[]);
                 self.has_calendar = false;
@@ -155,34 +126,9 @@ impl<'a> Record<'a> {
         self.location = to_c(&[]);
         self.place = 0;
     }
-}
-
-impl<'a> RecordOf<'a, Utf16> for Record<'a> {
-    ghost contents = { record_contents };
-
-    ghost same_but_error = { SameButError };
-
-    #[inline(never)]
-    fn write(&mut self, found: &IxdtfParseRecord<'a, Utf16>)
-        ensures { record_contents self.new ≡ record_for (parsed_of (λ unit. unit) found.now) }
-    {
-        self.date.put(found.date);
-        self.time.put(found.time);
-        self.offset.put(found.offset);
-        self.zone.put(&found.tz);
-        self.put_rest(found.calendar);
-    }
 
     #[inline(always)]
-    fn refuse(&mut self, located: LocatedError) -> u32
-        ensures number { result ≡ number_for (fault_of_located located) }
-        ensures some { result ≢ 0 }
-        ensures error { record_contents self.new ≡ record (record_contents self.old) {
-          location = location_of (fault_of_located located);
-          place = located.at;
-        } }
-        ensures unchanged { SameButError self.old self.new }
-    {
+    fn refuse(&mut self, located: LocatedError) -> u32 {
         let (number, location) = number_and_location(located.error);
         self.location = to_c(location);
         self.place = located.at;
@@ -194,9 +140,7 @@ impl<'a> AnnotationOf<'a, Utf16> for Annotation<'a> {
     ghost pair = { annotation_by };
 
     #[inline(always)]
-    fn read(&self) -> records::Annotation<'a, Utf16>
-        ensures { pair_of (λ unit. unit) result ≡ annotation_by self.now }
-    {
+    fn read(&self) -> records::Annotation<'a, Utf16> {
         records::Annotation {
             critical: self.is_critical,
             key: from_c(self.key),
@@ -209,10 +153,7 @@ impl<'a> CalendarOf<'a, Utf16> for Calendar<'a> {
     ghost kept_of = { calendar_by };
 
     #[inline(always)]
-    fn read(&self) -> Option<records::Annotation<'a, Utf16>>
-        ensures kept { calendar_by self.now ≡ option_map (pair_of (λ unit. unit)) result }
-        ensures key { IfSome result (λ it. map (λ unit. unit) it.key.now ≡ calendar_key) }
-    {
+    fn read(&self) -> Option<records::Annotation<'a, Utf16>> {
         if self.is_there {
             Some(records::Annotation {
                 critical: self.is_critical,

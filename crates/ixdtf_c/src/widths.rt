@@ -3,15 +3,66 @@
 ghost use Rattle.std.specs.Prelude.{◌≡◌, ◌≢◌, Option, map, option_map, IfSome};
 ghost use Rattle.ixdtf.specs.Handlers.{calendar_key, pair_of};
 ghost use Rattle.ixdtf.specs.language.Brackets.{Pair};
+ghost use Rattle.ixdtf.specs.table.ErrorEquality.{location_of};
 ghost use Rattle.ixdtf.specs.table.Faults.{fault_of_located};
-ghost use Rattle.ixdtf.specs.Views.{parsed_of};
-ghost use Rattle.ixdtf_c.specs.Crossing.{Contents, record_for};
+ghost use Rattle.ixdtf.specs.Views.{note_of, parsed_of};
+ghost use Rattle.ixdtf_c.specs.Crossing.{Contents, ZoneContents, record_for, zone_for};
 ghost use Rattle.ixdtf_c.specs.Fielded.{keyed};
-ghost use Rattle.ixdtf_c.specs.Numbers.{number_for, location_of};
+ghost use Rattle.ixdtf_c.specs.Numbers.{number_for};
 
+use crate::forms::is_negative;
 use ixdtf::LocatedError;
 use ixdtf::encoding::EncodingType;
-use ixdtf::records::{self, IxdtfParseRecord};
+use ixdtf::records::{self, IxdtfParseRecord, TimeZoneAnnotation, TimeZoneRecord};
+
+/// A time zone in units of the encoding.
+pub trait ZoneOf<'a, T: EncodingType> {
+    /// Its fields, with the units of its name.
+    ghost contents: { Self → ZoneContents };
+
+    /// Writes each field.
+    fn put(
+        &mut self,
+        name: &'a [T::CodeUnit],
+        form: u8,
+        is_critical: bool,
+        is_negative: bool,
+        hour: u8,
+        minute: u8,
+    )
+        ensures { contents self.new ≡ record {
+          name = map T.number name.now;
+          form = form;
+          is_critical = is_critical;
+          is_negative = is_negative;
+          hour = hour;
+          minute = minute;
+        } };
+}
+
+/// Writes the numbers of the zone, and zeros where there is none.
+#[inline(always)]
+pub fn put_zone<'a, T: EncodingType, Z: ZoneOf<'a, T>>(
+    out: &mut Z,
+    zone: &Option<TimeZoneAnnotation<'a, T>>,
+)
+    ensures { Z.contents out.new ≡ zone_for (option_map (note_of T.number) zone.now) }
+{
+    match zone {
+        None => out.put(&[], 0, false, false, 0, 0),
+        Some(it) => match &it.tz {
+            TimeZoneRecord::Name(name) => out.put(name, 1, it.critical, false, 0, 0),
+            TimeZoneRecord::Offset(offset) => out.put(
+                &[],
+                2,
+                it.critical,
+                is_negative(offset.sign),
+                offset.hour,
+                offset.minute,
+            ),
+        },
+    }
+}
 
 /// A record of units of the encoding.
 pub trait RecordOf<'a, T: EncodingType> {

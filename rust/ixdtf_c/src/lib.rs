@@ -6,17 +6,16 @@
 
 mod durations;
 mod errors;
+mod exports;
 mod forms;
 pub mod narrow;
 mod narrow_annotations;
-mod narrow_readers;
 mod printing;
 mod readers;
 mod slices;
 mod version;
 pub mod wide;
 mod wide_annotations;
-mod wide_readers;
 mod widths;
 
 pub use durations::Duration;

@@ -3,12 +3,12 @@
 //! Records of 8-bit sources, as C sees them.
 
 use crate::errors::number_and_location;
-use crate::forms::{Date, Offset, Time, is_negative};
+use crate::forms::{Date, Offset, Time};
 use crate::slices::{Slice, from_c, to_c};
-use crate::widths::{AnnotationOf, CalendarOf, RecordOf};
+use crate::widths::{AnnotationOf, CalendarOf, RecordOf, ZoneOf, put_zone};
 use ixdtf::LocatedError;
 use ixdtf::encoding::Utf8;
-use ixdtf::records::{self, IxdtfParseRecord, TimeZoneAnnotation, TimeZoneRecord};
+use ixdtf::records::{self, IxdtfParseRecord};
 
 /// A time zone, where it is there.
 #[derive(Clone, Copy)]
@@ -77,55 +77,34 @@ pub struct Calendar<'a> {
 /// The key of calendars.
 const CALENDAR_KEY: &[u8] = &[b'u', b'-', b'c', b'a'];
 
-impl<'a> Zone<'a> {
-    // Writes the numbers of the zone, and zeros where there is none.
+impl<'a> ZoneOf<'a, Utf8> for Zone<'a> {
     #[inline(always)]
-    fn put(&mut self, zone: &Option<TimeZoneAnnotation<'a, Utf8>>) {
-        match zone {
-            None => {
-                *self = Zone {
-                    name: to_c(&[]),
-                    form: 0,
-                    is_critical: false,
-                    is_negative: false,
-                    hour: 0,
-                    minute: 0,
-                }
-            }
-            Some(it) => self.put_area(it.critical, &it.tz),
-        }
-    }
-
-    // Writes the numbers of a name or an offset.
-    #[inline(always)]
-    fn put_area(&mut self, is_critical: bool, zone: &TimeZoneRecord<'a, Utf8>) {
-        match zone {
-            TimeZoneRecord::Name(name) => {
-                self.name = to_c(name);
-                self.form = 1;
-                self.is_critical = is_critical;
-                self.is_negative = false;
-                self.hour = 0;
-                self.minute = 0;
-            }
-            TimeZoneRecord::Offset(offset) => {
-                self.name = to_c(&[]);
-                self.form = 2;
-                self.is_critical = is_critical;
-                self.is_negative = is_negative(offset.sign);
-                self.hour = offset.hour;
-                self.minute = offset.minute;
-            }
-            _ => unreachable!(),
-        }
+    fn put(
+        &mut self,
+        name: &'a [u8],
+        form: u8,
+        is_critical: bool,
+        is_negative: bool,
+        hour: u8,
+        minute: u8,
+    ) {
+        self.name = to_c(name);
+        self.form = form;
+        self.is_critical = is_critical;
+        self.is_negative = is_negative;
+        self.hour = hour;
+        self.minute = minute;
     }
 }
 
-impl<'a> Record<'a> {
-    /// Writes the calendar, where there is one, and that there is no error.
-    #[inline(always)]
-    fn put_rest(&mut self, calendar: Option<&'a [u8]>) {
-        match calendar {
+impl<'a> RecordOf<'a, Utf8> for Record<'a> {
+    #[inline(never)]
+    fn write(&mut self, found: &IxdtfParseRecord<'a, Utf8>) {
+        self.date.put(found.date);
+        self.time.put(found.time);
+        self.offset.put(found.offset);
+        put_zone::<Utf8, Zone<'a>>(&mut self.zone, &found.tz);
+        match found.calendar {
             None => {
                 self.calendar = to_c(&[]);
                 self.has_calendar = false;
@@ -137,17 +116,6 @@ impl<'a> Record<'a> {
         }
         self.location = to_c(&[]);
         self.place = 0;
-    }
-}
-
-impl<'a> RecordOf<'a, Utf8> for Record<'a> {
-    #[inline(never)]
-    fn write(&mut self, found: &IxdtfParseRecord<'a, Utf8>) {
-        self.date.put(found.date);
-        self.time.put(found.time);
-        self.offset.put(found.offset);
-        self.zone.put(&found.tz);
-        self.put_rest(found.calendar);
     }
 
     #[inline(always)]

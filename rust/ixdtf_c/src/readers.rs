@@ -24,10 +24,7 @@ where
 {
     let mut parser = IxdtfParser::<T>::new(text).with_profile(profile);
     let mut handler = |annotation| Some(annotation);
-    match parser.read_lending_handler::<E, C, _>(&mut handler) {
-        Ok(found) => Ok(found),
-        Err(error) => return Err(error),
-    }
+    parser.read_lending_handler::<E, C, _>(&mut handler)
 }
 
 /// A record in which no more than an offset and a zone stand.

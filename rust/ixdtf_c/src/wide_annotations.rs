@@ -1,16 +1,13 @@
 // Made by tools/to_rust.py of crates/ixdtf_c/src/wide_annotations.rt. Do not edit.
 
-//! The readers of 16-bit sources that list the annotations, and what is kept of replies to them.
+//! The readers of 16-bit sources that list the annotations.
 
-use crate::readers::take_reply;
 use crate::slices::to_c;
-use crate::wide::{Annotation, Calendar, Record};
+use crate::wide::{Annotation, Record};
 use crate::widths::RecordOf;
 use ixdtf::LocatedError;
 use ixdtf::encoding::Utf16;
-use ixdtf::parsers::{
-    CoreReader, DateTimes, FromStop, IxdtfParser, MonthDays, Profile, Times, YearMonths,
-};
+use ixdtf::parsers::{CoreReader, FromStop, IxdtfParser, Profile};
 use ixdtf::records::{self, IxdtfParseRecord};
 
 /// The annotations that a reader listed.
@@ -48,15 +45,12 @@ fn list_as<'a, E: FromStop, C: CoreReader>(
         list.add(annotation);
         None
     };
-    match parser.read_lending_handler::<E, C, _>(&mut handler) {
-        Ok(found) => Ok(found),
-        Err(error) => return Err(error),
-    }
+    parser.read_lending_handler::<E, C, _>(&mut handler)
 }
 
 /// Reads and lists as [`list_as`] does, and writes what was read.
 #[inline(always)]
-fn list_into<'a, C: CoreReader>(
+pub fn list_into<'a, C: CoreReader>(
     text: &'a [u16],
     profile: Profile,
     annotations: &mut [Annotation<'a>],
@@ -76,113 +70,4 @@ fn list_into<'a, C: CoreReader>(
         }
         Err(located) => out.refuse(located),
     }
-}
-
-/// Reads a date, or a date and a time, and the brackets after it. The annotations are passed over and listed.
-#[unsafe(no_mangle)]
-pub unsafe extern "C" fn ixdtf16_parse_with_annotations<'a>(
-    text: *const u16,
-    text_length: usize,
-    annotations: *mut Annotation<'a>,
-    annotations_length: usize,
-    count: &mut usize,
-    out: &mut Record<'a>,
-) -> u32 {
-    // SAFETY: so the header has it.
-    let text = unsafe { crate::slices::slice(text, text_length) };
-    // SAFETY: so the header has it.
-    let annotations = unsafe { crate::slices::slice_mut(annotations, annotations_length) };
-    list_into::<DateTimes>(text, Profile::Crate, annotations, count, out)
-}
-
-/// Reads a year and a month, and the brackets after it. The annotations are passed over and listed.
-#[unsafe(no_mangle)]
-pub unsafe extern "C" fn ixdtf16_parse_year_month_with_annotations<'a>(
-    text: *const u16,
-    text_length: usize,
-    annotations: *mut Annotation<'a>,
-    annotations_length: usize,
-    count: &mut usize,
-    out: &mut Record<'a>,
-) -> u32 {
-    // SAFETY: so the header has it.
-    let text = unsafe { crate::slices::slice(text, text_length) };
-    // SAFETY: so the header has it.
-    let annotations = unsafe { crate::slices::slice_mut(annotations, annotations_length) };
-    list_into::<YearMonths>(text, Profile::Crate, annotations, count, out)
-}
-
-/// Reads a month and a day, and the brackets after it. The annotations are passed over and listed.
-#[unsafe(no_mangle)]
-pub unsafe extern "C" fn ixdtf16_parse_month_day_with_annotations<'a>(
-    text: *const u16,
-    text_length: usize,
-    annotations: *mut Annotation<'a>,
-    annotations_length: usize,
-    count: &mut usize,
-    out: &mut Record<'a>,
-) -> u32 {
-    // SAFETY: so the header has it.
-    let text = unsafe { crate::slices::slice(text, text_length) };
-    // SAFETY: so the header has it.
-    let annotations = unsafe { crate::slices::slice_mut(annotations, annotations_length) };
-    list_into::<MonthDays>(text, Profile::Crate, annotations, count, out)
-}
-
-/// Reads a time, and the brackets after it. The annotations are passed over and listed.
-#[unsafe(no_mangle)]
-pub unsafe extern "C" fn ixdtf16_parse_time_with_annotations<'a>(
-    text: *const u16,
-    text_length: usize,
-    annotations: *mut Annotation<'a>,
-    annotations_length: usize,
-    count: &mut usize,
-    out: &mut Record<'a>,
-) -> u32 {
-    // SAFETY: so the header has it.
-    let text = unsafe { crate::slices::slice(text, text_length) };
-    // SAFETY: so the header has it.
-    let annotations = unsafe { crate::slices::slice_mut(annotations, annotations_length) };
-    list_into::<Times>(text, Profile::Crate, annotations, count, out)
-}
-
-/// Reads a month and a day, and the brackets after it, under the strict profile. The annotations are passed over and listed.
-#[unsafe(no_mangle)]
-pub unsafe extern "C" fn ixdtf16_parse_month_day_with_annotations_strict<'a>(
-    text: *const u16,
-    text_length: usize,
-    annotations: *mut Annotation<'a>,
-    annotations_length: usize,
-    count: &mut usize,
-    out: &mut Record<'a>,
-) -> u32 {
-    // SAFETY: so the header has it.
-    let text = unsafe { crate::slices::slice(text, text_length) };
-    // SAFETY: so the header has it.
-    let annotations = unsafe { crate::slices::slice_mut(annotations, annotations_length) };
-    list_into::<MonthDays>(text, Profile::Strict, annotations, count, out)
-}
-
-/// Reads a time, and the brackets after it, under the strict profile. The annotations are passed over and listed.
-#[unsafe(no_mangle)]
-pub unsafe extern "C" fn ixdtf16_parse_time_with_annotations_strict<'a>(
-    text: *const u16,
-    text_length: usize,
-    annotations: *mut Annotation<'a>,
-    annotations_length: usize,
-    count: &mut usize,
-    out: &mut Record<'a>,
-) -> u32 {
-    // SAFETY: so the header has it.
-    let text = unsafe { crate::slices::slice(text, text_length) };
-    // SAFETY: so the header has it.
-    let annotations = unsafe { crate::slices::slice_mut(annotations, annotations_length) };
-    list_into::<Times>(text, Profile::Strict, annotations, count, out)
-}
-
-/// Takes a reply to an annotation: keeps it where it is the first calendar, and returns 0, or the number of the error that it
-/// is refused with.
-#[unsafe(no_mangle)]
-pub extern "C" fn ixdtf16_reply<'a>(calendar: &mut Calendar<'a>, reply: &Annotation<'a>) -> u32 {
-    take_reply::<Utf16, _, _>(calendar, reply)
 }

@@ -3,9 +3,8 @@
 use super::rows::{
     Call, DATE, DURATION, DURATION_ROWS, LIST_ROWS, ListCall, OFFSET, REPLY_ROWS, ROWS, TIME,
 };
+use crate::exports::*;
 use crate::narrow::{Annotation, Calendar, Record, Zone};
-use crate::narrow_annotations::*;
-use crate::narrow_readers::*;
 use crate::turns::parse_in_turn;
 
 /// A record in which all fields are set.

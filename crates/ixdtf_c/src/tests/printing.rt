@@ -1,9 +1,9 @@
 //! Records printed as their canonical texts.
 
 use super::narrow::RECORD;
+use crate::exports::ixdtf_parse;
 use crate::forms::{Date, Offset, Time};
 use crate::narrow::Record;
-use crate::narrow_readers::ixdtf_parse;
 use crate::printing::ixdtf_print;
 use std::process::Abort;
 

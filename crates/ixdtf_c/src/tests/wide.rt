@@ -1,9 +1,8 @@
 //! Each call on 16-bit units.
 
 use super::rows::{Call, DATE, DURATION, DURATION_ROWS, LIST_ROWS, ListCall, OFFSET, ROWS, TIME};
+use crate::exports::*;
 use crate::wide::{Annotation, Calendar, Record, Zone};
-use crate::wide_annotations::*;
-use crate::wide_readers::*;
 
 /// A record in which all fields are set.
 const RECORD: Record<'static> = Record {

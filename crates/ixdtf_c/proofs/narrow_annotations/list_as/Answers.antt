@@ -5,42 +5,23 @@ use Rattle.ixdtf.specs.language.Letters.{byte_letter}
 use Rattle.ixdtf_c.specs.Narrow.{annotation_by, annotation_for}
 use Rattle.ixdtf_c.proofs.Listed.{lists, lists_left, kept}
 
-pub returns-in-Err-clause-lists : goal.returns-in-Err-clause-lists
-returns-in-Err-clause-lists g c =
-    let h = c.in-Err.ensures.handles.handled in
-    let fits : length c.args.text.now ≤ 2 ^ 64 - 1 = search rules in
-    let short : length (map byte_letter c.with_profile-parser.result.rest) ≤ 2 ^ 64 - 1 =
-    rw (c.with_profile-parser.ensures.rest, c.new.ensures.rest, length-map (map (λ unit. unit) c.args.text.now) byte_letter, length-map c.args.text.now (λ unit. unit)) fits in
-    let loan = kept _ (λ state. state.0.ghost_name) (λ state annotation reply next stepped. search rules) h.plain.calls _ _ h.plain.chain in
-    let (outcome, has, listing) = lists _ annotation_by _ (λ state. state.0.now.count) (λ state. state.0.now.slots.now) annotation_for (2 ^ 64 - 1)
-    (λ state annotation reply next stepped. (search rules, search rules, search rules, search rules))
-    _ _ _ _ _ _ _ _ _ h c.in-Err.ensures.handles.no_row c.in-Err.ensures.handles.no_other_reader c.requires short in
-    rw (← (map-map byte_letter (λ unit. unit) c.args.text.now), ← c.new.ensures.rest, ← c.with_profile-parser.ensures.rest, ← c.with_profile-parser.ensures.profile)
-    (outcome, has, lists_left (search (rules, loan)) (search (rules, loan)) listing)
-
-pub returns-in-Err-clause-same_slots : goal.returns-in-Err-clause-same_slots
-returns-in-Err-clause-same_slots g c =
-    let h = c.in-Err.ensures.handles.handled in
-    let loan = kept _ (λ state. state.0.ghost_name) (λ state annotation reply next stepped. search rules) h.plain.calls _ _ h.plain.chain in
-    let slots = kept _ (λ state. state.0.now.slots.ghost_name) (λ state annotation reply next stepped. search rules) h.plain.calls _ _ h.plain.chain in
-    search (rules, loan, slots)
-
 pub returns-clause-lists : goal.returns-clause-lists
 returns-clause-lists g c =
-    let h = c.in-Ok.ensures.handles.handled in
+    let handles = c.read_lending_handler.ensures.handles in
+    let h = handles.handled in
     let fits : length c.args.text.now ≤ 2 ^ 64 - 1 = search rules in
     let short : length (map byte_letter c.with_profile-parser.result.rest) ≤ 2 ^ 64 - 1 =
     rw (c.with_profile-parser.ensures.rest, c.new.ensures.rest, length-map (map (λ unit. unit) c.args.text.now) byte_letter, length-map c.args.text.now (λ unit. unit)) fits in
     let loan = kept _ (λ state. state.0.ghost_name) (λ state annotation reply next stepped. search rules) h.plain.calls _ _ h.plain.chain in
-    let (outcome, has, listing) = lists _ annotation_by _ (λ state. state.0.now.count) (λ state. state.0.now.slots.now) annotation_for (2 ^ 64 - 1)
-    (λ state annotation reply next stepped. (search rules, search rules, search rules, search rules))
-    _ _ _ _ _ _ _ _ _ h c.in-Ok.ensures.handles.no_row c.in-Ok.ensures.handles.no_other_reader c.requires short in
+    let (outcome, has, listing) = lists _ annotation_by _ (λ state. state.0.now.count) (λ state. state.0.now.slots.now) (2 ^ 64 - 1)
+    (λ state annotation reply next stepped. (search rules, search rules, annotation_for annotation, search rules, search rules))
+    _ _ _ _ _ _ _ _ _ h handles.no_row handles.no_other_reader c.requires short in
     rw (← (map-map byte_letter (λ unit. unit) c.args.text.now), ← c.new.ensures.rest, ← c.with_profile-parser.ensures.rest, ← c.with_profile-parser.ensures.profile)
     (outcome, has, lists_left (search (rules, loan)) (search (rules, loan)) listing)
 
 pub returns-clause-same_slots : goal.returns-clause-same_slots
 returns-clause-same_slots g c =
-    let h = c.in-Ok.ensures.handles.handled in
+    let h = c.read_lending_handler.ensures.handles.handled in
     let loan = kept _ (λ state. state.0.ghost_name) (λ state annotation reply next stepped. search rules) h.plain.calls _ _ h.plain.chain in
     let slots = kept _ (λ state. state.0.now.slots.ghost_name) (λ state annotation reply next stepped. search rules) h.plain.calls _ _ h.plain.chain in
     search (rules, loan, slots)

@@ -1,5 +1,5 @@
 use Rattle.ixdtf_grammar.specs.declared.profile.Profile.TheVariants as profiles
-use Rattle.ixdtf_c.proofs.narrow_readers.ixdtf_parse.Goals as goal
+use Rattle.ixdtf_c.proofs.exports.ixdtf_parse.Goals as goal
 use Rattle.std.proofs.lemmas.List.{length-map}
 use Rattle.ixdtf.specs.language.Letters.{byte_letter}
 use Rattle.ixdtf_c.specs.Narrow.{contents}
