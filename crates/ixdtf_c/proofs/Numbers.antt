@@ -10,7 +10,7 @@ use Rattle.ixdtf.specs.table.Faults.Fault.{UnrecognizedCritical, TzLeadingChar, 
 use Rattle.ixdtf.specs.table.Faults.Fault.{MonthDayHyphen, DurationDisgnator, DurationValueExceededRange, DateDurationPartOrder, TimeDurationPartOrder}
 use Rattle.ixdtf.specs.{table.Faults.Fault.{TimeDurationDesignator, AmbiguousTimeMonthDay, AmbiguousTimeYearMonth, InvalidMonthDay}, language.Brackets.Pair}
 use Rattle.ixdtf.specs.Handlers.{Reply, RefusedBeside}
-use Rattle.ixdtf_reading.proofs.code.OneMoreReply.{refused_split}
+use Rattle.ixdtf_reading.proofs.theorems.Replies.{refused_split}
 use Rattle.ixdtf.specs.table.ErrorEquality.{location_of}
 use Rattle.ixdtf_c.specs.Numbers.{number_for}
 
