@@ -1,11 +1,12 @@
-use super::{Reader, check, check_kept, check_parsed, dated};
-use ixdtf::ParseError;
+//! Dates.
+
+use super::{check, check_parsed, dated};
 use ixdtf::encoding::Utf8;
 use ixdtf::parsers::IxdtfParser;
 use std::process::Abort;
 
 /// `IxdtfParser::parse` finds this year, month and day in the text, and nothing besides.
-pub(super) fn check_dates(rt: &impl Abort, rows: &[(&'static str, i32, u8, u8)]) {
+fn check_dates(rt: &impl Abort, rows: &[(&'static str, i32, u8, u8)]) {
     for (text, year, month, day) in rows {
         check_parsed(rt, text, &Ok(dated(*year, *month, *day, None)));
     }
@@ -36,16 +37,6 @@ const ONE_DATE_IN_FOUR_FORMS: &[(&str, i32, u8, u8)] = &[
 #[test]
 fn reads_one_date_in_four_forms(rt: HostRuntime) {
     check_dates(&rt, ONE_DATE_IN_FOUR_FORMS);
-}
-
-#[test]
-fn keeps_what_it_refused(rt: HostRuntime) {
-    check_kept(
-        &rt,
-        Reader::Parse,
-        "2020-13-01",
-        ParseError::InvalidMonthRange,
-    );
 }
 
 // Whether the parser reads 1 January 2020.

@@ -1,5 +1,8 @@
+//! The two encodings.
+
 use super::check;
-use ixdtf::encoding::{EncodingType, Utf8};
+use super::wide::Wide;
+use ixdtf::encoding::{EncodingType, Utf8, Utf16};
 use std::process::Abort;
 
 const UNITS: [u8; 3] = [0, 65, 255];
@@ -31,22 +34,21 @@ fn slices_lie_within(rt: HostRuntime) {
     check_slice(&rt, 0, 4, None);
 }
 
-fn check_keys(rt: &impl Abort, keys: &[(&'static str, bool)]) {
-    for (key, is_calendar) in keys {
-        let found = Utf8::check_calendar_key(key.as_bytes());
-        check(rt, key, found == *is_calendar);
-    }
-}
-
 const KEYS: &[(&str, bool)] = &[
     ("u-ca", true),
     ("u-cA", false),
     ("u-c", false),
     ("u-ca-", false),
+    ("\u{175}-ca", false),
     ("", false),
 ];
 
 #[test]
 fn one_key_is_of_calendars(rt: HostRuntime) {
-    check_keys(&rt, KEYS);
+    for (key, is_calendar) in KEYS {
+        let found = Utf8::check_calendar_key(key.as_bytes());
+        check(&rt, key, found == *is_calendar);
+        let found = Utf16::check_calendar_key(Wide::new(key).units());
+        assert!(rt; found == *is_calendar, "{key} in 16-bit units");
+    }
 }

@@ -4,7 +4,7 @@ ghost use Rattle.std.specs.Prelude.{◌≡◌, IfOk};
 ghost use Rattle.std.specs.String.{string_bytes};
 ghost use Rattle.ixdtf.specs.LocatedTexts.{pointed_text};
 
-use super::{AT_DIGIT, check};
+use super::{AT_DIGIT, check, check_displayed};
 use ixdtf::LocatedError;
 use ixdtf::ParseError::{self, InvalidEnd, InvalidMonthRange};
 use std::alloc::{AllocError, Global};
@@ -21,25 +21,24 @@ const AT_THE_END: LocatedError = LocatedError {
     at: 1234,
 };
 
-fn check_displayed(
+fn check_located(
     rt: &impl Abort,
     alloc: Global,
     error: LocatedError,
     text: &'static str,
 ) -> Result<(), Fail> {
-    let displayed = format!(in alloc; "{error}")?;
-    check(rt, text, displayed.as_str() == text);
+    let plain = format!(in alloc; "{error}")?;
     let wide = format!(in alloc; "{error:*>80}")?;
-    check(rt, text, wide.as_str() == text);
+    check_displayed(rt, text, plain.as_str(), wide.as_str());
     Ok(())
 }
 
 #[test]
 fn displays_the_error_and_its_place(rt: HostRuntime) -> Result<(), Fail> {
     let month = "Parsed month value not in a valid range. at 5";
-    check_displayed(&rt, rt.alloc(), AT_FIVE, month)?;
+    check_located(&rt, rt.alloc(), AT_FIVE, month)?;
     let end = "Parsing ended abruptly while parsing digit at 1234";
-    check_displayed(&rt, rt.alloc(), AT_THE_END, end)
+    check_located(&rt, rt.alloc(), AT_THE_END, end)
 }
 
 #[test]
@@ -149,16 +148,11 @@ fn long_text(alloc: Global) -> Result<String, AllocError> {
     Ok(text)
 }
 
+#[rattlefmt::skip]
 const OF_A_LONG_TEXT: &[(usize, &str)] = &[
-    (
-        150,
-        "..234567890123456789012345678901234567890123456789012345678901234567890123..\n                                                  ^",
-    ),
+    (150, "..234567890123456789012345678901234567890123456789012345678901234567890123..\n                                                  ^"),
     (0, "012345678901234567890123..\n^"),
-    (
-        300,
-        "..234567890123456789012345678901234567890123456789\n                                                  ^",
-    ),
+    (300, "..234567890123456789012345678901234567890123456789\n                                                  ^"),
 ];
 
 #[test]
@@ -184,22 +178,11 @@ fn cuts_the_front_of_a_text(rt: HostRuntime) -> Result<(), Fail> {
 // The most characters that are written before the place 48 and from it on.
 const FULL: &str = "000000000011111111112222222222333333333344444444555555555566666666667777";
 
+#[rattlefmt::skip]
 const OF_A_FULL_TEXT: &[(&str, usize, &str)] = &[
-    (
-        FULL,
-        48,
-        "000000000011111111112222222222333333333344444444555555555566666666667777\n                                                ^",
-    ),
-    (
-        FULL,
-        47,
-        "00000000001111111111222222222233333333334444444455555555556666666666777..\n                                               ^",
-    ),
-    (
-        FULL,
-        49,
-        "..00000000011111111112222222222333333333344444444555555555566666666667777\n                                                  ^",
-    ),
+    (FULL, 48, "000000000011111111112222222222333333333344444444555555555566666666667777\n                                                ^"),
+    (FULL, 47, "00000000001111111111222222222233333333334444444455555555556666666666777..\n                                               ^"),
+    (FULL, 49, "..00000000011111111112222222222333333333344444444555555555566666666667777\n                                                  ^"),
 ];
 
 #[test]

@@ -1,69 +1,36 @@
+//! Offsets alone, and after a time.
+
+use super::Nanoseconds::Exact;
 use super::{
-    AT_OFFSET, Found, Reader, check, check_found, check_fraction, check_once_read, check_parsed,
-    dated, fraction_of, long, minutes, morning, short, timed,
+    Found, Reader, check, check_found, check_fraction, check_parsed, dated, fraction_of, long,
+    minutes, morning, short, timed,
 };
-use ixdtf::ParseError;
-use ixdtf::records::{Sign, UtcOffsetRecord, UtcOffsetRecordOrZ};
+use ixdtf::records::Sign::{self, Negative, Positive};
+use ixdtf::records::{UtcOffsetRecord, UtcOffsetRecordOrZ};
 use std::process::Abort;
 
 fn check_offset(rt: &impl Abort, text: &'static str, offset: UtcOffsetRecord) {
     check_found(rt, Reader::Offset, text, &Ok(Found::Offset(offset)));
 }
 
-/// An offset of hours and minutes.
-struct Short {
-    text: &'static str,
-    sign: Sign,
-    hour: u8,
-    minute: u8,
-}
-
-fn check_short(rt: &impl Abort, rows: &[Short]) {
-    for row in rows {
-        check_offset(rt, row.text, short(row.sign, row.hour, row.minute));
-    }
-}
+/// A text, and an offset by its sign, hours and minutes.
+pub(super) type Short = (&'static str, Sign, u8, u8);
 
 const OFFSETS: &[Short] = &[
-    Short {
-        text: "+05",
-        sign: Sign::Positive,
-        hour: 5,
-        minute: 0,
-    },
-    Short {
-        text: "-0530",
-        sign: Sign::Negative,
-        hour: 5,
-        minute: 30,
-    },
-    Short {
-        text: "-05:30",
-        sign: Sign::Negative,
-        hour: 5,
-        minute: 30,
-    },
-    Short {
-        text: "-00:00",
-        sign: Sign::Negative,
-        hour: 0,
-        minute: 0,
-    },
+    ("+05", Positive, 5, 0),
+    ("-0530", Negative, 5, 30),
+    ("-05:30", Negative, 5, 30),
+    ("-00:00", Negative, 0, 0),
 ];
 
 #[test]
 fn reads_offsets(rt: HostRuntime) {
-    check_short(&rt, OFFSETS);
-}
-
-// East of Greenwich by hours, minutes and seconds.
-fn check_east(rt: &impl Abort, rows: &[(&'static str, u8, u8, u8)]) {
-    for (text, hour, minute, second) in rows {
-        let offset = long(minutes(Sign::Positive, *hour, *minute), *second, None);
-        check_offset(rt, text, offset);
+    for (text, sign, hour, minute) in OFFSETS {
+        check_offset(&rt, text, short(*sign, *hour, *minute));
     }
 }
 
+// East of Greenwich by hours, minutes and seconds.
 const OFFSETS_WITH_SECONDS: &[(&str, u8, u8, u8)] = &[
     ("+235959", 23, 59, 59),
     ("+01:00:00", 1, 0, 0),
@@ -71,18 +38,13 @@ const OFFSETS_WITH_SECONDS: &[(&str, u8, u8, u8)] = &[
 
 #[test]
 fn reads_offsets_with_seconds(rt: HostRuntime) {
-    check_east(&rt, OFFSETS_WITH_SECONDS);
-}
-
-// Half a minute, five hours to the west, with a fraction of these nanoseconds.
-fn check_fractional(rt: &impl Abort, rows: &[(&'static str, u32)]) {
-    for (text, nanoseconds) in rows {
-        let fraction = fraction_of(text);
-        check_fraction(rt, text, &fraction, *nanoseconds, false);
-        check_offset(rt, text, long(minutes(Sign::Negative, 5, 0), 30, fraction));
+    for (text, hour, minute, second) in OFFSETS_WITH_SECONDS {
+        let offset = long(minutes(Positive, *hour, *minute), *second, None);
+        check_offset(&rt, text, offset);
     }
 }
 
+// Half a minute, five hours to the west, with a fraction of these nanoseconds.
 const OFFSETS_WITH_FRACTIONS: &[(&str, u32)] = &[
     ("-050030,25", 250_000_000),
     ("-05:00:30.5", 500_000_000),
@@ -91,7 +53,11 @@ const OFFSETS_WITH_FRACTIONS: &[(&str, u32)] = &[
 
 #[test]
 fn reads_offsets_with_fractions(rt: HostRuntime) {
-    check_fractional(&rt, OFFSETS_WITH_FRACTIONS);
+    for (text, nanoseconds) in OFFSETS_WITH_FRACTIONS {
+        let fraction = fraction_of(text);
+        check_fraction(&rt, text, &fraction, Exact(*nanoseconds));
+        check_offset(&rt, text, long(minutes(Negative, 5, 0), 30, fraction));
+    }
 }
 
 fn check_morning(rt: &impl Abort, text: &'static str, offset: UtcOffsetRecord) {
@@ -99,43 +65,19 @@ fn check_morning(rt: &impl Abort, text: &'static str, offset: UtcOffsetRecord) {
     check_parsed(rt, text, &Ok(morning(offset, None, None)));
 }
 
-fn check_mornings(rt: &impl Abort, rows: &[Short]) {
-    for row in rows {
-        check_morning(rt, row.text, short(row.sign, row.hour, row.minute));
-    }
-}
-
 const OFFSETS_AFTER_TIMES: &[Short] = &[
-    Short {
-        text: "2024-03-02T08:48:00-05:00",
-        sign: Sign::Negative,
-        hour: 5,
-        minute: 0,
-    },
-    Short {
-        text: "2024-03-02T08:48-05",
-        sign: Sign::Negative,
-        hour: 5,
-        minute: 0,
-    },
-    Short {
-        text: "20240302t084800-0530",
-        sign: Sign::Negative,
-        hour: 5,
-        minute: 30,
-    },
-    Short {
-        text: "2024-03-02 08:48:00-00:00",
-        sign: Sign::Negative,
-        hour: 0,
-        minute: 0,
-    },
+    ("2024-03-02T08:48:00-05:00", Negative, 5, 0),
+    ("2024-03-02T08:48-05", Negative, 5, 0),
+    ("20240302t084800-0530", Negative, 5, 30),
+    ("2024-03-02 08:48:00-00:00", Negative, 0, 0),
 ];
 
 #[test]
 fn reads_offsets_after_times(rt: HostRuntime) {
-    check_mornings(&rt, OFFSETS_AFTER_TIMES);
-    let hour = long(minutes(Sign::Positive, 1, 0), 0, None);
+    for (text, sign, hour, minute) in OFFSETS_AFTER_TIMES {
+        check_morning(&rt, text, short(*sign, *hour, *minute));
+    }
+    let hour = long(minutes(Positive, 1, 0), 0, None);
     check_morning(&rt, "2024-03-02 08:48:00+01:00:00", hour);
 }
 
@@ -145,31 +87,11 @@ fn reads_utc(rt: HostRuntime) {
     record.offset = Some(UtcOffsetRecordOrZ::Z);
     check_parsed(&rt, "2020-01-01T00:00z", &Ok(record));
     let resolved = UtcOffsetRecordOrZ::Z.resolve_rfc_9557();
-    check(&rt, "Z", resolved == short(Sign::Negative, 0, 0));
+    check(&rt, "Z", resolved == short(Negative, 0, 0));
 }
 
 #[test]
 fn reads_the_offset_that_z_resolves_to(rt: HostRuntime) {
     let zulu = UtcOffsetRecordOrZ::Z.resolve_rfc_9557();
     check_morning(&rt, "2024-03-02T08:48:00-00:00", zulu);
-}
-
-const BEFORE_AN_OFFSET: &[(Reader, ParseError)] = &[(
-    Reader::Identifier,
-    ParseError::InvalidMinutePrecisionOffset,
-)];
-
-const BEHIND_AN_OFFSET: &[(Reader, ParseError)] = &[(Reader::Offset, AT_OFFSET)];
-
-#[test]
-fn reads_an_offset_once(rt: HostRuntime) {
-    let offset = Found::Offset(long(minutes(Sign::Positive, 1, 0), 30, None));
-    check_once_read(
-        &rt,
-        "+01:00:30",
-        BEFORE_AN_OFFSET,
-        Reader::Offset,
-        &Ok(offset),
-        BEHIND_AN_OFFSET,
-    );
 }

@@ -1,6 +1,6 @@
 //! Texts under both profiles: month-days, times and durations.
 
-use super::durations::{dated as lasting, hours, lasts};
+use super::durations::{Units, dated as lasting, lasts, timed as lasting_time};
 use super::wide::Wide;
 use super::{
     Found, Parsers, Reader, alone, check, check_reader, check_refusals, dated, short, timed,
@@ -115,12 +115,9 @@ fn reads_minutes_of_zero_strictly(rt: HostRuntime) {
     check_refused_in_both(&rt, Reader::Time, TIMES);
 }
 
+#[rattlefmt::skip]
 const DURATIONS: &[Refused] = &[
-    (
-        "P1Y4294967296Y",
-        DurationValueExceededRange,
-        DateDurationPartOrder,
-    ),
+    ("P1Y4294967296Y", DurationValueExceededRange, DateDurationPartOrder),
     ("PT0.5H1H", InvalidEnd, InvalidEnd),
 ];
 
@@ -129,7 +126,7 @@ fn reads_no_unit_twice_strictly(rt: HostRuntime) {
     let years = duration(lasting(2, 0, 0, 0), None);
     let refused = Err(DateDurationPartOrder);
     check_both(&rt, Reader::Duration, "P1Y2Y", &years, &refused);
-    let time = duration(None, hours(2, None));
+    let time = duration(None, lasting_time(Units::Hours(2), None));
     let refused = Err(TimeDurationPartOrder);
     check_both(&rt, Reader::Duration, "PT1H2H", &time, &refused);
     check_refused_in_both(&rt, Reader::Duration, DURATIONS);
