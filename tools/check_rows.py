@@ -28,7 +28,7 @@ from places import Annotation, Error, Fault, Handler
 ROOT = os.path.dirname(TOOLS)
 
 # a source has at least so many rows
-LEAST = {'tests': 850, 'examples': 20, 'proofs': 2500, 'C': 700}
+LEAST = {'tests': 1180, 'examples': 20, 'proofs': 2500, 'C': 700}
 
 
 # ---------------------------------------------------------------------------------------------------------------------------------
@@ -213,7 +213,8 @@ def unescaped(literal: str) -> Union[str, bytes]:
 READERS = {'Parse': 'parse', 'YearMonth': 'parse_year_month', 'MonthDay': 'parse_month_day', 'Time': 'parse_time',
            'Offset': 'parse_offset', 'Identifier': 'parse_identifier', 'IanaIdentifier': 'parse_iana_identifier', 'Duration': 'duration'}
 CONSTANT = re.compile(r'^\s*(?:pub(?:\(\w+\))? )?(?:const|static) (\w+):[^=]*=\s', re.M)
-CALL = re.compile(r'(?<!fn )\bcheck_(refused|wide_refused|no_letter|refused_in_both|refused_replies|wide_refusals)\(')
+CALL = re.compile(r'(?<!fn )\bcheck_(refused|no_letter|scanned|refused_in_both|refused_replies|no_letter_replies|heeded)\(')
+NO_LETTER = Error('NonAsciiCodePoint')
 
 
 class TestFile:
@@ -243,10 +244,16 @@ class TestFile:
             if isinstance(values[-1], list) and READERS.get(getattr(values[0], 'name', 'Parse')):
                 yield from getattr(self, call[1])(*values)
 
-    def row(self, reader: Value, text: str, error: Value, place: Optional[int], **others) -> Row:
+    def row(self, reader: Value, text: str, error: Optional[Error], place: Optional[int], **others) -> Row:
         """A row of these parts, of 8-bit code units where nothing else is said."""
         units = tuple(map(ord, text)) if others.get('wide') else tuple(text.encode())
-        return Row(self.path, READERS[reader.name], False, False, units, self.error(error), place)._replace(**others)
+        return Row(self.path, READERS[reader.name], False, False, units, error, place)._replace(**others)
+
+    def both(self, reader: Value, text: str, fault: tuple[Optional[Error], Optional[int]], wide_fault: tuple[Optional[Error], Optional[int]],
+             **others) -> Iterator[Row]:
+        """A text of 8-bit code units, and of 16-bit ones, each a character."""
+        yield self.row(reader, text, *fault, **others)
+        yield self.row(reader, text, *wide_fault, wide=True, **others)
 
     def error(self, value: Value) -> Error:
         """The error that a value is."""
@@ -254,39 +261,42 @@ class TestFile:
         return Error(named.name, named.fields.get('location'))
 
     def refused(self, reader: Value, table: list) -> Iterator[Row]:
-        """Texts of 8-bit code units, and where they are ASCII of 16-bit ones."""
-        for error, texts in table:
-            for text, place in self.resolved(texts):
-                yield self.row(reader, text, error, place)
-                if text.isascii():
-                    yield self.row(reader, text, error, place, wide=True)
+        """Texts that are refused alike in both widths."""
+        for text, error, place in map(self.resolved, table):
+            fault = self.error(error), place
+            yield from self.both(reader, text, fault, fault)
 
-    def wide_refused(self, reader: Value, table: list) -> Iterator[Row]:
-        """Texts whose characters are 16-bit code units."""
-        for error, texts in table:
-            for text, place in self.resolved(texts):
-                yield self.row(reader, text, error, place, wide=True)
+    def no_letter(self, reader: Value, table: list) -> Iterator[Row]:
+        """Texts that are refused at a bad code unit, in 16-bit code units for that one."""
+        for text, error, place in map(self.resolved, table):
+            yield from self.both(reader, text, (self.error(error), place), (NO_LETTER, place))
 
-    def no_letter(self, reader: Value, texts: list) -> Iterator[Row]:
-        """Texts that are refused for a bad code unit."""
-        return self.wide_refused(reader, [(Named('NonAsciiCodePoint'), texts)])
+    def scanned(self, table: list) -> Iterator[Row]:
+        """Texts that are refused at one place, and in 16-bit code units for a bad one at another."""
+        for reader, text, error, place, bad in map(self.resolved, table):
+            yield from self.both(reader, text, (self.error(error), place), (NO_LETTER, bad))
 
     def refused_in_both(self, reader: Value, table: list) -> Iterator[Row]:
         """Texts with their errors under both profiles."""
-        for text, error, strictly in table:
-            yield self.row(reader, text, error, None)
-            yield self.row(reader, text, strictly, None, strict=True)
+        for text, error, strictly in map(self.resolved, table):
+            yield self.row(reader, text, self.error(error), None)
+            yield self.row(reader, text, self.error(strictly), None, strict=True)
 
-    def refused_replies(self, table: list, wide: bool = False) -> Iterator[Row]:
-        """Texts with a handler."""
-        for error, texts in table:
-            for asked in map(self.resolved, self.resolved(texts)):
-                form, text, kind, place = (asked.fields[it] for it in ('form', 'text', 'kind', 'place'))
-                yield self.row(form, text, error, place.arguments[0], wide=wide, handler=HANDLERS[kind.name])
+    def refused_replies(self, table: list) -> Iterator[Row]:
+        """Texts that are refused alike in both widths, with a handler."""
+        for (form, kind, text, _), error, place in map(self.resolved, table):
+            fault = self.error(error), place
+            yield from self.both(form, text, fault, fault, handler=HANDLERS[kind.name])
 
-    def wide_refusals(self, table: list) -> Iterator[Row]:
-        """Texts of 16-bit code units with a handler."""
-        return self.refused_replies(table, wide=True)
+    def no_letter_replies(self, table: list) -> Iterator[Row]:
+        """Texts that are refused at a bad code unit, with a handler."""
+        for (form, kind, text, _), error, place in map(self.resolved, table):
+            yield from self.both(form, text, (self.error(error), place), (NO_LETTER, place), handler=HANDLERS[kind.name])
+
+    def heeded(self, table: list) -> Iterator[Row]:
+        """Texts that are read, with a handler."""
+        for (form, kind, text, _), *_ in map(self.resolved, table):
+            yield from self.both(form, text, (None, None), (None, None), handler=HANDLERS[kind.name])
 
 
 # ---------------------------------------------------------------------------------------------------------------------------------

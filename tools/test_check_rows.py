@@ -78,18 +78,21 @@ ABOVE = '''
 const AT_DIGIT: ParseError = AbruptEnd { location: "digit" };
 '''
 TABLES = '''
-const DATES: &[(ParseError, &[(&str, usize)])] = &[
-    (AT_DIGIT, &[("2020-", 5)]), // a digit
-    (InvalidEnd, &[("2020-01-01é", 10)]),
+const DATES: &[Refused] = &[
+    ("2020-", AT_DIGIT, 5), // a digit
+    ("2020-01-01x", InvalidEnd, 10),
 ];
-const BAD: &[(&str, usize)] = &[("2020\\u{130}", 4)];
-const REPLIES: &[Asked] = &[Asked { form: Form::Time, text: "T12[!a=b]", kind: Kind::HandsBack, calls: "[!a=b]", place: Some(9) }];
-fn check_refused(rt: &impl Abort, reader: Reader, rows: &[(ParseError, &[(&'static str, usize)])]) {}
+const BAD: &[Refused] = &[("2020\\u{130}", DateMonth, 4)];
+const REPLIES: &[RefusedReply] = &[((Time, HandsBack, "T12[!a=b]", "[!a=b]"), UnrecognizedCritical, 9)];
+fn check_refused(rt: &impl Abort, reader: Reader, rows: &[Refused]) {}
 fn all() {
     check_refused(&rt, Reader::Parse, DATES);
     check_no_letter(&rt, Reader::Parse, BAD);
+    check_scanned(&rt, &[(Reader::Parse, "2020-01-01[a!\\u{130}]", IanaChar, 12, 13)]);
     check_refused_in_both(&rt, Reader::MonthDay, &[("11-001", InvalidEnd, InvalidMonthDay)]);
-    check_refused_replies(&rt, &[(UnrecognizedCritical, REPLIES)]);
+    check_refused_replies(&rt, REPLIES);
+    check_no_letter_replies(&rt, &[((Parse, RepliesNone, "2020-01-01\\u{130}", ""), InvalidEnd, 10)]);
+    check_heeded(&rt, &[((MonthDay, RepliesNone, "11-07[!a=b]", "[!a=b]"), NOVEMBER_7, None, None)]);
 }
 '''
 
@@ -106,16 +109,26 @@ class Sources(unittest.TestCase):
         self.assertEqual(self.texts(rows), [
             ('parse', False, False, '2020-', 'AbruptEnd digit', 5),
             ('parse', False, True, '2020-', 'AbruptEnd digit', 5),
-            ('parse', False, False, '2020-01-01\xc3\xa9', 'InvalidEnd', 10),
+            ('parse', False, False, '2020-01-01x', 'InvalidEnd', 10),
+            ('parse', False, True, '2020-01-01x', 'InvalidEnd', 10),
+            ('parse', False, False, '2020\xc4\xb0', 'DateMonth', 4),
             ('parse', False, True, '2020\u0130', 'NonAsciiCodePoint', 4),
+            ('parse', False, False, '2020-01-01[a!\xc4\xb0]', 'IanaChar', 12),
+            ('parse', False, True, '2020-01-01[a!\u0130]', 'NonAsciiCodePoint', 13),
             ('parse_month_day', False, False, '11-001', 'InvalidEnd', None),
             ('parse_month_day', True, False, '11-001', 'InvalidMonthDay', None),
-            ('parse_time', False, False, 'T12[!a=b]', 'UnrecognizedCritical', 9)])
-        self.assertIs(rows[-1].handler, check.GIVES_BACK)
+            ('parse_time', False, False, 'T12[!a=b]', 'UnrecognizedCritical', 9),
+            ('parse_time', False, True, 'T12[!a=b]', 'UnrecognizedCritical', 9),
+            ('parse', False, False, '2020-01-01\xc4\xb0', 'InvalidEnd', 10),
+            ('parse', False, True, '2020-01-01\u0130', 'NonAsciiCodePoint', 10),
+            ('parse_month_day', False, False, '11-07[!a=b]', None, None),
+            ('parse_month_day', False, True, '11-07[!a=b]', None, None)])
+        self.assertIs(rows[10].handler, check.GIVES_BACK)
+        self.assertIs(rows[-1].handler, check.GIVES_NONE)
 
     def test_a_table_that_cannot_be_read(self):
         with self.assertRaises(ValueError):
-            list(TestFile('file', 'check_refused(&rt, Reader::Parse, &[(*error, DATES)]);' + TABLES, TestFile('above', ABOVE)).rows())
+            list(TestFile('file', 'check_refused(&rt, Reader::Parse, &[(*text, DATES, 0)]);' + TABLES, TestFile('above', ABOVE)).rows())
 
     def test_examples(self):
         rows = check.rows_of_examples('file', '''
@@ -216,7 +229,7 @@ class Repository(unittest.TestCase):
         for source, least in check.LEAST.items():
             self.assertGreaterEqual(len(rows[source]), least, source)
         of_tests = {os.path.basename(it.path) for it in rows['tests']}
-        self.assertLessEqual({'replies.rt', 'replies_in_parts.rt', 'refused.rt', 'wide_refused.rt', 'profiles.rt'}, of_tests)
+        self.assertLessEqual({'refused.rt', 'wide_refused.rt', 'replies.rt', 'refused_replies.rt', 'profiles.rt'}, of_tests)
         for source in rows.values():
             self.assertTrue(any(it.error and it.error.location for it in source))
 

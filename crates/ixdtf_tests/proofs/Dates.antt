@@ -70,8 +70,8 @@ dates = refl
 
 -- ---- texts that are no date
 
--- in a year
-no_year : Compute parse (
+no_date : Compute parse (
+    -- in a year
     ends (codes "2") (of_date year_digits) abrupt_digit
     ∷ ends (codes "20") (of_date year_digits) abrupt_digit
     ∷ goes_off (codes "20") (codes "-06-05") (of_date year_digits) DateYear
@@ -79,13 +79,8 @@ no_year : Compute parse (
     ∷ ends (codes "-00000") (of_date extended_year_digits) abrupt_digit
     ∷ goes_off (codes "-") (codes "P12Y") (of_date extended_year_digits) DateExtendedYear
     ∷ stands (codes "-000000") (codes "-11-08") (of_date minus_zero_year) DateExtendedYear
-    ∷ [])
-unfolding all_readings
-no_year = refl
-
--- in a month
-no_month : Compute parse (
-    goes_off (codes "02020") (codes "-01-01") (of_date month_digits) DateMonth
+    -- in a month
+    ∷ goes_off (codes "02020") (codes "-01-01") (of_date month_digits) DateMonth
     ∷ goes_off (codes "2020-") (codes "W01-1") (of_date month_digits) DateMonth
     ∷ goes_off (codes "-1000000") (codes "-11-08") (of_date month_digits) DateMonth
     ∷ ends (codes "2020-0") (of_date month_digits) abrupt_digit
@@ -96,13 +91,8 @@ no_month : Compute parse (
     ∷ stands (codes "202000") [] (of_date month_range) InvalidMonthRange
     ∷ stands (codes "2020-13") (codes "-01") (of_date month_range) InvalidMonthRange
     ∷ stands (codes "2020-13") (codes "x") (of_date month_range) InvalidMonthRange
-    ∷ [])
-unfolding all_readings
-no_month = refl
-
--- in a day, and after it
-no_day : Compute parse (
-    goes_off (codes "2020-01") (codes "01") (of_date after_hyphened_month) DateSeparator
+    -- in a day, and after it
+    ∷ goes_off (codes "2020-01") (codes "01") (of_date after_hyphened_month) DateSeparator
     ∷ goes_off (codes "202206") (codes "-05") (of_date after_basic_month) DateSeparator
     ∷ ends (codes "2020010") (of_date day_digits) abrupt_digit
     ∷ ends (codes "2020-01-0") (of_date day_digits) abrupt_digit
@@ -118,27 +108,19 @@ no_day : Compute parse (
     ∷ goes_off (codes "+1000000110") (codes "8") (of_date after_date) InvalidEnd
     ∷ goes_off (codes "2020-01-01") (codes "+05:00") (of_date after_date) InvalidEnd
     ∷ goes_off (codes "2020-01-01") (codes "Z") (of_date after_date) InvalidEnd
-    ∷ [])
-unfolding all_readings
-no_day = refl
-
--- ---- bad code units, and the mask, which has 128 in their place
-
-bad_in_dates : Compute parse (
-    (Bad ∷ text_of (codes "020-01-01"), stops (of_date year_start) (bad ((Bad ∷ []) ++ text_of (codes "020-01-01"))) NonAsciiCodePoint)
+    -- a bad code unit
+    ∷ (Bad ∷ text_of (codes "020-01-01"), stops (of_date year_start) (bad ((Bad ∷ []) ++ text_of (codes "020-01-01"))) NonAsciiCodePoint)
     ∷ (and_bad (codes "2020-13-01"), stops (of_date month_range) (anywhere (text_of (codes "-01") ++ (Bad ∷ []))) InvalidMonthRange)
     ∷ (and_bad (codes "2020-02-30"), stops (of_date day_range) (anywhere (Bad ∷ [])) InvalidDayRange)
     ∷ (and_bad (codes "-000000"), stops (of_date minus_zero_year) (anywhere (Bad ∷ [])) DateExtendedYear)
-    ∷ [])
-unfolding all_readings
-bad_in_dates = refl
-
-masked_dates : Compute parse (
-    goes_off [] ((128 ∷ []) ++ codes "020-01-01") (of_date year_start) DateYear
+    -- the mask of one, which has 128 in its place
+    ∷ goes_off [] ((128 ∷ []) ++ codes "020-01-01") (of_date year_start) DateYear
     ∷ stands (codes "2020-13") (codes "-01" ++ (128 ∷ [])) (of_date month_range) InvalidMonthRange
     ∷ goes_off (codes "2020-01-01") (128 ∷ []) (of_date after_date) InvalidEnd
     -- `é` in UTF-8
     ∷ goes_off (codes "2020-01-01") (195 ∷ 169 ∷ []) (of_date after_date) InvalidEnd
     ∷ [])
 unfolding all_readings
-masked_dates = refl
+no_date = refl
+
+-- ---- bad code units, and the mask, which has 128 in their place

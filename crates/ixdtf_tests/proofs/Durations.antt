@@ -125,14 +125,8 @@ no_duration : (profile : Profile) → Compute (parse_duration profile) (
     ∷ goes_off (codes "P1Y1M1W1DT1H0.5M") (codes "0.5S") (of_duration profile after_fraction_group) InvalidEnd
     ∷ meets_bad (codes "P1Y1") (of_duration profile (group_digits date))
     ∷ meets_bad (codes "PT1H1") (of_duration profile (group_digits time))
-    ∷ [])
-unfolding all_readings
-no_duration Crate = refl
-no_duration Strict = refl
-
--- what is wrong with a number, or with the code unit after it
-no_group : (profile : Profile) → Compute (parse_duration profile) (
-    goes_off (codes "P1Y1M1W0") (codes ",5D") (of_duration profile (group_digits date)) abrupt_date_designator
+    -- what is wrong with a number, or with the code unit after it
+    ∷ goes_off (codes "P1Y1M1W0") (codes ",5D") (of_duration profile (group_digits date)) abrupt_date_designator
     ∷ goes_off (codes "P4294967296") (codes "X") (of_duration profile (group_digits date)) abrupt_date_designator
     ∷ goes_off (codes "P1") (codes "H") (of_duration profile (group_digits date)) abrupt_date_designator
     ∷ stands (codes "P18446744073709551616") (codes "D") (of_duration profile (group_value_range date)) DurationValueExceededRange
@@ -142,14 +136,8 @@ no_group : (profile : Profile) → Compute (parse_duration profile) (
     ∷ (and_bad (codes "P18446744073709551616"), stops (of_duration profile (group_value_range date)) (anywhere (Bad ∷ [])) DurationValueExceededRange)
     ∷ stands (codes "P4294967296W") [] (of_duration profile date_unit_range) DurationValueExceededRange
     ∷ (and_bad (codes "P4294967296m"), stops (of_duration profile date_unit_range) (anywhere (Bad ∷ [])) DurationValueExceededRange)
-    ∷ [])
-unfolding all_readings
-no_group Crate = refl
-no_group Strict = refl
-
--- a group behind one of a shorter unit
-no_order : (profile : Profile) → Compute (parse_duration profile) (
-    stands (codes "P1Y1M1Y") [] (of_duration profile (unit_order date)) DateDurationPartOrder
+    -- a group behind one of a shorter unit
+    ∷ stands (codes "P1Y1M1Y") [] (of_duration profile (unit_order date)) DateDurationPartOrder
     ∷ stands (codes "P1D1Y") (codes "1") (of_duration profile (unit_order date)) DateDurationPartOrder
     -- the order comes before the range
     ∷ stands (codes "P1D4294967296Y") [] (of_duration profile (unit_order date)) DateDurationPartOrder
@@ -158,5 +146,5 @@ no_order : (profile : Profile) → Compute (parse_duration profile) (
     ∷ stands (codes "PT1M1H") [] (of_duration profile (unit_order time)) TimeDurationPartOrder
     ∷ [])
 unfolding all_readings
-no_order Crate = refl
-no_order Strict = refl
+no_duration Crate = refl
+no_duration Strict = refl

@@ -47,32 +47,7 @@ brackets : Compute parse (
 unfolding all_readings
 brackets = refl
 
--- ---- whether a first bracket is a zone or a pair
-
--- what begins as a key may, with no `=` and no `]` before the end, or before a bad code unit
-open_brackets : Compute parse (
-    ends (codes "2020-01-01[!cet") (of_bracket first_bracket_scan) abrupt_bracket
-    ∷ ends (codes "2020-01-01[a!") (of_bracket first_bracket_scan) abrupt_bracket
-    ∷ meets_bad (codes "2020-01-01[a!") (of_bracket first_bracket_scan)
-    ∷ meets_bad (codes "2020-01-01[!a") (of_bracket first_bracket_scan)
-    ∷ (and_bad (codes "2020-01-01[cet!") ++ text_of (codes "]"), stops (of_bracket first_bracket_scan) (bad ((Bad ∷ []) ++ text_of (codes "]"))) NonAsciiCodePoint)
-    ∷ (and_bad (codes "2020-01-01[a") ++ text_of (codes "=b]"), stops (of_bracket first_bracket_scan) (bad ((Bad ∷ []) ++ text_of (codes "=b]"))) NonAsciiCodePoint)
-    ∷ [])
-unfolding all_readings
-open_brackets = refl
-
--- with a `]` first it is a name, and with a `=` first a key
-told_brackets : Compute parse (
-    goes_off (codes "2020-01-01[a") (codes "!]=") (of_zone in_zone_name) IanaChar
-    ∷ goes_off (codes "2020-01-01[a") (codes "!=]") (of_pair in_key) AnnotationKeyChar
-    ∷ (and_bad (codes "2020-01-01[a!]"), stops (of_zone in_zone_name) (other (text_of (codes "!]") ++ (Bad ∷ []))) IanaChar)
-    ∷ (and_bad (codes "2020-01-01[a=!"), stops (of_pair value_start) (other (text_of (codes "!") ++ (Bad ∷ []))) AnnotationValueChar)
-    ∷ (and_bad (codes "2020-01-01[A!"), stops (of_zone in_zone_name) (other (text_of (codes "!") ++ (Bad ∷ []))) IanaChar)
-    ∷ [])
-unfolding all_readings
-told_brackets = refl
-
--- ---- texts with another bracket
+-- ---- texts with another bracket, and whether a first bracket is a zone or a pair
 
 no_bracket : Compute parse (
     goes_off (codes "2020-01-01[!") (codes "]") (of_bracket first_critical_start) TzLeadingChar
@@ -81,14 +56,22 @@ no_bracket : Compute parse (
     ∷ goes_off (codes "2020-01-01[") (codes "=a]") (of_bracket first_bracket_start) TzLeadingChar
     ∷ goes_off (codes "2020-01-01[+") (codes "]") (of_clock MinuteOffset hour_start) TimeHour
     ∷ goes_off (codes "2020-01-01T00:00:00+00:00[UTC]") (codes "junk") (of_bracket after_bracket) InvalidEnd
-    ∷ [])
-unfolding all_readings
-no_bracket = refl
-
--- after a bracket with a pair
-after_a_pair : Compute parse (
-    (text_of (codes "2020-01-01[a=b]junk"), stops_after (tagged false (codes "a") (codes "b") ∷ []) (of_bracket after_bracket) (other (text_of (codes "junk"))) InvalidEnd)
+    -- what begins as a key may, with no `=` and no `]` before the end, or before a bad code unit
+    ∷ ends (codes "2020-01-01[!cet") (of_bracket first_bracket_scan) abrupt_bracket
+    ∷ ends (codes "2020-01-01[a!") (of_bracket first_bracket_scan) abrupt_bracket
+    ∷ meets_bad (codes "2020-01-01[a!") (of_bracket first_bracket_scan)
+    ∷ meets_bad (codes "2020-01-01[!a") (of_bracket first_bracket_scan)
+    ∷ (and_bad (codes "2020-01-01[cet!") ++ text_of (codes "]"), stops (of_bracket first_bracket_scan) (bad ((Bad ∷ []) ++ text_of (codes "]"))) NonAsciiCodePoint)
+    ∷ (and_bad (codes "2020-01-01[a") ++ text_of (codes "=b]"), stops (of_bracket first_bracket_scan) (bad ((Bad ∷ []) ++ text_of (codes "=b]"))) NonAsciiCodePoint)
+    -- with a `]` first it is a name, and with a `=` first a key
+    ∷ goes_off (codes "2020-01-01[a") (codes "!]=") (of_zone in_zone_name) IanaChar
+    ∷ goes_off (codes "2020-01-01[a") (codes "!=]") (of_pair in_key) AnnotationKeyChar
+    ∷ (and_bad (codes "2020-01-01[a!]"), stops (of_zone in_zone_name) (other (text_of (codes "!]") ++ (Bad ∷ []))) IanaChar)
+    ∷ (and_bad (codes "2020-01-01[a=!"), stops (of_pair value_start) (other (text_of (codes "!") ++ (Bad ∷ []))) AnnotationValueChar)
+    ∷ (and_bad (codes "2020-01-01[A!"), stops (of_zone in_zone_name) (other (text_of (codes "!") ++ (Bad ∷ []))) IanaChar)
+    -- after a bracket with a pair
+    ∷ (text_of (codes "2020-01-01[a=b]junk"), stops_after (tagged false (codes "a") (codes "b") ∷ []) (of_bracket after_bracket) (other (text_of (codes "junk"))) InvalidEnd)
     ∷ (and_bad (codes "2020-01-01[a=b]"), stops_after (tagged false (codes "a") (codes "b") ∷ []) (of_bracket after_bracket) (bad (Bad ∷ [])) NonAsciiCodePoint)
     ∷ [])
 unfolding all_readings
-after_a_pair = refl
+no_bracket = refl

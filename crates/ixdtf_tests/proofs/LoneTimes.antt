@@ -92,9 +92,10 @@ unfolding all_readings
 times_alone Crate = refl
 times_alone Strict = refl
 
--- ---- texts that read as something else
+-- ---- texts that are no time, or read as something else
 
-ambiguous : (profile : Profile) → Compute (parse_time profile) (
+no_time_alone : (profile : Profile) → Compute (parse_time profile) (
+    -- what reads as something else
     stands (codes "0229") [] (of_time (time_reads_as_month_day profile)) AmbiguousTimeMonthDay
     ∷ stands (codes "1208") (codes "-10") (of_time (time_reads_as_month_day profile)) AmbiguousTimeMonthDay
     ∷ stands (codes "1214") (codes "30") (of_time (time_reads_as_month_day profile)) AmbiguousTimeMonthDay
@@ -104,15 +105,8 @@ ambiguous : (profile : Profile) → Compute (parse_time profile) (
     -- nothing inside a bracket is looked at
     ∷ stands (codes "1214") (codes "[") (of_time (time_reads_as_month_day profile)) AmbiguousTimeMonthDay
     ∷ ends (codes "T1214[") (of_bracket first_bracket_start) abrupt_bracket
-    ∷ [])
-unfolding all_readings
-ambiguous Crate = refl
-ambiguous Strict = refl
-
--- ---- texts that are no time
-
-no_time_alone : (profile : Profile) → Compute (parse_time profile) (
-    stands (codes "24") (codes "-12-08") (of_clock_time hour_range) TimeHour
+    -- what is no time
+    ∷ stands (codes "24") (codes "-12-08") (of_clock_time hour_range) TimeHour
     ∷ goes_off (codes "202408") (codes "01") (of_clock_time after_second) InvalidEnd
     ∷ goes_off (codes "T19:12") (codes "0-08") (of_clock_time after_colon_minute) TimeSeparator
     ∷ goes_off (codes "T19-12") (codes "-08") (of_clock OffsetClock after_hour) InvalidEnd

@@ -147,16 +147,22 @@ offsets : Compute parse_offset (
 unfolding all_readings
 offsets = refl
 
-offsets_after_times : Compute parse (
+offsets_beside_dates : Compute parse (
+    -- after times
     gives (codes "2024-03-02T08:48:00-05:00") (morning (Some (Offset (short Negative 5 0))) None)
     ∷ gives (codes "2024-03-02T08:48-05") (morning (Some (Offset (short Negative 5 0))) None)
     ∷ gives (codes "2024-03-02T08:48:00-00:00") (morning (Some (Offset (short Negative 0 0))) None)
     ∷ gives (codes "2024-03-02 08:48:00+01:00:00") (morning (Some (Offset (long Positive 1 0 0 None))) None)
     ∷ gives (codes "2020-01-01T00:00z") (with new_years_day (Some (time_of 0 0 0 None)) (Some Z) None)
     ∷ gives (codes "2024-03-02T08:48:00Z") (morning (Some Z) None)
+    -- in brackets
+    ∷ gives (codes "2020-01-01[-05:00]") (with new_years_day None None (zone_at false Negative 5 0))
+    ∷ gives (codes "2020-01-01[!+0530]") (with new_years_day None None (zone_at true Positive 5 30))
+    ∷ gives (codes "2020-01-01[+08]") (with new_years_day None None (zone_at false Positive 8 0))
+    ∷ gives (codes "2024-03-02T08:48:00-05:00[-05:00]") (morning (Some (Offset (short Negative 5 0))) (zone_at false Negative 5 0))
     ∷ [])
 unfolding all_readings
-offsets_after_times = refl
+offsets_beside_dates = refl
 
 -- a zone that is an offset
 abbrev zone : Sign → ℕ → ℕ → Outcome
@@ -172,15 +178,6 @@ zones = refl
 
 abbrev zone_at : Bool → Sign → ℕ → ℕ → Option ZoneNote
 zone_at critical sign hour minute = Some (record { critical = critical; zone = zone_offset (record { sign = sign; hour = hour; minute = minute }) })
-
-offsets_in_brackets : Compute parse (
-    gives (codes "2020-01-01[-05:00]") (with new_years_day None None (zone_at false Negative 5 0))
-    ∷ gives (codes "2020-01-01[!+0530]") (with new_years_day None None (zone_at true Positive 5 30))
-    ∷ gives (codes "2020-01-01[+08]") (with new_years_day None None (zone_at false Positive 8 0))
-    ∷ gives (codes "2024-03-02T08:48:00-05:00[-05:00]") (morning (Some (Offset (short Negative 5 0))) (zone_at false Negative 5 0))
-    ∷ [])
-unfolding all_readings
-offsets_in_brackets = refl
 
 -- ---- texts that are no offset
 
@@ -205,7 +202,8 @@ no_offset : Compute parse_offset (
 unfolding all_readings
 no_offset = refl
 
-no_offset_after_a_time : Compute parse (
+no_offset_beside_a_date : Compute parse (
+    -- after a time
     goes_off (codes "2020-01-01T00:00:00+01:00") (codes "Z") (of_full after_colon_minute) InvalidEnd
     ∷ stands (codes "2024-08-24T14:00:00-05:00:60") [] (of_full second_range) TimeMinuteSecond
     ∷ stands (codes "2024-08-24T14:00:00-050060") [] (of_full second_range) TimeMinuteSecond
@@ -213,9 +211,16 @@ no_offset_after_a_time : Compute parse (
     ∷ goes_off (codes "2024-08-24T14:00:00-0500") (codes ":60") (of_full after_basic_minute) UtcTimeSeparator
     ∷ goes_off (codes "2024-08-24T14:00:00-5") (codes ":00") (of_full hour_digit) TimeHour
     ∷ goes_off (codes "2024-08-24T14:00:00Z") (codes "+") (of_offset after_zulu) InvalidEnd
+    -- without seconds, in a bracket
+    ∷ goes_off (codes "2020-01-01[-05:00") (codes ":60]") (of_short after_colon_minute) InvalidMinutePrecisionOffset
+    ∷ goes_off (codes "2020-01-01[-05:00") (codes "0]") (of_short after_colon_minute) InvalidMinutePrecisionOffset
+    ∷ goes_off (codes "2020-01-01[-0500") (codes "00]") (of_short after_basic_minute) InvalidMinutePrecisionOffset
+    ∷ goes_off (codes "2020-01-01[!-0500") (codes ":]") (of_short after_basic_minute) InvalidMinutePrecisionOffset
+    ∷ goes_off (codes "2024-08-24T14:00:00-05:00[-05:00") (codes ".1]") (of_short after_colon_minute) AnnotationClose
+    ∷ goes_off (codes "2020-01-01[+05") (codes "=]") (of_short after_hour) AnnotationClose
     ∷ [])
 unfolding all_readings
-no_offset_after_a_time = refl
+no_offset_beside_a_date = refl
 
 -- an offset without seconds, with seconds or a fraction
 no_short_offset : Compute parse_identifier (
@@ -229,14 +234,3 @@ no_short_offset : Compute parse_identifier (
     ∷ [])
 unfolding all_readings
 no_short_offset = refl
-
-no_short_offset_in_a_bracket : Compute parse (
-    goes_off (codes "2020-01-01[-05:00") (codes ":60]") (of_short after_colon_minute) InvalidMinutePrecisionOffset
-    ∷ goes_off (codes "2020-01-01[-05:00") (codes "0]") (of_short after_colon_minute) InvalidMinutePrecisionOffset
-    ∷ goes_off (codes "2020-01-01[-0500") (codes "00]") (of_short after_basic_minute) InvalidMinutePrecisionOffset
-    ∷ goes_off (codes "2020-01-01[!-0500") (codes ":]") (of_short after_basic_minute) InvalidMinutePrecisionOffset
-    ∷ goes_off (codes "2024-08-24T14:00:00-05:00[-05:00") (codes ".1]") (of_short after_colon_minute) AnnotationClose
-    ∷ goes_off (codes "2020-01-01[+05") (codes "=]") (of_short after_hour) AnnotationClose
-    ∷ [])
-unfolding all_readings
-no_short_offset_in_a_bracket = refl

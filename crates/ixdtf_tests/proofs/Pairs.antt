@@ -60,14 +60,6 @@ each_row_in_a_first_bracket : ShowEachRow parse (map of_pair (value_start ∷ in
 unfolding all_readings
 each_row_in_a_first_bracket = (refl, refl)
 
-keys_in_a_first_bracket : Compute parse (
-    goes_off (codes "2020-01-01[u-c") (codes "A=iso8601]") (of_pair in_key) AnnotationKeyChar
-    ∷ goes_off (codes "2020-01-01[_") (codes "!=]") (of_pair in_key) AnnotationKeyChar
-    ∷ goes_off (codes "2020-01-01[!a") (codes "/b=c]") (of_pair in_key) AnnotationKeyChar
-    ∷ [])
-unfolding all_readings
-keys_in_a_first_bracket = refl
-
 -- ---- pairs
 
 pairs : Compute parse (
@@ -94,6 +86,10 @@ no_pair : Compute parse (
     ∷ ends (codes "2020-01-01[u][a-1") (of_pair in_key) AnnotationKeyValueSeparator
     ∷ ends (codes "2020-01-01[a=b-c") (of_pair in_value) AnnotationClose
     ∷ meets_bad (codes "2020-01-01[a=b-c") (of_pair in_value)
+    -- in a first bracket
+    ∷ goes_off (codes "2020-01-01[u-c") (codes "A=iso8601]") (of_pair in_key) AnnotationKeyChar
+    ∷ goes_off (codes "2020-01-01[_") (codes "!=]") (of_pair in_key) AnnotationKeyChar
+    ∷ goes_off (codes "2020-01-01[!a") (codes "/b=c]") (of_pair in_key) AnnotationKeyChar
     ∷ [])
 unfolding all_readings
 no_pair = refl

@@ -64,12 +64,8 @@ times : Compute parse (
     ∷ gives (codes "20200101 05:06") (new_year 5 6 0 None)
     ∷ gives (at (codes "050607")) (new_year 5 6 7 None)
     ∷ gives (at (codes "23:59:60")) (new_year 23 59 60 None)
-    ∷ [])
-unfolding all_readings
-times = refl
-
-fractions : Compute parse (
-    gives (at (codes "00:00:00.5")) (new_year 0 0 0 (Some (record { count = 1; value = 5 })))
+    -- fractions
+    ∷ gives (at (codes "00:00:00.5")) (new_year 0 0 0 (Some (record { count = 1; value = 5 })))
     ∷ gives (codes "2022-06-05 043422.000") (with (date_of (pos 2022) 6 5) (Some (time_of 4 34 22 (Some (record { count = 3; value = 0 })))) None None)
     ∷ gives (codes "2024-03-02T08:48:00.25") (with (date_of (pos 2024) 3 2) (Some (time_of 8 48 0 (Some (record { count = 2; value = 25 })))) None None)
     ∷ gives (codes "2024-03-02T08:48:00,25") (with (date_of (pos 2024) 3 2) (Some (time_of 8 48 0 (Some (record { count = 2; value = 25 })))) None None)
@@ -77,11 +73,12 @@ fractions : Compute parse (
     ∷ gives (at (codes "15:23:30.1234567898765432101234567890987654321")) (new_year 15 23 30 (Some (record { count = 37; value = 123456789876543210 })))
     ∷ [])
 unfolding all_readings
-fractions = refl
+times = refl
 
 -- ---- texts that are no time
 
 no_time : Compute parse (
+    -- in an hour or a minute
     ends (at (codes "1")) (of_clock_time hour_digit) abrupt_digit
     ∷ goes_off (at (codes "1")) (codes "x") (of_clock_time hour_digit) TimeHour
     ∷ stands (at (codes "24")) (codes ":00") (of_clock_time hour_range) TimeHour
@@ -93,21 +90,12 @@ no_time : Compute parse (
     ∷ meets_bad (at (codes "123")) (of_clock_time minute_digits)
     ∷ stands (at (codes "01:60")) (codes ":61") (of_clock_time minute_range) TimeMinuteSecond
     ∷ stands (at (codes "0160")) [] (of_clock_time minute_range) TimeMinuteSecond
-    ∷ [])
-unfolding all_readings
-no_time = refl
-
--- a colon or a digit that does not go on
-mixed_times : Compute parse (
-    goes_off (codes "2022-06-05 0434") (codes ":22.000") (of_clock_time after_basic_minute) TimeSeparator
+    -- a colon or a digit that does not go on
+    ∷ goes_off (codes "2022-06-05 0434") (codes ":22.000") (of_clock_time after_basic_minute) TimeSeparator
     ∷ goes_off (at (codes "01:00")) (codes "1") (of_clock_time after_colon_minute) TimeSeparator
     ∷ goes_off (at (codes "01:00")) (codes "00") (of_clock_time after_colon_minute) TimeSeparator
-    ∷ [])
-unfolding all_readings
-mixed_times = refl
-
-no_second : Compute parse (
-    goes_off (codes "2022-06-05 03422") (codes ".000") (of_clock_time second_digits) TimeSecond
+    -- in a second, and after it
+    ∷ goes_off (codes "2022-06-05 03422") (codes ".000") (of_clock_time second_digits) TimeSecond
     ∷ ends (at (codes "12300")) (of_clock_time second_digits) abrupt_digit
     ∷ ends (at (codes "12:30:0")) (of_clock_time second_digits) abrupt_digit
     ∷ goes_off (at (codes "12:30:0")) (codes "x") (of_clock_time second_digits) TimeSecond
@@ -120,15 +108,10 @@ no_second : Compute parse (
     ∷ goes_off (at (codes "12")) (codes ".5") (of_clock_time after_hour) InvalidEnd
     ∷ goes_off (at (codes "12:30")) (codes ".5") (of_clock_time after_colon_minute) InvalidEnd
     ∷ goes_off (at (codes "00:00:00.5")) (codes ".5") (of_clock_time after_fraction) InvalidEnd
-    ∷ [])
-unfolding all_readings
-no_second = refl
-
--- a bad code unit, after what is refused whatever follows
-bad_after_a_range : Compute parse (
-    (and_bad (at (codes "24")), stops (of_clock_time hour_range) (anywhere (Bad ∷ [])) TimeHour)
+    -- a bad code unit, after what is refused whatever follows
+    ∷ (and_bad (at (codes "24")), stops (of_clock_time hour_range) (anywhere (Bad ∷ [])) TimeHour)
     ∷ (and_bad (at (codes "12:60")), stops (of_clock_time minute_range) (anywhere (Bad ∷ [])) TimeMinuteSecond)
     ∷ (and_bad (at (codes "00:00:61")), stops (of_clock_time second_range) (anywhere (Bad ∷ [])) TimeSecond)
     ∷ [])
 unfolding all_readings
-bad_after_a_range = refl
+no_time = refl

@@ -47,17 +47,26 @@ each_row_in_brackets : ShowEachRow parse (of_zone in_zone_name ∷ of_zone after
 unfolding all_readings
 each_row_in_brackets = (refl, refl)
 
--- The name may begin as a key may. Then a `]` comes before any `=`, the end and any bad code unit. So the rows for the end and
--- for a bad code unit fit no text.
-names_like_keys : Compute parse (
+no_name_in_a_bracket : Compute parse (
+    -- that begins as a key may: then a `]` comes before any `=`, the end and any bad code unit, and the rows for the end and for a bad
+    -- code unit fit no text
     goes_off (codes "2020-01-01[cet") (codes "!]") (of_zone in_zone_name) IanaChar
     ∷ goes_off (codes "2020-01-01[_x/") (codes "]") (of_zone after_zone_slash) IanaCharPostSeparator
     ∷ goes_off (codes "2020-01-01[a/") (codes "/b]") (of_zone after_zone_slash) IanaCharPostSeparator
     -- the mask of a bad code unit
     ∷ goes_off (codes "2020-01-01[cet") (codes "!" ++ (128 ∷ []) ++ codes "]") (of_zone in_zone_name) IanaChar
+    -- that begins as no key may
+    ∷ goes_off (codes "2020-04-08[America/Chicago") (codes ")") (of_zone in_zone_name) IanaChar
+    ∷ goes_off (codes "2020-04-08[America/") (codes " Chicago)") (of_zone after_zone_slash) IanaCharPostSeparator
+    ∷ goes_off (codes "2020-01-01[America/") (codes "/Chicago]") (of_zone after_zone_slash) IanaCharPostSeparator
+    ∷ goes_off (codes "2020-01-01[UTC") (codes "=x]") (of_zone in_zone_name) IanaChar
+    ∷ goes_off (codes "2020-01-01[A") (codes "=b]") (of_zone in_zone_name) IanaChar
+    ∷ ends (codes "2020-01-01[!UTC") (of_zone in_zone_name) AnnotationClose
+    ∷ meets_bad (codes "2020-01-01[!UTC") (of_zone in_zone_name)
+    ∷ goes_off (codes "2020-01-01[A") (codes "!" ++ (128 ∷ [])) (of_zone in_zone_name) IanaChar
     ∷ [])
 unfolding all_readings
-names_like_keys = refl
+no_name_in_a_bracket = refl
 
 -- ---- names
 
@@ -112,16 +121,3 @@ no_name : Compute parse_iana_identifier (
     ∷ [])
 unfolding all_readings
 no_name = refl
-
-no_name_in_a_bracket : Compute parse (
-    goes_off (codes "2020-04-08[America/Chicago") (codes ")") (of_zone in_zone_name) IanaChar
-    ∷ goes_off (codes "2020-04-08[America/") (codes " Chicago)") (of_zone after_zone_slash) IanaCharPostSeparator
-    ∷ goes_off (codes "2020-01-01[America/") (codes "/Chicago]") (of_zone after_zone_slash) IanaCharPostSeparator
-    ∷ goes_off (codes "2020-01-01[UTC") (codes "=x]") (of_zone in_zone_name) IanaChar
-    ∷ goes_off (codes "2020-01-01[A") (codes "=b]") (of_zone in_zone_name) IanaChar
-    ∷ ends (codes "2020-01-01[!UTC") (of_zone in_zone_name) AnnotationClose
-    ∷ meets_bad (codes "2020-01-01[!UTC") (of_zone in_zone_name)
-    ∷ goes_off (codes "2020-01-01[A") (codes "!" ++ (128 ∷ [])) (of_zone in_zone_name) IanaChar
-    ∷ [])
-unfolding all_readings
-no_name_in_a_bracket = refl

@@ -1,20 +1,12 @@
 //! Worked lines.
 
-use super::check_written;
+use super::{DATE_TIMES, check_written};
 use ixdtf::parsers::Profile;
 use ixdtf_checks::kind::Kind;
-use ixdtf_checks::request::{Field, Request, Task};
+use ixdtf_checks::request::{Field, Task};
 use std::alloc::Global;
 use std::process::Abort;
 use std::test::Fail;
-
-const DATE_TIMES: Request<'static> = Request {
-    name: "f",
-    task: Task::Check(Kind::DateTime),
-    profile: Profile::Crate,
-    field: None,
-    is_quiet: false,
-};
 
 const MIXED: &[u8] = b"2024-03-02T08:48:00Z\n2020-W01-1\n\n2021-02-29\r\n2020-01-01\r\n2020-13-01";
 
@@ -39,6 +31,7 @@ fn counts_in_quiet(rt: HostRuntime) -> Result<(), Fail> {
 }
 
 /// A kind, a profile, a text of the kind, and what is written of it.
+#[rattlefmt::skip]
 const TEXTS: &[(Kind, Profile, &str, &str)] = &[
     (Kind::DateTime, Profile::Crate, "2020-01-01", ""),
     (Kind::YearMonth, Profile::Crate, "2020-11", ""),
@@ -48,25 +41,10 @@ const TEXTS: &[(Kind, Profile, &str, &str)] = &[
     (Kind::Zone, Profile::Crate, "-05:00", ""),
     (Kind::ZoneName, Profile::Crate, "America/Chicago", ""),
     (Kind::Duration, Profile::Crate, "P1Y2M", ""),
-    (
-        Kind::YearMonth,
-        Profile::Crate,
-        "2020",
-        "f:1:5: Parsing ended abruptly while parsing digit\n2020\n    ^\n",
-    ),
-    (
-        Kind::ZoneName,
-        Profile::Crate,
-        "America/",
-        "f:1:9: Expected time zone character after '/'.\nAmerica/\n        ^\n",
-    ),
+    (Kind::YearMonth, Profile::Crate, "2020", "f:1:5: Parsing ended abruptly while parsing digit\n2020\n    ^\n"),
+    (Kind::ZoneName, Profile::Crate, "America/", "f:1:9: Expected time zone character after '/'.\nAmerica/\n        ^\n"),
     (Kind::MonthDay, Profile::Crate, "11-00", ""),
-    (
-        Kind::MonthDay,
-        Profile::Strict,
-        "11-00",
-        "f:1:6: MonthDay was not valid.\n11-00\n     ^\n",
-    ),
+    (Kind::MonthDay, Profile::Strict, "11-00", "f:1:6: MonthDay was not valid.\n11-00\n     ^\n"),
 ];
 
 #[test]

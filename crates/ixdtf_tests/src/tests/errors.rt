@@ -17,15 +17,9 @@ use std::alloc::Global;
 use std::process::Abort;
 use std::test::Fail;
 
-// The errors have the texts beside them.
-fn check_texts(rt: &impl Abort, rows: &[(ParseError, &'static str)]) {
-    for (error, text) in rows {
-        check(rt, text, error.to_static_string() == *text);
-    }
-}
-
 #[rattlefmt::skip]
-const ENDS_AND_DATES: &[(ParseError, &str)] = &[
+const TEXTS: &[(ParseError, &str)] = &[
+    // of ends and dates
     (ImplAssert, "Implementation error: this error must not throw."),
     (NonAsciiCodePoint, "Code point was not ASCII"),
     (ParseFloat, "Invalid float while parsing fraction part."),
@@ -38,15 +32,7 @@ const ENDS_AND_DATES: &[(ParseError, &str)] = &[
     (DateMonth, "Invalid character while parsing month value."),
     (DateDay, "Invalid character while parsing day value."),
     (DateUnexpectedEnd, "Unexpected end while parsing a date value."),
-];
-
-#[test]
-fn has_the_texts_of_ends_and_dates(rt: HostRuntime) {
-    check_texts(&rt, ENDS_AND_DATES);
-}
-
-#[rattlefmt::skip]
-const TIMES: &[(ParseError, &str)] = &[
+    // of times
     (TimeRequired, "Time is required."),
     (TimeHour, "Invalid character while parsing hour value."),
     (TimeMinuteSecond, "Invalid character while parsing minute/second value in (0, 59] range."),
@@ -55,15 +41,7 @@ const TIMES: &[(ParseError, &str)] = &[
     (DateSeparator, "Invalid character while parsing date separator."),
     (TimeSeparator, "Invalid character while parsing time separator."),
     (DecimalSeparator, "Invalid character while parsing decimal separator."),
-];
-
-#[test]
-fn has_the_texts_of_times(rt: HostRuntime) {
-    check_texts(&rt, TIMES);
-}
-
-#[rattlefmt::skip]
-const ANNOTATIONS: &[(ParseError, &str)] = &[
+    // of annotations
     (InvalidAnnotation, "Invalid annotation."),
     (AnnotationOpen, "Invalid annotation open character."),
     (AnnotationClose, "Invalid annotation close character."),
@@ -76,15 +54,7 @@ const ANNOTATIONS: &[(ParseError, &str)] = &[
     (InvalidMinutePrecisionOffset, "Offset must be minute precision"),
     (CriticalDuplicateCalendar, "Duplicate calendars cannot be provided when one is critical."),
     (UnrecognizedCritical, "Unrecognized annoation is marked as critical."),
-];
-
-#[test]
-fn has_the_texts_of_annotations(rt: HostRuntime) {
-    check_texts(&rt, ANNOTATIONS);
-}
-
-#[rattlefmt::skip]
-const ZONES_AND_DURATIONS: &[(ParseError, &str)] = &[
+    // of zones and durations
     (TzLeadingChar, "Invalid time zone leading character."),
     (IanaCharPostSeparator, "Expected time zone character after '/'."),
     (IanaChar, "Invalid IANA time zone character after '/'."),
@@ -102,8 +72,10 @@ const ZONES_AND_DURATIONS: &[(ParseError, &str)] = &[
 ];
 
 #[test]
-fn has_the_texts_of_zones_and_durations(rt: HostRuntime) {
-    check_texts(&rt, ZONES_AND_DURATIONS);
+fn has_the_text_of_each_error(rt: HostRuntime) {
+    for (error, text) in TEXTS {
+        check(&rt, text, error.to_static_string() == *text);
+    }
 }
 
 fn check_printed(

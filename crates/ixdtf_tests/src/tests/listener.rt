@@ -301,16 +301,16 @@ fn reads_located<'a, T: Foreign + 'static>(
     }
 }
 
-fn is_record(found: Option<Record>, wanted: &Record) -> bool {
+fn is_record(found: &Option<Record>, wanted: &Record) -> bool {
     match found {
-        Some(record) => record == *wanted,
+        Some(record) => *record == *wanted,
         None => false,
     }
 }
 
-fn is_wide_record(found: Option<IxdtfParseRecord<'_, Utf16>>, wanted: &Record) -> bool {
+fn is_wide_record(found: &Option<IxdtfParseRecord<'_, Utf16>>, wanted: &Record) -> bool {
     match found {
-        Some(record) => same_record(wanted, &record),
+        Some(record) => same_record(wanted, record),
         None => false,
     }
 }
@@ -319,15 +319,15 @@ fn is_wide_record(found: Option<IxdtfParseRecord<'_, Utf16>>, wanted: &Record) -
 pub(super) fn check_read(rt: &impl Abort, asked: Asked, wanted: &Record) {
     let (_form, _kind, text, _calls) = asked;
     let found = reads(IxdtfParser::from_str(text), asked);
-    check(rt, text, is_record(found, wanted));
+    check(rt, text, is_record(&found, wanted));
     let found = reads_located(IxdtfParser::from_str(text), asked);
-    assert!(rt; is_record(found, wanted), "located at {text}");
+    assert!(rt; is_record(&found, wanted), "located at {text}");
     let wide = Wide::new(text);
     let found = reads(IxdtfParser::from_utf16(wide.units()), asked);
-    assert!(rt; is_wide_record(found, wanted), "at {text} in 16-bit units");
+    assert!(rt; is_wide_record(&found, wanted), "at {text} in 16-bit units");
     let found = reads_located(IxdtfParser::from_utf16(wide.units()), asked);
     assert!(rt;
-        is_wide_record(found, wanted),
+        is_wide_record(&found, wanted),
         "located at {text} in 16-bit units"
     );
 }
