@@ -364,6 +364,7 @@ WORDS = re.compile(r'\s+|(?P<string>"[^"]*")|(?P<number>\d+(?![\w-]))|(?P<record
                    r'(?P<name>[^\s(),{}]+)')
 BAD = 'Bad'
 BAD_UNIT = 0xe9  # a 16-bit code unit that is bad
+MARK = ord('|')  # at the place of an example, and no part of its text
 
 
 class Terms:
@@ -426,6 +427,8 @@ BUILT_IN = {
     'codes': lambda text: list(text.encode()),
     'text_of': lambda units: units,
     'and_bad': lambda units: units + [BAD],
+    'before_mark': lambda units: units[:units.index(MARK)],
+    'after_mark': lambda units: units[units.index(MARK) + 1:],
     'narrow': lambda units: units,
     'wide': lambda units: [it if 1 <= it <= 126 else BAD for it in units],
 }
@@ -468,13 +471,16 @@ class Proofs:
         return Term(f'{module}.{name}') if parameters else self.meaning(module, Terms(body).term(), {})
 
     def applied(self, function: Meaning, arguments: tuple) -> Meaning:
-        """A function and its arguments, as it is defined where it is defined here."""
+        """A function and its arguments, as it is defined where it is defined here, and where these are all that it takes."""
         module, dot, name = function.name.rpartition('.')
+        arguments = function.arguments + arguments
+        if name == 'map':
+            return [self.applied(arguments[0], (it,)) for it in as_list(arguments[1])]
         if name in BUILT_IN:
             return BUILT_IN[name](*(it.name if isinstance(it, Term) else it for it in arguments))
         parameters, body = self.definitions[module][name] if dot and module in self.definitions else ([], '')
         if len(parameters) != len(arguments):
-            return Term(name, function.arguments + arguments)
+            return Term(function.name, arguments)
         return self.meaning(module, Terms(body).term(), dict(zip(parameters, arguments)))
 
     def rows(self, folder: str) -> Iterator[Row]:

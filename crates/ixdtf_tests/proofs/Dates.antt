@@ -8,9 +8,9 @@ use Rattle.ixdtf.specs.table.LineNames.DateLine.{year_start, year_digits, extend
 use Rattle.ixdtf.specs.table.LineNames.DateLine.{after_hyphened_month, after_basic_month, day_digits, day_range, after_date}
 use Rattle.ixdtf.specs.table.Lines.{abrupt_digit, abrupt_date}
 use Rattle.ixdtf.specs.language.Letters.Letter.{Bad}
-use Rattle.ixdtf.specs.table.Rows.Place.{bad, anywhere}
-use Rattle.ixdtf_tests.proofs.Helpers.{all_readings, date, Example, Compute, ends, goes_off, meets_bad, stands, one, two, three, ShowEachRow, gives, stops}
-use Rattle.ixdtf_tests.proofs.Helpers.{text_of, and_bad}
+use Rattle.ixdtf.specs.table.Rows.Place.{bad}
+use Rattle.ixdtf_tests.proofs.Helpers.{all_readings, date, Example, Compute, ends, goes_off, meets_bad, stands, one, two, three, ShowEachRow, gives, stops, stands_before_bad}
+use Rattle.ixdtf_tests.proofs.Helpers.{text_of}
 
 -- ---- each row of the lines of dates, in `parse`
 
@@ -72,55 +72,34 @@ dates = refl
 
 no_date : Compute parse (
     -- in a year
-    ends (codes "2") (of_date year_digits) abrupt_digit
-    ∷ ends (codes "20") (of_date year_digits) abrupt_digit
-    ∷ goes_off (codes "20") (codes "-06-05") (of_date year_digits) DateYear
-    ∷ ends (codes "+") (of_date extended_year_digits) abrupt_digit
-    ∷ ends (codes "-00000") (of_date extended_year_digits) abrupt_digit
-    ∷ goes_off (codes "-") (codes "P12Y") (of_date extended_year_digits) DateExtendedYear
-    ∷ stands (codes "-000000") (codes "-11-08") (of_date minus_zero_year) DateExtendedYear
+    map (ends (of_date year_digits) abrupt_digit) (codes "2" ∷ codes "20" ∷ [])
+    ++ (goes_off (of_date year_digits) DateYear (codes "20|-06-05") ∷ [])
+    ++ map (ends (of_date extended_year_digits) abrupt_digit) (codes "+" ∷ codes "-00000" ∷ [])
+    ++ (goes_off (of_date extended_year_digits) DateExtendedYear (codes "-|P12Y") ∷ [])
+    ++ stands (of_date minus_zero_year) DateExtendedYear (codes "-000000|-11-08") ∷ []
     -- in a month
-    ∷ goes_off (codes "02020") (codes "-01-01") (of_date month_digits) DateMonth
-    ∷ goes_off (codes "2020-") (codes "W01-1") (of_date month_digits) DateMonth
-    ∷ goes_off (codes "-1000000") (codes "-11-08") (of_date month_digits) DateMonth
-    ∷ ends (codes "2020-0") (of_date month_digits) abrupt_digit
-    ∷ ends (codes "20200") (of_date month_digits) abrupt_digit
-    ∷ meets_bad (codes "2020-0") (of_date month_digits)
-    ∷ meets_bad (codes "20200") (of_date month_digits)
-    ∷ stands (codes "2020-00") (codes "1") (of_date month_range) InvalidMonthRange
-    ∷ stands (codes "202000") [] (of_date month_range) InvalidMonthRange
-    ∷ stands (codes "2020-13") (codes "-01") (of_date month_range) InvalidMonthRange
-    ∷ stands (codes "2020-13") (codes "x") (of_date month_range) InvalidMonthRange
+    ++ map (goes_off (of_date month_digits) DateMonth) (codes "02020|-01-01" ∷ codes "2020-|W01-1" ∷ codes "-1000000|-11-08" ∷ [])
+    ++ map (ends (of_date month_digits) abrupt_digit) (codes "2020-0" ∷ codes "20200" ∷ [])
+    ++ map (meets_bad (of_date month_digits)) (codes "2020-0" ∷ codes "20200" ∷ [])
+    ++ map (stands (of_date month_range) InvalidMonthRange) (codes "2020-00|1" ∷ codes "202000|" ∷ codes "2020-13|-01" ∷ codes "2020-13|x" ∷ [])
     -- in a day, and after it
-    ∷ goes_off (codes "2020-01") (codes "01") (of_date after_hyphened_month) DateSeparator
-    ∷ goes_off (codes "202206") (codes "-05") (of_date after_basic_month) DateSeparator
-    ∷ ends (codes "2020010") (of_date day_digits) abrupt_digit
-    ∷ ends (codes "2020-01-0") (of_date day_digits) abrupt_digit
-    ∷ goes_off (codes "2020010") (codes "x") (of_date day_digits) DateDay
-    ∷ goes_off (codes "2020-01-0") (codes "x") (of_date day_digits) DateDay
-    ∷ meets_bad (codes "2020010") (of_date day_digits)
-    ∷ meets_bad (codes "2020-01-0") (of_date day_digits)
-    ∷ stands (codes "2020-01-00") (codes "1") (of_date day_range) InvalidDayRange
-    ∷ stands (codes "20200132") [] (of_date day_range) InvalidDayRange
-    ∷ stands (codes "2020-04-31") [] (of_date day_range) InvalidDayRange
-    ∷ stands (codes "2021-02-29") [] (of_date day_range) InvalidDayRange
-    ∷ stands (codes "-000100-02-29") [] (of_date day_range) InvalidDayRange
-    ∷ goes_off (codes "+1000000110") (codes "8") (of_date after_date) InvalidEnd
-    ∷ goes_off (codes "2020-01-01") (codes "+05:00") (of_date after_date) InvalidEnd
-    ∷ goes_off (codes "2020-01-01") (codes "Z") (of_date after_date) InvalidEnd
-    -- a bad code unit
-    ∷ (Bad ∷ text_of (codes "020-01-01"), stops (of_date year_start) (bad ((Bad ∷ []) ++ text_of (codes "020-01-01"))) NonAsciiCodePoint)
-    ∷ (and_bad (codes "2020-13-01"), stops (of_date month_range) (anywhere (text_of (codes "-01") ++ (Bad ∷ []))) InvalidMonthRange)
-    ∷ (and_bad (codes "2020-02-30"), stops (of_date day_range) (anywhere (Bad ∷ [])) InvalidDayRange)
-    ∷ (and_bad (codes "-000000"), stops (of_date minus_zero_year) (anywhere (Bad ∷ [])) DateExtendedYear)
-    -- the mask of one, which has 128 in its place
-    ∷ goes_off [] ((128 ∷ []) ++ codes "020-01-01") (of_date year_start) DateYear
-    ∷ stands (codes "2020-13") (codes "-01" ++ (128 ∷ [])) (of_date month_range) InvalidMonthRange
-    ∷ goes_off (codes "2020-01-01") (128 ∷ []) (of_date after_date) InvalidEnd
+    ++ (goes_off (of_date after_hyphened_month) DateSeparator (codes "2020-01|01") ∷ [])
+    ++ (goes_off (of_date after_basic_month) DateSeparator (codes "202206|-05") ∷ [])
+    ++ map (ends (of_date day_digits) abrupt_digit) (codes "2020010" ∷ codes "2020-01-0" ∷ [])
+    ++ map (goes_off (of_date day_digits) DateDay) (codes "2020010|x" ∷ codes "2020-01-0|x" ∷ [])
+    ++ map (meets_bad (of_date day_digits)) (codes "2020010" ∷ codes "2020-01-0" ∷ [])
+    ++ map (stands (of_date day_range) InvalidDayRange) (codes "2020-01-00|1" ∷ codes "20200132|" ∷ codes "2020-04-31|" ∷ codes "2021-02-29|" ∷ codes "-000100-02-29|" ∷ [])
+    ++ map (goes_off (of_date after_date) InvalidEnd) (codes "+1000000110|8" ∷ codes "2020-01-01|+05:00" ∷ codes "2020-01-01|Z" ∷ [])
+    -- bad code units
+    ++ ((Bad ∷ text_of (codes "020-01-01"), stops (of_date year_start) (bad ((Bad ∷ []) ++ text_of (codes "020-01-01"))) NonAsciiCodePoint) ∷ [])
+    ++ (stands_before_bad (of_date month_range) InvalidMonthRange (codes "2020-13|-01") ∷ [])
+    ++ (stands_before_bad (of_date day_range) InvalidDayRange (codes "2020-02-30|") ∷ [])
+    ++ stands_before_bad (of_date minus_zero_year) DateExtendedYear (codes "-000000|") ∷ []
+    -- the mask of a bad code unit, which has 128 in its place
+    ++ (goes_off (of_date year_start) DateYear (codes "|" ++ (128 ∷ []) ++ codes "020-01-01") ∷ [])
+    ++ (stands (of_date month_range) InvalidMonthRange (codes "2020-13|-01" ++ (128 ∷ [])) ∷ [])
+    ++ (goes_off (of_date after_date) InvalidEnd (codes "2020-01-01|" ++ 128 ∷ []) ∷ [])
     -- `é` in UTF-8
-    ∷ goes_off (codes "2020-01-01") (195 ∷ 169 ∷ []) (of_date after_date) InvalidEnd
-    ∷ [])
+    ++ goes_off (of_date after_date) InvalidEnd (codes "2020-01-01|" ++ 195 ∷ 169 ∷ []) ∷ [])
 unfolding all_readings
 no_date = refl
-
--- ---- bad code units, and the mask, which has 128 in their place

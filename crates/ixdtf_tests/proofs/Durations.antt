@@ -1,6 +1,5 @@
 -- Durations and their lines, computed.
 use Rattle.std.proofs.Common.{ℕ, List, [], ◌∷◌, ◌++◌, map, codes, Option, Some, None, refl}
-use Rattle.ixdtf.specs.language.Letters.Letter.{Bad}
 use Rattle.ixdtf_grammar.specs.declared.profile.Profile.{Profile}
 use Rattle.ixdtf_grammar.specs.declared.profile.Profile.TheVariants.{Crate, Strict}
 use Rattle.ixdtf_grammar.specs.declared.records.DateDurationRecord.{DateDurationRecord}
@@ -20,10 +19,9 @@ use Rattle.ixdtf.specs.table.LineNames.DurationLine.{duration_start, after_durat
 use Rattle.ixdtf.specs.table.LineNames.DurationLine.{group_digits, group_value_range, unit_order, date_unit_range, group_fraction_start, group_fraction_digits}
 use Rattle.ixdtf.specs.table.LineNames.DurationLine.{after_time_groups, after_fraction_group}
 use Rattle.ixdtf.specs.table.Lines.{abrupt_duration_start, abrupt_duration_designator, abrupt_duration, abrupt_date_designator, abrupt_time_designator}
-use Rattle.ixdtf.specs.table.Rows.Place.{anywhere}
 use Rattle.ixdtf.specs.table.Outcomes.{Outcome}
 use Rattle.ixdtf.specs.table.Outcomes.Outcome.{derived}
-use Rattle.ixdtf_tests.proofs.Helpers.{all_readings, and_bad, Example, Compute, gives, ends, goes_off, meets_bad, stands, stops, one, two, three, ShowEachRow}
+use Rattle.ixdtf_tests.proofs.Helpers.{all_readings, Example, Compute, gives, ends, goes_off, meets_bad, stands, one, two, three, ShowEachRow, stands_before_bad}
 
 -- ---- each row
 
@@ -89,62 +87,45 @@ durations Strict = refl
 
 -- a repeated unit: its last number counts
 repeated_units : Compute (parse_duration Crate) (
-    gives (codes "P1Y2Y") (lasts Positive (dated 2 0 0 0) None)
+    (gives (codes "P1Y2Y") (lasts Positive (dated 2 0 0 0) None)
     ∷ gives (codes "P1M2M0m3W") (lasts Positive (dated 0 0 3 0) None)
     ∷ gives (codes "PT1H2H") (lasts Positive None (Some (Hours 2 None)))
-    ∷ gives (codes "PT1M2M0.50M") (lasts Positive None (Some (Minutes 0 0 (fraction 2 50))))
-    ∷ stands (codes "P1Y4294967296Y") [] (of_duration Crate date_unit_range) DurationValueExceededRange
-    ∷ [])
+    ∷ gives (codes "PT1M2M0.50M") (lasts Positive None (Some (Minutes 0 0 (fraction 2 50)))) ∷ [])
+    ++ stands (of_duration Crate date_unit_range) DurationValueExceededRange (codes "P1Y4294967296Y|") ∷ [])
 unfolding all_readings
 repeated_units = refl
 
 -- under the strict profile no unit may be repeated; the order comes before the range
 no_repeated_unit : Compute (parse_duration Strict) (
-    stands (codes "P1Y2Y") [] (of_duration Strict (unit_order date)) DateDurationPartOrder
-    ∷ stands (codes "P1M2M") (codes "0m3W") (of_duration Strict (unit_order date)) DateDurationPartOrder
-    ∷ stands (codes "P1Y4294967296Y") [] (of_duration Strict (unit_order date)) DateDurationPartOrder
-    ∷ stands (codes "PT1S2S") [] (of_duration Strict (unit_order time)) TimeDurationPartOrder
-    ∷ stands (codes "PT1H2H") [] (of_duration Strict (unit_order time)) TimeDurationPartOrder
-    ∷ stands (codes "PT1M0.50M") [] (of_duration Strict (unit_order time)) TimeDurationPartOrder
-    ∷ [])
+    map (stands (of_duration Strict (unit_order date)) DateDurationPartOrder) (codes "P1Y2Y|" ∷ codes "P1M2M|0m3W" ∷ codes "P1Y4294967296Y|" ∷ [])
+    ++ map (stands (of_duration Strict (unit_order time)) TimeDurationPartOrder) (codes "PT1S2S|" ∷ codes "PT1H2H|" ∷ codes "PT1M0.50M|" ∷ []))
 unfolding all_readings
 no_repeated_unit = refl
 
 -- ---- texts that are no duration
 
 no_duration : (profile : Profile) → Compute (parse_duration profile) (
-    goes_off (codes "-") (codes "-P1Y") (of_duration profile after_duration_sign) DurationDisgnator
-    ∷ ends (codes "-p") (of_duration profile after_duration_designator) abrupt_duration
-    ∷ goes_off (codes "P1Y") (codes "[u-ca=iso8601]") (of_duration profile after_date_groups) InvalidEnd
-    ∷ ends (codes "+PT") (of_duration profile after_time_designator) TimeDurationDesignator
-    ∷ ends (codes "-PT") (of_duration profile after_time_designator) TimeDurationDesignator
-    ∷ goes_off (codes "PT1H") (codes "T1M") (of_duration profile after_time_groups) InvalidEnd
-    ∷ goes_off (codes "PT0.5H") (codes "1M") (of_duration profile after_fraction_group) InvalidEnd
-    ∷ goes_off (codes "PT0.5M") (codes "1H") (of_duration profile after_fraction_group) InvalidEnd
-    ∷ goes_off (codes "PT0.5H") (codes "1H") (of_duration profile after_fraction_group) InvalidEnd
-    ∷ goes_off (codes "P1Y1M1W1DT1H0.5M") (codes "0.5S") (of_duration profile after_fraction_group) InvalidEnd
-    ∷ meets_bad (codes "P1Y1") (of_duration profile (group_digits date))
-    ∷ meets_bad (codes "PT1H1") (of_duration profile (group_digits time))
+    (goes_off (of_duration profile after_duration_sign) DurationDisgnator (codes "-|-P1Y") ∷ [])
+    ++ (ends (of_duration profile after_duration_designator) abrupt_duration (codes "-p") ∷ [])
+    ++ (goes_off (of_duration profile after_date_groups) InvalidEnd (codes "P1Y|[u-ca=iso8601]") ∷ [])
+    ++ map (ends (of_duration profile after_time_designator) TimeDurationDesignator) (codes "+PT" ∷ codes "-PT" ∷ [])
+    ++ (goes_off (of_duration profile after_time_groups) InvalidEnd (codes "PT1H|T1M") ∷ [])
+    ++ map (goes_off (of_duration profile after_fraction_group) InvalidEnd) (codes "PT0.5H|1M" ∷ codes "PT0.5M|1H" ∷ codes "PT0.5H|1H" ∷ codes "P1Y1M1W1DT1H0.5M|0.5S" ∷ [])
+    ++ (meets_bad (of_duration profile (group_digits date)) (codes "P1Y1") ∷ [])
+    ++ meets_bad (of_duration profile (group_digits time)) (codes "PT1H1") ∷ []
     -- what is wrong with a number, or with the code unit after it
-    ∷ goes_off (codes "P1Y1M1W0") (codes ",5D") (of_duration profile (group_digits date)) abrupt_date_designator
-    ∷ goes_off (codes "P4294967296") (codes "X") (of_duration profile (group_digits date)) abrupt_date_designator
-    ∷ goes_off (codes "P1") (codes "H") (of_duration profile (group_digits date)) abrupt_date_designator
-    ∷ stands (codes "P18446744073709551616") (codes "D") (of_duration profile (group_value_range date)) DurationValueExceededRange
-    ∷ stands (codes "P99999999999999999999") (codes "X") (of_duration profile (group_value_range date)) DurationValueExceededRange
-    ∷ stands (codes "PT18446744073709551616") (codes "S") (of_duration profile (group_value_range time)) DurationValueExceededRange
-    ∷ stands (codes "P1YT100000000000000000000") (codes "0000000000000000000H") (of_duration profile (group_value_range time)) DurationValueExceededRange
-    ∷ (and_bad (codes "P18446744073709551616"), stops (of_duration profile (group_value_range date)) (anywhere (Bad ∷ [])) DurationValueExceededRange)
-    ∷ stands (codes "P4294967296W") [] (of_duration profile date_unit_range) DurationValueExceededRange
-    ∷ (and_bad (codes "P4294967296m"), stops (of_duration profile date_unit_range) (anywhere (Bad ∷ [])) DurationValueExceededRange)
+    ++ map (goes_off (of_duration profile (group_digits date)) abrupt_date_designator) (codes "P1Y1M1W0|,5D" ∷ codes "P4294967296|X" ∷ codes "P1|H" ∷ [])
+    ++ map (stands (of_duration profile (group_value_range date)) DurationValueExceededRange) (codes "P18446744073709551616|D" ∷ codes "P99999999999999999999|X" ∷ [])
+    ++ map (stands (of_duration profile (group_value_range time)) DurationValueExceededRange) (codes "PT18446744073709551616|S" ∷ codes "P1YT100000000000000000000|0000000000000000000H" ∷ [])
+    ++ (stands_before_bad (of_duration profile (group_value_range date)) DurationValueExceededRange (codes "P18446744073709551616|") ∷ [])
+    ++ (stands (of_duration profile date_unit_range) DurationValueExceededRange (codes "P4294967296W|") ∷ [])
+    ++ stands_before_bad (of_duration profile date_unit_range) DurationValueExceededRange (codes "P4294967296m|") ∷ []
     -- a group behind one of a shorter unit
-    ∷ stands (codes "P1Y1M1Y") [] (of_duration profile (unit_order date)) DateDurationPartOrder
-    ∷ stands (codes "P1D1Y") (codes "1") (of_duration profile (unit_order date)) DateDurationPartOrder
+    ++ map (stands (of_duration profile (unit_order date)) DateDurationPartOrder) (codes "P1Y1M1Y|" ∷ codes "P1D1Y|1" ∷ [])
     -- the order comes before the range
-    ∷ stands (codes "P1D4294967296Y") [] (of_duration profile (unit_order date)) DateDurationPartOrder
-    ∷ (and_bad (codes "P1W1M"), stops (of_duration profile (unit_order date)) (anywhere (Bad ∷ [])) DateDurationPartOrder)
-    ∷ stands (codes "PT1S1M") [] (of_duration profile (unit_order time)) TimeDurationPartOrder
-    ∷ stands (codes "PT1M1H") [] (of_duration profile (unit_order time)) TimeDurationPartOrder
-    ∷ [])
+    ++ (stands (of_duration profile (unit_order date)) DateDurationPartOrder (codes "P1D4294967296Y|") ∷ [])
+    ++ (stands_before_bad (of_duration profile (unit_order date)) DateDurationPartOrder (codes "P1W1M|") ∷ [])
+    ++ map (stands (of_duration profile (unit_order time)) TimeDurationPartOrder) (codes "PT1S1M|" ∷ codes "PT1M1H|" ∷ []))
 unfolding all_readings
 no_duration Crate = refl
 no_duration Strict = refl

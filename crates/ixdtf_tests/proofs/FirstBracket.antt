@@ -1,7 +1,7 @@
 -- The first bracket of a text and the lines of brackets, computed.
 use Rattle.ixdtf.specs.language.Letters.Letter.{Bad}
 use Rattle.ixdtf.specs.table.Rows.{other}
-use Rattle.std.proofs.Common.{true, false, List, [], ◌∷◌, ◌++◌, codes, Some, None, refl}
+use Rattle.std.proofs.Common.{true, false, List, [], ◌∷◌, ◌++◌, map, codes, Some, None, refl}
 use Rattle.ixdtf_grammar.specs.declared.records.Sign.TheVariants.{Negative}
 use Rattle.ixdtf_grammar.specs.declared.records.UtcOffsetRecord.TheVariants.{MinutePrecision}
 use Rattle.ixdtf_grammar.specs.declared.records.UtcOffsetRecordOrZ.TheVariants.{Offset, Z}
@@ -15,7 +15,7 @@ use Rattle.ixdtf.specs.table.LineNames.PairLine.{in_key, value_start}
 use Rattle.ixdtf.specs.table.LineNames.BracketLine.{first_bracket_start, first_critical_start, first_bracket_scan, after_bracket}
 use Rattle.ixdtf.specs.table.Lines.{abrupt_bracket}
 use Rattle.ixdtf.specs.table.Rows.Place.{bad}
-use Rattle.ixdtf_tests.proofs.Helpers.{all_readings, text_of, and_bad, morning, zone_named, tagged, annotated, Example, Compute, gives, ends, goes_off}
+use Rattle.ixdtf_tests.proofs.Helpers.{all_readings, text_of, and_bad, morning, zone_named, tagged, annotated, Example, Compute, gives, ends, goes_off, goes_off_before_bad}
 use Rattle.ixdtf_tests.proofs.Helpers.{meets_bad, stops, stops_after, two, three, ShowEachRow}
 
 -- ---- each row of the lines of brackets
@@ -25,8 +25,8 @@ abbrev bracket_rows : List Example
 bracket_rows =
     three (of_bracket first_bracket_start) (codes "2020-01-01[") abrupt_bracket (codes "]") TzLeadingChar
     ++ three (of_bracket first_critical_start) (codes "2020-01-01[!") abrupt_bracket (codes "!") TzLeadingChar
-    ++ ends (codes "2020-01-01[cet") (of_bracket first_bracket_scan) abrupt_bracket
-    ∷ meets_bad (codes "2020-01-01[cet") (of_bracket first_bracket_scan)
+    ++ ends (of_bracket first_bracket_scan) abrupt_bracket (codes "2020-01-01[cet")
+    ∷ meets_bad (of_bracket first_bracket_scan) (codes "2020-01-01[cet")
     ∷ two (of_bracket after_bracket) (codes "2020-01-01[UTC]") (codes "x") InvalidEnd
 
 each_row_of_brackets : ShowEachRow parse
@@ -50,28 +50,27 @@ brackets = refl
 -- ---- texts with another bracket, and whether a first bracket is a zone or a pair
 
 no_bracket : Compute parse (
-    goes_off (codes "2020-01-01[!") (codes "]") (of_bracket first_critical_start) TzLeadingChar
-    ∷ goes_off (codes "2020-01-01[!") (codes "!UTC]") (of_bracket first_critical_start) TzLeadingChar
-    ∷ goes_off (codes "2020-01-01[") (codes "1]") (of_bracket first_bracket_start) TzLeadingChar
-    ∷ goes_off (codes "2020-01-01[") (codes "=a]") (of_bracket first_bracket_start) TzLeadingChar
-    ∷ goes_off (codes "2020-01-01[+") (codes "]") (of_clock MinuteOffset hour_start) TimeHour
-    ∷ goes_off (codes "2020-01-01T00:00:00+00:00[UTC]") (codes "junk") (of_bracket after_bracket) InvalidEnd
+    map (goes_off (of_bracket first_critical_start) TzLeadingChar) (codes "2020-01-01[!|]" ∷ codes "2020-01-01[!|!UTC]" ∷ [])
+    ++ map (goes_off (of_bracket first_bracket_start) TzLeadingChar) (codes "2020-01-01[|1]" ∷ codes "2020-01-01[|=a]" ∷ [])
+    ++ (goes_off (of_clock MinuteOffset hour_start) TimeHour (codes "2020-01-01[+|]") ∷ [])
+    ++ goes_off (of_bracket after_bracket) InvalidEnd (codes "2020-01-01T00:00:00+00:00[UTC]|junk") ∷ []
     -- what begins as a key may, with no `=` and no `]` before the end, or before a bad code unit
-    ∷ ends (codes "2020-01-01[!cet") (of_bracket first_bracket_scan) abrupt_bracket
-    ∷ ends (codes "2020-01-01[a!") (of_bracket first_bracket_scan) abrupt_bracket
-    ∷ meets_bad (codes "2020-01-01[a!") (of_bracket first_bracket_scan)
-    ∷ meets_bad (codes "2020-01-01[!a") (of_bracket first_bracket_scan)
-    ∷ (and_bad (codes "2020-01-01[cet!") ++ text_of (codes "]"), stops (of_bracket first_bracket_scan) (bad ((Bad ∷ []) ++ text_of (codes "]"))) NonAsciiCodePoint)
-    ∷ (and_bad (codes "2020-01-01[a") ++ text_of (codes "=b]"), stops (of_bracket first_bracket_scan) (bad ((Bad ∷ []) ++ text_of (codes "=b]"))) NonAsciiCodePoint)
+    ++ map (ends (of_bracket first_bracket_scan) abrupt_bracket) (codes "2020-01-01[!cet" ∷ codes "2020-01-01[a!" ∷ [])
+    ++ map (meets_bad (of_bracket first_bracket_scan)) (codes "2020-01-01[a!" ∷ codes "2020-01-01[!a" ∷ [])
+    ++ (and_bad (codes "2020-01-01[cet!") ++ text_of (codes "]"), stops (of_bracket first_bracket_scan) (bad ((Bad ∷ []) ++ text_of (codes "]"))) NonAsciiCodePoint)
+    ∷ (and_bad (codes "2020-01-01[a") ++ text_of (codes "=b]"), stops (of_bracket first_bracket_scan) (bad ((Bad ∷ []) ++ text_of (codes "=b]"))) NonAsciiCodePoint) ∷ []
     -- with a `]` first it is a name, and with a `=` first a key
-    ∷ goes_off (codes "2020-01-01[a") (codes "!]=") (of_zone in_zone_name) IanaChar
-    ∷ goes_off (codes "2020-01-01[a") (codes "!=]") (of_pair in_key) AnnotationKeyChar
-    ∷ (and_bad (codes "2020-01-01[a!]"), stops (of_zone in_zone_name) (other (text_of (codes "!]") ++ (Bad ∷ []))) IanaChar)
-    ∷ (and_bad (codes "2020-01-01[a=!"), stops (of_pair value_start) (other (text_of (codes "!") ++ (Bad ∷ []))) AnnotationValueChar)
-    ∷ (and_bad (codes "2020-01-01[A!"), stops (of_zone in_zone_name) (other (text_of (codes "!") ++ (Bad ∷ []))) IanaChar)
-    -- after a bracket with a pair
-    ∷ (text_of (codes "2020-01-01[a=b]junk"), stops_after (tagged false (codes "a") (codes "b") ∷ []) (of_bracket after_bracket) (other (text_of (codes "junk"))) InvalidEnd)
+    ++ (goes_off (of_zone in_zone_name) IanaChar (codes "2020-01-01[a|!]=") ∷ [])
+    ++ (goes_off (of_pair in_key) AnnotationKeyChar (codes "2020-01-01[a|!=]") ∷ [])
+    ++ map (goes_off_before_bad (of_zone in_zone_name) IanaChar) (codes "2020-01-01[a|!]" ∷ codes "2020-01-01[A|!" ∷ [])
+    ++ goes_off_before_bad (of_pair value_start) AnnotationValueChar (codes "2020-01-01[a=|!") ∷ [])
+unfolding all_readings
+no_bracket = refl
+
+-- after a bracket with a pair
+after_a_pair : Compute parse (
+    (text_of (codes "2020-01-01[a=b]junk"), stops_after (tagged false (codes "a") (codes "b") ∷ []) (of_bracket after_bracket) (other (text_of (codes "junk"))) InvalidEnd)
     ∷ (and_bad (codes "2020-01-01[a=b]"), stops_after (tagged false (codes "a") (codes "b") ∷ []) (of_bracket after_bracket) (bad (Bad ∷ [])) NonAsciiCodePoint)
     ∷ [])
 unfolding all_readings
-no_bracket = refl
+after_a_pair = refl

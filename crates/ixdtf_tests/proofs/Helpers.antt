@@ -1,5 +1,5 @@
 -- Helpers of the examples.
-use Rattle.std.proofs.Common.{◌≡◌, ℕ, Bool, List, [], ◌∷◌, ◌++◌, map, Option, Some, None, ℤ, pos}
+use Rattle.std.proofs.Common.{◌≡◌, ℕ, Bool, List, [], ◌∷◌, ◌++◌, map, Option, Some, None, ℤ, pos, nat_eq, if◌then◌else◌}
 use Rattle.ixdtf_grammar.specs.declared.records.DateRecord.{DateRecord}
 use Rattle.ixdtf_grammar.specs.declared.records.TimeRecord.{TimeRecord}
 use Rattle.ixdtf_grammar.specs.declared.records.UtcOffsetRecordOrZ.{UtcOffsetRecordOrZ}
@@ -86,6 +86,19 @@ tagged critical key value = record { critical = critical; key = key; value = val
 abbrev pub annotated : Option ZoneNote → List Pair → Outcome
 annotated zone pairs = derived (parsed (parsed_with (core_of (Some new_years_day) None None) zone)) pairs
 
+-- ---- texts with a mark at a place: `|`, which is no part of them
+
+abbrev pub before_mark : List ℕ → List ℕ
+before_mark [] = []
+before_mark (unit ∷ units) = if nat_eq unit 124 then [] else unit ∷ before_mark units
+
+abbrev pub after_mark : List ℕ → List ℕ
+after_mark [] = []
+after_mark (unit ∷ units) = if nat_eq unit 124 then units else after_mark units
+
+abbrev pub unmarked : List ℕ → Text
+unmarked units = text_of (before_mark units ++ after_mark units)
+
 -- ---- tables of examples
 
 -- a text, and its outcome
@@ -116,20 +129,28 @@ abbrev pub gives : List ℕ → Outcome → Example
 gives units outcome = (text_of units, outcome)
 
 -- a text that ends there, and its row
-abbrev pub ends : List ℕ → LineName → Fault → Example
-ends front name fault = (text_of front, stops name (end []) fault)
+abbrev pub ends : LineName → Fault → List ℕ → Example
+ends name fault front = (text_of front, stops name (end []) fault)
 
--- a text with another code unit there, what stands before the place and what stands from it on, and its row
-abbrev pub goes_off : List ℕ → List ℕ → LineName → Fault → Example
-goes_off front rest name fault = (text_of (front ++ rest), stops name (other (text_of rest)) fault)
+-- a text with another code unit behind the mark, and its row
+abbrev pub goes_off : LineName → Fault → List ℕ → Example
+goes_off name fault units = (unmarked units, stops name (other (text_of (after_mark units))) fault)
+
+-- with Bad at the end
+abbrev pub goes_off_before_bad : LineName → Fault → List ℕ → Example
+goes_off_before_bad name fault units = (unmarked units ++ (Bad ∷ []), stops name (other (and_bad (after_mark units))) fault)
 
 -- a text that ends with Bad, and its row
-abbrev pub meets_bad : List ℕ → LineName → Example
-meets_bad front name = (and_bad front, stops name (bad (Bad ∷ [])) NonAsciiCodePoint)
+abbrev pub meets_bad : LineName → List ℕ → Example
+meets_bad name front = (and_bad front, stops name (bad (Bad ∷ [])) NonAsciiCodePoint)
 
--- a text that begins with a front of a whole line, this front and what stands behind it, and its row
-abbrev pub stands : List ℕ → List ℕ → LineName → Fault → Example
-stands front rest name fault = (text_of (front ++ rest), stops name (anywhere (text_of rest)) fault)
+-- a text with a front of a whole line before the mark, and its row
+abbrev pub stands : LineName → Fault → List ℕ → Example
+stands name fault units = (unmarked units, stops name (anywhere (text_of (after_mark units))) fault)
+
+-- with Bad at the end
+abbrev pub stands_before_bad : LineName → Fault → List ℕ → Example
+stands_before_bad name fault units = (unmarked units ++ (Bad ∷ []), stops name (anywhere (and_bad (after_mark units))) fault)
 
 -- The rows of a line where the text may end, after these pairs: a text with a front of the line, at another code unit and at
 -- Bad.
@@ -151,7 +172,7 @@ three name front at_end letter at_other = three_after [] name front at_end lette
 
 -- the row of a whole line
 abbrev pub one : LineName → List ℕ → Fault → List Example
-one name front fault = stands front [] name fault ∷ []
+one name front fault = (text_of front, stops name (anywhere []) fault) ∷ []
 
 -- ---- each row of the table
 

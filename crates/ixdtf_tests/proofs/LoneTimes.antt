@@ -96,28 +96,23 @@ times_alone Strict = refl
 
 no_time_alone : (profile : Profile) → Compute (parse_time profile) (
     -- what reads as something else
-    stands (codes "0229") [] (of_time (time_reads_as_month_day profile)) AmbiguousTimeMonthDay
-    ∷ stands (codes "1208") (codes "-10") (of_time (time_reads_as_month_day profile)) AmbiguousTimeMonthDay
-    ∷ stands (codes "1214") (codes "30") (of_time (time_reads_as_month_day profile)) AmbiguousTimeMonthDay
-    ∷ stands (codes "1214") (codes "Z") (of_time (time_reads_as_month_day profile)) AmbiguousTimeMonthDay
-    ∷ stands (codes "12-14") (codes "[-14:00]") (of_time (time_reads_as_month_day profile)) AmbiguousTimeMonthDay
-    ∷ stands (codes "202112") (codes "[UTC]") (of_time time_reads_as_year_month) AmbiguousTimeYearMonth
+    map (stands (of_time (time_reads_as_month_day profile)) AmbiguousTimeMonthDay) (codes "0229|" ∷ codes "1208|-10" ∷ codes "1214|30" ∷ codes "1214|Z" ∷ codes "12-14|[-14:00]" ∷ [])
+    ++ (stands (of_time time_reads_as_year_month) AmbiguousTimeYearMonth (codes "202112|[UTC]") ∷ [])
     -- nothing inside a bracket is looked at
-    ∷ stands (codes "1214") (codes "[") (of_time (time_reads_as_month_day profile)) AmbiguousTimeMonthDay
-    ∷ ends (codes "T1214[") (of_bracket first_bracket_start) abrupt_bracket
+    ++ (stands (of_time (time_reads_as_month_day profile)) AmbiguousTimeMonthDay (codes "1214|[") ∷ [])
+    ++ ends (of_bracket first_bracket_start) abrupt_bracket (codes "T1214[") ∷ []
     -- what is no time
-    ∷ stands (codes "24") (codes "-12-08") (of_clock_time hour_range) TimeHour
-    ∷ goes_off (codes "202408") (codes "01") (of_clock_time after_second) InvalidEnd
-    ∷ goes_off (codes "T19:12") (codes "0-08") (of_clock_time after_colon_minute) TimeSeparator
-    ∷ goes_off (codes "T19-12") (codes "-08") (of_clock OffsetClock after_hour) InvalidEnd
-    ∷ ends (codes "T19:12-089") (of_clock OffsetClock minute_digits) abrupt_digit
-    ∷ goes_off [] (codes ":12") (of_time time_start) TimeHour
-    ∷ goes_off (codes "T") (codes "T12") (of_clock_time hour_start) TimeHour
-    ∷ goes_off (codes "1") (codes ":00") (of_clock_time hour_digit) TimeHour
+    ++ (stands (of_clock_time hour_range) TimeHour (codes "24|-12-08") ∷ [])
+    ++ (goes_off (of_clock_time after_second) InvalidEnd (codes "202408|01") ∷ [])
+    ++ (goes_off (of_clock_time after_colon_minute) TimeSeparator (codes "T19:12|0-08") ∷ [])
+    ++ (goes_off (of_clock OffsetClock after_hour) InvalidEnd (codes "T19-12|-08") ∷ [])
+    ++ (ends (of_clock OffsetClock minute_digits) abrupt_digit (codes "T19:12-089") ∷ [])
+    ++ (goes_off (of_time time_start) TimeHour (codes "|:12") ∷ [])
+    ++ (goes_off (of_clock_time hour_start) TimeHour (codes "T|T12") ∷ [])
+    ++ (goes_off (of_clock_time hour_digit) TimeHour (codes "1|:00") ∷ [])
     -- a bad code unit comes before the test of the front
-    ∷ meets_bad (codes "1200") (of_clock_time after_basic_minute)
-    ∷ (Bad ∷ [], stops (of_time time_start) (bad (Bad ∷ [])) NonAsciiCodePoint)
-    ∷ [])
+    ++ (meets_bad (of_clock_time after_basic_minute) (codes "1200") ∷ [])
+    ++ (Bad ∷ [], stops (of_time time_start) (bad (Bad ∷ [])) NonAsciiCodePoint) ∷ [])
 unfolding all_readings
 no_time_alone Crate = refl
 no_time_alone Strict = refl
@@ -126,22 +121,16 @@ no_time_alone Strict = refl
 
 -- day 0 makes a month-day of a front
 fronts_with_day_zero : Compute (parse_time Crate) (
-    stands (codes "1200") [] (of_time (time_reads_as_month_day Crate)) AmbiguousTimeMonthDay
-    ∷ stands (codes "11-00") [] (of_time (time_reads_as_month_day Crate)) AmbiguousTimeMonthDay
-    ∷ stands (codes "1100") (codes "10") (of_time (time_reads_as_month_day Crate)) AmbiguousTimeMonthDay
-    ∷ stands (codes "1100") (codes "13") (of_time (time_reads_as_month_day Crate)) AmbiguousTimeMonthDay
-    ∷ stands (codes "1200") (codes "[a=b]") (of_time (time_reads_as_month_day Crate)) AmbiguousTimeMonthDay
-    ∷ [])
+    map (stands (of_time (time_reads_as_month_day Crate)) AmbiguousTimeMonthDay) (codes "1200|" ∷ codes "11-00|" ∷ codes "1100|10" ∷ codes "1100|13" ∷ codes "1200|[a=b]" ∷ []))
 unfolding all_readings
 fronts_with_day_zero = refl
 
 -- and under the strict profile it makes none
 times_with_minute_zero : Compute (parse_time Strict) (
-    gives (codes "1200") (time 12 0 0)
-    ∷ gives (codes "11-00") (alone 11 0 0 None (shifted_by Negative 0 0) None)
-    ∷ stands (codes "110010") [] (of_time time_reads_as_year_month) AmbiguousTimeYearMonth
-    ∷ gives (codes "110013") (time 11 0 13)
-    ∷ gives (codes "1200[UTC]") (alone 12 0 0 None None (zone_named false (codes "UTC")))
-    ∷ [])
+    (gives (codes "1200") (time 12 0 0)
+    ∷ gives (codes "11-00") (alone 11 0 0 None (shifted_by Negative 0 0) None) ∷ [])
+    ++ (stands (of_time time_reads_as_year_month) AmbiguousTimeYearMonth (codes "110010|") ∷ [])
+    ++ gives (codes "110013") (time 11 0 13)
+    ∷ gives (codes "1200[UTC]") (alone 12 0 0 None None (zone_named false (codes "UTC"))) ∷ [])
 unfolding all_readings
 times_with_minute_zero = refl

@@ -1,6 +1,5 @@
 -- Year-months and month-days, and their lines, computed.
 use Rattle.std.proofs.Common.{ℕ, List, [], ◌∷◌, ◌++◌, map, codes, ℤ, pos, neg_ℤ, Some, None, false, refl}
-use Rattle.ixdtf.specs.language.Letters.Letter.{Bad}
 use Rattle.ixdtf_grammar.specs.declared.profile.Profile.{Profile}
 use Rattle.ixdtf_grammar.specs.declared.profile.Profile.TheVariants.{Crate, Strict}
 use Rattle.ixdtf_grammar.specs.declared.records.Sign.TheVariants.{Positive}
@@ -13,11 +12,10 @@ use Rattle.ixdtf.specs.table.LineNames.YearMonthLine.{after_year_in_year_month, 
 use Rattle.ixdtf.specs.table.LineNames.MonthDayLine.{month_day_start, month_day_hyphen, month_day_month_digits, month_day_month_range}
 use Rattle.ixdtf.specs.table.LineNames.MonthDayLine.{after_month_day_month, month_day_day_digits, month_day_range, after_month_day}
 use Rattle.ixdtf.specs.table.Lines.{abrupt_digit, abrupt_month_day}
-use Rattle.ixdtf.specs.table.Rows.Place.{anywhere}
 use Rattle.ixdtf.specs.table.Outcomes.{Outcome}
 use Rattle.ixdtf_reading.specs.reading.Dates.{date_of}
 use Rattle.ixdtf_tests.proofs.Dates.{year_lines, year_rows, month_rows}
-use Rattle.ixdtf_tests.proofs.Helpers.{all_readings, and_bad, date, with, Example, Compute, gives, ends, goes_off, meets_bad, stands, stops}
+use Rattle.ixdtf_tests.proofs.Helpers.{all_readings, date, with, Example, Compute, gives, ends, goes_off, meets_bad, stands, stands_before_bad}
 use Rattle.ixdtf_tests.proofs.Helpers.{one, two, three, ShowEachRow}
 
 -- ---- each row of the lines of year-months
@@ -53,16 +51,13 @@ unfolding all_readings
 year_months = refl
 
 no_year_month : Compute parse_year_month (
-    goes_off (codes "-202011") (codes "[!u-ca=iso8601]") (of_year_month after_year_in_year_month) DateMonth
-    ∷ goes_off (codes "-00202011") (codes "Z[Europe/Berlin]") (of_year_month after_year_month) InvalidEnd
-    ∷ goes_off (codes "2020-01") (codes "-01") (of_year_month after_year_month) InvalidEnd
-    ∷ ends (codes "2020-0") (of_date month_digits) abrupt_digit
-    ∷ ends (codes "20200") (of_date month_digits) abrupt_digit
-    ∷ goes_off (codes "20200") (codes "x") (of_date month_digits) DateMonth
-    ∷ meets_bad (codes "20200") (of_date month_digits)
-    ∷ stands (codes "202000") [] (of_date month_range) InvalidMonthRange
-    ∷ (and_bad (codes "2020-13"), stops (of_date month_range) (anywhere (Bad ∷ [])) InvalidMonthRange)
-    ∷ [])
+    (goes_off (of_year_month after_year_in_year_month) DateMonth (codes "-202011|[!u-ca=iso8601]") ∷ [])
+    ++ map (goes_off (of_year_month after_year_month) InvalidEnd) (codes "-00202011|Z[Europe/Berlin]" ∷ codes "2020-01|-01" ∷ [])
+    ++ map (ends (of_date month_digits) abrupt_digit) (codes "2020-0" ∷ codes "20200" ∷ [])
+    ++ (goes_off (of_date month_digits) DateMonth (codes "20200|x") ∷ [])
+    ++ (meets_bad (of_date month_digits) (codes "20200") ∷ [])
+    ++ (stands (of_date month_range) InvalidMonthRange (codes "202000|") ∷ [])
+    ++ stands_before_bad (of_date month_range) InvalidMonthRange (codes "2020-13|") ∷ [])
 unfolding all_readings
 no_year_month = refl
 
@@ -109,26 +104,17 @@ month_days Crate = refl
 month_days Strict = refl
 
 no_month_day : (profile : Profile) → Compute (parse_month_day profile) (
-    goes_off (codes "-") (codes "11-07") (of_month_day month_day_hyphen) MonthDayHyphen
-    ∷ ends (codes "1") (of_month_day month_day_month_digits) abrupt_digit
-    ∷ ends (codes "--1") (of_month_day month_day_month_digits) abrupt_digit
-    ∷ goes_off (codes "1") (codes "-07") (of_month_day month_day_month_digits) DateMonth
-    ∷ goes_off (codes "--") (codes "-07") (of_month_day month_day_month_digits) DateMonth
-    ∷ meets_bad (codes "--1") (of_month_day month_day_month_digits)
-    ∷ stands (codes "00") (codes "-07") (of_month_day month_day_month_range) InvalidMonthRange
-    ∷ stands (codes "--13") [] (of_month_day month_day_month_range) InvalidMonthRange
-    ∷ stands (codes "20") (codes "20-01") (of_month_day month_day_month_range) InvalidMonthRange
-    ∷ goes_off (codes "11") (codes "/07") (of_month_day after_month_day_month) DateDay
-    ∷ ends (codes "110") (of_month_day month_day_day_digits) abrupt_digit
-    ∷ ends (codes "11-0") (of_month_day month_day_day_digits) abrupt_digit
-    ∷ goes_off (codes "11-0") (codes "x") (of_month_day month_day_day_digits) DateDay
-    ∷ goes_off (codes "11-") (codes "-7") (of_month_day month_day_day_digits) DateDay
-    ∷ meets_bad (codes "110") (of_month_day month_day_day_digits)
-    ∷ stands (codes "0230") [] (of_month_day (month_day_range profile)) InvalidMonthDay
-    ∷ stands (codes "04-31") [] (of_month_day (month_day_range profile)) InvalidMonthDay
-    ∷ stands (codes "12-32") (codes "x") (of_month_day (month_day_range profile)) InvalidMonthDay
-    ∷ goes_off (codes "11-07") (codes "1") (of_month_day (after_month_day profile)) InvalidEnd
-    ∷ [])
+    (goes_off (of_month_day month_day_hyphen) MonthDayHyphen (codes "-|11-07") ∷ [])
+    ++ map (ends (of_month_day month_day_month_digits) abrupt_digit) (codes "1" ∷ codes "--1" ∷ [])
+    ++ map (goes_off (of_month_day month_day_month_digits) DateMonth) (codes "1|-07" ∷ codes "--|-07" ∷ [])
+    ++ (meets_bad (of_month_day month_day_month_digits) (codes "--1") ∷ [])
+    ++ map (stands (of_month_day month_day_month_range) InvalidMonthRange) (codes "00|-07" ∷ codes "--13|" ∷ codes "20|20-01" ∷ [])
+    ++ (goes_off (of_month_day after_month_day_month) DateDay (codes "11|/07") ∷ [])
+    ++ map (ends (of_month_day month_day_day_digits) abrupt_digit) (codes "110" ∷ codes "11-0" ∷ [])
+    ++ map (goes_off (of_month_day month_day_day_digits) DateDay) (codes "11-0|x" ∷ codes "11-|-7" ∷ [])
+    ++ (meets_bad (of_month_day month_day_day_digits) (codes "110") ∷ [])
+    ++ map (stands (of_month_day (month_day_range profile)) InvalidMonthDay) (codes "0230|" ∷ codes "04-31|" ∷ codes "12-32|x" ∷ [])
+    ++ goes_off (of_month_day (after_month_day profile)) InvalidEnd (codes "11-07|1") ∷ [])
 unfolding all_readings
 no_month_day Crate = refl
 no_month_day Strict = refl
@@ -136,21 +122,16 @@ no_month_day Strict = refl
 -- ---- what the profile changes
 
 day_zero : Compute (parse_month_day Crate) (
-    gives (codes "11-00") (month_day 11 0)
+    (gives (codes "11-00") (month_day 11 0)
     ∷ gives (codes "--11-00") (month_day 11 0)
-    ∷ gives (codes "0200") (month_day 2 0)
-    ∷ goes_off (codes "11-00") (codes "1") (of_month_day (after_month_day Crate)) InvalidEnd
-    ∷ [])
+    ∷ gives (codes "0200") (month_day 2 0) ∷ [])
+    ++ goes_off (of_month_day (after_month_day Crate)) InvalidEnd (codes "11-00|1") ∷ [])
 unfolding all_readings
 day_zero = refl
 
 no_day_zero : Compute (parse_month_day Strict) (
-    stands (codes "11-00") [] (of_month_day (month_day_range Strict)) InvalidMonthDay
-    ∷ stands (codes "--11-00") [] (of_month_day (month_day_range Strict)) InvalidMonthDay
-    ∷ stands (codes "0200") [] (of_month_day (month_day_range Strict)) InvalidMonthDay
-    ∷ stands (codes "11-00") (codes "1") (of_month_day (month_day_range Strict)) InvalidMonthDay
-    ∷ (and_bad (codes "1100"), stops (of_month_day (month_day_range Strict)) (anywhere (Bad ∷ [])) InvalidMonthDay)
-    ∷ gives (codes "11-01") (month_day 11 1)
-    ∷ [])
+    map (stands (of_month_day (month_day_range Strict)) InvalidMonthDay) (codes "11-00|" ∷ codes "--11-00|" ∷ codes "0200|" ∷ codes "11-00|1" ∷ [])
+    ++ (stands_before_bad (of_month_day (month_day_range Strict)) InvalidMonthDay (codes "1100|") ∷ [])
+    ++ gives (codes "11-01") (month_day 11 1) ∷ [])
 unfolding all_readings
 no_day_zero = refl

@@ -1,6 +1,5 @@
 -- Offsets, with seconds and without, and the lines of offsets, computed.
 use Rattle.std.proofs.Common.{ℕ, Bool, true, false, List, [], ◌∷◌, ◌++◌, map, codes, Option, Some, None, refl}
-use Rattle.ixdtf.specs.language.Letters.Letter.{Bad}
 use Rattle.ixdtf_grammar.specs.declared.records.Sign.{Sign}
 use Rattle.ixdtf_grammar.specs.declared.records.Sign.TheVariants.{Positive, Negative}
 use Rattle.ixdtf_grammar.specs.declared.records.UtcOffsetRecord.{UtcOffsetRecord}
@@ -21,12 +20,11 @@ use Rattle.ixdtf.specs.table.LineNames.OffsetLine.{offset_start, after_zulu}
 use Rattle.ixdtf.specs.table.LineNames.ClockLine.{hour_start, hour_digit, hour_range, after_hour, minute_digits, minute_range, after_basic_minute}
 use Rattle.ixdtf.specs.table.LineNames.ClockLine.{after_colon_minute, second_digits, second_range, after_second, fraction_start, after_fraction}
 use Rattle.ixdtf.specs.table.Lines.{abrupt_digit, abrupt_offset}
-use Rattle.ixdtf.specs.table.Rows.Place.{anywhere}
 use Rattle.ixdtf.specs.table.Outcomes.{Outcome}
 use Rattle.ixdtf.specs.table.Outcomes.Outcome.{derived}
 use Rattle.ixdtf_reading.specs.reading.Times.{time_of}
 use Rattle.ixdtf_tests.proofs.Times.{minute_lines, clock_lines}
-use Rattle.ixdtf_tests.proofs.Helpers.{all_readings, and_bad, morning, new_years_day, with, Example, Compute, gives, ends, goes_off, meets_bad, stands, stops}
+use Rattle.ixdtf_tests.proofs.Helpers.{all_readings, morning, new_years_day, with, Example, Compute, gives, ends, goes_off, meets_bad, stands, stands_before_bad}
 use Rattle.ixdtf_tests.proofs.Helpers.{one, two, three, ShowEachRow}
 
 -- the lines of an offset, and of one without seconds
@@ -147,22 +145,16 @@ offsets : Compute parse_offset (
 unfolding all_readings
 offsets = refl
 
-offsets_beside_dates : Compute parse (
-    -- after times
+offsets_after_times : Compute parse (
     gives (codes "2024-03-02T08:48:00-05:00") (morning (Some (Offset (short Negative 5 0))) None)
     ∷ gives (codes "2024-03-02T08:48-05") (morning (Some (Offset (short Negative 5 0))) None)
     ∷ gives (codes "2024-03-02T08:48:00-00:00") (morning (Some (Offset (short Negative 0 0))) None)
     ∷ gives (codes "2024-03-02 08:48:00+01:00:00") (morning (Some (Offset (long Positive 1 0 0 None))) None)
     ∷ gives (codes "2020-01-01T00:00z") (with new_years_day (Some (time_of 0 0 0 None)) (Some Z) None)
     ∷ gives (codes "2024-03-02T08:48:00Z") (morning (Some Z) None)
-    -- in brackets
-    ∷ gives (codes "2020-01-01[-05:00]") (with new_years_day None None (zone_at false Negative 5 0))
-    ∷ gives (codes "2020-01-01[!+0530]") (with new_years_day None None (zone_at true Positive 5 30))
-    ∷ gives (codes "2020-01-01[+08]") (with new_years_day None None (zone_at false Positive 8 0))
-    ∷ gives (codes "2024-03-02T08:48:00-05:00[-05:00]") (morning (Some (Offset (short Negative 5 0))) (zone_at false Negative 5 0))
     ∷ [])
 unfolding all_readings
-offsets_beside_dates = refl
+offsets_after_times = refl
 
 -- a zone that is an offset
 abbrev zone : Sign → ℕ → ℕ → Outcome
@@ -179,58 +171,56 @@ zones = refl
 abbrev zone_at : Bool → Sign → ℕ → ℕ → Option ZoneNote
 zone_at critical sign hour minute = Some (record { critical = critical; zone = zone_offset (record { sign = sign; hour = hour; minute = minute }) })
 
+offsets_in_brackets : Compute parse (
+    gives (codes "2020-01-01[-05:00]") (with new_years_day None None (zone_at false Negative 5 0))
+    ∷ gives (codes "2020-01-01[!+0530]") (with new_years_day None None (zone_at true Positive 5 30))
+    ∷ gives (codes "2020-01-01[+08]") (with new_years_day None None (zone_at false Positive 8 0))
+    ∷ gives (codes "2024-03-02T08:48:00-05:00[-05:00]") (morning (Some (Offset (short Negative 5 0))) (zone_at false Negative 5 0))
+    ∷ [])
+unfolding all_readings
+offsets_in_brackets = refl
+
 -- ---- texts that are no offset
 
 no_offset : Compute parse_offset (
-    goes_off [] (codes "00:00") (of_offset offset_start) OffsetNeedsSign
-    ∷ goes_off [] (codes "Z") (of_offset offset_start) OffsetNeedsSign
-    ∷ goes_off (codes "+05") (codes ".5") (of_full after_hour) InvalidEnd
-    ∷ ends (codes "+08:0") (of_full minute_digits) abrupt_digit
-    ∷ ends (codes "+080") (of_full minute_digits) abrupt_digit
-    ∷ goes_off (codes "+08:0") (codes "x") (of_full minute_digits) TimeMinuteSecond
-    ∷ goes_off (codes "+080") (codes "x") (of_full minute_digits) TimeMinuteSecond
-    ∷ stands (codes "+0860") [] (of_full minute_range) TimeMinuteSecond
-    ∷ goes_off (codes "+0800") (codes ":00") (of_full after_basic_minute) UtcTimeSeparator
-    ∷ goes_off (codes "+08:00") (codes "00") (of_full after_colon_minute) UtcTimeSeparator
-    ∷ goes_off (codes "+08:00:5") (codes "x") (of_full second_digits) TimeMinuteSecond
-    ∷ ends (codes "+08005") (of_full second_digits) abrupt_digit
-    ∷ meets_bad (codes "+08005") (of_full second_digits)
-    ∷ stands (codes "+080060") [] (of_full second_range) TimeMinuteSecond
-    ∷ goes_off (codes "+08:00:00") (codes "[") (of_full after_second) InvalidEnd
-    ∷ (and_bad (codes "+24"), stops (of_full hour_range) (anywhere (Bad ∷ [])) TimeHour)
-    ∷ [])
+    map (goes_off (of_offset offset_start) OffsetNeedsSign) (codes "|00:00" ∷ codes "|Z" ∷ [])
+    ++ (goes_off (of_full after_hour) InvalidEnd (codes "+05|.5") ∷ [])
+    ++ map (ends (of_full minute_digits) abrupt_digit) (codes "+08:0" ∷ codes "+080" ∷ [])
+    ++ map (goes_off (of_full minute_digits) TimeMinuteSecond) (codes "+08:0|x" ∷ codes "+080|x" ∷ [])
+    ++ (stands (of_full minute_range) TimeMinuteSecond (codes "+0860|") ∷ [])
+    ++ (goes_off (of_full after_basic_minute) UtcTimeSeparator (codes "+0800|:00") ∷ [])
+    ++ (goes_off (of_full after_colon_minute) UtcTimeSeparator (codes "+08:00|00") ∷ [])
+    ++ (goes_off (of_full second_digits) TimeMinuteSecond (codes "+08:00:5|x") ∷ [])
+    ++ (ends (of_full second_digits) abrupt_digit (codes "+08005") ∷ [])
+    ++ (meets_bad (of_full second_digits) (codes "+08005") ∷ [])
+    ++ (stands (of_full second_range) TimeMinuteSecond (codes "+080060|") ∷ [])
+    ++ (goes_off (of_full after_second) InvalidEnd (codes "+08:00:00|[") ∷ [])
+    ++ stands_before_bad (of_full hour_range) TimeHour (codes "+24|") ∷ [])
 unfolding all_readings
 no_offset = refl
 
 no_offset_beside_a_date : Compute parse (
     -- after a time
-    goes_off (codes "2020-01-01T00:00:00+01:00") (codes "Z") (of_full after_colon_minute) InvalidEnd
-    ∷ stands (codes "2024-08-24T14:00:00-05:00:60") [] (of_full second_range) TimeMinuteSecond
-    ∷ stands (codes "2024-08-24T14:00:00-050060") [] (of_full second_range) TimeMinuteSecond
-    ∷ goes_off (codes "2024-08-24T14:00:00-05:00") (codes "60") (of_full after_colon_minute) UtcTimeSeparator
-    ∷ goes_off (codes "2024-08-24T14:00:00-0500") (codes ":60") (of_full after_basic_minute) UtcTimeSeparator
-    ∷ goes_off (codes "2024-08-24T14:00:00-5") (codes ":00") (of_full hour_digit) TimeHour
-    ∷ goes_off (codes "2024-08-24T14:00:00Z") (codes "+") (of_offset after_zulu) InvalidEnd
+    (goes_off (of_full after_colon_minute) InvalidEnd (codes "2020-01-01T00:00:00+01:00|Z") ∷ [])
+    ++ map (stands (of_full second_range) TimeMinuteSecond) (codes "2024-08-24T14:00:00-05:00:60|" ∷ codes "2024-08-24T14:00:00-050060|" ∷ [])
+    ++ (goes_off (of_full after_colon_minute) UtcTimeSeparator (codes "2024-08-24T14:00:00-05:00|60") ∷ [])
+    ++ (goes_off (of_full after_basic_minute) UtcTimeSeparator (codes "2024-08-24T14:00:00-0500|:60") ∷ [])
+    ++ (goes_off (of_full hour_digit) TimeHour (codes "2024-08-24T14:00:00-5|:00") ∷ [])
+    ++ goes_off (of_offset after_zulu) InvalidEnd (codes "2024-08-24T14:00:00Z|+") ∷ []
     -- without seconds, in a bracket
-    ∷ goes_off (codes "2020-01-01[-05:00") (codes ":60]") (of_short after_colon_minute) InvalidMinutePrecisionOffset
-    ∷ goes_off (codes "2020-01-01[-05:00") (codes "0]") (of_short after_colon_minute) InvalidMinutePrecisionOffset
-    ∷ goes_off (codes "2020-01-01[-0500") (codes "00]") (of_short after_basic_minute) InvalidMinutePrecisionOffset
-    ∷ goes_off (codes "2020-01-01[!-0500") (codes ":]") (of_short after_basic_minute) InvalidMinutePrecisionOffset
-    ∷ goes_off (codes "2024-08-24T14:00:00-05:00[-05:00") (codes ".1]") (of_short after_colon_minute) AnnotationClose
-    ∷ goes_off (codes "2020-01-01[+05") (codes "=]") (of_short after_hour) AnnotationClose
-    ∷ [])
+    ++ map (goes_off (of_short after_colon_minute) InvalidMinutePrecisionOffset) (codes "2020-01-01[-05:00|:60]" ∷ codes "2020-01-01[-05:00|0]" ∷ [])
+    ++ map (goes_off (of_short after_basic_minute) InvalidMinutePrecisionOffset) (codes "2020-01-01[-0500|00]" ∷ codes "2020-01-01[!-0500|:]" ∷ [])
+    ++ (goes_off (of_short after_colon_minute) AnnotationClose (codes "2024-08-24T14:00:00-05:00[-05:00|.1]") ∷ [])
+    ++ goes_off (of_short after_hour) AnnotationClose (codes "2020-01-01[+05|=]") ∷ [])
 unfolding all_readings
 no_offset_beside_a_date = refl
 
 -- an offset without seconds, with seconds or a fraction
 no_short_offset : Compute parse_identifier (
-    goes_off (codes "+00:00") (codes ":00") (of_short after_colon_minute) InvalidMinutePrecisionOffset
-    ∷ goes_off (codes "+00:00") (codes "0") (of_short after_colon_minute) InvalidMinutePrecisionOffset
-    ∷ goes_off (codes "+0000") (codes "00") (of_short after_basic_minute) InvalidMinutePrecisionOffset
-    ∷ goes_off (codes "+0000") (codes ":00") (of_short after_basic_minute) InvalidMinutePrecisionOffset
-    ∷ goes_off (codes "+00:00") (codes ".1") (of_short after_colon_minute) InvalidEnd
-    ∷ stands (codes "+24") (codes ":00") (of_short hour_range) TimeHour
-    ∷ stands (codes "+0060") [] (of_short minute_range) TimeMinuteSecond
-    ∷ [])
+    map (goes_off (of_short after_colon_minute) InvalidMinutePrecisionOffset) (codes "+00:00|:00" ∷ codes "+00:00|0" ∷ [])
+    ++ map (goes_off (of_short after_basic_minute) InvalidMinutePrecisionOffset) (codes "+0000|00" ∷ codes "+0000|:00" ∷ [])
+    ++ (goes_off (of_short after_colon_minute) InvalidEnd (codes "+00:00|.1") ∷ [])
+    ++ (stands (of_short hour_range) TimeHour (codes "+24|:00") ∷ [])
+    ++ stands (of_short minute_range) TimeMinuteSecond (codes "+0060|") ∷ [])
 unfolding all_readings
 no_short_offset = refl

@@ -76,20 +76,15 @@ pairs = refl
 -- ---- texts with another pair
 
 no_pair : Compute parse (
-    goes_off (codes "2020-01-01[u-ca=iso8601") (codes ")") (of_pair in_value) AnnotationValueChar
-    ∷ goes_off (codes "2020-01-01[u-ca=") (codes "-iso]") (of_pair value_start) AnnotationValueChar
-    ∷ goes_off (codes "2020-01-01[u-ca=iso-") (codes "]") (of_pair after_value_hyphen) AnnotationValueCharPostHyphen
-    ∷ goes_off (codes "2020-01-01[u-ca=iso-") (codes "-8601]") (of_pair after_value_hyphen) AnnotationValueCharPostHyphen
-    ∷ goes_off (codes "2020-01-01[u][") (codes "Europe/London]") (of_pair key_start) AnnotationKeyLeadingChar
-    ∷ goes_off (codes "2020-01-01[u][") (codes "]") (of_pair key_start) AnnotationKeyLeadingChar
-    ∷ goes_off (codes "2020-01-01[u][!") (codes "]") (of_pair critical_key_start) AnnotationKeyLeadingChar
-    ∷ ends (codes "2020-01-01[u][a-1") (of_pair in_key) AnnotationKeyValueSeparator
-    ∷ ends (codes "2020-01-01[a=b-c") (of_pair in_value) AnnotationClose
-    ∷ meets_bad (codes "2020-01-01[a=b-c") (of_pair in_value)
+    (goes_off (of_pair in_value) AnnotationValueChar (codes "2020-01-01[u-ca=iso8601|)") ∷ [])
+    ++ (goes_off (of_pair value_start) AnnotationValueChar (codes "2020-01-01[u-ca=|-iso]") ∷ [])
+    ++ map (goes_off (of_pair after_value_hyphen) AnnotationValueCharPostHyphen) (codes "2020-01-01[u-ca=iso-|]" ∷ codes "2020-01-01[u-ca=iso-|-8601]" ∷ [])
+    ++ map (goes_off (of_pair key_start) AnnotationKeyLeadingChar) (codes "2020-01-01[u][|Europe/London]" ∷ codes "2020-01-01[u][|]" ∷ [])
+    ++ (goes_off (of_pair critical_key_start) AnnotationKeyLeadingChar (codes "2020-01-01[u][!|]") ∷ [])
+    ++ (ends (of_pair in_key) AnnotationKeyValueSeparator (codes "2020-01-01[u][a-1") ∷ [])
+    ++ (ends (of_pair in_value) AnnotationClose (codes "2020-01-01[a=b-c") ∷ [])
+    ++ meets_bad (of_pair in_value) (codes "2020-01-01[a=b-c") ∷ []
     -- in a first bracket
-    ∷ goes_off (codes "2020-01-01[u-c") (codes "A=iso8601]") (of_pair in_key) AnnotationKeyChar
-    ∷ goes_off (codes "2020-01-01[_") (codes "!=]") (of_pair in_key) AnnotationKeyChar
-    ∷ goes_off (codes "2020-01-01[!a") (codes "/b=c]") (of_pair in_key) AnnotationKeyChar
-    ∷ [])
+    ++ map (goes_off (of_pair in_key) AnnotationKeyChar) (codes "2020-01-01[u-c|A=iso8601]" ∷ codes "2020-01-01[_|!=]" ∷ codes "2020-01-01[!a|/b=c]" ∷ []))
 unfolding all_readings
 no_pair = refl

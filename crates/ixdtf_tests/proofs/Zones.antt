@@ -1,10 +1,12 @@
 -- Names of time zones and their lines, computed.
-use Rattle.std.proofs.Common.{true, false, List, [], ◌∷◌, ◌++◌, codes, None, refl}
+use Rattle.std.proofs.Common.{ℕ, true, false, List, [], ◌∷◌, ◌++◌, map, codes, None, refl}
 use Rattle.ixdtf.specs.language.ZoneNames.Zone.{Name}
 use Rattle.ixdtf.specs.language.Readers.{parse}
 use Rattle.ixdtf.specs.language.Readers.Reader.{parse_identifier, parse_iana_identifier}
 use Rattle.ixdtf.specs.language.Languages.Found.{identified, named}
+use Rattle.ixdtf.specs.table.Faults.{Fault}
 use Rattle.ixdtf.specs.table.Faults.Fault.{InvalidEnd, TzLeadingChar, IanaChar, IanaCharPostSeparator, AnnotationClose}
+use Rattle.ixdtf.specs.table.LineNames.{LineName, ZoneLine}
 use Rattle.ixdtf.specs.table.LineNames.LineName.{of_zone}
 use Rattle.ixdtf.specs.table.LineNames.ZoneLine.{identifier_start, zone_name_start, in_zone_name, after_zone_slash}
 use Rattle.ixdtf.specs.table.Lines.{abrupt_zone}
@@ -12,27 +14,23 @@ use Rattle.ixdtf.specs.table.Outcomes.Outcome.{derived}
 use Rattle.ixdtf_tests.proofs.Helpers.{all_readings, new_years_day, with, zone_named, Example, Compute, gives, ends, goes_off, meets_bad, two, three}
 use Rattle.ixdtf_tests.proofs.Helpers.{ShowEachRow}
 
--- ---- each row in `parse_identifier`
+-- ---- each row in `parse_identifier` and in `parse_iana_identifier`
 
-abbrev rows_of_identifiers : List Example
-rows_of_identifiers =
-    three (of_zone identifier_start) [] abrupt_zone (codes "1") TzLeadingChar
+-- the rows of a name: where it begins, by the fault of the end and another code unit; in it; and after a slash
+abbrev name_rows : ZoneLine → Fault → List ℕ → List ℕ → List Example
+name_rows start at_end letter slash =
+    three (of_zone start) [] at_end letter TzLeadingChar
     ++ two (of_zone in_zone_name) (codes "UTC") (codes "!") IanaChar
-    ++ three (of_zone after_zone_slash) (codes "UTC/") IanaCharPostSeparator (codes "/") IanaCharPostSeparator
+    ++ three (of_zone after_zone_slash) slash IanaCharPostSeparator (codes "/") IanaCharPostSeparator
 
-each_row_of_identifiers : ShowEachRow parse_identifier (of_zone identifier_start ∷ of_zone in_zone_name ∷ of_zone after_zone_slash ∷ []) rows_of_identifiers
+abbrev name_lines : ZoneLine → List LineName
+name_lines start = map of_zone (start ∷ in_zone_name ∷ after_zone_slash ∷ [])
+
+each_row_of_identifiers : ShowEachRow parse_identifier (name_lines identifier_start) (name_rows identifier_start abrupt_zone (codes "1") (codes "UTC/"))
 unfolding all_readings
 each_row_of_identifiers = (refl, refl)
 
--- ---- each row in `parse_iana_identifier`
-
-abbrev rows_of_names : List Example
-rows_of_names =
-    three (of_zone zone_name_start) [] TzLeadingChar (codes "+") TzLeadingChar
-    ++ two (of_zone in_zone_name) (codes "UTC") (codes "!") IanaChar
-    ++ three (of_zone after_zone_slash) (codes "America/") IanaCharPostSeparator (codes "/") IanaCharPostSeparator
-
-each_row_of_names : ShowEachRow parse_iana_identifier (of_zone zone_name_start ∷ of_zone in_zone_name ∷ of_zone after_zone_slash ∷ []) rows_of_names
+each_row_of_names : ShowEachRow parse_iana_identifier (name_lines zone_name_start) (name_rows zone_name_start TzLeadingChar (codes "+") (codes "America/"))
 unfolding all_readings
 each_row_of_names = (refl, refl)
 
@@ -46,27 +44,6 @@ rows_in_brackets =
 each_row_in_brackets : ShowEachRow parse (of_zone in_zone_name ∷ of_zone after_zone_slash ∷ []) rows_in_brackets
 unfolding all_readings
 each_row_in_brackets = (refl, refl)
-
-no_name_in_a_bracket : Compute parse (
-    -- that begins as a key may: then a `]` comes before any `=`, the end and any bad code unit, and the rows for the end and for a bad
-    -- code unit fit no text
-    goes_off (codes "2020-01-01[cet") (codes "!]") (of_zone in_zone_name) IanaChar
-    ∷ goes_off (codes "2020-01-01[_x/") (codes "]") (of_zone after_zone_slash) IanaCharPostSeparator
-    ∷ goes_off (codes "2020-01-01[a/") (codes "/b]") (of_zone after_zone_slash) IanaCharPostSeparator
-    -- the mask of a bad code unit
-    ∷ goes_off (codes "2020-01-01[cet") (codes "!" ++ (128 ∷ []) ++ codes "]") (of_zone in_zone_name) IanaChar
-    -- that begins as no key may
-    ∷ goes_off (codes "2020-04-08[America/Chicago") (codes ")") (of_zone in_zone_name) IanaChar
-    ∷ goes_off (codes "2020-04-08[America/") (codes " Chicago)") (of_zone after_zone_slash) IanaCharPostSeparator
-    ∷ goes_off (codes "2020-01-01[America/") (codes "/Chicago]") (of_zone after_zone_slash) IanaCharPostSeparator
-    ∷ goes_off (codes "2020-01-01[UTC") (codes "=x]") (of_zone in_zone_name) IanaChar
-    ∷ goes_off (codes "2020-01-01[A") (codes "=b]") (of_zone in_zone_name) IanaChar
-    ∷ ends (codes "2020-01-01[!UTC") (of_zone in_zone_name) AnnotationClose
-    ∷ meets_bad (codes "2020-01-01[!UTC") (of_zone in_zone_name)
-    ∷ goes_off (codes "2020-01-01[A") (codes "!" ++ (128 ∷ [])) (of_zone in_zone_name) IanaChar
-    ∷ [])
-unfolding all_readings
-no_name_in_a_bracket = refl
 
 -- ---- names
 
@@ -101,23 +78,32 @@ names_in_brackets = refl
 -- ---- texts that are no name
 
 no_identifier : Compute parse_identifier (
-    goes_off [] (codes "1UTC") (of_zone identifier_start) TzLeadingChar
-    ∷ goes_off (codes "UTC") (codes "]") (of_zone in_zone_name) InvalidEnd
-    ∷ goes_off (codes "UTC") (codes "=x") (of_zone in_zone_name) IanaChar
-    ∷ goes_off (codes "a/b") (codes "]") (of_zone in_zone_name) InvalidEnd
-    ∷ ends (codes "America/") (of_zone after_zone_slash) IanaCharPostSeparator
-    ∷ [])
+    (goes_off (of_zone identifier_start) TzLeadingChar (codes "|1UTC") ∷ [])
+    ++ map (goes_off (of_zone in_zone_name) InvalidEnd) (codes "UTC|]" ∷ codes "a/b|]" ∷ [])
+    ++ (goes_off (of_zone in_zone_name) IanaChar (codes "UTC|=x") ∷ [])
+    ++ ends (of_zone after_zone_slash) IanaCharPostSeparator (codes "America/") ∷ [])
 unfolding all_readings
 no_identifier = refl
 
 no_name : Compute parse_iana_identifier (
-    goes_off [] (codes "+05:00") (of_zone zone_name_start) TzLeadingChar
-    ∷ goes_off [] (codes "1UTC") (of_zone zone_name_start) TzLeadingChar
+    map (goes_off (of_zone zone_name_start) TzLeadingChar) (codes "|+05:00" ∷ codes "|1UTC" ∷ [])
     -- `é` in UTF-8
-    ∷ goes_off [] (195 ∷ 169 ∷ []) (of_zone zone_name_start) TzLeadingChar
-    ∷ goes_off (codes "UTC") (codes "]") (of_zone in_zone_name) InvalidEnd
-    ∷ goes_off (codes "UTC") (codes "=x") (of_zone in_zone_name) IanaChar
-    ∷ goes_off (codes "America/") (codes "/Chicago") (of_zone after_zone_slash) IanaCharPostSeparator
-    ∷ [])
+    ++ (goes_off (of_zone zone_name_start) TzLeadingChar (codes "|" ++ 195 ∷ 169 ∷ []) ∷ [])
+    ++ (goes_off (of_zone in_zone_name) InvalidEnd (codes "UTC|]") ∷ [])
+    ++ (goes_off (of_zone in_zone_name) IanaChar (codes "UTC|=x") ∷ [])
+    ++ goes_off (of_zone after_zone_slash) IanaCharPostSeparator (codes "America/|/Chicago") ∷ [])
 unfolding all_readings
 no_name = refl
+
+no_name_in_a_bracket : Compute parse (
+    map (goes_off (of_zone in_zone_name) IanaChar) (codes "2020-04-08[America/Chicago|)" ∷ codes "2020-01-01[UTC|=x]" ∷ codes "2020-01-01[A|=b]" ∷ (codes "2020-01-01[A|!" ++ (128 ∷ [])) ∷ [])
+    ++ map (goes_off (of_zone after_zone_slash) IanaCharPostSeparator) (codes "2020-04-08[America/| Chicago)" ∷ codes "2020-01-01[America/|/Chicago]" ∷ [])
+    ++ (ends (of_zone in_zone_name) AnnotationClose (codes "2020-01-01[!UTC") ∷ [])
+    ++ meets_bad (of_zone in_zone_name) (codes "2020-01-01[!UTC") ∷ []
+    -- a name that begins as a key may: a `]` comes before any `=`, the end and any bad code unit, so the rows for these fit no text
+    ++ (goes_off (of_zone in_zone_name) IanaChar (codes "2020-01-01[cet|!]") ∷ [])
+    ++ map (goes_off (of_zone after_zone_slash) IanaCharPostSeparator) (codes "2020-01-01[_x/|]" ∷ codes "2020-01-01[a/|/b]" ∷ [])
+    -- the mask of a bad code unit
+    ++ goes_off (of_zone in_zone_name) IanaChar (codes "2020-01-01[cet|!" ++ (128 ∷ []) ++ codes "]") ∷ [])
+unfolding all_readings
+no_name_in_a_bracket = refl
