@@ -34,12 +34,15 @@ use ixdtf::encoding::{EncodingType, Utf8, Utf16};
 use ixdtf::parsers::{IsoDurationParser, IxdtfParser, TimeZoneParser};
 use ixdtf::records::{
     DateRecord, DurationParseRecord, Fraction, FullPrecisionOffset, IxdtfParseRecord,
-    MinutePrecisionOffset, Sign, TimeRecord, TimeZoneAnnotation, TimeZoneRecord, UtcOffsetRecord,
-    UtcOffsetRecordOrZ,
+    MinutePrecisionOffset, Sign, TimeDurationRecord, TimeRecord, TimeZoneAnnotation,
+    TimeZoneRecord, UtcOffsetRecord, UtcOffsetRecordOrZ,
 };
 use ixdtf::{LocatedError, ParserResult};
 use printing::check_read_back;
+use std::alloc::Global;
+use std::fmt::Display;
 use std::process::Abort;
+use std::test::Fail;
 use wide::refuses_wide_at;
 
 #[rattlefmt::skip]
@@ -220,18 +223,6 @@ fn check_fraction(
     check(rt, text, has_nanoseconds(fraction, nanoseconds));
 }
 
-/// A text whose fraction is kept by two numbers: how many digits there are, up to 255, and the number of the first 18 of them.
-type Digits = (&'static str, u8, u64);
-
-/// The fraction of the text that was read has this count of digits and this value.
-fn check_digits(rt: &impl Abort, (text, count, value): Digits, fraction: Option<Fraction>) {
-    let has_digits = match fraction {
-        Some(fraction) => fraction.digit_count() == count && fraction.leading_value() == value,
-        None => false,
-    };
-    check(rt, text, has_digits);
-}
-
 /// A reader of a text.
 #[derive(Clone, Copy, Debug)]
 enum Reader {
@@ -404,6 +395,20 @@ impl<'a, T: EncodingType> Parsers<'a, T> {
     }
 }
 
+/// The fraction that a reader finds in a text: of its time, of its offset, or of the last number of a duration.
+fn fraction_in(reader: Reader, text: &'static str) -> Option<Fraction> {
+    match Parsers::from_str(text).read(reader) {
+        Ok(Found::Parts(parts)) => parts.time?.fraction,
+        Ok(Found::Offset(offset)) => offset.fraction(),
+        Ok(Found::Duration(duration)) => match duration.time? {
+            TimeDurationRecord::Hours { fraction, .. } => fraction,
+            TimeDurationRecord::Minutes { fraction, .. } => fraction,
+            TimeDurationRecord::Seconds { fraction, .. } => fraction,
+        },
+        _ => None,
+    }
+}
+
 /// Asserts what a test asks of a text.
 fn check(rt: &impl Abort, text: &str, is_so: bool) {
     assert!(rt; is_so, "at {text}");
@@ -414,10 +419,18 @@ fn check_reader(rt: &impl Abort, reader: Reader, text: &str, is_so: bool) {
     assert!(rt; is_so, "{reader:?} at {text}");
 }
 
-/// This is displayed, plainly and with a width and a fill.
-fn check_displayed(rt: &impl Abort, text: &str, plain: &str, wide: &str) {
-    check(rt, text, plain == text);
-    check(rt, text, wide == text);
+/// The value is displayed so, whatever the width and the fill.
+fn check_displayed(
+    rt: &impl Abort,
+    alloc: Global,
+    value: &impl Display,
+    text: &str,
+) -> Result<(), Fail> {
+    let plain = format!(in alloc; "{value}")?;
+    check(rt, text, plain.as_str() == text);
+    let wide = format!(in alloc; "{value:*>80}")?;
+    check(rt, text, wide.as_str() == text);
+    Ok(())
 }
 
 /// One reader after the other refuses with the error beside it, with the same parsers.

@@ -1,7 +1,7 @@
 //! Durations.
 
 use super::Nanoseconds::{self, Cut, Exact};
-use super::{Digits, Found, Reader, check, check_digits, check_found, check_fraction};
+use super::{Found, Reader, check, check_found, check_fraction, fraction_in};
 use Units::{Hours, Minutes, Seconds};
 use ixdtf::encoding::Utf8;
 use ixdtf::parsers::IsoDurationParser;
@@ -110,21 +110,9 @@ fn reads_times_of_durations(rt: HostRuntime) {
 /// A duration whose last number has a fraction, its sign, its date, where it has one, its time, and the nanoseconds.
 type Fractional = (&'static str, Sign, Option<Days>, Units, Nanoseconds);
 
-// The fraction of a duration, behind its last number.
-fn fraction_of_duration(text: &'static str) -> Option<Fraction> {
-    match IsoDurationParser::from_str(text).parse() {
-        Ok(duration) => match duration.time? {
-            TimeDurationRecord::Hours { fraction, .. } => fraction,
-            TimeDurationRecord::Minutes { fraction, .. } => fraction,
-            TimeDurationRecord::Seconds { fraction, .. } => fraction,
-        },
-        Err(_) => None,
-    }
-}
-
 fn check_fractions(rt: &impl Abort, rows: &[Fractional]) {
     for (text, sign, date, units, nanoseconds) in rows {
-        let fraction = fraction_of_duration(text);
+        let fraction = fraction_in(Reader::Duration, text);
         check_fraction(rt, text, &fraction, *nanoseconds);
         let date = match *date {
             Some((years, months, weeks, days)) => dated(years, months, weeks, days),
@@ -160,21 +148,6 @@ const DATES_AND_FRACTIONS_OF_DURATIONS: &[Fractional] = &[
 #[test]
 fn reads_dates_and_fractions_of_durations(rt: HostRuntime) {
     check_fractions(&rt, DATES_AND_FRACTIONS_OF_DURATIONS);
-}
-
-#[rattlefmt::skip]
-const DIGITS_OF_DURATIONS: &[Digits] = &[
-    ("PT0,5H", 1, 5),
-    ("PT1.50M", 2, 50),
-    ("PT1H1.123456789123M", 12, 123_456_789_123),
-    ("PT1S2.1234567898765432101234567890987654321S", 37, 123_456_789_876_543_210),
-];
-
-#[test]
-fn keeps_digits_of_durations(rt: HostRuntime) {
-    for row in DIGITS_OF_DURATIONS {
-        check_digits(&rt, *row, fraction_of_duration(row.0));
-    }
 }
 
 #[test]

@@ -13,8 +13,6 @@ use ixdtf::ParseError::{
     TimeHour, TimeMinuteSecond, TimeRequired, TimeSecond, TimeSeparator, TzLeadingChar,
     UnrecognizedCritical, UtcTimeSeparator,
 };
-use std::alloc::Global;
-use std::process::Abort;
 use std::test::Fail;
 
 #[rattlefmt::skip]
@@ -78,32 +76,12 @@ fn has_the_text_of_each_error(rt: HostRuntime) {
     }
 }
 
-fn check_printed(
-    rt: &impl Abort,
-    alloc: Global,
-    error: ParseError,
-    text: &'static str,
-) -> Result<(), Fail> {
-    let plain = format!(in alloc; "{error}")?;
-    let wide = format!(in alloc; "{error:*>80}")?;
-    check_displayed(rt, text, plain.as_str(), wide.as_str());
-    Ok(())
-}
-
 #[test]
 fn prints_one_text_at_any_width(rt: HostRuntime) -> Result<(), Fail> {
-    check_printed(
-        &rt,
-        rt.alloc(),
-        AT_DATE,
-        "Parsing ended abruptly while parsing Date",
-    )?;
-    check_printed(
-        &rt,
-        rt.alloc(),
-        InvalidDayRange,
-        "Parsed day value not in a valid range.",
-    )
+    let end = "Parsing ended abruptly while parsing Date";
+    check_displayed(&rt, rt.alloc(), &AT_DATE, end)?;
+    let day = "Parsed day value not in a valid range.";
+    check_displayed(&rt, rt.alloc(), &InvalidDayRange, day)
 }
 
 #[test]

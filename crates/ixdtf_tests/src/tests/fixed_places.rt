@@ -2,8 +2,8 @@
 //! expected is what the Rust crate returns.
 
 use super::Nanoseconds::Exact;
-use super::times::{Fractional, Whole, check_fractional, check_whole, fraction_of_time};
-use super::{Reader, Record, check_fraction, check_parsed, dated, timed};
+use super::times::{Fractional, Whole, check_fractional, check_whole};
+use super::{Reader, Record, check_fraction, check_parsed, dated, fraction_in, timed};
 use ixdtf::records::UtcOffsetRecordOrZ;
 
 const AT_FIXED_PLACES: &[Whole] = &[
@@ -33,7 +33,7 @@ fn reads_fractions_beside_fixed_places(rt: HostRuntime) {
 #[test]
 fn reads_on_after_fixed_places(rt: HostRuntime) {
     let text = "2020-01-01t00:00:00,5Z";
-    let fraction = fraction_of_time(Reader::Parse, text);
+    let fraction = fraction_in(Reader::Parse, text);
     check_fraction(&rt, text, &fraction, Exact(500_000_000));
     let record = Record {
         offset: Some(UtcOffsetRecordOrZ::Z),

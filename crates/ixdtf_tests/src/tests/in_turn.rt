@@ -66,25 +66,11 @@ fn is_read_once(reader: Reader, text: &'static str, at_end: ParseError) -> bool 
     is_read && is_at_its_end && Parsers::from_str("").refusal(reader) == Some(at_end)
 }
 
-fn check_once(rt: &impl Abort, rows: &[(Reader, &'static str, ParseError)]) {
-    for (reader, text, at_end) in rows {
-        check_reader(rt, *reader, text, is_read_once(*reader, text, *at_end));
-    }
-}
-
 const TEXTS: &[(Reader, &str, ParseError)] = &[
     (Parse, "2020-04-08T12Z[cet][u-ca=iso8601]", AT_DIGIT),
     (YearMonth, "2020-04[cet]", AT_DIGIT),
     (MonthDay, "04-08[cet]", AT_MONTH_DAY),
     (Time, "12:30Z[cet]", AT_DIGIT),
-];
-
-#[test]
-fn reads_a_text_once(rt: HostRuntime) {
-    check_once(&rt, TEXTS);
-}
-
-const ZONES_AND_A_DURATION: &[(Reader, &str, ParseError)] = &[
     (Offset, "+01:00:30", AT_OFFSET),
     (Identifier, "UTC", AT_ZONE),
     (IanaIdentifier, "UTC", TzLeadingChar),
@@ -92,8 +78,10 @@ const ZONES_AND_A_DURATION: &[(Reader, &str, ParseError)] = &[
 ];
 
 #[test]
-fn reads_a_zone_or_a_duration_once(rt: HostRuntime) {
-    check_once(&rt, ZONES_AND_A_DURATION);
+fn reads_a_text_once(rt: HostRuntime) {
+    for (reader, text, at_end) in TEXTS {
+        check_reader(&rt, *reader, text, is_read_once(*reader, text, *at_end));
+    }
 }
 
 const WITH_HANDLERS: &[(Form, &str, ParseError)] = &[

@@ -9,21 +9,7 @@ use ixdtf::ParseError::{
     self, AmbiguousTimeMonthDay, AmbiguousTimeYearMonth, DateDay, DateMonth, DateSeparator,
     DateYear, DurationDisgnator, InvalidEnd, InvalidMonthRange, MonthDayHyphen, TimeHour,
 };
-use ixdtf::ParserResult;
-use ixdtf::encoding::Utf8;
 use ixdtf::records::Sign;
-use std::process::Abort;
-
-/// The other readers refuse the text with the errors beside them, and then this reader returns this.
-fn check_language(
-    rt: &impl Abort,
-    text: &'static str,
-    others: &[(Reader, ParseError)],
-    reader: Reader,
-    wanted: &ParserResult<Found<'static, Utf8>>,
-) {
-    check_once_read(rt, text, others, reader, wanted, &[]);
-}
 
 #[rattlefmt::skip]
 const BESIDE_A_BASIC_DATE: &[(Reader, ParseError)] =
@@ -32,7 +18,7 @@ const BESIDE_A_BASIC_DATE: &[(Reader, ParseError)] =
 #[test]
 fn reads_a_basic_date_as_a_date(rt: HostRuntime) {
     let date = Found::Parts(dated(2020, 11, 8, None));
-    check_language(&rt, "20201108", BESIDE_A_BASIC_DATE, Parse, &Ok(date));
+    check_once_read(&rt, "20201108", BESIDE_A_BASIC_DATE, Parse, &Ok(date), &[]);
 }
 
 #[rattlefmt::skip]
@@ -42,7 +28,14 @@ const BESIDE_A_YEAR_MONTH: &[(Reader, ParseError)] =
 #[test]
 fn reads_a_year_and_a_month_as_a_year_month(rt: HostRuntime) {
     let month = Found::Parts(dated(2021, 12, 1, None));
-    check_language(&rt, "2021-12", BESIDE_A_YEAR_MONTH, YearMonth, &Ok(month));
+    check_once_read(
+        &rt,
+        "2021-12",
+        BESIDE_A_YEAR_MONTH,
+        YearMonth,
+        &Ok(month),
+        &[],
+    );
 }
 
 #[rattlefmt::skip]
@@ -52,7 +45,7 @@ const BESIDE_1208_10: &[(Reader, ParseError)] =
 #[test]
 fn reads_a_year_that_begins_as_a_month_day_as_a_year_month(rt: HostRuntime) {
     let month = Found::Parts(dated(1208, 10, 1, None));
-    check_language(&rt, "1208-10", BESIDE_1208_10, YearMonth, &Ok(month));
+    check_once_read(&rt, "1208-10", BESIDE_1208_10, YearMonth, &Ok(month), &[]);
 }
 
 #[rattlefmt::skip]
@@ -62,7 +55,7 @@ const BESIDE_A_MONTH_DAY: &[(Reader, ParseError)] =
 #[test]
 fn reads_a_month_and_a_day_as_a_month_day(rt: HostRuntime) {
     let day = Found::Parts(dated(0, 11, 7, None));
-    check_language(&rt, "11-07", BESIDE_A_MONTH_DAY, MonthDay, &Ok(day));
+    check_once_read(&rt, "11-07", BESIDE_A_MONTH_DAY, MonthDay, &Ok(day), &[]);
 }
 
 #[rattlefmt::skip]
@@ -72,7 +65,7 @@ const BESIDE_A_TIME: &[(Reader, ParseError)] =
 #[test]
 fn reads_an_hour_and_a_minute_as_a_time(rt: HostRuntime) {
     let noon = Found::Parts(alone(timed(12, 0, 0, None), None));
-    check_language(&rt, "12:00", BESIDE_A_TIME, Time, &Ok(noon));
+    check_once_read(&rt, "12:00", BESIDE_A_TIME, Time, &Ok(noon), &[]);
 }
 
 #[rattlefmt::skip]
@@ -82,7 +75,7 @@ const BESIDE_A_DURATION: &[(Reader, ParseError)] =
 #[test]
 fn reads_a_duration_as_a_duration(rt: HostRuntime) {
     let hour = Found::Duration(lasts(Sign::Positive, None, lasting(Units::Hours(1), None)));
-    check_language(&rt, "PT1H", BESIDE_A_DURATION, Duration, &Ok(hour));
+    check_once_read(&rt, "PT1H", BESIDE_A_DURATION, Duration, &Ok(hour), &[]);
 }
 
 #[rattlefmt::skip]

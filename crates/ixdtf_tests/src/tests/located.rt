@@ -21,24 +21,12 @@ const AT_THE_END: LocatedError = LocatedError {
     at: 1234,
 };
 
-fn check_located(
-    rt: &impl Abort,
-    alloc: Global,
-    error: LocatedError,
-    text: &'static str,
-) -> Result<(), Fail> {
-    let plain = format!(in alloc; "{error}")?;
-    let wide = format!(in alloc; "{error:*>80}")?;
-    check_displayed(rt, text, plain.as_str(), wide.as_str());
-    Ok(())
-}
-
 #[test]
 fn displays_the_error_and_its_place(rt: HostRuntime) -> Result<(), Fail> {
     let month = "Parsed month value not in a valid range. at 5";
-    check_located(&rt, rt.alloc(), AT_FIVE, month)?;
+    check_displayed(&rt, rt.alloc(), &AT_FIVE, month)?;
     let end = "Parsing ended abruptly while parsing digit at 1234";
-    check_located(&rt, rt.alloc(), AT_THE_END, end)
+    check_displayed(&rt, rt.alloc(), &AT_THE_END, end)
 }
 
 #[test]

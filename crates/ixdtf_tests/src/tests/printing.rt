@@ -209,10 +209,7 @@ fn check_shown(rt: &impl Abort, alloc: Global, text: &str, canonical: &str) -> R
         check(rt, text, false);
         return Ok(());
     };
-    let plain = format!(in alloc; "{shown}")?;
-    let wide = format!(in alloc; "{shown:*>80}")?;
-    check_displayed(rt, canonical, plain.as_str(), wide.as_str());
-    Ok(())
+    check_displayed(rt, alloc, &shown, canonical)
 }
 
 #[test]

@@ -2,6 +2,7 @@
 
 use super::durations::{Units, dated as lasting, lasts, timed as lasting_time};
 use super::wide::Wide;
+use super::widths::{READERS, SHARED};
 use super::{
     Found, Parsers, Reader, alone, check, check_reader, check_refusals, dated, short, timed,
 };
@@ -143,6 +144,13 @@ fn check_same(rt: &impl Abort, reader: Reader, texts: &[&'static str]) {
     }
 }
 
+#[test]
+fn reads_shared_texts_alike(rt: HostRuntime) {
+    for reader in READERS {
+        check_same(&rt, reader, &SHARED);
+    }
+}
+
 const DATES: &[&str] = &[
     "2024-03-02T08:48:00.25",
     "2024-03-02[UTC][u-ca=hebrew][a=b]",
@@ -151,7 +159,7 @@ const DATES: &[&str] = &[
     "2020-01-01[!a=b]",
 ];
 
-const YEAR_MONTHS: &[&str] = &["2020-01", "+00202011", "2020-00", "2020", "2020-11-08"];
+const YEAR_MONTHS: &[&str] = &["+00202011", "2020-00", "2020-11-08"];
 
 #[test]
 fn reads_dates_alike(rt: HostRuntime) {
@@ -160,22 +168,8 @@ fn reads_dates_alike(rt: HostRuntime) {
 }
 
 const OTHER_MONTH_DAYS: &[&str] = &[
-    "11-07",
-    "1107",
-    "--11-07",
-    "11-01",
-    "02-29",
-    "--0430",
-    "1231",
-    "--1107[+04:00]",
-    "02-30",
-    "04-31",
-    "00-07",
-    "1300",
-    "-11-07",
-    "110",
-    "11-0x",
-    "",
+    "11-07", "1107", "--11-07", "11-01", "02-29", "--0430", "1231", "04-31", "00-07", "1300",
+    "110", "11-0x",
 ];
 
 #[test]
@@ -185,26 +179,16 @@ fn reads_other_month_days_alike(rt: HostRuntime) {
 
 const OTHER_TIMES: &[&str] = &[
     "12",
-    "T1200",
     "t121430",
     "0230",
     "0631",
     "1232",
     "13-14",
-    "2021-13",
     "202113-13",
     "0000-00",
     "T1214Z",
     "15:23:30.1234567890",
     "12:01:04-05:00[America/New_York][u-ca=iso8601]",
-    "1208-10",
-    "121430",
-    "1214Z",
-    "2021-12",
-    "202112[UTC]",
-    "20240801",
-    "T19:12-089",
-    "",
 ];
 
 #[test]
@@ -219,21 +203,12 @@ const OTHER_DURATIONS: &[&str] = &[
     "P1y2m3W4d",
     "P0D",
     "P4294967295W",
-    "P18446744073709551615D",
     "Pt1h2m3s",
     "PT1H3S",
-    "PT1H1.123456789123M",
     "-P1Y3wT0,5H",
-    "P1D1Y",
     "P1D4294967296Y",
-    "P4294967296Y",
-    "P99999999999999999999X",
     "PT1S1M",
-    "PT0.5H1M",
-    "PT1.H",
-    "P1YT",
     "P",
-    "",
 ];
 
 #[test]

@@ -1,11 +1,13 @@
 //! Records, their fractions and offsets.
 
 use super::Nanoseconds::{self, Cut, Exact};
-use super::{Digits, check, check_digits, check_fraction, fraction_of, long, minutes, short};
+use super::{
+    Reader, check, check_fraction, check_reader, fraction_in, fraction_of, long, minutes, short,
+};
 use ixdtf::encoding::{EncodingType, Utf8, Utf16};
 use ixdtf::records::{
-    DateRecord, IxdtfParseRecord, MinutePrecisionOffset, Sign, TimeRecord, TimeZoneAnnotation,
-    TimeZoneRecord, UtcOffsetRecord, UtcOffsetRecordOrZ,
+    DateRecord, Fraction, IxdtfParseRecord, MinutePrecisionOffset, Sign, TimeRecord,
+    TimeZoneAnnotation, TimeZoneRecord, UtcOffsetRecord, UtcOffsetRecordOrZ,
 };
 
 // The offset -05:30.
@@ -53,20 +55,37 @@ fn fractions_are_cut_at_nanoseconds(rt: HostRuntime) {
     }
 }
 
+// Texts with a fraction: how many digits it has, up to 255, and the number of the first 18. The last time has 300 digits.
 #[rattlefmt::skip]
-const DIGITS: &[Digits] = &[
-    ("+00:00:00.0", 1, 0),
-    ("+00:00:00.50", 2, 50),
-    ("+00:00:00.00000000000000000150", 20, 1),
-    ("+00:00:00.1234567898765432101234567890987654321", 37, 123_456_789_876_543_210),
-    (LONGEST, 255, 123_456_789_876_543_210),
-    (LONGER, 255, 123_456_789_876_543_210),
+const DIGITS: &[(Reader, &str, u8, u64)] = &[
+    (Reader::Offset, "+00:00:00.0", 1, 0),
+    (Reader::Offset, "+00:00:00.50", 2, 50),
+    (Reader::Offset, "+00:00:00.00000000000000000150", 20, 1),
+    (Reader::Offset, "+00:00:00.1234567898765432101234567890987654321", 37, 123_456_789_876_543_210),
+    (Reader::Offset, LONGEST, 255, 123_456_789_876_543_210),
+    (Reader::Offset, LONGER, 255, 123_456_789_876_543_210),
+    (Reader::Time, "15:23:30.12345678", 8, 12_345_678),
+    (Reader::Time, "15:23:30.1234567898765432101234567890987654321", 37, 123_456_789_876_543_210),
+    (Reader::Time, "15:23:30.123456789876543210123456789098765432112345678987654321012345678909876543211234567898765432101234567890987654321123456789876543210123456789098765432112345678987654321012345678909876543211234567898765432101234567890987654321123456789876543210123456789098765432112345678987654321012345678909876543211234", 255, 123_456_789_876_543_210),
+    (Reader::Duration, "PT0,5H", 1, 5),
+    (Reader::Duration, "PT1.50M", 2, 50),
+    (Reader::Duration, "PT1H1.123456789123M", 12, 123_456_789_123),
+    (Reader::Duration, "PT1S2.1234567898765432101234567890987654321S", 37, 123_456_789_876_543_210),
 ];
+
+// Whether the fraction has this count of digits and this value.
+fn has_digits(fraction: Option<Fraction>, count: u8, value: u64) -> bool {
+    match fraction {
+        Some(fraction) => fraction.digit_count() == count && fraction.leading_value() == value,
+        None => false,
+    }
+}
 
 #[test]
 fn fractions_tell_their_digits(rt: HostRuntime) {
-    for row in DIGITS {
-        check_digits(&rt, *row, fraction_of(row.0));
+    for (reader, text, count, value) in DIGITS {
+        let fraction = fraction_in(*reader, text);
+        check_reader(&rt, *reader, text, has_digits(fraction, *count, *value));
     }
 }
 

@@ -34,14 +34,9 @@ fn half_past(rt: &impl Abort, calendar: Option<&'static str>) -> Record {
     let text = "+00:00:00.5";
     let fraction = fraction_of(text);
     check_fraction(rt, text, &fraction, Exact(500_000_000));
-    let zulu = Some(UtcOffsetRecordOrZ::Z);
-    parts(
-        Some((2020, 1, 1)),
-        timed(0, 0, 0, fraction),
-        zulu,
-        None,
-        calendar,
-    )
+    let day = Some((2020, 1, 1));
+    let time = timed(0, 0, 0, fraction);
+    parts(day, time, Some(UtcOffsetRecordOrZ::Z), None, calendar)
 }
 
 // Texts of half a second past midnight, with their calendars.

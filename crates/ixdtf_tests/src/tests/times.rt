@@ -2,10 +2,8 @@
 
 use super::Nanoseconds::{self, Cut, Exact};
 use super::{
-    Digits, Found, Parsers, Reader, check_digits, check_found, check_fraction, check_parsed, dated,
-    parts, timed,
+    Found, Reader, check_found, check_fraction, check_parsed, dated, fraction_in, parts, timed,
 };
-use ixdtf::records::Fraction;
 use std::process::Abort;
 
 /// A text, and its date and time, which has no fraction.
@@ -40,18 +38,10 @@ pub(super) type Fractional = (
     Nanoseconds,
 );
 
-// The fraction of the time that a reader finds in a text.
-pub(super) fn fraction_of_time(reader: Reader, text: &'static str) -> Option<Fraction> {
-    match Parsers::from_str(text).read(reader) {
-        Ok(Found::Parts(record)) => record.time?.fraction,
-        _ => None,
-    }
-}
-
 /// The reader finds the date and the time with its fraction in each text, and nothing besides.
 pub(super) fn check_fractional(rt: &impl Abort, reader: Reader, rows: &[Fractional]) {
     for (text, date, (hour, minute, second), nanoseconds) in rows {
-        let fraction = fraction_of_time(reader, text);
+        let fraction = fraction_in(reader, text);
         check_fraction(rt, text, &fraction, *nanoseconds);
         let time = timed(*hour, *minute, *second, fraction);
         let wanted = Found::Parts(parts(*date, time, None, None, None));
@@ -90,19 +80,4 @@ const FRACTIONS_OF_TIMES_ALONE: &[Fractional] = &[
 #[test]
 fn reads_fractions_of_times_alone(rt: HostRuntime) {
     check_fractional(&rt, Reader::Time, FRACTIONS_OF_TIMES_ALONE);
-}
-
-// The last has 300 digits.
-#[rattlefmt::skip]
-const DIGITS_OF_TIMES_ALONE: &[Digits] = &[
-    ("15:23:30.12345678", 8, 12_345_678),
-    ("15:23:30.1234567898765432101234567890987654321", 37, 123_456_789_876_543_210),
-    ("15:23:30.123456789876543210123456789098765432112345678987654321012345678909876543211234567898765432101234567890987654321123456789876543210123456789098765432112345678987654321012345678909876543211234567898765432101234567890987654321123456789876543210123456789098765432112345678987654321012345678909876543211234", 255, 123_456_789_876_543_210),
-];
-
-#[test]
-fn keeps_digits_of_times_alone(rt: HostRuntime) {
-    for row in DIGITS_OF_TIMES_ALONE {
-        check_digits(&rt, *row, fraction_of_time(Reader::Time, row.0));
-    }
 }
