@@ -36,12 +36,9 @@ each_row_of_names = (refl, refl)
 
 -- ---- each row in a bracket, of a name that begins as no key may
 
-abbrev rows_in_brackets : List Example
-rows_in_brackets =
+each_row_in_brackets : ShowEachRow parse (of_zone in_zone_name ∷ of_zone after_zone_slash ∷ []) (
     three (of_zone in_zone_name) (codes "2020-04-08[Amer") AnnotationClose (codes "!") IanaChar
-    ++ three (of_zone after_zone_slash) (codes "2020-04-08[America/") IanaCharPostSeparator (codes "]") IanaCharPostSeparator
-
-each_row_in_brackets : ShowEachRow parse (of_zone in_zone_name ∷ of_zone after_zone_slash ∷ []) rows_in_brackets
+    ++ three (of_zone after_zone_slash) (codes "2020-04-08[America/") IanaCharPostSeparator (codes "]") IanaCharPostSeparator)
 unfolding all_readings
 each_row_in_brackets = (refl, refl)
 

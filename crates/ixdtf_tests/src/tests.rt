@@ -174,6 +174,14 @@ fn long(
     })
 }
 
+/// The offset, in full where it has a second.
+fn offset_by(sign: Sign, (hour, minute): (u8, u8), second: Option<u8>) -> UtcOffsetRecord {
+    match second {
+        Some(second) => long(minutes(sign, hour, minute), second, None),
+        None => short(sign, hour, minute),
+    }
+}
+
 fn timed(hour: u8, minute: u8, second: u8, fraction: Option<Fraction>) -> Option<TimeRecord> {
     Some(TimeRecord {
         hour,

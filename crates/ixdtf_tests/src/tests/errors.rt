@@ -76,12 +76,17 @@ fn has_the_text_of_each_error(rt: HostRuntime) {
     }
 }
 
+const DISPLAYED: &[(ParseError, &str)] = &[
+    (AT_DATE, "Parsing ended abruptly while parsing Date"),
+    (InvalidDayRange, "Parsed day value not in a valid range."),
+];
+
 #[test]
 fn prints_one_text_at_any_width(rt: HostRuntime) -> Result<(), Fail> {
-    let end = "Parsing ended abruptly while parsing Date";
-    check_displayed(&rt, rt.alloc(), &AT_DATE, end)?;
-    let day = "Parsed day value not in a valid range.";
-    check_displayed(&rt, rt.alloc(), &InvalidDayRange, day)
+    for (error, text) in DISPLAYED {
+        check_displayed(&rt, rt.alloc(), error, text)?;
+    }
+    Ok(())
 }
 
 #[test]

@@ -128,27 +128,17 @@ fn refuses_one_hyphen<'a>(bytes: &'a [u8]) -> ParserResult<IxdtfParseRecord<'a, 
 }
 
 // What a caller concludes from the law.
-fn default_date() -> DateRecord
-    ensures { result ≡ record { year = pos 0; month = 0; day = 0 } }
+fn defaults() -> (DateRecord, TimeRecord, DateDurationRecord)
+    ensures { result.0 ≡ record { year = pos 0; month = 0; day = 0 } }
+    ensures { result.1 ≡ record { hour = 0; minute = 0; second = 0; fraction = None } }
+    ensures { result.2 ≡ record { years = 0; months = 0; weeks = 0; days = 0 } }
 {
     defaults_are_zero();
-    DateRecord::default()
-}
-
-// What a caller concludes from the law.
-fn default_time() -> TimeRecord
-    ensures { result ≡ record { hour = 0; minute = 0; second = 0; fraction = None } }
-{
-    defaults_are_zero();
-    TimeRecord::default()
-}
-
-// What a caller concludes from the law.
-fn default_date_units() -> DateDurationRecord
-    ensures { result ≡ record { years = 0; months = 0; weeks = 0; days = 0 } }
-{
-    defaults_are_zero();
-    DateDurationRecord::default()
+    (
+        DateRecord::default(),
+        TimeRecord::default(),
+        DateDurationRecord::default(),
+    )
 }
 
 // What a caller concludes from the law: bytes that are a date, or a date and a time, are not a year-month.
@@ -356,9 +346,10 @@ const NO_DAYS: DateDurationRecord = DateDurationRecord {
 
 #[test]
 fn defaults_are_zero_in_each_field(rt: HostRuntime) {
-    check(&rt, "a date", default_date() == YEAR_ZERO);
-    check(&rt, "a time", default_time() == MIDNIGHT);
-    check(&rt, "a duration", default_date_units() == NO_DAYS);
+    let (date, time, days) = defaults();
+    check(&rt, "a date", date == YEAR_ZERO);
+    check(&rt, "a time", time == MIDNIGHT);
+    check(&rt, "a duration", days == NO_DAYS);
 }
 
 // The result for a text where the handler drops every annotation.

@@ -207,8 +207,8 @@ pub(super) type Asked = (Form, Kind, &'static str, &'static str);
 
 // ==== Texts that are refused ====
 
-// The error of the reader, where it refuses after the calls and no more.
-fn refusal<'a, T: Foreign + 'static>(
+/// The error of the reader, where it refuses after the calls and no more.
+pub(super) fn refusal<'a, T: Foreign + 'static>(
     parser: &mut IxdtfParser<'a, T>,
     (form, kind, _text, calls): Asked,
 ) -> Option<ParseError> {
@@ -277,8 +277,8 @@ pub(super) fn check_no_letter_replies(rt: &impl Abort, rows: &[RefusedReply]) {
 
 // ==== Texts that are read ====
 
-// What the reader reads after the calls and no more.
-fn reads<'a, T: Foreign + 'static>(
+/// What the reader reads after the calls and no more.
+pub(super) fn reads<'a, T: Foreign + 'static>(
     mut parser: IxdtfParser<'a, T>,
     (form, kind, _text, calls): Asked,
 ) -> Option<IxdtfParseRecord<'a, T>> {

@@ -4,43 +4,47 @@ use super::{Found, Reader, check_found, dated, minutes, shifted};
 use ixdtf::records::Sign;
 use std::process::Abort;
 
-/// The reader finds this year, month and day in the text, and nothing besides.
-fn check_months(rt: &impl Abort, reader: Reader, rows: &[(&'static str, i32, u8, u8)]) {
-    for (text, year, month, day) in rows {
-        let wanted = Found::Parts(dated(*year, *month, *day, None));
-        check_found(rt, reader, text, &Ok(wanted));
-    }
+fn check_month(
+    rt: &impl Abort,
+    reader: Reader,
+    text: &'static str,
+    (year, month, day): (i32, u8, u8),
+) {
+    let wanted = Found::Parts(dated(year, month, day, None));
+    check_found(rt, reader, text, &Ok(wanted));
 }
 
-// The day is 1.
-const YEAR_MONTHS: &[(&str, i32, u8, u8)] = &[
-    ("2020-01", 2020, 1, 1),
-    ("202112", 2021, 12, 1),
-    ("+002020-11", 2020, 11, 1),
-    ("+00202011", 2020, 11, 1),
-    ("-002020-11", -2020, 11, 1),
-    ("+000000-02", 0, 2, 1),
+const YEAR_MONTHS: &[(&str, i32, u8)] = &[
+    ("2020-01", 2020, 1),
+    ("202112", 2021, 12),
+    ("+002020-11", 2020, 11),
+    ("+00202011", 2020, 11),
+    ("-002020-11", -2020, 11),
+    ("+000000-02", 0, 2),
 ];
 
 #[test]
 fn reads_year_months(rt: HostRuntime) {
-    check_months(&rt, Reader::YearMonth, YEAR_MONTHS);
+    for (text, year, month) in YEAR_MONTHS {
+        check_month(&rt, Reader::YearMonth, text, (*year, *month, 1));
+    }
 }
 
-// The year is 0.
-const MONTH_DAYS: &[(&str, i32, u8, u8)] = &[
-    ("11-07", 0, 11, 7),
-    ("1107", 0, 11, 7),
-    ("--11-07", 0, 11, 7),
-    ("11-00", 0, 11, 0),
-    ("02-29", 0, 2, 29),
-    ("--0430", 0, 4, 30),
-    ("1231", 0, 12, 31),
+const MONTH_DAYS: &[(&str, u8, u8)] = &[
+    ("11-07", 11, 7),
+    ("1107", 11, 7),
+    ("--11-07", 11, 7),
+    ("11-00", 11, 0),
+    ("02-29", 2, 29),
+    ("--0430", 4, 30),
+    ("1231", 12, 31),
 ];
 
 #[test]
 fn reads_month_days(rt: HostRuntime) {
-    check_months(&rt, Reader::MonthDay, MONTH_DAYS);
+    for (text, month, day) in MONTH_DAYS {
+        check_month(&rt, Reader::MonthDay, text, (0, *month, *day));
+    }
     let zone = minutes(Sign::Positive, 4, 0);
     let wanted = Found::Parts(shifted((0, 11, 7), None, None, false, zone));
     check_found(&rt, Reader::MonthDay, "--1107[+04:00]", &Ok(wanted));

@@ -16,31 +16,20 @@ fn check_offset(rt: &impl Abort, text: &'static str, offset: UtcOffsetRecord) {
 /// A text, and an offset by its sign, hours and minutes.
 pub(super) type Short = (&'static str, Sign, u8, u8);
 
-const OFFSETS: &[Short] = &[
-    ("+05", Positive, 5, 0),
-    ("-0530", Negative, 5, 30),
-    ("-05:30", Negative, 5, 30),
-    ("-00:00", Negative, 0, 0),
+// Offsets by their sign, hours, minutes and seconds, where they have some.
+const OFFSETS: &[(&str, Sign, u8, u8, Option<u8>)] = &[
+    ("+05", Positive, 5, 0, None),
+    ("-0530", Negative, 5, 30, None),
+    ("-05:30", Negative, 5, 30, None),
+    ("-00:00", Negative, 0, 0, None),
+    ("+235959", Positive, 23, 59, Some(59)),
+    ("+01:00:00", Positive, 1, 0, Some(0)),
 ];
 
 #[test]
 fn reads_offsets(rt: HostRuntime) {
-    for (text, sign, hour, minute) in OFFSETS {
-        check_offset(&rt, text, short(*sign, *hour, *minute));
-    }
-}
-
-// East of Greenwich by hours, minutes and seconds.
-const OFFSETS_WITH_SECONDS: &[(&str, u8, u8, u8)] = &[
-    ("+235959", 23, 59, 59),
-    ("+01:00:00", 1, 0, 0),
-];
-
-#[test]
-fn reads_offsets_with_seconds(rt: HostRuntime) {
-    for (text, hour, minute, second) in OFFSETS_WITH_SECONDS {
-        let offset = long(minutes(Positive, *hour, *minute), *second, None);
-        check_offset(&rt, text, offset);
+    for (text, sign, hour, minute, second) in OFFSETS {
+        check_offset(&rt, text, offset_by(*sign, (*hour, *minute), *second));
     }
 }
 

@@ -296,19 +296,11 @@ const OTHER_OFFSETS: &[(&str, Sign, (u8, u8), Option<u8>)] = &[
     ("second 60", Sign::Negative, (0, 0), Some(60)),
 ];
 
-// A morning with this offset.
-fn offset_by(sign: Sign, (hour, minute): (u8, u8), second: Option<u8>) -> Record {
-    let offset = match second {
-        Some(second) => long(minutes(sign, hour, minute), second, None),
-        None => short(sign, hour, minute),
-    };
-    morning(Some(UtcOffsetRecordOrZ::Offset(offset)), None, None)
-}
-
 #[test]
 fn prints_no_other_offsets(rt: HostRuntime) {
     for (what, sign, time, second) in OTHER_OFFSETS {
-        check_not_printable(&rt, what, &Ok(offset_by(*sign, *time, *second)));
+        let offset = UtcOffsetRecordOrZ::Offset(offset_by(*sign, *time, *second));
+        check_not_printable(&rt, what, &Ok(morning(Some(offset), None, None)));
     }
     let mut untimed = dated(2020, 1, 1, None);
     untimed.offset = Some(UtcOffsetRecordOrZ::Z);

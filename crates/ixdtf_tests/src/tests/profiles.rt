@@ -1,6 +1,7 @@
 //! Texts under both profiles: month-days, times and durations.
 
 use super::durations::{Units, dated as lasting, lasts, timed as lasting_time};
+use super::listener::{Form, Kind, reads, refusal};
 use super::wide::Wide;
 use super::widths::{READERS, SHARED};
 use super::{
@@ -135,85 +136,76 @@ fn reads_no_unit_twice_strictly(rt: HostRuntime) {
     check(&rt, "PT1S2S", found == refused);
 }
 
-/// The reader returns the same for each text under both profiles.
-fn check_same(rt: &impl Abort, reader: Reader, texts: &[&'static str]) {
-    for text in texts {
-        let strictly = read_under(reader, text, Profile::Strict);
-        let is_same = Parsers::from_str(text).read(reader) == strictly;
-        check_reader(rt, reader, text, is_same);
-    }
+/// The reader returns the same for the text under both profiles.
+fn check_same(rt: &impl Abort, reader: Reader, text: &'static str) {
+    let strictly = read_under(reader, text, Profile::Strict);
+    let is_same = Parsers::from_str(text).read(reader) == strictly;
+    check_reader(rt, reader, text, is_same);
 }
 
 #[test]
 fn reads_shared_texts_alike(rt: HostRuntime) {
     for reader in READERS {
-        check_same(&rt, reader, &SHARED);
+        for text in SHARED {
+            check_same(&rt, reader, text);
+        }
     }
 }
 
-const DATES: &[&str] = &[
-    "2024-03-02T08:48:00.25",
-    "2024-03-02[UTC][u-ca=hebrew][a=b]",
-    "2021-02-29",
-    "2020-01-00",
-    "2020-01-01[!a=b]",
-];
-
-const YEAR_MONTHS: &[&str] = &["+00202011", "2020-00", "2020-11-08"];
-
-#[test]
-fn reads_dates_alike(rt: HostRuntime) {
-    check_same(&rt, Reader::Parse, DATES);
-    check_same(&rt, Reader::YearMonth, YEAR_MONTHS);
-}
-
-const OTHER_MONTH_DAYS: &[&str] = &[
-    "11-07", "1107", "--11-07", "11-01", "02-29", "--0430", "1231", "04-31", "00-07", "1300",
-    "110", "11-0x",
-];
-
-#[test]
-fn reads_other_month_days_alike(rt: HostRuntime) {
-    check_same(&rt, Reader::MonthDay, OTHER_MONTH_DAYS);
-}
-
-const OTHER_TIMES: &[&str] = &[
-    "12",
-    "t121430",
-    "0230",
-    "0631",
-    "1232",
-    "13-14",
-    "202113-13",
-    "0000-00",
-    "T1214Z",
-    "15:23:30.1234567890",
-    "12:01:04-05:00[America/New_York][u-ca=iso8601]",
-];
-
-#[test]
-fn reads_other_times_alike(rt: HostRuntime) {
-    check_same(&rt, Reader::Time, OTHER_TIMES);
-}
-
-const OTHER_DURATIONS: &[&str] = &[
-    "P1Y",
-    "+P1M",
-    "-p1w",
-    "P1y2m3W4d",
-    "P0D",
-    "P4294967295W",
-    "Pt1h2m3s",
-    "PT1H3S",
-    "-P1Y3wT0,5H",
-    "P1D4294967296Y",
-    "PT1S1M",
-    "P",
+const OTHER_TEXTS: &[(Reader, &str)] = &[
+    (Reader::Parse, "2024-03-02T08:48:00.25"),
+    (Reader::Parse, "2024-03-02[UTC][u-ca=hebrew][a=b]"),
+    (Reader::Parse, "2021-02-29"),
+    (Reader::Parse, "2020-01-00"),
+    (Reader::Parse, "2020-01-01[!a=b]"),
+    (Reader::YearMonth, "+00202011"),
+    (Reader::YearMonth, "2020-00"),
+    (Reader::YearMonth, "2020-11-08"),
+    (Reader::MonthDay, "11-07"),
+    (Reader::MonthDay, "1107"),
+    (Reader::MonthDay, "--11-07"),
+    (Reader::MonthDay, "11-01"),
+    (Reader::MonthDay, "02-29"),
+    (Reader::MonthDay, "--0430"),
+    (Reader::MonthDay, "1231"),
+    (Reader::MonthDay, "04-31"),
+    (Reader::MonthDay, "00-07"),
+    (Reader::MonthDay, "1300"),
+    (Reader::MonthDay, "110"),
+    (Reader::MonthDay, "11-0x"),
+    (Reader::Time, "12"),
+    (Reader::Time, "t121430"),
+    (Reader::Time, "0230"),
+    (Reader::Time, "0631"),
+    (Reader::Time, "1232"),
+    (Reader::Time, "13-14"),
+    (Reader::Time, "202113-13"),
+    (Reader::Time, "0000-00"),
+    (Reader::Time, "T1214Z"),
+    (Reader::Time, "15:23:30.1234567890"),
+    (
+        Reader::Time,
+        "12:01:04-05:00[America/New_York][u-ca=iso8601]",
+    ),
+    (Reader::Duration, "P1Y"),
+    (Reader::Duration, "+P1M"),
+    (Reader::Duration, "-p1w"),
+    (Reader::Duration, "P1y2m3W4d"),
+    (Reader::Duration, "P0D"),
+    (Reader::Duration, "P4294967295W"),
+    (Reader::Duration, "Pt1h2m3s"),
+    (Reader::Duration, "PT1H3S"),
+    (Reader::Duration, "-P1Y3wT0,5H"),
+    (Reader::Duration, "P1D4294967296Y"),
+    (Reader::Duration, "PT1S1M"),
+    (Reader::Duration, "P"),
 ];
 
 #[test]
-fn reads_other_durations_alike(rt: HostRuntime) {
-    check_same(&rt, Reader::Duration, OTHER_DURATIONS);
+fn reads_other_texts_alike(rt: HostRuntime) {
+    for (reader, text) in OTHER_TEXTS {
+        check_same(&rt, *reader, text);
+    }
 }
 
 const REFUSED_TWICE: &[(Reader, ParseError)] = &[
@@ -229,26 +221,17 @@ fn stays_strict(rt: HostRuntime) {
     check(&rt, "the third call", third == None);
 }
 
-// How many annotations a strict time has.
-fn count_strictly(text: &str) -> ParserResult<u32> {
-    let mut count = 0u32;
-    let mut parser = IxdtfParser::from_str(text).with_profile(Profile::Strict);
-    let read = parser.parse_time_with_annotation_handler(|_annotation| {
-        count = count.saturating_add(1);
-        None
-    });
-    match read {
-        Ok(_record) => Ok(count),
-        Err(error) => Err(error),
-    }
-}
-
 #[test]
 fn asks_handlers_of_strict_times(rt: HostRuntime) {
-    let is_counted = count_strictly("1200[a=b][!c=d]") == Ok(2);
-    check(&rt, "1200[a=b][!c=d]", is_counted);
-    let is_refused = count_strictly("1214[a=b]") == Err(AmbiguousTimeMonthDay);
-    check(&rt, "1214[a=b]", is_refused);
+    let text = "1200[a=b][!c=d]";
+    let parser = IxdtfParser::from_str(text).with_profile(Profile::Strict);
+    let asked = (Form::Time, Kind::RepliesNone, text, "[a=b][!c=d]");
+    check(&rt, text, reads(parser, asked).is_some());
+    let text = "1214[a=b]";
+    let mut parser = IxdtfParser::from_str(text).with_profile(Profile::Strict);
+    let asked = (Form::Time, Kind::RepliesNone, text, "");
+    let is_refused = refusal(&mut parser, asked) == Some(AmbiguousTimeMonthDay);
+    check(&rt, text, is_refused);
 }
 
 // The error of a strict reader of 16-bit code units, where it refuses.

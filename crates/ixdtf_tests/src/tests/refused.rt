@@ -172,7 +172,6 @@ fn refuses_brackets(rt: HostRuntime) {
     check_refused(&rt, Reader::Parse, BRACKETS);
 }
 
-#[rattlefmt::skip]
 const PAIRS: &[Refused] = &[
     ("2020-01-01[a=b]junk", InvalidEnd, 15),
     ("2020-01-01[u-cA=iso8601]", AnnotationKeyChar, 14),
@@ -182,14 +181,22 @@ const PAIRS: &[Refused] = &[
     ("2020-01-01[u][", AnnotationKeyLeadingChar, 14),
     ("2020-01-01[UTC][!", AnnotationKeyLeadingChar, 17),
     ("2020-01-01[a=b][!!c=d]", AnnotationKeyLeadingChar, 17),
-    ("2020-01-01[u-ca=a][Europe/London]", AnnotationKeyLeadingChar, 19),
+    (
+        "2020-01-01[u-ca=a][Europe/London]",
+        AnnotationKeyLeadingChar,
+        19,
+    ),
     ("2020-01-01[a=", AnnotationValueChar, 13),
     ("2020-01-01[a=]", AnnotationValueChar, 13),
     ("2020-01-01[u-ca=-iso]", AnnotationValueChar, 16),
     ("2020-01-01[u-ca=iso8601)", AnnotationValueChar, 23),
     ("2020-01-01[a=b", AnnotationClose, 14),
     ("2020-01-01[u-ca=iso-]", AnnotationValueCharPostHyphen, 20),
-    ("2020-01-01[u-ca=iso--8601]", AnnotationValueCharPostHyphen, 20),
+    (
+        "2020-01-01[u-ca=iso--8601]",
+        AnnotationValueCharPostHyphen,
+        20,
+    ),
 ];
 
 #[test]
@@ -197,15 +204,22 @@ fn refuses_pairs(rt: HostRuntime) {
     check_refused(&rt, Reader::Parse, PAIRS);
 }
 
-#[rattlefmt::skip]
 const CRITICAL_PAIRS: &[Refused] = &[
     ("2020-01-01[!a=b]", UnrecognizedCritical, 16),
     ("2020-01-01[!a=b]junk", UnrecognizedCritical, 16),
     ("2020-01-01[cet][!u-cb=iso8601]", UnrecognizedCritical, 30),
     ("2020-01-01[u-ca=a][!u-ca=b]", CriticalDuplicateCalendar, 27),
     ("2020-01-01[!u-ca=a][u-ca=b]", CriticalDuplicateCalendar, 27),
-    ("2020-01-01[!u-ca=a][u-ca=a][u-ca=b][", CriticalDuplicateCalendar, 35),
-    ("2020-01-01[u-ca=a][u-ca=b][!u-ca=b]", CriticalDuplicateCalendar, 35),
+    (
+        "2020-01-01[!u-ca=a][u-ca=a][u-ca=b][",
+        CriticalDuplicateCalendar,
+        35,
+    ),
+    (
+        "2020-01-01[u-ca=a][u-ca=b][!u-ca=b]",
+        CriticalDuplicateCalendar,
+        35,
+    ),
 ];
 
 #[test]
@@ -395,7 +409,6 @@ fn refuses_durations(rt: HostRuntime) {
     check_refused(&rt, Reader::Duration, DURATIONS);
 }
 
-#[rattlefmt::skip]
 const NUMBERS_OF_DURATIONS: &[Refused] = &[
     ("P1", AT_DATE_DESIGNATOR, 2),
     ("P1H", AT_DATE_DESIGNATOR, 2),
@@ -416,7 +429,11 @@ const NUMBERS_OF_DURATIONS: &[Refused] = &[
     ("P18446744073709551616D", DurationValueExceededRange, 21),
     ("P99999999999999999999X", DurationValueExceededRange, 21),
     ("PT18446744073709551616S", DurationValueExceededRange, 22),
-    ("P1YT1000000000000000000000000000000000000000H", DurationValueExceededRange, 25),
+    (
+        "P1YT1000000000000000000000000000000000000000H",
+        DurationValueExceededRange,
+        25,
+    ),
 ];
 
 #[test]

@@ -93,7 +93,7 @@ const NO_LETTER_IN_DATES: &[Refused] = &[
 ];
 
 #[test]
-fn refuses_units_that_stand_for_no_letter(rt: HostRuntime) {
+fn refuses_units_that_stand_for_no_letter_in_dates(rt: HostRuntime) {
     check_no_letter(&rt, Reader::Parse, NO_LETTER_IN_DATES);
 }
 
@@ -123,6 +123,11 @@ const NO_LETTER_IN_OFFSETS: &[Refused] = &[
     ("-010159\u{12d}\u{0}7", InvalidEnd, 7),
 ];
 
+#[test]
+fn refuses_units_that_stand_for_no_letter_in_offsets(rt: HostRuntime) {
+    check_no_letter(&rt, Reader::Offset, NO_LETTER_IN_OFFSETS);
+}
+
 const NO_LETTER_IN_IDENTIFIERS: &[Refused] = &[
     // where a zone begins
     ("\u{100}", TzLeadingChar, 0),
@@ -138,6 +143,11 @@ const NO_LETTER_IN_IDENTIFIERS: &[Refused] = &[
     ("+0\u{e9}500", TimeHour, 2),
 ];
 
+#[test]
+fn refuses_units_that_stand_for_no_letter_in_identifiers(rt: HostRuntime) {
+    check_no_letter(&rt, Reader::Identifier, NO_LETTER_IN_IDENTIFIERS);
+}
+
 const NO_LETTER_IN_NAMES: &[Refused] = &[
     // where a name begins
     ("\u{e9}", TzLeadingChar, 0),
@@ -152,9 +162,7 @@ const NO_LETTER_IN_NAMES: &[Refused] = &[
 ];
 
 #[test]
-fn refuses_units_that_stand_for_no_letter_in_zones(rt: HostRuntime) {
-    check_no_letter(&rt, Reader::Offset, NO_LETTER_IN_OFFSETS);
-    check_no_letter(&rt, Reader::Identifier, NO_LETTER_IN_IDENTIFIERS);
+fn refuses_units_that_stand_for_no_letter_in_names(rt: HostRuntime) {
     check_no_letter(&rt, Reader::IanaIdentifier, NO_LETTER_IN_NAMES);
 }
 
@@ -195,6 +203,11 @@ const NO_LETTER_IN_YEAR_MONTHS: &[Refused] = &[
     ("2020-01[u-ca]\u{e9}", InvalidEnd, 13),
 ];
 
+#[test]
+fn refuses_units_that_stand_for_no_letter_in_year_months(rt: HostRuntime) {
+    check_no_letter(&rt, Reader::YearMonth, NO_LETTER_IN_YEAR_MONTHS);
+}
+
 #[rattlefmt::skip]
 const NO_LETTER_IN_MONTH_DAYS: &[Refused] = &[
     // where a month-day begins
@@ -221,6 +234,11 @@ const NO_LETTER_IN_MONTH_DAYS: &[Refused] = &[
     // in a value
     ("--02-00[u-ca=iso860\u{132}1][u-ca=A\u{e9}R-8UG-6BFzME-YCEl]", AnnotationValueChar, 19),
 ];
+
+#[test]
+fn refuses_units_that_stand_for_no_letter_in_month_days(rt: HostRuntime) {
+    check_no_letter(&rt, Reader::MonthDay, NO_LETTER_IN_MONTH_DAYS);
+}
 
 #[rattlefmt::skip]
 const NO_LETTER_IN_TIMES: &[Refused] = &[
@@ -264,9 +282,7 @@ const NO_LETTER_IN_TIMES: &[Refused] = &[
 ];
 
 #[test]
-fn refuses_units_that_stand_for_no_letter_in_parts(rt: HostRuntime) {
-    check_no_letter(&rt, Reader::YearMonth, NO_LETTER_IN_YEAR_MONTHS);
-    check_no_letter(&rt, Reader::MonthDay, NO_LETTER_IN_MONTH_DAYS);
+fn refuses_units_that_stand_for_no_letter_in_times(rt: HostRuntime) {
     check_no_letter(&rt, Reader::Time, NO_LETTER_IN_TIMES);
 }
 
@@ -357,7 +373,7 @@ const BEFORE_NO_LETTER_IN_DATES: &[Refused] = &[
 ];
 
 #[test]
-fn refuses_what_stands_before_such_a_unit(rt: HostRuntime) {
+fn refuses_what_stands_before_such_a_unit_in_dates(rt: HostRuntime) {
     check_refused(&rt, Reader::Parse, BEFORE_NO_LETTER_IN_DATES);
 }
 
@@ -366,14 +382,18 @@ const BEFORE_NO_LETTER_IN_OFFSETS: &[Refused] = &[
     ("-155859\\\u{0}", InvalidEnd, 7),
 ];
 
+#[test]
+fn refuses_what_stands_before_such_a_unit_in_offsets(rt: HostRuntime) {
+    check_refused(&rt, Reader::Offset, BEFORE_NO_LETTER_IN_OFFSETS);
+}
+
 const BEFORE_NO_LETTER_IN_IDENTIFIERS: &[Refused] = &[
     ("+M\u{133}00", TimeHour, 1),
     (",\u{15b}\u{161}", TzLeadingChar, 0),
 ];
 
 #[test]
-fn refuses_what_stands_before_such_a_unit_in_zones(rt: HostRuntime) {
-    check_refused(&rt, Reader::Offset, BEFORE_NO_LETTER_IN_OFFSETS);
+fn refuses_what_stands_before_such_a_unit_in_identifiers(rt: HostRuntime) {
     check_refused(&rt, Reader::Identifier, BEFORE_NO_LETTER_IN_IDENTIFIERS);
 }
 
@@ -390,6 +410,11 @@ const BEFORE_NO_LETTER_IN_YEAR_MONTHS: &[Refused] = &[
     ("2020-01[!a=b]\u{15d}", UnrecognizedCritical, 13),
 ];
 
+#[test]
+fn refuses_what_stands_before_such_a_unit_in_year_months(rt: HostRuntime) {
+    check_refused(&rt, Reader::YearMonth, BEFORE_NO_LETTER_IN_YEAR_MONTHS);
+}
+
 #[rattlefmt::skip]
 const BEFORE_NO_LETTER_IN_MONTH_DAYS: &[Refused] = &[
     ("-A-07\u{15b}2", MonthDayHyphen, 1),
@@ -398,6 +423,11 @@ const BEFORE_NO_LETTER_IN_MONTH_DAYS: &[Refused] = &[
     ("--0101[!a/=\u{100}]", AnnotationKeyChar, 9),
     ("--0101[!a/][\u{e9}", IanaCharPostSeparator, 10),
 ];
+
+#[test]
+fn refuses_what_stands_before_such_a_unit_in_month_days(rt: HostRuntime) {
+    check_refused(&rt, Reader::MonthDay, BEFORE_NO_LETTER_IN_MONTH_DAYS);
+}
 
 #[rattlefmt::skip]
 const BEFORE_NO_LETTER_IN_TIMES: &[Refused] = &[
@@ -414,9 +444,7 @@ const BEFORE_NO_LETTER_IN_TIMES: &[Refused] = &[
 ];
 
 #[test]
-fn refuses_what_stands_before_such_a_unit_in_parts(rt: HostRuntime) {
-    check_refused(&rt, Reader::YearMonth, BEFORE_NO_LETTER_IN_YEAR_MONTHS);
-    check_refused(&rt, Reader::MonthDay, BEFORE_NO_LETTER_IN_MONTH_DAYS);
+fn refuses_what_stands_before_such_a_unit_in_times(rt: HostRuntime) {
     check_refused(&rt, Reader::Time, BEFORE_NO_LETTER_IN_TIMES);
 }
 
