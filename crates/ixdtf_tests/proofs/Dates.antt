@@ -9,7 +9,7 @@ use Rattle.ixdtf.specs.table.LineNames.DateLine.{after_hyphened_month, after_bas
 use Rattle.ixdtf.specs.table.Lines.{abrupt_digit, abrupt_date}
 use Rattle.ixdtf.specs.language.Letters.Letter.{Bad}
 use Rattle.ixdtf.specs.table.Rows.Place.{bad}
-use Rattle.ixdtf_tests.proofs.Helpers.{all_readings, date, Example, Compute, ends, goes_off, meets_bad, stands, one, two, three, ShowEachRow, gives, stops, stands_before_bad}
+use Rattle.ixdtf_tests.proofs.Helpers.{all_readings, date, Example, Compute, ends, goes_off, stands, one, two, three, ShowEachRow, gives, stops, stands_before_bad, cut_off}
 use Rattle.ixdtf_tests.proofs.Helpers.{text_of}
 
 -- ---- each row of the lines of dates, in `parse`
@@ -79,15 +79,13 @@ no_date : Compute parse (
     ++ stands (of_date minus_zero_year) DateExtendedYear (codes "-000000|-11-08") ∷ []
     -- in a month
     ++ map (goes_off (of_date month_digits) DateMonth) (codes "02020|-01-01" ∷ codes "2020-|W01-1" ∷ codes "-1000000|-11-08" ∷ [])
-    ++ map (ends (of_date month_digits) abrupt_digit) (codes "2020-0" ∷ codes "20200" ∷ [])
-    ++ map (meets_bad (of_date month_digits)) (codes "2020-0" ∷ codes "20200" ∷ [])
+    ++ cut_off (of_date month_digits) abrupt_digit (codes "2020-0" ∷ codes "20200" ∷ [])
     ++ map (stands (of_date month_range) InvalidMonthRange) (codes "2020-00|1" ∷ codes "202000|" ∷ codes "2020-13|-01" ∷ codes "2020-13|x" ∷ [])
     -- in a day, and after it
     ++ (goes_off (of_date after_hyphened_month) DateSeparator (codes "2020-01|01") ∷ [])
     ++ (goes_off (of_date after_basic_month) DateSeparator (codes "202206|-05") ∷ [])
-    ++ map (ends (of_date day_digits) abrupt_digit) (codes "2020010" ∷ codes "2020-01-0" ∷ [])
+    ++ cut_off (of_date day_digits) abrupt_digit (codes "2020010" ∷ codes "2020-01-0" ∷ [])
     ++ map (goes_off (of_date day_digits) DateDay) (codes "2020010|x" ∷ codes "2020-01-0|x" ∷ [])
-    ++ map (meets_bad (of_date day_digits)) (codes "2020010" ∷ codes "2020-01-0" ∷ [])
     ++ map (stands (of_date day_range) InvalidDayRange) (codes "2020-01-00|1" ∷ codes "20200132|" ∷ codes "2020-04-31|" ∷ codes "2021-02-29|" ∷ codes "-000100-02-29|" ∷ [])
     ++ map (goes_off (of_date after_date) InvalidEnd) (codes "+1000000110|8" ∷ codes "2020-01-01|+05:00" ∷ codes "2020-01-01|Z" ∷ [])
     -- bad code units

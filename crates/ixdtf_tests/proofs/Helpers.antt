@@ -144,6 +144,10 @@ goes_off_before_bad name fault units = (unmarked units ++ (Bad ∷ []), stops na
 abbrev pub meets_bad : LineName → List ℕ → Example
 meets_bad name front = (and_bad front, stops name (bad (Bad ∷ [])) NonAsciiCodePoint)
 
+-- texts that end there, and the same with Bad there
+abbrev pub cut_off : LineName → Fault → List (List ℕ) → List Example
+cut_off name at_end fronts = map (ends name at_end) fronts ++ map (meets_bad name) fronts
+
 -- a text with a front of a whole line before the mark, and its row
 abbrev pub stands : LineName → Fault → List ℕ → Example
 stands name fault units = (unmarked units, stops name (anywhere (text_of (after_mark units))) fault)

@@ -24,7 +24,7 @@ use Rattle.ixdtf.specs.table.Outcomes.{Outcome}
 use Rattle.ixdtf.specs.table.Outcomes.Outcome.{derived}
 use Rattle.ixdtf_reading.specs.reading.Times.{time_of}
 use Rattle.ixdtf_tests.proofs.Times.{minute_lines, clock_lines}
-use Rattle.ixdtf_tests.proofs.Helpers.{all_readings, morning, new_years_day, with, Example, Compute, gives, ends, goes_off, meets_bad, stands, stands_before_bad}
+use Rattle.ixdtf_tests.proofs.Helpers.{all_readings, morning, new_years_day, with, Example, Compute, gives, ends, goes_off, stands, stands_before_bad, cut_off}
 use Rattle.ixdtf_tests.proofs.Helpers.{one, two, three, ShowEachRow}
 
 -- the lines of an offset, and of one without seconds
@@ -191,8 +191,7 @@ no_offset : Compute parse_offset (
     ++ (goes_off (of_full after_basic_minute) UtcTimeSeparator (codes "+0800|:00") ∷ [])
     ++ (goes_off (of_full after_colon_minute) UtcTimeSeparator (codes "+08:00|00") ∷ [])
     ++ (goes_off (of_full second_digits) TimeMinuteSecond (codes "+08:00:5|x") ∷ [])
-    ++ (ends (of_full second_digits) abrupt_digit (codes "+08005") ∷ [])
-    ++ (meets_bad (of_full second_digits) (codes "+08005") ∷ [])
+    ++ cut_off (of_full second_digits) abrupt_digit (codes "+08005" ∷ [])
     ++ (stands (of_full second_range) TimeMinuteSecond (codes "+080060|") ∷ [])
     ++ (goes_off (of_full after_second) InvalidEnd (codes "+08:00:00|[") ∷ [])
     ++ stands_before_bad (of_full hour_range) TimeHour (codes "+24|") ∷ [])

@@ -7,7 +7,7 @@ use Rattle.ixdtf.specs.table.Faults.Fault.{AnnotationValueCharPostHyphen}
 use Rattle.ixdtf.specs.table.LineNames.{LineName}
 use Rattle.ixdtf.specs.table.LineNames.LineName.{of_pair}
 use Rattle.ixdtf.specs.table.LineNames.PairLine.{key_start, critical_key_start, in_key, value_start, in_value, after_value_hyphen}
-use Rattle.ixdtf_tests.proofs.Helpers.{all_readings, zone_named, tagged, annotated, Example, Compute, gives, ends, goes_off, meets_bad, three, three_after}
+use Rattle.ixdtf_tests.proofs.Helpers.{all_readings, zone_named, tagged, annotated, Example, Compute, gives, ends, goes_off, three, three_after, cut_off}
 use Rattle.ixdtf_tests.proofs.Helpers.{ShowEachRow}
 
 abbrev pair_lines : List LineName
@@ -82,8 +82,7 @@ no_pair : Compute parse (
     ++ map (goes_off (of_pair key_start) AnnotationKeyLeadingChar) (codes "2020-01-01[u][|Europe/London]" ∷ codes "2020-01-01[u][|]" ∷ [])
     ++ (goes_off (of_pair critical_key_start) AnnotationKeyLeadingChar (codes "2020-01-01[u][!|]") ∷ [])
     ++ (ends (of_pair in_key) AnnotationKeyValueSeparator (codes "2020-01-01[u][a-1") ∷ [])
-    ++ (ends (of_pair in_value) AnnotationClose (codes "2020-01-01[a=b-c") ∷ [])
-    ++ meets_bad (of_pair in_value) (codes "2020-01-01[a=b-c") ∷ []
+    ++ cut_off (of_pair in_value) AnnotationClose (codes "2020-01-01[a=b-c" ∷ [])
     -- in a first bracket
     ++ map (goes_off (of_pair in_key) AnnotationKeyChar) (codes "2020-01-01[u-c|A=iso8601]" ∷ codes "2020-01-01[_|!=]" ∷ codes "2020-01-01[!a|/b=c]" ∷ []))
 unfolding all_readings

@@ -10,7 +10,7 @@ use Rattle.ixdtf.specs.table.LineNames.ClockLine.{after_colon_minute, second_dig
 use Rattle.ixdtf.specs.table.Lines.{abrupt_digit}
 use Rattle.ixdtf_reading.specs.reading.Dates.{date_of}
 use Rattle.ixdtf_reading.specs.reading.Times.{time_of}
-use Rattle.ixdtf_tests.proofs.Helpers.{all_readings, new_year, with, Example, Compute, gives, ends, goes_off, meets_bad, stands, one, two, stands_before_bad}
+use Rattle.ixdtf_tests.proofs.Helpers.{all_readings, new_year, with, Example, Compute, gives, ends, goes_off, meets_bad, stands, one, two, stands_before_bad, cut_off}
 use Rattle.ixdtf_tests.proofs.Helpers.{three, ShowEachRow}
 
 abbrev pub of_clock_time : ClockLine → LineName
@@ -93,8 +93,7 @@ no_time : Compute parse (
     ++ map (goes_off (of_clock_time after_colon_minute) TimeSeparator) (at (codes "01:00|1") ∷ at (codes "01:00|00") ∷ [])
     -- in a second, and after it
     ++ map (goes_off (of_clock_time second_digits) TimeSecond) (codes "2022-06-05 03422|.000" ∷ at (codes "12:30:0|x") ∷ [])
-    ++ map (ends (of_clock_time second_digits) abrupt_digit) (at (codes "12300") ∷ at (codes "12:30:0") ∷ [])
-    ++ map (meets_bad (of_clock_time second_digits)) (at (codes "12300") ∷ at (codes "12:30:0") ∷ [])
+    ++ cut_off (of_clock_time second_digits) abrupt_digit (at (codes "12300") ∷ at (codes "12:30:0") ∷ [])
     ++ (stands (of_clock_time second_range) TimeSecond (at (codes "000061|")) ∷ [])
     ++ (goes_off (of_clock_time after_second) InvalidEnd (at (codes "01:01:00|1")) ∷ [])
     ++ (ends (of_clock_time fraction_start) FractionPart (at (codes "00:00:00,")) ∷ [])

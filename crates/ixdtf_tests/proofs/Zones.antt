@@ -11,7 +11,7 @@ use Rattle.ixdtf.specs.table.LineNames.LineName.{of_zone}
 use Rattle.ixdtf.specs.table.LineNames.ZoneLine.{identifier_start, zone_name_start, in_zone_name, after_zone_slash}
 use Rattle.ixdtf.specs.table.Lines.{abrupt_zone}
 use Rattle.ixdtf.specs.table.Outcomes.Outcome.{derived}
-use Rattle.ixdtf_tests.proofs.Helpers.{all_readings, new_years_day, with, zone_named, Example, Compute, gives, ends, goes_off, meets_bad, two, three}
+use Rattle.ixdtf_tests.proofs.Helpers.{all_readings, new_years_day, with, zone_named, Example, Compute, gives, ends, goes_off, two, three, cut_off}
 use Rattle.ixdtf_tests.proofs.Helpers.{ShowEachRow}
 
 -- ---- each row in `parse_identifier` and in `parse_iana_identifier`
@@ -95,8 +95,7 @@ no_name = refl
 no_name_in_a_bracket : Compute parse (
     map (goes_off (of_zone in_zone_name) IanaChar) (codes "2020-04-08[America/Chicago|)" ∷ codes "2020-01-01[UTC|=x]" ∷ codes "2020-01-01[A|=b]" ∷ (codes "2020-01-01[A|!" ++ (128 ∷ [])) ∷ [])
     ++ map (goes_off (of_zone after_zone_slash) IanaCharPostSeparator) (codes "2020-04-08[America/| Chicago)" ∷ codes "2020-01-01[America/|/Chicago]" ∷ [])
-    ++ (ends (of_zone in_zone_name) AnnotationClose (codes "2020-01-01[!UTC") ∷ [])
-    ++ meets_bad (of_zone in_zone_name) (codes "2020-01-01[!UTC") ∷ []
+    ++ cut_off (of_zone in_zone_name) AnnotationClose (codes "2020-01-01[!UTC" ∷ [])
     -- a name that begins as a key may: a `]` comes before any `=`, the end and any bad code unit, so the rows for these fit no text
     ++ (goes_off (of_zone in_zone_name) IanaChar (codes "2020-01-01[cet|!]") ∷ [])
     ++ map (goes_off (of_zone after_zone_slash) IanaCharPostSeparator) (codes "2020-01-01[_x/|]" ∷ codes "2020-01-01[a/|/b]" ∷ [])

@@ -1,12 +1,11 @@
 //! Texts under both profiles: month-days, times and durations.
 
+use super::Reader::{self, Duration, MonthDay, Parse, Time, YearMonth};
 use super::durations::{Units, dated as lasting, lasts, timed as lasting_time};
 use super::listener::{Form, Kind, reads, refusal};
 use super::wide::Wide;
 use super::widths::{READERS, SHARED};
-use super::{
-    Found, Parsers, Reader, alone, check, check_reader, check_refusals, dated, short, timed,
-};
+use super::{Found, Parsers, alone, check, check_reader, check_refusals, dated, short, timed};
 use ixdtf::ParseError::{
     self, AmbiguousTimeMonthDay, AmbiguousTimeYearMonth, DateDurationPartOrder,
     DurationValueExceededRange, InvalidEnd, InvalidMonthDay, TimeDurationPartOrder,
@@ -68,9 +67,9 @@ const DAYS_OF_ZERO: &[(&str, u8)] = &[("11-00", 11), ("--11-00", 11), ("0200", 2
 fn reads_no_day_zero_strictly(rt: HostRuntime) {
     let refused = Err(InvalidMonthDay);
     for (text, month) in DAYS_OF_ZERO {
-        check_both(&rt, Reader::MonthDay, text, &month_day(*month, 0), &refused);
+        check_both(&rt, MonthDay, text, &month_day(*month, 0), &refused);
     }
-    check_refused_in_both(&rt, Reader::MonthDay, MONTH_DAYS);
+    check_refused_in_both(&rt, MonthDay, MONTH_DAYS);
 }
 
 /// A text that the reader refuses, with its error, and its error under the strict profile.
@@ -106,15 +105,9 @@ fn strict_time((hour, minute, second): (u8, u8, u8), is_west: bool) -> Outcome {
 fn reads_minutes_of_zero_strictly(rt: HostRuntime) {
     let refused = Err(AmbiguousTimeMonthDay);
     for (text, time, is_west) in STRICT_TIMES {
-        check_both(
-            &rt,
-            Reader::Time,
-            text,
-            &refused,
-            &strict_time(*time, *is_west),
-        );
+        check_both(&rt, Time, text, &refused, &strict_time(*time, *is_west));
     }
-    check_refused_in_both(&rt, Reader::Time, TIMES);
+    check_refused_in_both(&rt, Time, TIMES);
 }
 
 #[rattlefmt::skip]
@@ -127,12 +120,12 @@ const DURATIONS: &[Refused] = &[
 fn reads_no_unit_twice_strictly(rt: HostRuntime) {
     let years = duration(lasting(2, 0, 0, 0), None);
     let refused = Err(DateDurationPartOrder);
-    check_both(&rt, Reader::Duration, "P1Y2Y", &years, &refused);
+    check_both(&rt, Duration, "P1Y2Y", &years, &refused);
     let time = duration(None, lasting_time(Units::Hours(2), None));
     let refused = Err(TimeDurationPartOrder);
-    check_both(&rt, Reader::Duration, "PT1H2H", &time, &refused);
-    check_refused_in_both(&rt, Reader::Duration, DURATIONS);
-    let found = read_under(Reader::Duration, "PT1S2S", Profile::Strict);
+    check_both(&rt, Duration, "PT1H2H", &time, &refused);
+    check_refused_in_both(&rt, Duration, DURATIONS);
+    let found = read_under(Duration, "PT1S2S", Profile::Strict);
     check(&rt, "PT1S2S", found == refused);
 }
 
@@ -153,52 +146,49 @@ fn reads_shared_texts_alike(rt: HostRuntime) {
 }
 
 const OTHER_TEXTS: &[(Reader, &str)] = &[
-    (Reader::Parse, "2024-03-02T08:48:00.25"),
-    (Reader::Parse, "2024-03-02[UTC][u-ca=hebrew][a=b]"),
-    (Reader::Parse, "2021-02-29"),
-    (Reader::Parse, "2020-01-00"),
-    (Reader::Parse, "2020-01-01[!a=b]"),
-    (Reader::YearMonth, "+00202011"),
-    (Reader::YearMonth, "2020-00"),
-    (Reader::YearMonth, "2020-11-08"),
-    (Reader::MonthDay, "11-07"),
-    (Reader::MonthDay, "1107"),
-    (Reader::MonthDay, "--11-07"),
-    (Reader::MonthDay, "11-01"),
-    (Reader::MonthDay, "02-29"),
-    (Reader::MonthDay, "--0430"),
-    (Reader::MonthDay, "1231"),
-    (Reader::MonthDay, "04-31"),
-    (Reader::MonthDay, "00-07"),
-    (Reader::MonthDay, "1300"),
-    (Reader::MonthDay, "110"),
-    (Reader::MonthDay, "11-0x"),
-    (Reader::Time, "12"),
-    (Reader::Time, "t121430"),
-    (Reader::Time, "0230"),
-    (Reader::Time, "0631"),
-    (Reader::Time, "1232"),
-    (Reader::Time, "13-14"),
-    (Reader::Time, "202113-13"),
-    (Reader::Time, "0000-00"),
-    (Reader::Time, "T1214Z"),
-    (Reader::Time, "15:23:30.1234567890"),
-    (
-        Reader::Time,
-        "12:01:04-05:00[America/New_York][u-ca=iso8601]",
-    ),
-    (Reader::Duration, "P1Y"),
-    (Reader::Duration, "+P1M"),
-    (Reader::Duration, "-p1w"),
-    (Reader::Duration, "P1y2m3W4d"),
-    (Reader::Duration, "P0D"),
-    (Reader::Duration, "P4294967295W"),
-    (Reader::Duration, "Pt1h2m3s"),
-    (Reader::Duration, "PT1H3S"),
-    (Reader::Duration, "-P1Y3wT0,5H"),
-    (Reader::Duration, "P1D4294967296Y"),
-    (Reader::Duration, "PT1S1M"),
-    (Reader::Duration, "P"),
+    (Parse, "2024-03-02T08:48:00.25"),
+    (Parse, "2024-03-02[UTC][u-ca=hebrew][a=b]"),
+    (Parse, "2021-02-29"),
+    (Parse, "2020-01-00"),
+    (Parse, "2020-01-01[!a=b]"),
+    (YearMonth, "+00202011"),
+    (YearMonth, "2020-00"),
+    (YearMonth, "2020-11-08"),
+    (MonthDay, "11-07"),
+    (MonthDay, "1107"),
+    (MonthDay, "--11-07"),
+    (MonthDay, "11-01"),
+    (MonthDay, "02-29"),
+    (MonthDay, "--0430"),
+    (MonthDay, "1231"),
+    (MonthDay, "04-31"),
+    (MonthDay, "00-07"),
+    (MonthDay, "1300"),
+    (MonthDay, "110"),
+    (MonthDay, "11-0x"),
+    (Time, "12"),
+    (Time, "t121430"),
+    (Time, "0230"),
+    (Time, "0631"),
+    (Time, "1232"),
+    (Time, "13-14"),
+    (Time, "202113-13"),
+    (Time, "0000-00"),
+    (Time, "T1214Z"),
+    (Time, "15:23:30.1234567890"),
+    (Time, "12:01:04-05:00[America/New_York][u-ca=iso8601]"),
+    (Duration, "P1Y"),
+    (Duration, "+P1M"),
+    (Duration, "-p1w"),
+    (Duration, "P1y2m3W4d"),
+    (Duration, "P0D"),
+    (Duration, "P4294967295W"),
+    (Duration, "Pt1h2m3s"),
+    (Duration, "PT1H3S"),
+    (Duration, "-P1Y3wT0,5H"),
+    (Duration, "P1D4294967296Y"),
+    (Duration, "PT1S1M"),
+    (Duration, "P"),
 ];
 
 #[test]
@@ -209,15 +199,15 @@ fn reads_other_texts_alike(rt: HostRuntime) {
 }
 
 const REFUSED_TWICE: &[(Reader, ParseError)] = &[
-    (Reader::MonthDay, InvalidMonthDay),
-    (Reader::MonthDay, InvalidMonthDay),
+    (MonthDay, InvalidMonthDay),
+    (MonthDay, InvalidMonthDay),
 ];
 
 #[test]
 fn stays_strict(rt: HostRuntime) {
     let mut parsers = under(Parsers::from_str("11-00"), Profile::Strict);
     check_refusals(&rt, "11-00", &mut parsers, REFUSED_TWICE);
-    let third = parsers.refusal(Reader::Time);
+    let third = parsers.refusal(Time);
     check(&rt, "the third call", third == None);
 }
 
@@ -241,12 +231,12 @@ fn strict_refusal(reader: Reader, text: &'static str) -> Option<ParseError> {
 }
 
 const WIDE_TEXTS: &[(Reader, &str, Option<ParseError>)] = &[
-    (Reader::MonthDay, "11-00", Some(InvalidMonthDay)),
-    (Reader::MonthDay, "11-01", None),
-    (Reader::Time, "1200", None),
-    (Reader::Time, "110010", Some(AmbiguousTimeYearMonth)),
-    (Reader::Duration, "P1Y2Y", Some(DateDurationPartOrder)),
-    (Reader::Duration, "P1Y2M", None),
+    (MonthDay, "11-00", Some(InvalidMonthDay)),
+    (MonthDay, "11-01", None),
+    (Time, "1200", None),
+    (Time, "110010", Some(AmbiguousTimeYearMonth)),
+    (Duration, "P1Y2Y", Some(DateDurationPartOrder)),
+    (Duration, "P1Y2M", None),
 ];
 
 #[test]

@@ -22,8 +22,7 @@ const REFUSED_REPLIES: &[RefusedReply] = &[
         "[u-ca=4-aYg][!u_ca=dbto-3eyv22-fA-rtts]"), UnrecognizedCritical, 49),
     ((Parse, HandsBack, "20200101T12[yh=Vx-Qi-v0Zpe7-Nx1][foo=B1aoE-XS-yGk-7][u-cb=iWnJ0a][!u-cb=l][u-ca=uz5HNg-NV3x]",
         "[yh=Vx-Qi-v0Zpe7-Nx1][foo=B1aoE-XS-yGk-7][u-cb=iWnJ0a][!u-cb=l]"), UnrecognizedCritical, 74),
-    ((Parse, MakesCritical, "20200101T12[u-ca=a][s=iE-Dn-NXDPL]",
-        "[u-ca=a][s=iE-Dn-NXDPL]"), UnrecognizedCritical, 34),
+    ((Parse, MakesCritical, "20200101T12[u-ca=a][s=iE-Dn-NXDPL]", "[u-ca=a][s=iE-Dn-NXDPL]"), UnrecognizedCritical, 34),
     ((Parse, TurnsCritical, "20200101T12[u-ca=R2-uY40-cvb-w][x-y=WXTo]",
         "[u-ca=R2-uY40-cvb-w][x-y=WXTo]"), UnrecognizedCritical, 41),
     ((Parse, HandsBack, "2020-01-01[xy=a0sa-2l4s][!u-ca=iso8601][!u-ca=A][u-ca=a][u-ca=a]",
@@ -57,8 +56,7 @@ const REFUSED_REPLIES_IN_EACH_FORM: &[RefusedReply] = &[
         "[u--=kLRPl-yjagjz]"), UnrecognizedCritical, 23),
     ((Time, TurnsCritical, "12:00:00+01[!Kd/oHlj/T.Ffch+Ry-5efYE][rutuhpgs=b][!a=a0sa-2l4s][!u-ca=2FGZ-xmTuMi-C6-KbLjbX]",
         "[rutuhpgs=b]"), UnrecognizedCritical, 49),
-    ((MonthDay, MakesCritical, "11-07[u-ca=gregory][!jt8pqa=a]",
-        "[u-ca=gregory][!jt8pqa=a]"), UnrecognizedCritical, 30),
+    ((MonthDay, MakesCritical, "11-07[u-ca=gregory][!jt8pqa=a]", "[u-ca=gregory][!jt8pqa=a]"), UnrecognizedCritical, 30),
     ((YearMonth, HandsBack, "2020-01[!-10:12][!x-y=japanese][u-ca=a][oi2710bx=a][!df-=h3X-pGusqL][!u=g",
         "[!x-y=japanese]"), UnrecognizedCritical, 31),
     ((MonthDay, RepliesAnother, "--0229[GMT0][!c74r=a0sa-2l4s][!u-ca=gregory][!_=A][!u-ca=gregory]",
@@ -82,12 +80,10 @@ fn refuses_replies_in_each_form(rt: HostRuntime) {
 
 #[rattlefmt::skip]
 const BEFORE_FAULTS: &[RefusedReply] = &[
-    ((Parse, HandsBack, "2020-01-01[u-ca=Nl8-jswAuQ-H][",
-        "[u-ca=Nl8-jswAuQ-H]"), AnnotationKeyLeadingChar, 30),
+    ((Parse, HandsBack, "2020-01-01[u-ca=Nl8-jswAuQ-H][", "[u-ca=Nl8-jswAuQ-H]"), AnnotationKeyLeadingChar, 30),
     ((Parse, RepliesAnother, "20200101T12[answer-to-universe=xRozE-IPf-E3][u-ca=a0sa-2l4s][answer-to-universe=OMr-WGJ2kC-6pOrnn][u-ca=iso8601][u-ca=a][!",
         "[answer-to-universe=xRozE-IPf-E3][u-ca=a0sa-2l4s][answer-to-universe=OMr-WGJ2kC-6pOrnn][u-ca=iso8601][u-ca=a]"), AnnotationKeyLeadingChar, 122),
-    ((Parse, RepliesNone, "2020-01-01 00:00:00.5Z[bsgaqql7=4FH][!nk_8nl=",
-        "[bsgaqql7=4FH]"), AnnotationValueChar, 45),
+    ((Parse, RepliesNone, "2020-01-01 00:00:00.5Z[bsgaqql7=4FH][!nk_8nl=", "[bsgaqql7=4FH]"), AnnotationValueChar, 45),
     ((Parse, TurnsCritical, "2020-01-01[u-ca=Cwup_-X]", ""), AnnotationValueChar, 20),
     ((Parse, RepliesAnother, "2020-01-01 00:00:00.5Z[!u-ca=b][u-ca=AdUhu-LRdEB][!u-ca",
         "[!u-ca=b][u-ca=AdUhu-LRdEB]"), AnnotationKeyValueSeparator, 55),
@@ -119,8 +115,7 @@ fn asks_nothing_before_a_fault_of_a_date(rt: HostRuntime) {
 const BEFORE_FAULTS_IN_EACH_FORM: &[RefusedReply] = &[
     ((Time, MakesCritical, "12:00:00+01[f3sd!m=b][izcf_p=japanese]", ""), AnnotationKeyChar, 16),
     ((MonthDay, MakesCritical, "11-07[!u- a=R19-wrfA-MPRau][x-y=hebre", ""), AnnotationKeyChar, 9),
-    ((YearMonth, HandsBack, "+00202001[u-ca=9d6Y4I][ytl3l31b][gybbs45=iso8601]",
-        "[u-ca=9d6Y4I]"), AnnotationKeyChar, 31),
+    ((YearMonth, HandsBack, "+00202001[u-ca=9d6Y4I][ytl3l31b][gybbs45=iso8601]", "[u-ca=9d6Y4I]"), AnnotationKeyChar, 31),
     ((YearMonth, RepliesNone, "+00202001[u--=hebrew][u-ca=aOIE0-q1GscW][u-ca=ib3zN-S-zq-OB][u]",
         "[u--=hebrew][u-ca=aOIE0-q1GscW][u-ca=ib3zN-S-zq-OB]"), AnnotationKeyChar, 62),
     ((MonthDay, HandsBack, "11-07[wv3a09-ea=a] ", "[wv3a09-ea=a]"), InvalidEnd, 18),
@@ -138,8 +133,7 @@ fn asks_before_a_fault_in_each_form(rt: HostRuntime) {
 #[rattlefmt::skip]
 const FAULTS_OF_CORES: &[RefusedReply] = &[
     ((YearMonth, RepliesAnother, ">2020-01[u-ca=Sf9MH-7a][o5", ""), DateYear, 0),
-    ((Time, RepliesNone, "1200[!z=FPzSXt][answer-to-universe=a-b][!lc=1][u-ca=tZIyk]",
-        ""), AmbiguousTimeMonthDay, 4),
+    ((Time, RepliesNone, "1200[!z=FPzSXt][answer-to-universe=a-b][!lc=1][u-ca=tZIyk]", ""), AmbiguousTimeMonthDay, 4),
     ((Time, HandsBack, "1200[a=b]", ""), AmbiguousTimeMonthDay, 4),
 ];
 
@@ -157,8 +151,7 @@ const NO_LETTER_IN_DATES: &[RefusedReply] = &[
     ((Parse, MakesCritical, "2020-01-01[u-\u{7f}ca=oQ-b-vC]", ""), AnnotationKeyChar, 13),
     ((Parse, RepliesNone, "2020-01-01[u-ca=ZQ-PB9T][q-rrwv=jRSShrMIMY-5g-\u{ff}rE9][rs1tpdw=fua06i-bJ-VN5]",
         "[u-ca=ZQ-PB9T]"), AnnotationValueCharPostHyphen, 46),
-    ((Parse, HandsBack, "2020-01-01[!u-ca\u{130}=O8K-PA-73dBkw-WfIA9][!u-ca=japanese]",
-        ""), AnnotationKeyChar, 16),
+    ((Parse, HandsBack, "2020-01-01[!u-ca\u{130}=O8K-PA-73dBkw-WfIA9][!u-ca=japanese]", ""), AnnotationKeyChar, 16),
 ];
 
 #[rattlefmt::skip]
@@ -187,8 +180,7 @@ const NO_LETTER_IN_PARTS: &[RefusedReply] = &[
         "[x-y=buDYAD-vaR-P8Qz][zhbcf=gregory][u-ca=iso8601]"), InvalidEnd, 53),
     ((MonthDay, HandsBack, "--0229[u-ca=4o-bOYK][u-ca=Ed\u{e9}]", "[u-ca=4o-bOYK]"), AnnotationValueChar, 28),
     ((YearMonth, HandsBack, "+00202001[u-\u{80}ca=a-b]", ""), AnnotationKeyChar, 12),
-    ((Time, RepliesNone, "12:00:00+01[u\u{7fff}-ca=japanese][u-ca=ZZMN-ieDCE-9usg]",
-        ""), AnnotationKeyChar, 13),
+    ((Time, RepliesNone, "12:00:00+01[u\u{7fff}-ca=japanese][u-ca=ZZMN-ieDCE-9usg]", ""), AnnotationKeyChar, 13),
 ];
 
 #[rattlefmt::skip]

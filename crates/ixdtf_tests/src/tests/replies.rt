@@ -46,10 +46,8 @@ const AFTER_TIMES: &[(Asked, Option<&str>)] = &[
     ((Parse, RepliesNone, "2020-01-01 00:00:00.5Z[u-ca=a-b][u-ca=japanese][!u-ca=gB-DxG-f6UUB8-CIgGr]",
         "[u-ca=a-b][u-ca=japanese][!u-ca=gB-DxG-f6UUB8-CIgGr]"), None),
     ((Parse, MakesCritical, "2020-01-01 00:00:00.5Z[!u-ca=n-dzMM2]", "[!u-ca=n-dzMM2]"), Some("n-dzMM2")),
-    ((Parse, TurnsCritical, "2020-01-01 00:00:00.5Z[u-ca=mr-nUk-EDkNu]",
-        "[u-ca=mr-nUk-EDkNu]"), Some("mr-nUk-EDkNu")),
-    ((Parse, RepliesAnother, "2020-01-01 00:00:00.5Z[answer-to-universe=OSR]",
-        "[answer-to-universe=OSR]"), Some("a")),
+    ((Parse, TurnsCritical, "2020-01-01 00:00:00.5Z[u-ca=mr-nUk-EDkNu]", "[u-ca=mr-nUk-EDkNu]"), Some("mr-nUk-EDkNu")),
+    ((Parse, RepliesAnother, "2020-01-01 00:00:00.5Z[answer-to-universe=OSR]", "[answer-to-universe=OSR]"), Some("a")),
 ];
 
 #[test]
