@@ -324,32 +324,15 @@ fn reads_dates_by_their_hyphens(rt: HostRuntime) {
     check(&rt, "2024-0302", is_refused);
 }
 
-const YEAR_ZERO: DateRecord = DateRecord {
-    year: 0,
-    month: 0,
-    day: 0,
-};
-
-const MIDNIGHT: TimeRecord = TimeRecord {
-    hour: 0,
-    minute: 0,
-    second: 0,
-    fraction: None,
-};
-
-const NO_DAYS: DateDurationRecord = DateDurationRecord {
-    years: 0,
-    months: 0,
-    weeks: 0,
-    days: 0,
-};
-
 #[test]
 fn defaults_are_zero_in_each_field(rt: HostRuntime) {
     let (date, time, days) = defaults();
-    check(&rt, "a date", date == YEAR_ZERO);
-    check(&rt, "a time", time == MIDNIGHT);
-    check(&rt, "a duration", days == NO_DAYS);
+    let is_zero = date.year == 0 && date.month == 0 && date.day == 0;
+    check(&rt, "a date", is_zero);
+    let is_zero = time.hour == 0 && time.minute == 0 && time.second == 0;
+    check(&rt, "a time", is_zero && time.fraction == None);
+    let is_zero = days.years == 0 && days.months == 0 && days.weeks == 0 && days.days == 0;
+    check(&rt, "a duration", is_zero);
 }
 
 // The result for a text where the handler drops every annotation.

@@ -15,6 +15,7 @@ use ixdtf::ParseError::{
     TimeSecond, TimeSeparator, TzLeadingChar, UnrecognizedCritical, UtcTimeSeparator,
 };
 
+#[rattlefmt::skip]
 const DATES: &[Refused] = &[
     ("", AT_DIGIT, 0),
     ("+", AT_DIGIT, 1),
@@ -46,6 +47,7 @@ fn refuses_dates(rt: HostRuntime) {
     check_refused(&rt, Reader::Parse, DATES);
 }
 
+#[rattlefmt::skip]
 const TIMES: &[Refused] = &[
     ("2020-01-01T", AT_DIGIT, 11),
     ("2020-01-01T1", AT_DIGIT, 12),
@@ -75,6 +77,7 @@ fn refuses_times(rt: HostRuntime) {
 }
 
 // One text for each of the nineteen places, with an `x` there.
+#[rattlefmt::skip]
 const AT_EACH_FIXED_PLACE: &[Refused] = &[
     ("x020-02-29T23:59:60", DateYear, 0),
     ("2x20-02-29T23:59:60", DateYear, 1),
@@ -104,6 +107,7 @@ fn refuses_at_each_fixed_place(rt: HostRuntime) {
 
 // Texts whose characters fit each place, and whose numbers are not a date or not a time; and texts that end or go wrong
 // after it.
+#[rattlefmt::skip]
 const NUMBERS_AT_FIXED_PLACES: &[Refused] = &[
     ("2020-02-30T00:00:00", InvalidDayRange, 10),
     ("2021-02-29T00:00:00", InvalidDayRange, 10),
@@ -126,6 +130,7 @@ fn refuses_numbers_at_fixed_places(rt: HostRuntime) {
     check_refused(&rt, Reader::Parse, NUMBERS_AT_FIXED_PLACES);
 }
 
+#[rattlefmt::skip]
 const OFFSETS_AFTER_TIMES: &[Refused] = &[
     ("2020-01-01+05:00", InvalidEnd, 10),
     ("2020-01-01Z", InvalidEnd, 10),
@@ -144,6 +149,7 @@ fn refuses_offsets_after_times(rt: HostRuntime) {
     check_refused(&rt, Reader::Parse, OFFSETS_AFTER_TIMES);
 }
 
+#[rattlefmt::skip]
 const BRACKETS: &[Refused] = &[
     ("2020-01-01[", AT_BRACKET, 11),
     ("2020-01-01[!", AT_BRACKET, 12),
@@ -172,6 +178,7 @@ fn refuses_brackets(rt: HostRuntime) {
     check_refused(&rt, Reader::Parse, BRACKETS);
 }
 
+#[rattlefmt::skip]
 const PAIRS: &[Refused] = &[
     ("2020-01-01[a=b]junk", InvalidEnd, 15),
     ("2020-01-01[u-cA=iso8601]", AnnotationKeyChar, 14),
@@ -181,22 +188,14 @@ const PAIRS: &[Refused] = &[
     ("2020-01-01[u][", AnnotationKeyLeadingChar, 14),
     ("2020-01-01[UTC][!", AnnotationKeyLeadingChar, 17),
     ("2020-01-01[a=b][!!c=d]", AnnotationKeyLeadingChar, 17),
-    (
-        "2020-01-01[u-ca=a][Europe/London]",
-        AnnotationKeyLeadingChar,
-        19,
-    ),
+    ("2020-01-01[u-ca=a][Europe/London]", AnnotationKeyLeadingChar, 19),
     ("2020-01-01[a=", AnnotationValueChar, 13),
     ("2020-01-01[a=]", AnnotationValueChar, 13),
     ("2020-01-01[u-ca=-iso]", AnnotationValueChar, 16),
     ("2020-01-01[u-ca=iso8601)", AnnotationValueChar, 23),
     ("2020-01-01[a=b", AnnotationClose, 14),
     ("2020-01-01[u-ca=iso-]", AnnotationValueCharPostHyphen, 20),
-    (
-        "2020-01-01[u-ca=iso--8601]",
-        AnnotationValueCharPostHyphen,
-        20,
-    ),
+    ("2020-01-01[u-ca=iso--8601]", AnnotationValueCharPostHyphen, 20),
 ];
 
 #[test]
@@ -204,22 +203,15 @@ fn refuses_pairs(rt: HostRuntime) {
     check_refused(&rt, Reader::Parse, PAIRS);
 }
 
+#[rattlefmt::skip]
 const CRITICAL_PAIRS: &[Refused] = &[
     ("2020-01-01[!a=b]", UnrecognizedCritical, 16),
     ("2020-01-01[!a=b]junk", UnrecognizedCritical, 16),
     ("2020-01-01[cet][!u-cb=iso8601]", UnrecognizedCritical, 30),
     ("2020-01-01[u-ca=a][!u-ca=b]", CriticalDuplicateCalendar, 27),
     ("2020-01-01[!u-ca=a][u-ca=b]", CriticalDuplicateCalendar, 27),
-    (
-        "2020-01-01[!u-ca=a][u-ca=a][u-ca=b][",
-        CriticalDuplicateCalendar,
-        35,
-    ),
-    (
-        "2020-01-01[u-ca=a][u-ca=b][!u-ca=b]",
-        CriticalDuplicateCalendar,
-        35,
-    ),
+    ("2020-01-01[!u-ca=a][u-ca=a][u-ca=b][", CriticalDuplicateCalendar, 35),
+    ("2020-01-01[u-ca=a][u-ca=b][!u-ca=b]", CriticalDuplicateCalendar, 35),
 ];
 
 #[test]
@@ -227,6 +219,7 @@ fn refuses_critical_pairs(rt: HostRuntime) {
     check_refused(&rt, Reader::Parse, CRITICAL_PAIRS);
 }
 
+#[rattlefmt::skip]
 const YEAR_MONTHS: &[Refused] = &[
     ("", AT_DIGIT, 0),
     ("+", AT_DIGIT, 1),
@@ -256,6 +249,7 @@ fn refuses_year_months(rt: HostRuntime) {
     check_refused(&rt, Reader::YearMonth, YEAR_MONTHS);
 }
 
+#[rattlefmt::skip]
 const MONTH_DAYS: &[Refused] = &[
     ("", AT_MONTH_DAY, 0),
     ("-", AT_MONTH_DAY, 1),
@@ -288,6 +282,7 @@ fn refuses_month_days(rt: HostRuntime) {
     check_refused(&rt, Reader::MonthDay, MONTH_DAYS);
 }
 
+#[rattlefmt::skip]
 const TIMES_ALONE: &[Refused] = &[
     ("", AT_DIGIT, 0),
     ("T", AT_DIGIT, 1),
@@ -306,6 +301,7 @@ fn refuses_times_alone(rt: HostRuntime) {
     check_refused(&rt, Reader::Time, TIMES_ALONE);
 }
 
+#[rattlefmt::skip]
 const TIMES_THAT_READ_AS_DATES: &[Refused] = &[
     ("0229", AmbiguousTimeMonthDay, 4),
     ("1208-10", AmbiguousTimeMonthDay, 4),
@@ -323,6 +319,7 @@ fn refuses_times_that_read_as_dates(rt: HostRuntime) {
     check_refused(&rt, Reader::Time, TIMES_THAT_READ_AS_DATES);
 }
 
+#[rattlefmt::skip]
 const OFFSETS: &[Refused] = &[
     ("", AT_OFFSET, 0),
     ("+", AT_DIGIT, 1),
@@ -346,6 +343,7 @@ fn refuses_offsets(rt: HostRuntime) {
     check_refused(&rt, Reader::Offset, OFFSETS);
 }
 
+#[rattlefmt::skip]
 const ZONES: &[Refused] = &[
     ("", AT_ZONE, 0),
     ("1UTC", TzLeadingChar, 0),
@@ -366,6 +364,7 @@ fn refuses_zones(rt: HostRuntime) {
     check_refused(&rt, Reader::Identifier, ZONES);
 }
 
+#[rattlefmt::skip]
 const NAMES: &[Refused] = &[
     ("", TzLeadingChar, 0),
     ("+05:00", TzLeadingChar, 0),
@@ -382,6 +381,7 @@ fn refuses_names(rt: HostRuntime) {
     check_refused(&rt, Reader::IanaIdentifier, NAMES);
 }
 
+#[rattlefmt::skip]
 const DURATIONS: &[Refused] = &[
     ("", AT_START, 0),
     ("x", DurationDisgnator, 0),
@@ -409,6 +409,7 @@ fn refuses_durations(rt: HostRuntime) {
     check_refused(&rt, Reader::Duration, DURATIONS);
 }
 
+#[rattlefmt::skip]
 const NUMBERS_OF_DURATIONS: &[Refused] = &[
     ("P1", AT_DATE_DESIGNATOR, 2),
     ("P1H", AT_DATE_DESIGNATOR, 2),
@@ -429,11 +430,7 @@ const NUMBERS_OF_DURATIONS: &[Refused] = &[
     ("P18446744073709551616D", DurationValueExceededRange, 21),
     ("P99999999999999999999X", DurationValueExceededRange, 21),
     ("PT18446744073709551616S", DurationValueExceededRange, 22),
-    (
-        "P1YT1000000000000000000000000000000000000000H",
-        DurationValueExceededRange,
-        25,
-    ),
+    ("P1YT1000000000000000000000000000000000000000H", DurationValueExceededRange, 25),
 ];
 
 #[test]
@@ -441,6 +438,7 @@ fn refuses_numbers_of_durations(rt: HostRuntime) {
     check_refused(&rt, Reader::Duration, NUMBERS_OF_DURATIONS);
 }
 
+#[rattlefmt::skip]
 const ORDERS_OF_DURATIONS: &[Refused] = &[
     ("P1D1Y", DateDurationPartOrder, 5),
     ("P1W1M", DateDurationPartOrder, 5),

@@ -97,6 +97,7 @@ fn refuses_units_that_stand_for_no_letter_in_dates(rt: HostRuntime) {
     check_no_letter(&rt, Reader::Parse, NO_LETTER_IN_DATES);
 }
 
+#[rattlefmt::skip]
 const NO_LETTER_IN_OFFSETS: &[Refused] = &[
     // where an offset begins
     ("\u{12d}+22:01", OffsetNeedsSign, 0),
@@ -128,6 +129,7 @@ fn refuses_units_that_stand_for_no_letter_in_offsets(rt: HostRuntime) {
     check_no_letter(&rt, Reader::Offset, NO_LETTER_IN_OFFSETS);
 }
 
+#[rattlefmt::skip]
 const NO_LETTER_IN_IDENTIFIERS: &[Refused] = &[
     // where a zone begins
     ("\u{100}", TzLeadingChar, 0),
@@ -148,6 +150,7 @@ fn refuses_units_that_stand_for_no_letter_in_identifiers(rt: HostRuntime) {
     check_no_letter(&rt, Reader::Identifier, NO_LETTER_IN_IDENTIFIERS);
 }
 
+#[rattlefmt::skip]
 const NO_LETTER_IN_NAMES: &[Refused] = &[
     // where a name begins
     ("\u{e9}", TzLeadingChar, 0),
@@ -377,6 +380,7 @@ fn refuses_what_stands_before_such_a_unit_in_dates(rt: HostRuntime) {
     check_refused(&rt, Reader::Parse, BEFORE_NO_LETTER_IN_DATES);
 }
 
+#[rattlefmt::skip]
 const BEFORE_NO_LETTER_IN_OFFSETS: &[Refused] = &[
     ("-06,\u{161}", InvalidEnd, 3),
     ("-155859\\\u{0}", InvalidEnd, 7),
@@ -387,6 +391,7 @@ fn refuses_what_stands_before_such_a_unit_in_offsets(rt: HostRuntime) {
     check_refused(&rt, Reader::Offset, BEFORE_NO_LETTER_IN_OFFSETS);
 }
 
+#[rattlefmt::skip]
 const BEFORE_NO_LETTER_IN_IDENTIFIERS: &[Refused] = &[
     ("+M\u{133}00", TimeHour, 1),
     (",\u{15b}\u{161}", TzLeadingChar, 0),
