@@ -5,7 +5,6 @@
 #[allow(unused_imports)]
 use crate::runtime::{HostRuntime, TryClone};
 
-mod again;
 mod brackets;
 mod dates;
 mod durations;
@@ -13,8 +12,10 @@ mod encodings;
 mod errors;
 mod fixed_places;
 mod handlers;
+mod in_turn;
 mod languages;
 mod large;
+mod listener;
 mod located;
 mod lone_times;
 mod months;
@@ -24,66 +25,51 @@ mod printing;
 mod profiles;
 mod records;
 mod refused;
+mod refused_replies;
 mod replies;
-mod replies_in_parts;
 mod times;
 mod wide;
 mod wide_refused;
 mod widths;
 mod zones;
 
-use ixdtf::ParseError::{self, AbruptEnd};
+use ixdtf::ParseError::{self, AbruptEnd, NonAsciiCodePoint};
 use ixdtf::encoding::{EncodingType, Utf8, Utf16};
 use ixdtf::parsers::{IsoDurationParser, IxdtfParser, TimeZoneParser};
 use ixdtf::records::{
     DateRecord, DurationParseRecord, Fraction, FullPrecisionOffset, IxdtfParseRecord,
-    MinutePrecisionOffset, Sign, TimeRecord, TimeZoneAnnotation, TimeZoneRecord, UtcOffsetRecord,
-    UtcOffsetRecordOrZ,
+    MinutePrecisionOffset, Sign, TimeDurationRecord, TimeRecord, TimeZoneAnnotation,
+    TimeZoneRecord, UtcOffsetRecord, UtcOffsetRecordOrZ,
 };
 use ixdtf::{LocatedError, ParserResult};
 use printing::check_read_back;
+use crate::runtime::Global;
+use std::fmt::Display;
 use crate::runtime::Abort;
+use crate::runtime::Fail;
 use wide::refuses_wide_at;
 
 const AT_DIGIT: ParseError = AbruptEnd { location: "digit" };
 
 const AT_DATE: ParseError = AbruptEnd { location: "Date" };
 
-const AT_MONTH_DAY: ParseError = AbruptEnd {
-    location: "MonthDay",
-};
+const AT_MONTH_DAY: ParseError = AbruptEnd { location: "MonthDay" };
 
-const AT_OFFSET: ParseError = AbruptEnd {
-    location: "time-numoffset",
-};
+const AT_OFFSET: ParseError = AbruptEnd { location: "time-numoffset" };
 
-const AT_ZONE: ParseError = AbruptEnd {
-    location: "TimeZoneAnnotation",
-};
+const AT_ZONE: ParseError = AbruptEnd { location: "TimeZoneAnnotation" };
 
-const AT_BRACKET: ParseError = AbruptEnd {
-    location: "AmbiguousAnnotation",
-};
+const AT_BRACKET: ParseError = AbruptEnd { location: "AmbiguousAnnotation" };
 
-const AT_START: ParseError = AbruptEnd {
-    location: "DurationStart",
-};
+const AT_START: ParseError = AbruptEnd { location: "DurationStart" };
 
-const AT_DESIGNATOR: ParseError = AbruptEnd {
-    location: "DurationDesignator",
-};
+const AT_DESIGNATOR: ParseError = AbruptEnd { location: "DurationDesignator" };
 
-const AT_DURATION: ParseError = AbruptEnd {
-    location: "Duration",
-};
+const AT_DURATION: ParseError = AbruptEnd { location: "Duration" };
 
-const AT_DATE_DESIGNATOR: ParseError = AbruptEnd {
-    location: "DateDurationDesignator",
-};
+const AT_DATE_DESIGNATOR: ParseError = AbruptEnd { location: "DateDurationDesignator" };
 
-const AT_TIME_DESIGNATOR: ParseError = AbruptEnd {
-    location: "TimeDurationDesignator",
-};
+const AT_TIME_DESIGNATOR: ParseError = AbruptEnd { location: "TimeDurationDesignator" };
 
 type Record = IxdtfParseRecord<'static, Utf8>;
 
@@ -181,6 +167,14 @@ fn long(
     })
 }
 
+/// The offset, in full where it has a second.
+fn offset_by(sign: Sign, (hour, minute): (u8, u8), second: Option<u8>) -> UtcOffsetRecord {
+    match second {
+        Some(second) => long(minutes(sign, hour, minute), second, None),
+        None => short(sign, hour, minute),
+    }
+}
+
 fn timed(hour: u8, minute: u8, second: u8, fraction: Option<Fraction>) -> Option<TimeRecord> {
     Some(TimeRecord {
         hour,
@@ -198,26 +192,36 @@ fn fraction_of(text: &str) -> Option<Fraction> {
     }
 }
 
-// Whether a fraction has these nanoseconds, and digits after them where it is cut.
-fn has_nanoseconds(fraction: &Option<Fraction>, nanoseconds: u32, is_cut: bool) -> bool {
-    let exact = if is_cut { None } else { Some(nanoseconds) };
+/// The nanoseconds of a fraction.
+#[derive(Clone, Copy)]
+enum Nanoseconds {
+    /// These, and no digit after them.
+    Exact(u32),
+    /// Those of its first nine digits, and digits after them.
+    Cut(u32),
+}
+
+fn has_nanoseconds(fraction: &Option<Fraction>, nanoseconds: Nanoseconds) -> bool {
+    let (exact, truncated) = match nanoseconds {
+        Nanoseconds::Exact(nanoseconds) => (Some(nanoseconds), nanoseconds),
+        Nanoseconds::Cut(nanoseconds) => (None, nanoseconds),
+    };
     match fraction {
         Some(fraction) => {
-            fraction.to_nanoseconds() == exact && fraction.to_truncated_nanoseconds() == nanoseconds
+            fraction.to_nanoseconds() == exact && fraction.to_truncated_nanoseconds() == truncated
         }
         None => false,
     }
 }
 
-/// The fraction of a text that was read has these nanoseconds, and digits after them where it is cut.
+/// The fraction of a text that was read has these nanoseconds.
 fn check_fraction(
     rt: &impl Abort,
     text: &str,
     fraction: &Option<Fraction>,
-    nanoseconds: u32,
-    is_cut: bool,
+    nanoseconds: Nanoseconds,
 ) {
-    check(rt, text, has_nanoseconds(fraction, nanoseconds, is_cut));
+    check(rt, text, has_nanoseconds(fraction, nanoseconds));
 }
 
 /// A reader of a text.
@@ -390,6 +394,20 @@ impl<'a, T: EncodingType> Parsers<'a, T> {
     }
 }
 
+/// The fraction that a reader finds in a text: of its time, of its offset, or of the last number of a duration.
+fn fraction_in(reader: Reader, text: &'static str) -> Option<Fraction> {
+    match Parsers::from_str(text).read(reader) {
+        Ok(Found::Parts(parts)) => parts.time?.fraction,
+        Ok(Found::Offset(offset)) => offset.fraction(),
+        Ok(Found::Duration(duration)) => match duration.time? {
+            TimeDurationRecord::Hours { fraction, .. } => fraction,
+            TimeDurationRecord::Minutes { fraction, .. } => fraction,
+            TimeDurationRecord::Seconds { fraction, .. } => fraction,
+        },
+        _ => None,
+    }
+}
+
 /// Asserts what a test asks of a text.
 fn check(rt: &impl Abort, text: &str, is_so: bool) {
     assert!(rt; is_so, "at {text}");
@@ -398,6 +416,20 @@ fn check(rt: &impl Abort, text: &str, is_so: bool) {
 /// Asserts what a test asks of a reader of a text.
 fn check_reader(rt: &impl Abort, reader: Reader, text: &str, is_so: bool) {
     assert!(rt; is_so, "{reader:?} at {text}");
+}
+
+/// The value is displayed so, whatever the width and the fill.
+fn check_displayed(
+    rt: &impl Abort,
+    alloc: Global,
+    value: &impl Display,
+    text: &str,
+) -> Result<(), Fail> {
+    let plain = format!(in alloc; "{value}")?;
+    check(rt, text, plain.as_str() == text);
+    let wide = format!(in alloc; "{value:*>80}")?;
+    check(rt, text, wide.as_str() == text);
+    Ok(())
 }
 
 /// One reader after the other refuses with the error beside it, with the same parsers.
@@ -411,17 +443,6 @@ fn check_refusals(
         let is_refused = parsers.refusal(*reader) == Some(*error);
         check_reader(rt, *reader, text, is_refused);
     }
-}
-
-/// The readers refuse the text in turn, and then the last reader returns this, with the same parsers.
-fn check_last(
-    rt: &impl Abort,
-    text: &'static str,
-    refusals: &[(Reader, ParseError)],
-    last: Reader,
-    wanted: &ParserResult<Found<'static, Utf8>>,
-) {
-    check_once_read(rt, text, refusals, last, wanted, &[]);
 }
 
 /// The readers refuse the text in turn, then this reader returns this, and others refuse the remaining input, with the
@@ -467,15 +488,35 @@ fn check_parsed(rt: &impl Abort, text: &'static str, wanted: &ParserResult<Recor
     }
 }
 
-/// The reader refuses the texts beside each error with it, each at its place, and one of ASCII in 16-bit code units
-/// too.
-fn check_refused(rt: &impl Abort, reader: Reader, rows: &[(ParseError, &[(&'static str, usize)])]) {
-    for (error, texts) in rows {
-        for (text, at) in *texts {
-            let is_refused = Parsers::from_str(text).refuses_at(reader, *error, *at);
-            check_reader(rt, reader, text, is_refused);
-            let is_alike = !text.is_ascii() || refuses_wide_at(reader, text, *error, *at);
-            assert!(rt; is_alike, "{reader:?} at {text} in 16-bit units");
-        }
+/// A text that a reader refuses, the error, and its place.
+type Refused = (&'static str, ParseError, usize);
+
+/// The reader refuses the text with the first error, and with the second where each character is one 16-bit code unit, each
+/// at its place.
+fn check_refused_at(
+    rt: &impl Abort,
+    reader: Reader,
+    text: &'static str,
+    (error, at): (ParseError, usize),
+    (wide_error, wide_at): (ParseError, usize),
+) {
+    let is_refused = Parsers::from_str(text).refuses_at(reader, error, at);
+    check_reader(rt, reader, text, is_refused);
+    let is_refused = refuses_wide_at(reader, text, wide_error, wide_at);
+    assert!(rt; is_refused, "{reader:?} at {text} in 16-bit units");
+}
+
+/// The reader refuses each text with its error at its place, in both widths.
+fn check_refused(rt: &impl Abort, reader: Reader, rows: &[Refused]) {
+    for (text, error, at) in rows {
+        check_refused_at(rt, reader, text, (*error, *at), (*error, *at));
+    }
+}
+
+/// The reader refuses each text at the place of a bad 16-bit code unit: for that unit, and as 8-bit code units with the error.
+fn check_no_letter(rt: &impl Abort, reader: Reader, rows: &[Refused]) {
+    for (text, error, at) in rows {
+        let for_the_unit = (NonAsciiCodePoint, *at);
+        check_refused_at(rt, reader, text, (*error, *at), for_the_unit);
     }
 }

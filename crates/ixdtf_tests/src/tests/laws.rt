@@ -129,9 +129,9 @@ fn refuses_one_hyphen<'a>(bytes: &'a [u8]) -> ParserResult<IxdtfParseRecord<'a, 
 
 // What a caller concludes from the law.
 fn defaults() -> (DateRecord, TimeRecord, DateDurationRecord)
-    ensures { result.0 ≡ record { year = pos 0; month = 0; day = 0 } }
-    ensures { result.1 ≡ record { hour = 0; minute = 0; second = 0; fraction = None } }
-    ensures { result.2 ≡ record { years = 0; months = 0; weeks = 0; days = 0 } }
+    ensures date { result.0 ≡ record { year = pos 0; month = 0; day = 0 } }
+    ensures time { result.1 ≡ record { hour = 0; minute = 0; second = 0; fraction = None } }
+    ensures days { result.2 ≡ record { years = 0; months = 0; weeks = 0; days = 0 } }
 {
     defaults_are_zero();
     (

@@ -3,7 +3,7 @@
 use super::Nanoseconds::Exact;
 use super::{
     Found, Reader, check, check_found, check_fraction, check_parsed, dated, fraction_of, long,
-    minutes, morning, short, timed,
+    minutes, morning, offset_by, short, timed,
 };
 use ixdtf::records::Sign::{self, Negative, Positive};
 use ixdtf::records::{UtcOffsetRecord, UtcOffsetRecordOrZ};

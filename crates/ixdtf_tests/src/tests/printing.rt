@@ -5,8 +5,8 @@ ghost use Rattle.std.specs.Prelude.{IsTrue};
 use super::wide::Wide;
 use super::widths::{SHARED, same_record};
 use super::{
-    Record, alone, check, check_displayed, dated, long, minutes, morning, named, parts, short,
-    timed,
+    Record, alone, check, check_displayed, dated, long, minutes, morning, named, offset_by, parts,
+    short, timed,
 };
 use ixdtf::ParserResult;
 use ixdtf::encoding::Utf8;

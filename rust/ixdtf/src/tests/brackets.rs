@@ -1,183 +1,92 @@
 // Made by tools/to_rust.py of crates/ixdtf_tests/src/tests/brackets.rt. Do not edit.
 
+//! Brackets: zones, calendars and other pairs.
 
 #[allow(unused_imports)]
 use crate::runtime::{HostRuntime, TryClone};
-use super::dates::check_dates;
-use super::{
-    AT_BRACKET, Reader, check, check_kept, check_parsed, long, minutes, morning, parts, shifted,
-    short, timed,
-};
+
+use super::{check, check_parsed, long, minutes, morning, parts, shifted, short, timed};
 use ixdtf::ParseError;
 use ixdtf::parsers::IxdtfParser;
-use ixdtf::records::{Sign, UtcOffsetRecordOrZ};
+use ixdtf::records::Sign::{self, Negative, Positive};
+use ixdtf::records::UtcOffsetRecordOrZ;
 use crate::runtime::Abort;
 
-/// A text with a date of 2020 and a name in its first bracket.
-struct Named {
-    text: &'static str,
-    month: u8,
-    day: u8,
-    critical: bool,
-    name: &'static str,
-}
+/// A text of a date and brackets: its date, its zone, by its `!` and its name, and its calendar.
+type Bracketed = (
+    &'static str,
+    (i32, u8, u8),
+    Option<(bool, &'static str)>,
+    Option<&'static str>,
+);
 
-fn check_named(rt: &impl Abort, rows: &[Named]) {
-    for row in rows {
-        let date = Some((2020, row.month, row.day));
-        let zone = Some((row.critical, row.name));
-        check_parsed(rt, row.text, &Ok(parts(date, None, None, zone, None)));
+fn check_bracketed(rt: &impl Abort, rows: &[Bracketed]) {
+    for (text, date, zone, calendar) in rows {
+        let wanted = parts(Some(*date), None, None, *zone, *calendar);
+        check_parsed(rt, text, &Ok(wanted));
     }
 }
 
-const NAMES_IN_BRACKETS: &[Named] = &[
-    Named {
-        text: "2020-04-08[America/Chicago]",
-        month: 4,
-        day: 8,
-        critical: false,
-        name: "America/Chicago",
-    },
-    Named {
-        text: "2020-04-08[!America/Chicago]",
-        month: 4,
-        day: 8,
-        critical: true,
-        name: "America/Chicago",
-    },
-    Named {
-        text: "20200408[asia/kolkata]",
-        month: 4,
-        day: 8,
-        critical: false,
-        name: "asia/kolkata",
-    },
-    Named {
-        text: "+002020-04-08[!cet]",
-        month: 4,
-        day: 8,
-        critical: true,
-        name: "cet",
-    },
-    Named {
-        text: "2020-04-08[cet]",
-        month: 4,
-        day: 8,
-        critical: false,
-        name: "cet",
-    },
-    Named {
-        text: "2020-04-08[_]",
-        month: 4,
-        day: 8,
-        critical: false,
-        name: "_",
-    },
-    Named {
-        text: "2020-04-08[.x]",
-        month: 4,
-        day: 8,
-        critical: false,
-        name: ".x",
-    },
-    Named {
-        text: "2020-01-01[asia/kolkata]",
-        month: 1,
-        day: 1,
-        critical: false,
-        name: "asia/kolkata",
-    },
+const NAMES_IN_BRACKETS: &[Bracketed] = &[
+    ("2020-04-08[America/Chicago]", (2020, 4, 8), Some((false, "America/Chicago")), None),
+    ("2020-04-08[!America/Chicago]", (2020, 4, 8), Some((true, "America/Chicago")), None),
+    ("20200408[asia/kolkata]", (2020, 4, 8), Some((false, "asia/kolkata")), None),
+    ("+002020-04-08[!cet]", (2020, 4, 8), Some((true, "cet")), None),
+    ("2020-04-08[cet]", (2020, 4, 8), Some((false, "cet")), None),
+    ("2020-04-08[_]", (2020, 4, 8), Some((false, "_")), None),
+    ("2020-04-08[.x]", (2020, 4, 8), Some((false, ".x")), None),
+    ("2020-01-01[asia/kolkata]", (2020, 1, 1), Some((false, "asia/kolkata")), None),
 ];
 
 #[test]
 fn reads_names_in_brackets() {
     let rt = HostRuntime;
-    check_named(&rt, NAMES_IN_BRACKETS);
+    check_bracketed(&rt, NAMES_IN_BRACKETS);
 }
 
-/// A text with this date and an offset in its first bracket.
-struct Shifted {
-    text: &'static str,
-    critical: bool,
-    sign: Sign,
-    hour: u8,
-    minute: u8,
-}
-
-fn check_shifted(rt: &impl Abort, rows: &[Shifted]) {
-    for row in rows {
-        let zone = minutes(row.sign, row.hour, row.minute);
-        let wanted = shifted((2020, 4, 8), None, None, row.critical, zone);
-        check_parsed(rt, row.text, &Ok(wanted));
-    }
-}
-
-const OFFSETS_IN_BRACKETS: &[Shifted] = &[
-    Shifted {
-        text: "2020-04-08[-05:00]",
-        critical: false,
-        sign: Sign::Negative,
-        hour: 5,
-        minute: 0,
-    },
-    Shifted {
-        text: "2020-04-08[!+0530]",
-        critical: true,
-        sign: Sign::Positive,
-        hour: 5,
-        minute: 30,
-    },
-    Shifted {
-        text: "2020-04-08[+08]",
-        critical: false,
-        sign: Sign::Positive,
-        hour: 8,
-        minute: 0,
-    },
+// Offsets in a bracket, by its `!`, its sign, hours and minutes.
+const OFFSETS_IN_BRACKETS: &[(&str, bool, Sign, u8, u8)] = &[
+    ("2020-04-08[-05:00]", false, Negative, 5, 0),
+    ("2020-04-08[!+0530]", true, Positive, 5, 30),
+    ("2020-04-08[+08]", false, Positive, 8, 0),
 ];
 
 #[test]
 fn reads_offsets_in_brackets() {
     let rt = HostRuntime;
-    check_shifted(&rt, OFFSETS_IN_BRACKETS);
+    for (text, critical, sign, hour, minute) in OFFSETS_IN_BRACKETS {
+        let zone = minutes(*sign, *hour, *minute);
+        let wanted = shifted((2020, 4, 8), None, None, *critical, zone);
+        check_parsed(&rt, text, &Ok(wanted));
+    }
 }
 
-// A morning in New York with its offset, or with that of another place.
-fn check_new_york(rt: &impl Abort, text: &'static str, hour: Option<(Sign, u8)>, critical: bool) {
-    let offset = match hour {
-        Some((sign, hour)) => UtcOffsetRecordOrZ::Offset(short(sign, hour, 0)),
-        None => UtcOffsetRecordOrZ::Z,
-    };
-    let zone = Some((critical, "America/New_York"));
-    check_parsed(rt, text, &Ok(morning(Some(offset), zone, None)));
-}
+// A morning in New York by its `!`, with the hours of its offset, or of that of another place, or with `Z`.
+const MORNINGS_IN_NEW_YORK: &[(&str, bool, Option<(Sign, u8)>)] = &[
+    ("2024-03-02T08:48:00-05:00[America/New_York]", false, Some((Negative, 5))),
+    ("2024-03-02T08:48:00Z[!America/New_York]", true, None),
+    ("2024-03-02T08:48:00+01:00[!America/New_York]", true, Some((Positive, 1))),
+];
 
 #[test]
 fn reads_a_time_an_offset_and_a_zone() {
     let rt = HostRuntime;
-    let west = Some((Sign::Negative, 5));
-    check_new_york(
-        &rt,
-        "2024-03-02T08:48:00-05:00[America/New_York]",
-        west,
-        false,
-    );
-    check_new_york(&rt, "2024-03-02T08:48:00Z[!America/New_York]", None, true);
-    let east = Some((Sign::Positive, 1));
-    check_new_york(
-        &rt,
-        "2024-03-02T08:48:00+01:00[!America/New_York]",
-        east,
-        true,
-    );
+    for (text, critical, hours) in MORNINGS_IN_NEW_YORK {
+        let offset = match *hours {
+            Some((sign, hour)) => UtcOffsetRecordOrZ::Offset(short(sign, hour, 0)),
+            None => UtcOffsetRecordOrZ::Z,
+        };
+        let zone = Some((*critical, "America/New_York"));
+        check_parsed(&rt, text, &Ok(morning(Some(offset), zone, None)));
+    }
 }
 
 #[test]
 fn reads_an_offset_and_one_in_brackets() {
     let rt = HostRuntime;
     let time = timed(8, 48, 0, None);
-    let west = Some(UtcOffsetRecordOrZ::Offset(short(Sign::Negative, 5, 0)));
-    let zone = minutes(Sign::Negative, 5, 0);
+    let west = Some(UtcOffsetRecordOrZ::Offset(short(Negative, 5, 0)));
+    let zone = minutes(Negative, 5, 0);
     let record = shifted((2024, 3, 2), time, west, false, zone);
     check_parsed(&rt, "2024-03-02T08:48:00-05:00[-05:00]", &Ok(record));
 }
@@ -203,104 +112,39 @@ fn refuses_bytes() {
     }
 }
 
-#[test]
-fn keeps_a_bracket_that_it_refused() {
-    let rt = HostRuntime;
-    check_kept(&rt, Reader::Parse, "2020-01-01T00:00Z[cet", AT_BRACKET);
-}
-
-/// A text with a date of 2020 and a calendar.
-struct Dated {
-    text: &'static str,
-    month: u8,
-    day: u8,
-    calendar: &'static str,
-}
-
-fn check_calendars(rt: &impl Abort, rows: &[Dated]) {
-    for row in rows {
-        let date = Some((2020, row.month, row.day));
-        check_parsed(
-            rt,
-            row.text,
-            &Ok(parts(date, None, None, None, Some(row.calendar))),
-        );
-    }
-}
-
-const CALENDARS: &[Dated] = &[
-    Dated {
-        text: "2020-11-08[u-ca=iso8601]",
-        month: 11,
-        day: 8,
-        calendar: "iso8601",
-    },
-    Dated {
-        text: "2020-11-08[!u-ca=iso8601]",
-        month: 11,
-        day: 8,
-        calendar: "iso8601",
-    },
-    Dated {
-        text: "2020-11-08[u-ca=a-bc-d]",
-        month: 11,
-        day: 8,
-        calendar: "a-bc-d",
-    },
-    Dated {
-        text: "+0020201108[!u-ca=iso8601][f-1a2b=a0sa-2l4s]",
-        month: 11,
-        day: 8,
-        calendar: "iso8601",
-    },
-    Dated {
-        text: "2020-11-08[u-ca=a][u-ca=b][!u-ca=a]",
-        month: 11,
-        day: 8,
-        calendar: "a",
-    },
-    Dated {
-        text: "2020-11-08[_=x][u-ca=b][u-ca=c]",
-        month: 11,
-        day: 8,
-        calendar: "b",
-    },
-    Dated {
-        text: "2020-01-01[u-ca=a-bc-d]",
-        month: 1,
-        day: 1,
-        calendar: "a-bc-d",
-    },
-    Dated {
-        text: "2020-01-01[u-ca=a][u-ca=b][!u-ca=a]",
-        month: 1,
-        day: 1,
-        calendar: "a",
-    },
+const CALENDARS: &[Bracketed] = &[
+    ("2020-11-08[u-ca=iso8601]", (2020, 11, 8), None, Some("iso8601")),
+    ("2020-11-08[!u-ca=iso8601]", (2020, 11, 8), None, Some("iso8601")),
+    ("2020-11-08[u-ca=a-bc-d]", (2020, 11, 8), None, Some("a-bc-d")),
+    ("+0020201108[!u-ca=iso8601][f-1a2b=a0sa-2l4s]", (2020, 11, 8), None, Some("iso8601")),
+    ("2020-11-08[u-ca=a][u-ca=b][!u-ca=a]", (2020, 11, 8), None, Some("a")),
+    ("2020-11-08[_=x][u-ca=b][u-ca=c]", (2020, 11, 8), None, Some("b")),
+    ("2020-01-01[u-ca=a-bc-d]", (2020, 1, 1), None, Some("a-bc-d")),
+    ("2020-01-01[u-ca=a][u-ca=b][!u-ca=a]", (2020, 1, 1), None, Some("a")),
 ];
 
 #[test]
 fn reads_calendars() {
     let rt = HostRuntime;
-    check_calendars(&rt, CALENDARS);
+    check_bracketed(&rt, CALENDARS);
 }
 
-const PAIRS_OF_OTHER_KEYS: &[(&str, i32, u8, u8)] = &[
-    ("2020-11-08[a=b]", 2020, 11, 8),
-    ("2020-11-08[a=b][a=c]", 2020, 11, 8),
-    ("2020-11-08[_-9=Z-1]", 2020, 11, 8),
+const PAIRS_OF_OTHER_KEYS: &[Bracketed] = &[
+    ("2020-11-08[a=b]", (2020, 11, 8), None, None),
+    ("2020-11-08[a=b][a=c]", (2020, 11, 8), None, None),
+    ("2020-11-08[_-9=Z-1]", (2020, 11, 8), None, None),
 ];
 
 #[test]
 fn reads_pairs_of_other_keys() {
     let rt = HostRuntime;
-    check_dates(&rt, PAIRS_OF_OTHER_KEYS);
+    check_bracketed(&rt, PAIRS_OF_OTHER_KEYS);
 }
 
 #[test]
 fn reads_a_zone_and_a_calendar() {
     let rt = HostRuntime;
-    let offset = long(minutes(Sign::Positive, 1, 0), 0, None);
+    let offset = long(minutes(Positive, 1, 0), 0, None);
     let record = parts(
         Some((2021, 1, 29)),
         timed(2, 12, 48, None),
@@ -316,13 +160,6 @@ fn reads_a_zone_and_a_calendar() {
     check(&rt, "the second", offset.second() == Some(0));
 }
 
-fn check_iso8601(rt: &impl Abort, texts: &[&'static str]) {
-    for text in texts {
-        let offset = UtcOffsetRecordOrZ::Offset(short(Sign::Negative, 5, 0));
-        check_parsed(rt, text, &Ok(morning(Some(offset), None, Some("iso8601"))));
-    }
-}
-
 const AN_OFFSET_AND_CALENDARS: &[&str] = &[
     "2024-03-02T08:48:00-05:00[u-ca=iso8601]",
     "2024-03-02T08:48:00-05:00[u-ca=iso8601][u-ca=japanese]",
@@ -332,5 +169,8 @@ const AN_OFFSET_AND_CALENDARS: &[&str] = &[
 #[test]
 fn reads_an_offset_and_calendars() {
     let rt = HostRuntime;
-    check_iso8601(&rt, AN_OFFSET_AND_CALENDARS);
+    for text in AN_OFFSET_AND_CALENDARS {
+        let west = UtcOffsetRecordOrZ::Offset(short(Negative, 5, 0));
+        check_parsed(&rt, text, &Ok(morning(Some(west), None, Some("iso8601"))));
+    }
 }

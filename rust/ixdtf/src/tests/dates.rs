@@ -1,16 +1,17 @@
 // Made by tools/to_rust.py of crates/ixdtf_tests/src/tests/dates.rt. Do not edit.
 
+//! Dates.
 
 #[allow(unused_imports)]
 use crate::runtime::{HostRuntime, TryClone};
-use super::{Reader, check, check_kept, check_parsed, dated};
-use ixdtf::ParseError;
+
+use super::{check, check_parsed, dated};
 use ixdtf::encoding::Utf8;
 use ixdtf::parsers::IxdtfParser;
 use crate::runtime::Abort;
 
 /// `IxdtfParser::parse` finds this year, month and day in the text, and nothing besides.
-pub(super) fn check_dates(rt: &impl Abort, rows: &[(&'static str, i32, u8, u8)]) {
+fn check_dates(rt: &impl Abort, rows: &[(&'static str, i32, u8, u8)]) {
     for (text, year, month, day) in rows {
         check_parsed(rt, text, &Ok(dated(*year, *month, *day, None)));
     }
@@ -43,17 +44,6 @@ const ONE_DATE_IN_FOUR_FORMS: &[(&str, i32, u8, u8)] = &[
 fn reads_one_date_in_four_forms() {
     let rt = HostRuntime;
     check_dates(&rt, ONE_DATE_IN_FOUR_FORMS);
-}
-
-#[test]
-fn keeps_what_it_refused() {
-    let rt = HostRuntime;
-    check_kept(
-        &rt,
-        Reader::Parse,
-        "2020-13-01",
-        ParseError::InvalidMonthRange,
-    );
 }
 
 // Whether the parser reads 1 January 2020.

@@ -1,10 +1,13 @@
 // Made by tools/to_rust.py of crates/ixdtf_tests/src/tests/encodings.rt. Do not edit.
 
+//! The two encodings.
 
 #[allow(unused_imports)]
 use crate::runtime::{HostRuntime, TryClone};
+
 use super::check;
-use ixdtf::encoding::{EncodingType, Utf8};
+use super::wide::Wide;
+use ixdtf::encoding::{EncodingType, Utf8, Utf16};
 use crate::runtime::Abort;
 
 const UNITS: [u8; 3] = [0, 65, 255];
@@ -38,23 +41,22 @@ fn slices_lie_within() {
     check_slice(&rt, 0, 4, None);
 }
 
-fn check_keys(rt: &impl Abort, keys: &[(&'static str, bool)]) {
-    for (key, is_calendar) in keys {
-        let found = Utf8::check_calendar_key(key.as_bytes());
-        check(rt, key, found == *is_calendar);
-    }
+// Whether the key is that of calendars, in both widths.
+fn is_of_calendars(key: &str) -> (bool, bool) {
+    let wide = Wide::new(key);
+    (
+        Utf8::check_calendar_key(key.as_bytes()),
+        Utf16::check_calendar_key(wide.units()),
+    )
 }
 
-const KEYS: &[(&str, bool)] = &[
-    ("u-ca", true),
-    ("u-cA", false),
-    ("u-c", false),
-    ("u-ca-", false),
-    ("", false),
-];
+const OTHER_KEYS: &[&str] = &["u-cA", "u-c", "u-ca-", "\u{175}-ca", ""];
 
 #[test]
 fn one_key_is_of_calendars() {
     let rt = HostRuntime;
-    check_keys(&rt, KEYS);
+    check(&rt, "u-ca", is_of_calendars("u-ca") == (true, true));
+    for key in OTHER_KEYS {
+        check(&rt, key, is_of_calendars(key) == (false, false));
+    }
 }

@@ -5,7 +5,7 @@
 #[allow(unused_imports)]
 use crate::runtime::{HostRuntime, TryClone};
 
-use super::{AT_DATE, AT_DIGIT, check};
+use super::{AT_DATE, AT_DIGIT, check, check_displayed};
 use ixdtf::ParseError::{
     self, AbruptEnd, AmbiguousTimeMonthDay, AmbiguousTimeYearMonth, AnnotationChar,
     AnnotationClose, AnnotationKeyChar, AnnotationKeyLeadingChar, AnnotationKeyValueSeparator,
@@ -18,142 +18,53 @@ use ixdtf::ParseError::{
     TimeHour, TimeMinuteSecond, TimeRequired, TimeSecond, TimeSeparator, TzLeadingChar,
     UnrecognizedCritical, UtcTimeSeparator,
 };
-use crate::runtime::Global;
-use crate::runtime::Abort;
 use crate::runtime::Fail;
 
-// The errors have the texts beside them.
-fn check_texts(rt: &impl Abort, rows: &[(ParseError, &'static str)]) {
-    for (error, text) in rows {
-        check(rt, text, error.to_static_string() == *text);
-    }
-}
-
-const ENDS_AND_DATES: &[(ParseError, &str)] = &[
-    (
-        ImplAssert,
-        "Implementation error: this error must not throw.",
-    ),
+const TEXTS: &[(ParseError, &str)] = &[
+    // of ends and dates
+    (ImplAssert, "Implementation error: this error must not throw."),
     (NonAsciiCodePoint, "Code point was not ASCII"),
     (ParseFloat, "Invalid float while parsing fraction part."),
     (AbruptEnd { location: "digit" }, "Parsing ended abruptly."),
-    (
-        InvalidEnd,
-        "Unexpected character found after parsing was completed.",
-    ),
-    (
-        InvalidMonthRange,
-        "Parsed month value not in a valid range.",
-    ),
+    (InvalidEnd, "Unexpected character found after parsing was completed."),
+    (InvalidMonthRange, "Parsed month value not in a valid range."),
     (InvalidDayRange, "Parsed day value not in a valid range."),
     (DateYear, "Invalid chracter while parsing year value."),
-    (
-        DateExtendedYear,
-        "Invalid character while parsing extended year value.",
-    ),
+    (DateExtendedYear, "Invalid character while parsing extended year value."),
     (DateMonth, "Invalid character while parsing month value."),
     (DateDay, "Invalid character while parsing day value."),
-    (
-        DateUnexpectedEnd,
-        "Unexpected end while parsing a date value.",
-    ),
-];
-
-#[test]
-fn has_the_texts_of_ends_and_dates() {
-    let rt = HostRuntime;
-    check_texts(&rt, ENDS_AND_DATES);
-}
-
-const TIMES: &[(ParseError, &str)] = &[
+    (DateUnexpectedEnd, "Unexpected end while parsing a date value."),
+    // of times
     (TimeRequired, "Time is required."),
     (TimeHour, "Invalid character while parsing hour value."),
-    (
-        TimeMinuteSecond,
-        "Invalid character while parsing minute/second value in (0, 59] range.",
-    ),
-    (
-        TimeSecond,
-        "Invalid character while parsing second value in (0, 60] range.",
-    ),
-    (
-        FractionPart,
-        "Invalid character while parsing fraction part value.",
-    ),
-    (
-        DateSeparator,
-        "Invalid character while parsing date separator.",
-    ),
-    (
-        TimeSeparator,
-        "Invalid character while parsing time separator.",
-    ),
-    (
-        DecimalSeparator,
-        "Invalid character while parsing decimal separator.",
-    ),
-];
-
-#[test]
-fn has_the_texts_of_times() {
-    let rt = HostRuntime;
-    check_texts(&rt, TIMES);
-}
-
-const ANNOTATIONS: &[(ParseError, &str)] = &[
+    (TimeMinuteSecond, "Invalid character while parsing minute/second value in (0, 59] range."),
+    (TimeSecond, "Invalid character while parsing second value in (0, 60] range."),
+    (FractionPart, "Invalid character while parsing fraction part value."),
+    (DateSeparator, "Invalid character while parsing date separator."),
+    (TimeSeparator, "Invalid character while parsing time separator."),
+    (DecimalSeparator, "Invalid character while parsing decimal separator."),
+    // of annotations
     (InvalidAnnotation, "Invalid annotation."),
     (AnnotationOpen, "Invalid annotation open character."),
     (AnnotationClose, "Invalid annotation close character."),
     (AnnotationChar, "Invalid annotation character."),
-    (
-        AnnotationKeyValueSeparator,
-        "Invalid annotation key-value separator character.",
-    ),
-    (
-        AnnotationKeyLeadingChar,
-        "Invalid annotation key leading character.",
-    ),
+    (AnnotationKeyValueSeparator, "Invalid annotation key-value separator character."),
+    (AnnotationKeyLeadingChar, "Invalid annotation key leading character."),
     (AnnotationKeyChar, "Invalid annotation key character."),
-    (
-        AnnotationValueCharPostHyphen,
-        "Expected annotation value character must exist after hyphen.",
-    ),
+    (AnnotationValueCharPostHyphen, "Expected annotation value character must exist after hyphen."),
     (AnnotationValueChar, "Invalid annotation value character."),
-    (
-        InvalidMinutePrecisionOffset,
-        "Offset must be minute precision",
-    ),
-    (
-        CriticalDuplicateCalendar,
-        "Duplicate calendars cannot be provided when one is critical.",
-    ),
-    (
-        UnrecognizedCritical,
-        "Unrecognized annoation is marked as critical.",
-    ),
-];
-
-#[test]
-fn has_the_texts_of_annotations() {
-    let rt = HostRuntime;
-    check_texts(&rt, ANNOTATIONS);
-}
-
-const ZONES_AND_DURATIONS: &[(ParseError, &str)] = &[
+    (InvalidMinutePrecisionOffset, "Offset must be minute precision"),
+    (CriticalDuplicateCalendar, "Duplicate calendars cannot be provided when one is critical."),
+    (UnrecognizedCritical, "Unrecognized annoation is marked as critical."),
+    // of zones and durations
     (TzLeadingChar, "Invalid time zone leading character."),
-    (
-        IanaCharPostSeparator,
-        "Expected time zone character after '/'.",
-    ),
+    (IanaCharPostSeparator, "Expected time zone character after '/'."),
     (IanaChar, "Invalid IANA time zone character after '/'."),
     (UtcTimeSeparator, "Invalid time zone character after '/'."),
     (OffsetNeedsSign, "UTC offset needs a sign"),
     (MonthDayHyphen, "MonthDay must begin with a month or '--'"),
     (DurationDisgnator, "Invalid duration designator."),
-    (
-        DurationValueExceededRange,
-        "Provided Duration field value exceeds supported range.",
-    ),
+    (DurationValueExceededRange, "Provided Duration field value exceeds supported range."),
     (DateDurationPartOrder, "Invalid date duration part order."),
     (TimeDurationPartOrder, "Invalid time duration part order."),
     (TimeDurationDesignator, "Invalid time duration designator."),
@@ -163,39 +74,25 @@ const ZONES_AND_DURATIONS: &[(ParseError, &str)] = &[
 ];
 
 #[test]
-fn has_the_texts_of_zones_and_durations() {
+fn has_the_text_of_each_error() {
     let rt = HostRuntime;
-    check_texts(&rt, ZONES_AND_DURATIONS);
+    for (error, text) in TEXTS {
+        check(&rt, text, error.to_static_string() == *text);
+    }
 }
 
-fn check_printed(
-    rt: &impl Abort,
-    alloc: Global,
-    error: ParseError,
-    text: &'static str,
-) -> Result<(), Fail> {
-    let displayed = format!(in alloc; "{error}")?;
-    check(rt, text, displayed.as_str() == text);
-    let wide = format!(in alloc; "{error:*>80}")?;
-    check(rt, text, wide.as_str() == text);
-    Ok(())
-}
+const DISPLAYED: &[(ParseError, &str)] = &[
+    (AT_DATE, "Parsing ended abruptly while parsing Date"),
+    (InvalidDayRange, "Parsed day value not in a valid range."),
+];
 
 #[test]
 fn prints_one_text_at_any_width() -> Result<(), Fail> {
     let rt = HostRuntime;
-    check_printed(
-        &rt,
-        rt.alloc(),
-        AT_DATE,
-        "Parsing ended abruptly while parsing Date",
-    )?;
-    check_printed(
-        &rt,
-        rt.alloc(),
-        InvalidDayRange,
-        "Parsed day value not in a valid range.",
-    )
+    for (error, text) in DISPLAYED {
+        check_displayed(&rt, rt.alloc(), error, text)?;
+    }
+    Ok(())
 }
 
 #[test]

@@ -6,36 +6,17 @@
 #[allow(unused_imports)]
 use crate::runtime::{HostRuntime, TryClone};
 
-use super::times::{Fractional, Whole, check_fractional, check_whole, time_of};
-use super::{Reader, Record, check_fraction, check_parsed, dated, timed};
+use super::Nanoseconds::Exact;
+use super::times::{Fractional, Whole, check_fractional, check_whole};
+use super::{Reader, Record, check_fraction, check_parsed, dated, fraction_in, timed};
 use ixdtf::records::UtcOffsetRecordOrZ;
 
 const AT_FIXED_PLACES: &[Whole] = &[
-    Whole {
-        text: "2020-02-29T23:59:60",
-        date: (2020, 2, 29),
-        time: (23, 59, 60),
-    },
-    Whole {
-        text: "2020-01-01T00:00:60",
-        date: (2020, 1, 1),
-        time: (0, 0, 60),
-    },
-    Whole {
-        text: "2020-01-01 23:59:60",
-        date: (2020, 1, 1),
-        time: (23, 59, 60),
-    },
-    Whole {
-        text: "2020-01-01t00:00:60",
-        date: (2020, 1, 1),
-        time: (0, 0, 60),
-    },
-    Whole {
-        text: "+002020-01-01T00:00:00",
-        date: (2020, 1, 1),
-        time: (0, 0, 0),
-    },
+    ("2020-02-29T23:59:60", (2020, 2, 29), (23, 59, 60)),
+    ("2020-01-01T00:00:60", (2020, 1, 1), (0, 0, 60)),
+    ("2020-01-01 23:59:60", (2020, 1, 1), (23, 59, 60)),
+    ("2020-01-01t00:00:60", (2020, 1, 1), (0, 0, 60)),
+    ("+002020-01-01T00:00:00", (2020, 1, 1), (0, 0, 0)),
 ];
 
 #[test]
@@ -45,40 +26,22 @@ fn reads_at_fixed_places() {
 }
 
 const FRACTIONS_BESIDE_FIXED_PLACES: &[Fractional] = &[
-    Fractional {
-        text: "20200101T00:00:00.25",
-        time: (0, 0, 0),
-        nanoseconds: 250_000_000,
-        is_cut: false,
-    },
-    Fractional {
-        text: "2020-01-01T000000.25",
-        time: (0, 0, 0),
-        nanoseconds: 250_000_000,
-        is_cut: false,
-    },
+    ("20200101T00:00:00.25", Some((2020, 1, 1)), (0, 0, 0), Exact(250_000_000)),
+    ("2020-01-01T000000.25", Some((2020, 1, 1)), (0, 0, 0), Exact(250_000_000)),
 ];
 
 #[test]
 fn reads_fractions_beside_fixed_places() {
     let rt = HostRuntime;
-    check_fractional(
-        &rt,
-        Reader::Parse,
-        Some((2020, 1, 1)),
-        FRACTIONS_BESIDE_FIXED_PLACES,
-    );
+    check_fractional(&rt, Reader::Parse, FRACTIONS_BESIDE_FIXED_PLACES);
 }
 
 #[test]
 fn reads_on_after_fixed_places() {
     let rt = HostRuntime;
     let text = "2020-01-01t00:00:00,5Z";
-    let fraction = match time_of(Reader::Parse, text) {
-        Some(time) => time.fraction,
-        None => None,
-    };
-    check_fraction(&rt, text, &fraction, 500_000_000, false);
+    let fraction = fraction_in(Reader::Parse, text);
+    check_fraction(&rt, text, &fraction, Exact(500_000_000));
     let record = Record {
         offset: Some(UtcOffsetRecordOrZ::Z),
         ..dated(2020, 1, 1, timed(0, 0, 0, fraction))

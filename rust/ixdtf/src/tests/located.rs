@@ -5,7 +5,7 @@
 #[allow(unused_imports)]
 use crate::runtime::{HostRuntime, TryClone};
 
-use super::{AT_DIGIT, check};
+use super::{AT_DIGIT, check, check_displayed};
 use ixdtf::LocatedError;
 use ixdtf::ParseError::{self, InvalidEnd, InvalidMonthRange};
 use crate::runtime::{AllocError, Global, String};
@@ -22,26 +22,13 @@ const AT_THE_END: LocatedError = LocatedError {
     at: 1234,
 };
 
-fn check_displayed(
-    rt: &impl Abort,
-    alloc: Global,
-    error: LocatedError,
-    text: &'static str,
-) -> Result<(), Fail> {
-    let displayed = format!(in alloc; "{error}")?;
-    check(rt, text, displayed.as_str() == text);
-    let wide = format!(in alloc; "{error:*>80}")?;
-    check(rt, text, wide.as_str() == text);
-    Ok(())
-}
-
 #[test]
 fn displays_the_error_and_its_place() -> Result<(), Fail> {
     let rt = HostRuntime;
     let month = "Parsed month value not in a valid range. at 5";
-    check_displayed(&rt, rt.alloc(), AT_FIVE, month)?;
+    check_displayed(&rt, rt.alloc(), &AT_FIVE, month)?;
     let end = "Parsing ended abruptly while parsing digit at 1234";
-    check_displayed(&rt, rt.alloc(), AT_THE_END, end)
+    check_displayed(&rt, rt.alloc(), &AT_THE_END, end)
 }
 
 #[test]
@@ -155,15 +142,9 @@ fn long_text(alloc: Global) -> Result<String, AllocError> {
 }
 
 const OF_A_LONG_TEXT: &[(usize, &str)] = &[
-    (
-        150,
-        "..234567890123456789012345678901234567890123456789012345678901234567890123..\n                                                  ^",
-    ),
+    (150, "..234567890123456789012345678901234567890123456789012345678901234567890123..\n                                                  ^"),
     (0, "012345678901234567890123..\n^"),
-    (
-        300,
-        "..234567890123456789012345678901234567890123456789\n                                                  ^",
-    ),
+    (300, "..234567890123456789012345678901234567890123456789\n                                                  ^"),
 ];
 
 #[test]
@@ -192,21 +173,9 @@ fn cuts_the_front_of_a_text() -> Result<(), Fail> {
 const FULL: &str = "000000000011111111112222222222333333333344444444555555555566666666667777";
 
 const OF_A_FULL_TEXT: &[(&str, usize, &str)] = &[
-    (
-        FULL,
-        48,
-        "000000000011111111112222222222333333333344444444555555555566666666667777\n                                                ^",
-    ),
-    (
-        FULL,
-        47,
-        "00000000001111111111222222222233333333334444444455555555556666666666777..\n                                               ^",
-    ),
-    (
-        FULL,
-        49,
-        "..00000000011111111112222222222333333333344444444555555555566666666667777\n                                                  ^",
-    ),
+    (FULL, 48, "000000000011111111112222222222333333333344444444555555555566666666667777\n                                                ^"),
+    (FULL, 47, "00000000001111111111222222222233333333334444444455555555556666666666777..\n                                               ^"),
+    (FULL, 49, "..00000000011111111112222222222333333333344444444555555555566666666667777\n                                                  ^"),
 ];
 
 #[test]

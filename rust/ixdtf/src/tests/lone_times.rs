@@ -1,13 +1,11 @@
 // Made by tools/to_rust.py of crates/ixdtf_tests/src/tests/lone_times.rt. Do not edit.
 
+//! Times that stand alone.
 
 #[allow(unused_imports)]
 use crate::runtime::{HostRuntime, TryClone};
-use super::{
-    AT_DIGIT, Found, Reader, alone, check_found, check_once_read, dated, minutes, parts, short,
-    timed,
-};
-use ixdtf::ParseError;
+
+use super::{Found, Reader, alone, check_found, minutes, parts, short, timed};
 use ixdtf::records::{Sign, TimeZoneAnnotation, TimeZoneRecord, UtcOffsetRecordOrZ};
 use crate::runtime::Abort;
 
@@ -90,26 +88,5 @@ fn reads_an_offset_in_brackets_after_a_time_alone() {
         Reader::Time,
         "202113[-13:00]",
         &Ok(Found::Parts(wanted)),
-    );
-}
-
-const BEFORE_A_YEAR_MONTH: &[(Reader, ParseError)] = &[(
-    Reader::Time,
-    ParseError::AmbiguousTimeYearMonth,
-)];
-
-const BEHIND_A_YEAR_MONTH: &[(Reader, ParseError)] = &[(Reader::YearMonth, AT_DIGIT)];
-
-#[test]
-fn leaves_what_it_refused_to_another_reader() {
-    let rt = HostRuntime;
-    let month = Found::Parts(dated(2021, 12, 1, None));
-    check_once_read(
-        &rt,
-        "2021-12",
-        BEFORE_A_YEAR_MONTH,
-        Reader::YearMonth,
-        &Ok(month),
-        BEHIND_A_YEAR_MONTH,
     );
 }

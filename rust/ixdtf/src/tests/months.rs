@@ -1,17 +1,22 @@
 // Made by tools/to_rust.py of crates/ixdtf_tests/src/tests/months.rt. Do not edit.
 
+//! Year-months and month-days.
 
 #[allow(unused_imports)]
 use crate::runtime::{HostRuntime, TryClone};
+
 use super::{Found, Reader, check_found, dated, minutes, shifted};
 use ixdtf::records::Sign;
 use crate::runtime::Abort;
 
-fn check_year_months(rt: &impl Abort, rows: &[(&'static str, i32, u8)]) {
-    for (text, year, month) in rows {
-        let wanted = Found::Parts(dated(*year, *month, 1, None));
-        check_found(rt, Reader::YearMonth, text, &Ok(wanted));
-    }
+fn check_month(
+    rt: &impl Abort,
+    reader: Reader,
+    text: &'static str,
+    (year, month, day): (i32, u8, u8),
+) {
+    let wanted = Found::Parts(dated(year, month, day, None));
+    check_found(rt, reader, text, &Ok(wanted));
 }
 
 const YEAR_MONTHS: &[(&str, i32, u8)] = &[
@@ -26,13 +31,8 @@ const YEAR_MONTHS: &[(&str, i32, u8)] = &[
 #[test]
 fn reads_year_months() {
     let rt = HostRuntime;
-    check_year_months(&rt, YEAR_MONTHS);
-}
-
-fn check_month_days(rt: &impl Abort, rows: &[(&'static str, u8, u8)]) {
-    for (text, month, day) in rows {
-        let wanted = Found::Parts(dated(0, *month, *day, None));
-        check_found(rt, Reader::MonthDay, text, &Ok(wanted));
+    for (text, year, month) in YEAR_MONTHS {
+        check_month(&rt, Reader::YearMonth, text, (*year, *month, 1));
     }
 }
 
@@ -49,7 +49,9 @@ const MONTH_DAYS: &[(&str, u8, u8)] = &[
 #[test]
 fn reads_month_days() {
     let rt = HostRuntime;
-    check_month_days(&rt, MONTH_DAYS);
+    for (text, month, day) in MONTH_DAYS {
+        check_month(&rt, Reader::MonthDay, text, (0, *month, *day));
+    }
     let zone = minutes(Sign::Positive, 4, 0);
     let wanted = Found::Parts(shifted((0, 11, 7), None, None, false, zone));
     check_found(&rt, Reader::MonthDay, "--1107[+04:00]", &Ok(wanted));

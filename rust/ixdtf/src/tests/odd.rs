@@ -1,14 +1,11 @@
 // Made by tools/to_rust.py of crates/ixdtf_tests/src/tests/odd.rt. Do not edit.
 
-//! Handlers with odd replies, and one parser for several readers.
+//! Handlers with odd replies.
 
 #[allow(unused_imports)]
 use crate::runtime::{HostRuntime, TryClone};
 
-use super::{
-    AT_DIGIT, AT_MONTH_DAY, AT_OFFSET, Found, Reader, Record, check, check_once_read, dated, named,
-    parts,
-};
+use super::{Record, check, parts};
 use ixdtf::encoding::Utf8;
 use ixdtf::parsers::IxdtfParser;
 use ixdtf::records::Annotation;
@@ -74,44 +71,4 @@ fn heeds_replies_of_no_source() {
     check_replied(&rt, Odd::Calendar, &Ok(foreign), 2);
     check_replied(&rt, Odd::AnotherCalendar, &duplicate, 2);
     check_replied(&rt, Odd::EmptyKey, &critical, 1);
-}
-
-const BEHIND_A_DATE: &[(Reader, ParseError)] = &[
-    (Reader::Parse, AT_DIGIT),
-    (Reader::MonthDay, AT_MONTH_DAY),
-];
-
-#[test]
-fn leaves_no_date_to_the_next_reader() {
-    let rt = HostRuntime;
-    let date = Found::Parts(dated(2020, 1, 1, None));
-    check_once_read(
-        &rt,
-        "2020-01-01",
-        &[],
-        Reader::Parse,
-        &Ok(date),
-        BEHIND_A_DATE,
-    );
-}
-
-const BEFORE_A_ZONE: &[(Reader, ParseError)] = &[(Reader::Offset, ParseError::OffsetNeedsSign)];
-
-const BEHIND_A_ZONE: &[(Reader, ParseError)] = &[
-    (Reader::IanaIdentifier, ParseError::TzLeadingChar),
-    (Reader::Offset, AT_OFFSET),
-];
-
-#[test]
-fn leaves_no_zone_to_the_next_reader() {
-    let rt = HostRuntime;
-    let zone = Found::Zone(named("UTC"));
-    check_once_read(
-        &rt,
-        "UTC",
-        BEFORE_A_ZONE,
-        Reader::Identifier,
-        &Ok(zone),
-        BEHIND_A_ZONE,
-    );
 }

@@ -1,95 +1,45 @@
 // Made by tools/to_rust.py of crates/ixdtf_tests/src/tests/offsets.rt. Do not edit.
 
+//! Offsets alone, and after a time.
 
 #[allow(unused_imports)]
 use crate::runtime::{HostRuntime, TryClone};
+
+use super::Nanoseconds::Exact;
 use super::{
-    AT_OFFSET, Found, Reader, check, check_found, check_fraction, check_once_read, check_parsed,
-    dated, fraction_of, long, minutes, morning, short, timed,
+    Found, Reader, check, check_found, check_fraction, check_parsed, dated, fraction_of, long,
+    minutes, morning, offset_by, short, timed,
 };
-use ixdtf::ParseError;
-use ixdtf::records::{Sign, UtcOffsetRecord, UtcOffsetRecordOrZ};
+use ixdtf::records::Sign::{self, Negative, Positive};
+use ixdtf::records::{UtcOffsetRecord, UtcOffsetRecordOrZ};
 use crate::runtime::Abort;
 
 fn check_offset(rt: &impl Abort, text: &'static str, offset: UtcOffsetRecord) {
     check_found(rt, Reader::Offset, text, &Ok(Found::Offset(offset)));
 }
 
-/// An offset of hours and minutes.
-struct Short {
-    text: &'static str,
-    sign: Sign,
-    hour: u8,
-    minute: u8,
-}
+/// A text, and an offset by its sign, hours and minutes.
+pub(super) type Short = (&'static str, Sign, u8, u8);
 
-fn check_short(rt: &impl Abort, rows: &[Short]) {
-    for row in rows {
-        check_offset(rt, row.text, short(row.sign, row.hour, row.minute));
-    }
-}
-
-const OFFSETS: &[Short] = &[
-    Short {
-        text: "+05",
-        sign: Sign::Positive,
-        hour: 5,
-        minute: 0,
-    },
-    Short {
-        text: "-0530",
-        sign: Sign::Negative,
-        hour: 5,
-        minute: 30,
-    },
-    Short {
-        text: "-05:30",
-        sign: Sign::Negative,
-        hour: 5,
-        minute: 30,
-    },
-    Short {
-        text: "-00:00",
-        sign: Sign::Negative,
-        hour: 0,
-        minute: 0,
-    },
+// Offsets by their sign, hours, minutes and seconds, where they have some.
+const OFFSETS: &[(&str, Sign, u8, u8, Option<u8>)] = &[
+    ("+05", Positive, 5, 0, None),
+    ("-0530", Negative, 5, 30, None),
+    ("-05:30", Negative, 5, 30, None),
+    ("-00:00", Negative, 0, 0, None),
+    ("+235959", Positive, 23, 59, Some(59)),
+    ("+01:00:00", Positive, 1, 0, Some(0)),
 ];
 
 #[test]
 fn reads_offsets() {
     let rt = HostRuntime;
-    check_short(&rt, OFFSETS);
-}
-
-// East of Greenwich by hours, minutes and seconds.
-fn check_east(rt: &impl Abort, rows: &[(&'static str, u8, u8, u8)]) {
-    for (text, hour, minute, second) in rows {
-        let offset = long(minutes(Sign::Positive, *hour, *minute), *second, None);
-        check_offset(rt, text, offset);
+    for (text, sign, hour, minute, second) in OFFSETS {
+        check_offset(&rt, text, offset_by(*sign, (*hour, *minute), *second));
     }
-}
-
-const OFFSETS_WITH_SECONDS: &[(&str, u8, u8, u8)] = &[
-    ("+235959", 23, 59, 59),
-    ("+01:00:00", 1, 0, 0),
-];
-
-#[test]
-fn reads_offsets_with_seconds() {
-    let rt = HostRuntime;
-    check_east(&rt, OFFSETS_WITH_SECONDS);
 }
 
 // Half a minute, five hours to the west, with a fraction of these nanoseconds.
-fn check_fractional(rt: &impl Abort, rows: &[(&'static str, u32)]) {
-    for (text, nanoseconds) in rows {
-        let fraction = fraction_of(text);
-        check_fraction(rt, text, &fraction, *nanoseconds, false);
-        check_offset(rt, text, long(minutes(Sign::Negative, 5, 0), 30, fraction));
-    }
-}
-
 const OFFSETS_WITH_FRACTIONS: &[(&str, u32)] = &[
     ("-050030,25", 250_000_000),
     ("-05:00:30.5", 500_000_000),
@@ -99,7 +49,11 @@ const OFFSETS_WITH_FRACTIONS: &[(&str, u32)] = &[
 #[test]
 fn reads_offsets_with_fractions() {
     let rt = HostRuntime;
-    check_fractional(&rt, OFFSETS_WITH_FRACTIONS);
+    for (text, nanoseconds) in OFFSETS_WITH_FRACTIONS {
+        let fraction = fraction_of(text);
+        check_fraction(&rt, text, &fraction, Exact(*nanoseconds));
+        check_offset(&rt, text, long(minutes(Negative, 5, 0), 30, fraction));
+    }
 }
 
 fn check_morning(rt: &impl Abort, text: &'static str, offset: UtcOffsetRecord) {
@@ -107,44 +61,20 @@ fn check_morning(rt: &impl Abort, text: &'static str, offset: UtcOffsetRecord) {
     check_parsed(rt, text, &Ok(morning(offset, None, None)));
 }
 
-fn check_mornings(rt: &impl Abort, rows: &[Short]) {
-    for row in rows {
-        check_morning(rt, row.text, short(row.sign, row.hour, row.minute));
-    }
-}
-
 const OFFSETS_AFTER_TIMES: &[Short] = &[
-    Short {
-        text: "2024-03-02T08:48:00-05:00",
-        sign: Sign::Negative,
-        hour: 5,
-        minute: 0,
-    },
-    Short {
-        text: "2024-03-02T08:48-05",
-        sign: Sign::Negative,
-        hour: 5,
-        minute: 0,
-    },
-    Short {
-        text: "20240302t084800-0530",
-        sign: Sign::Negative,
-        hour: 5,
-        minute: 30,
-    },
-    Short {
-        text: "2024-03-02 08:48:00-00:00",
-        sign: Sign::Negative,
-        hour: 0,
-        minute: 0,
-    },
+    ("2024-03-02T08:48:00-05:00", Negative, 5, 0),
+    ("2024-03-02T08:48-05", Negative, 5, 0),
+    ("20240302t084800-0530", Negative, 5, 30),
+    ("2024-03-02 08:48:00-00:00", Negative, 0, 0),
 ];
 
 #[test]
 fn reads_offsets_after_times() {
     let rt = HostRuntime;
-    check_mornings(&rt, OFFSETS_AFTER_TIMES);
-    let hour = long(minutes(Sign::Positive, 1, 0), 0, None);
+    for (text, sign, hour, minute) in OFFSETS_AFTER_TIMES {
+        check_morning(&rt, text, short(*sign, *hour, *minute));
+    }
+    let hour = long(minutes(Positive, 1, 0), 0, None);
     check_morning(&rt, "2024-03-02 08:48:00+01:00:00", hour);
 }
 
@@ -155,7 +85,7 @@ fn reads_utc() {
     record.offset = Some(UtcOffsetRecordOrZ::Z);
     check_parsed(&rt, "2020-01-01T00:00z", &Ok(record));
     let resolved = UtcOffsetRecordOrZ::Z.resolve_rfc_9557();
-    check(&rt, "Z", resolved == short(Sign::Negative, 0, 0));
+    check(&rt, "Z", resolved == short(Negative, 0, 0));
 }
 
 #[test]
@@ -163,25 +93,4 @@ fn reads_the_offset_that_z_resolves_to() {
     let rt = HostRuntime;
     let zulu = UtcOffsetRecordOrZ::Z.resolve_rfc_9557();
     check_morning(&rt, "2024-03-02T08:48:00-00:00", zulu);
-}
-
-const BEFORE_AN_OFFSET: &[(Reader, ParseError)] = &[(
-    Reader::Identifier,
-    ParseError::InvalidMinutePrecisionOffset,
-)];
-
-const BEHIND_AN_OFFSET: &[(Reader, ParseError)] = &[(Reader::Offset, AT_OFFSET)];
-
-#[test]
-fn reads_an_offset_once() {
-    let rt = HostRuntime;
-    let offset = Found::Offset(long(minutes(Sign::Positive, 1, 0), 30, None));
-    check_once_read(
-        &rt,
-        "+01:00:30",
-        BEFORE_AN_OFFSET,
-        Reader::Offset,
-        &Ok(offset),
-        BEHIND_AN_OFFSET,
-    );
 }

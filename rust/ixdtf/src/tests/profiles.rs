@@ -5,11 +5,12 @@
 #[allow(unused_imports)]
 use crate::runtime::{HostRuntime, TryClone};
 
-use super::durations::{dated as lasting, hours, lasts};
+use super::Reader::{self, Duration, MonthDay, Parse, Time, YearMonth};
+use super::durations::{Units, dated as lasting, lasts, timed as lasting_time};
+use super::listener::{Form, Kind, reads, refusal};
 use super::wide::Wide;
-use super::{
-    Found, Parsers, Reader, alone, check, check_reader, check_refusals, dated, short, timed,
-};
+use super::widths::{READERS, SHARED};
+use super::{Found, Parsers, alone, check, check_reader, check_refusals, dated, short, timed};
 use ixdtf::ParseError::{
     self, AmbiguousTimeMonthDay, AmbiguousTimeYearMonth, DateDurationPartOrder,
     DurationValueExceededRange, InvalidEnd, InvalidMonthDay, TimeDurationPartOrder,
@@ -72,9 +73,9 @@ fn reads_no_day_zero_strictly() {
     let rt = HostRuntime;
     let refused = Err(InvalidMonthDay);
     for (text, month) in DAYS_OF_ZERO {
-        check_both(&rt, Reader::MonthDay, text, &month_day(*month, 0), &refused);
+        check_both(&rt, MonthDay, text, &month_day(*month, 0), &refused);
     }
-    check_refused_in_both(&rt, Reader::MonthDay, MONTH_DAYS);
+    check_refused_in_both(&rt, MonthDay, MONTH_DAYS);
 }
 
 /// A text that the reader refuses, with its error, and its error under the strict profile.
@@ -111,23 +112,13 @@ fn reads_minutes_of_zero_strictly() {
     let rt = HostRuntime;
     let refused = Err(AmbiguousTimeMonthDay);
     for (text, time, is_west) in STRICT_TIMES {
-        check_both(
-            &rt,
-            Reader::Time,
-            text,
-            &refused,
-            &strict_time(*time, *is_west),
-        );
+        check_both(&rt, Time, text, &refused, &strict_time(*time, *is_west));
     }
-    check_refused_in_both(&rt, Reader::Time, TIMES);
+    check_refused_in_both(&rt, Time, TIMES);
 }
 
 const DURATIONS: &[Refused] = &[
-    (
-        "P1Y4294967296Y",
-        DurationValueExceededRange,
-        DateDurationPartOrder,
-    ),
+    ("P1Y4294967296Y", DurationValueExceededRange, DateDurationPartOrder),
     ("PT0.5H1H", InvalidEnd, InvalidEnd),
 ];
 
@@ -136,129 +127,89 @@ fn reads_no_unit_twice_strictly() {
     let rt = HostRuntime;
     let years = duration(lasting(2, 0, 0, 0), None);
     let refused = Err(DateDurationPartOrder);
-    check_both(&rt, Reader::Duration, "P1Y2Y", &years, &refused);
-    let time = duration(None, hours(2, None));
+    check_both(&rt, Duration, "P1Y2Y", &years, &refused);
+    let time = duration(None, lasting_time(Units::Hours(2), None));
     let refused = Err(TimeDurationPartOrder);
-    check_both(&rt, Reader::Duration, "PT1H2H", &time, &refused);
-    check_refused_in_both(&rt, Reader::Duration, DURATIONS);
-    let found = read_under(Reader::Duration, "PT1S2S", Profile::Strict);
+    check_both(&rt, Duration, "PT1H2H", &time, &refused);
+    check_refused_in_both(&rt, Duration, DURATIONS);
+    let found = read_under(Duration, "PT1S2S", Profile::Strict);
     check(&rt, "PT1S2S", found == refused);
 }
 
-/// The reader returns the same for each text under both profiles.
-fn check_same(rt: &impl Abort, reader: Reader, texts: &[&'static str]) {
-    for text in texts {
-        let strictly = read_under(reader, text, Profile::Strict);
-        let is_same = Parsers::from_str(text).read(reader) == strictly;
-        check_reader(rt, reader, text, is_same);
+/// The reader returns the same for the text under both profiles.
+fn check_same(rt: &impl Abort, reader: Reader, text: &'static str) {
+    let strictly = read_under(reader, text, Profile::Strict);
+    let is_same = Parsers::from_str(text).read(reader) == strictly;
+    check_reader(rt, reader, text, is_same);
+}
+
+#[test]
+fn reads_shared_texts_alike() {
+    let rt = HostRuntime;
+    for reader in READERS {
+        for text in SHARED {
+            check_same(&rt, reader, text);
+        }
     }
 }
 
-const DATES: &[&str] = &[
-    "2024-03-02T08:48:00.25",
-    "2024-03-02[UTC][u-ca=hebrew][a=b]",
-    "2021-02-29",
-    "2020-01-00",
-    "2020-01-01[!a=b]",
-];
-
-const YEAR_MONTHS: &[&str] = &["2020-01", "+00202011", "2020-00", "2020", "2020-11-08"];
-
-#[test]
-fn reads_dates_alike() {
-    let rt = HostRuntime;
-    check_same(&rt, Reader::Parse, DATES);
-    check_same(&rt, Reader::YearMonth, YEAR_MONTHS);
-}
-
-const OTHER_MONTH_DAYS: &[&str] = &[
-    "11-07",
-    "1107",
-    "--11-07",
-    "11-01",
-    "02-29",
-    "--0430",
-    "1231",
-    "--1107[+04:00]",
-    "02-30",
-    "04-31",
-    "00-07",
-    "1300",
-    "-11-07",
-    "110",
-    "11-0x",
-    "",
-];
-
-#[test]
-fn reads_other_month_days_alike() {
-    let rt = HostRuntime;
-    check_same(&rt, Reader::MonthDay, OTHER_MONTH_DAYS);
-}
-
-const OTHER_TIMES: &[&str] = &[
-    "12",
-    "T1200",
-    "t121430",
-    "0230",
-    "0631",
-    "1232",
-    "13-14",
-    "2021-13",
-    "202113-13",
-    "0000-00",
-    "T1214Z",
-    "15:23:30.1234567890",
-    "12:01:04-05:00[America/New_York][u-ca=iso8601]",
-    "1208-10",
-    "121430",
-    "1214Z",
-    "2021-12",
-    "202112[UTC]",
-    "20240801",
-    "T19:12-089",
-    "",
+const OTHER_TEXTS: &[(&str, Reader)] = &[
+    ("2024-03-02T08:48:00.25", Parse),
+    ("2024-03-02[UTC][u-ca=hebrew][a=b]", Parse),
+    ("2021-02-29", Parse),
+    ("2020-01-00", Parse),
+    ("2020-01-01[!a=b]", Parse),
+    ("+00202011", YearMonth),
+    ("2020-00", YearMonth),
+    ("2020-11-08", YearMonth),
+    ("11-07", MonthDay),
+    ("1107", MonthDay),
+    ("--11-07", MonthDay),
+    ("11-01", MonthDay),
+    ("02-29", MonthDay),
+    ("--0430", MonthDay),
+    ("1231", MonthDay),
+    ("04-31", MonthDay),
+    ("00-07", MonthDay),
+    ("1300", MonthDay),
+    ("110", MonthDay),
+    ("11-0x", MonthDay),
+    ("12", Time),
+    ("t121430", Time),
+    ("0230", Time),
+    ("0631", Time),
+    ("1232", Time),
+    ("13-14", Time),
+    ("202113-13", Time),
+    ("0000-00", Time),
+    ("T1214Z", Time),
+    ("15:23:30.1234567890", Time),
+    ("12:01:04-05:00[America/New_York][u-ca=iso8601]", Time),
+    ("P1Y", Duration),
+    ("+P1M", Duration),
+    ("-p1w", Duration),
+    ("P1y2m3W4d", Duration),
+    ("P0D", Duration),
+    ("P4294967295W", Duration),
+    ("Pt1h2m3s", Duration),
+    ("PT1H3S", Duration),
+    ("-P1Y3wT0,5H", Duration),
+    ("P1D4294967296Y", Duration),
+    ("PT1S1M", Duration),
+    ("P", Duration),
 ];
 
 #[test]
-fn reads_other_times_alike() {
+fn reads_other_texts_alike() {
     let rt = HostRuntime;
-    check_same(&rt, Reader::Time, OTHER_TIMES);
-}
-
-const OTHER_DURATIONS: &[&str] = &[
-    "P1Y",
-    "+P1M",
-    "-p1w",
-    "P1y2m3W4d",
-    "P0D",
-    "P4294967295W",
-    "P18446744073709551615D",
-    "Pt1h2m3s",
-    "PT1H3S",
-    "PT1H1.123456789123M",
-    "-P1Y3wT0,5H",
-    "P1D1Y",
-    "P1D4294967296Y",
-    "P4294967296Y",
-    "P99999999999999999999X",
-    "PT1S1M",
-    "PT0.5H1M",
-    "PT1.H",
-    "P1YT",
-    "P",
-    "",
-];
-
-#[test]
-fn reads_other_durations_alike() {
-    let rt = HostRuntime;
-    check_same(&rt, Reader::Duration, OTHER_DURATIONS);
+    for (text, reader) in OTHER_TEXTS {
+        check_same(&rt, *reader, text);
+    }
 }
 
 const REFUSED_TWICE: &[(Reader, ParseError)] = &[
-    (Reader::MonthDay, InvalidMonthDay),
-    (Reader::MonthDay, InvalidMonthDay),
+    (MonthDay, InvalidMonthDay),
+    (MonthDay, InvalidMonthDay),
 ];
 
 #[test]
@@ -266,31 +217,22 @@ fn stays_strict() {
     let rt = HostRuntime;
     let mut parsers = under(Parsers::from_str("11-00"), Profile::Strict);
     check_refusals(&rt, "11-00", &mut parsers, REFUSED_TWICE);
-    let third = parsers.refusal(Reader::Time);
+    let third = parsers.refusal(Time);
     check(&rt, "the third call", third == None);
-}
-
-// How many annotations a strict time has.
-fn count_strictly(text: &str) -> ParserResult<u32> {
-    let mut count = 0u32;
-    let mut parser = IxdtfParser::from_str(text).with_profile(Profile::Strict);
-    let read = parser.parse_time_with_annotation_handler(|_annotation| {
-        count = count.saturating_add(1);
-        None
-    });
-    match read {
-        Ok(_record) => Ok(count),
-        Err(error) => Err(error),
-    }
 }
 
 #[test]
 fn asks_handlers_of_strict_times() {
     let rt = HostRuntime;
-    let is_counted = count_strictly("1200[a=b][!c=d]") == Ok(2);
-    check(&rt, "1200[a=b][!c=d]", is_counted);
-    let is_refused = count_strictly("1214[a=b]") == Err(AmbiguousTimeMonthDay);
-    check(&rt, "1214[a=b]", is_refused);
+    let text = "1200[a=b][!c=d]";
+    let parser = IxdtfParser::from_str(text).with_profile(Profile::Strict);
+    let asked = (Form::Time, Kind::RepliesNone, text, "[a=b][!c=d]");
+    check(&rt, text, reads(parser, asked).is_some());
+    let text = "1214[a=b]";
+    let mut parser = IxdtfParser::from_str(text).with_profile(Profile::Strict);
+    let asked = (Form::Time, Kind::RepliesNone, text, "");
+    let is_refused = refusal(&mut parser, asked) == Some(AmbiguousTimeMonthDay);
+    check(&rt, text, is_refused);
 }
 
 // The error of a strict reader of 16-bit code units, where it refuses.
@@ -300,12 +242,12 @@ fn strict_refusal(reader: Reader, text: &'static str) -> Option<ParseError> {
 }
 
 const WIDE_TEXTS: &[(Reader, &str, Option<ParseError>)] = &[
-    (Reader::MonthDay, "11-00", Some(InvalidMonthDay)),
-    (Reader::MonthDay, "11-01", None),
-    (Reader::Time, "1200", None),
-    (Reader::Time, "110010", Some(AmbiguousTimeYearMonth)),
-    (Reader::Duration, "P1Y2Y", Some(DateDurationPartOrder)),
-    (Reader::Duration, "P1Y2M", None),
+    (MonthDay, "11-00", Some(InvalidMonthDay)),
+    (MonthDay, "11-01", None),
+    (Time, "1200", None),
+    (Time, "110010", Some(AmbiguousTimeYearMonth)),
+    (Duration, "P1Y2Y", Some(DateDurationPartOrder)),
+    (Duration, "P1Y2M", None),
 ];
 
 #[test]

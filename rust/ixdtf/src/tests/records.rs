@@ -1,16 +1,19 @@
 // Made by tools/to_rust.py of crates/ixdtf_tests/src/tests/records.rt. Do not edit.
 
+//! Records, their fractions and offsets.
 
 #[allow(unused_imports)]
 use crate::runtime::{HostRuntime, TryClone};
-use super::times::{Digits, check_digits};
-use super::{check, check_fraction, fraction_of, long, minutes, short};
+
+use super::Nanoseconds::{self, Cut, Exact};
+use super::{
+    Reader, check, check_fraction, check_reader, fraction_in, fraction_of, long, minutes, short,
+};
 use ixdtf::encoding::{EncodingType, Utf8, Utf16};
 use ixdtf::records::{
-    DateRecord, IxdtfParseRecord, MinutePrecisionOffset, Sign, TimeRecord, TimeZoneAnnotation,
-    TimeZoneRecord, UtcOffsetRecord, UtcOffsetRecordOrZ,
+    DateRecord, Fraction, IxdtfParseRecord, MinutePrecisionOffset, Sign, TimeRecord,
+    TimeZoneAnnotation, TimeZoneRecord, UtcOffsetRecord, UtcOffsetRecordOrZ,
 };
-use crate::runtime::Abort;
 
 // The offset -05:30.
 fn short_offset() -> UtcOffsetRecord {
@@ -33,134 +36,61 @@ const LONGEST: &'static str =
 const LONGER: &'static str =
     "+00:00:00.123456789876543210777777777777777777777777777777777777777777777777777777777777777777777777777777777777777777777777777777777777777777777777777777777777777777777777777777777777777777777777777777777777777777777777777777777777777777777777777777777777777777777777777777777777777777777777777777777777777777";
 
-/// The second of an offset with a fraction.
-struct Second {
-    text: &'static str,
-    /// Those of the first nine digits.
-    nanoseconds: u32,
-    /// Whether there are more digits.
-    is_cut: bool,
-}
-
-fn check_seconds(rt: &impl Abort, rows: &[Second]) {
-    for row in rows {
-        let fraction = fraction_of(row.text);
-        check_fraction(rt, row.text, &fraction, row.nanoseconds, row.is_cut);
-    }
-}
-
-const CUT_FRACTIONS: &[Second] = &[
-    Second {
-        text: "+00:00:00.0",
-        nanoseconds: 0,
-        is_cut: false,
-    },
-    Second {
-        text: "+00:00:00.25",
-        nanoseconds: 250_000_000,
-        is_cut: false,
-    },
-    Second {
-        text: "+00:00:00.12345678",
-        nanoseconds: 123_456_780,
-        is_cut: false,
-    },
-    Second {
-        text: "+00:00:00.123456789",
-        nanoseconds: 123_456_789,
-        is_cut: false,
-    },
-    Second {
-        text: "+00:00:00.000000001",
-        nanoseconds: 1,
-        is_cut: false,
-    },
-    Second {
-        text: "+00:00:00.1234567890",
-        nanoseconds: 123_456_789,
-        is_cut: true,
-    },
-    Second {
-        text: "+00:00:00.1234567898",
-        nanoseconds: 123_456_789,
-        is_cut: true,
-    },
-    Second {
-        text: "+00:00:00.0000000009",
-        nanoseconds: 0,
-        is_cut: true,
-    },
-    Second {
-        text: "+00:00:00.999999999999999999",
-        nanoseconds: 999_999_999,
-        is_cut: true,
-    },
-    Second {
-        text: "+00:00:00.1234567898765432109",
-        nanoseconds: 123_456_789,
-        is_cut: true,
-    },
-    Second {
-        text: "+00:00:00.1234567898765432101234567890987654321",
-        nanoseconds: 123_456_789,
-        is_cut: true,
-    },
-    Second {
-        text: LONGEST,
-        nanoseconds: 123_456_789,
-        is_cut: true,
-    },
-    Second {
-        text: LONGER,
-        nanoseconds: 123_456_789,
-        is_cut: true,
-    },
+const CUT_FRACTIONS: &[(&str, Nanoseconds)] = &[
+    ("+00:00:00.0", Exact(0)),
+    ("+00:00:00.25", Exact(250_000_000)),
+    ("+00:00:00.12345678", Exact(123_456_780)),
+    ("+00:00:00.123456789", Exact(123_456_789)),
+    ("+00:00:00.000000001", Exact(1)),
+    ("+00:00:00.1234567890", Cut(123_456_789)),
+    ("+00:00:00.1234567898", Cut(123_456_789)),
+    ("+00:00:00.0000000009", Cut(0)),
+    ("+00:00:00.999999999999999999", Cut(999_999_999)),
+    ("+00:00:00.1234567898765432109", Cut(123_456_789)),
+    ("+00:00:00.1234567898765432101234567890987654321", Cut(123_456_789)),
+    (LONGEST, Cut(123_456_789)),
+    (LONGER, Cut(123_456_789)),
 ];
 
 #[test]
 fn fractions_are_cut_at_nanoseconds() {
     let rt = HostRuntime;
-    check_seconds(&rt, CUT_FRACTIONS);
+    for (text, nanoseconds) in CUT_FRACTIONS {
+        check_fraction(&rt, text, &fraction_of(text), *nanoseconds);
+    }
 }
 
-const DIGITS: &[Digits] = &[
-    Digits {
-        text: "+00:00:00.0",
-        count: 1,
-        value: 0,
-    },
-    Digits {
-        text: "+00:00:00.50",
-        count: 2,
-        value: 50,
-    },
-    Digits {
-        text: "+00:00:00.00000000000000000150",
-        count: 20,
-        value: 1,
-    },
-    Digits {
-        text: "+00:00:00.1234567898765432101234567890987654321",
-        count: 37,
-        value: 123_456_789_876_543_210,
-    },
-    Digits {
-        text: LONGEST,
-        count: 255,
-        value: 123_456_789_876_543_210,
-    },
-    Digits {
-        text: LONGER,
-        count: 255,
-        value: 123_456_789_876_543_210,
-    },
+// Texts with a fraction: how many digits it has, up to 255, and the number of the first 18. The last time has 300 digits.
+const DIGITS: &[(Reader, &str, u8, u64)] = &[
+    (Reader::Offset, "+00:00:00.0", 1, 0),
+    (Reader::Offset, "+00:00:00.50", 2, 50),
+    (Reader::Offset, "+00:00:00.00000000000000000150", 20, 1),
+    (Reader::Offset, "+00:00:00.1234567898765432101234567890987654321", 37, 123_456_789_876_543_210),
+    (Reader::Offset, LONGEST, 255, 123_456_789_876_543_210),
+    (Reader::Offset, LONGER, 255, 123_456_789_876_543_210),
+    (Reader::Time, "15:23:30.12345678", 8, 12_345_678),
+    (Reader::Time, "15:23:30.1234567898765432101234567890987654321", 37, 123_456_789_876_543_210),
+    (Reader::Time, "15:23:30.123456789876543210123456789098765432112345678987654321012345678909876543211234567898765432101234567890987654321123456789876543210123456789098765432112345678987654321012345678909876543211234567898765432101234567890987654321123456789876543210123456789098765432112345678987654321012345678909876543211234", 255, 123_456_789_876_543_210),
+    (Reader::Duration, "PT0,5H", 1, 5),
+    (Reader::Duration, "PT1.50M", 2, 50),
+    (Reader::Duration, "PT1H1.123456789123M", 12, 123_456_789_123),
+    (Reader::Duration, "PT1S2.1234567898765432101234567890987654321S", 37, 123_456_789_876_543_210),
 ];
+
+// Whether the fraction has this count of digits and this value.
+fn has_digits(fraction: Option<Fraction>, count: u8, value: u64) -> bool {
+    match fraction {
+        Some(fraction) => fraction.digit_count() == count && fraction.leading_value() == value,
+        None => false,
+    }
+}
 
 #[test]
 fn fractions_tell_their_digits() {
     let rt = HostRuntime;
-    for row in DIGITS {
-        check_digits(&rt, row, fraction_of(row.text));
+    for (reader, text, count, value) in DIGITS {
+        let fraction = fraction_in(*reader, text);
+        check_reader(&rt, *reader, text, has_digits(fraction, *count, *value));
     }
 }
 
@@ -295,7 +225,7 @@ fn long_offsets_have_a_second() {
     let long = long_offset();
     let is_long = !long.is_minute_precision() && long.second() == Some(15);
     check(&rt, "a long offset", is_long);
-    check_fraction(&rt, "a long offset", &long.fraction(), 250_000_000, false);
+    check_fraction(&rt, "a long offset", &long.fraction(), Exact(250_000_000));
 }
 
 #[test]

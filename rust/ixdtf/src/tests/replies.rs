@@ -1,832 +1,145 @@
 // Made by tools/to_rust.py of crates/ixdtf_tests/src/tests/replies.rt. Do not edit.
 
+//! Replies to annotations that are heeded, and what is read then.
 
 #[allow(unused_imports)]
 use crate::runtime::{HostRuntime, TryClone};
-use super::wide::Wide;
-use super::widths::same_calendar;
-use super::{AT_DIGIT, Record, check, check_fraction, fraction_of, parts, timed};
-use ixdtf::ParseError::{
-    self, AnnotationClose, AnnotationKeyLeadingChar, AnnotationKeyValueSeparator,
-    AnnotationValueChar, CriticalDuplicateCalendar, DateYear, InvalidEnd, InvalidMonthRange,
-    NonAsciiCodePoint, TzLeadingChar, UnrecognizedCritical,
+
+use super::Nanoseconds::Exact;
+use super::listener::Form::{MonthDay, Parse, Time, YearMonth};
+use super::listener::Kind::{HandsBack, MakesCritical, RepliesAnother, RepliesNone, TurnsCritical};
+use super::listener::{
+    Asked, FEBRUARY_29, Heeded, NEW_YEAR, NOON, NOON_OF_NEW_YEAR, NOVEMBER_7, check_heeded,
+    check_read,
 };
-use ixdtf::encoding::{EncodingType, Utf8, Utf16};
-use ixdtf::parsers::IxdtfParser;
-use ixdtf::records::{Annotation, IxdtfParseRecord, UtcOffsetRecordOrZ};
-use ixdtf::{LocatedError, ParserResult};
+use super::{Record, check_fraction, fraction_of, parts, short, timed};
+use ixdtf::records::{Sign, UtcOffsetRecordOrZ};
 use crate::runtime::Abort;
 
-/// What a handler replies.
-#[derive(Clone, Copy)]
-pub(super) enum Kind {
-    /// The annotation.
-    HandsBack,
-    /// None.
-    RepliesNone,
-    /// The annotation made critical.
-    MakesCritical,
-    /// The annotation with its flag turned.
-    TurnsCritical,
-    /// First the calendar `a`, then the calendar `b` with the annotation's flag, then none, and later the annotation.
-    RepliesAnother,
-}
-
-/// Code units that are not of a source, for replies.
-trait Foreign: EncodingType {
-    /// `u-ca`.
-    fn key() -> &'static [Self::CodeUnit];
-
-    /// `a`.
-    fn first() -> &'static [Self::CodeUnit];
-
-    /// `b`.
-    fn second() -> &'static [Self::CodeUnit];
-}
-
-impl Foreign for Utf8 {
-    fn key() -> &'static [u8] {
-        b"u-ca"
-    }
-
-    fn first() -> &'static [u8] {
-        b"a"
-    }
-
-    fn second() -> &'static [u8] {
-        b"b"
-    }
-}
-
-impl Foreign for Utf16 {
-    fn key() -> &'static [u16] {
-        &[117, 45, 99, 97]
-    }
-
-    fn first() -> &'static [u16] {
-        &[97]
-    }
-
-    fn second() -> &'static [u16] {
-        &[98]
-    }
-}
-
-// What the handler replies at a call, after so many others.
-fn reply<'a, T: Foreign + 'static>(
-    kind: Kind,
-    before: usize,
-    annotation: Annotation<'a, T>,
-) -> Option<Annotation<'a, T>> {
-    match kind {
-        Kind::HandsBack => Some(annotation),
-        Kind::RepliesNone => None,
-        Kind::MakesCritical => Some(Annotation {
-            critical: true,
-            key: annotation.key,
-            value: annotation.value,
-        }),
-        Kind::TurnsCritical => Some(Annotation {
-            critical: !annotation.critical,
-            key: annotation.key,
-            value: annotation.value,
-        }),
-        Kind::RepliesAnother => match before {
-            0 => Some(Annotation {
-                critical: false,
-                key: T::key(),
-                value: T::first(),
-            }),
-            1 => Some(Annotation {
-                critical: annotation.critical,
-                key: T::key(),
-                value: T::second(),
-            }),
-            2 => None,
-            _ => Some(annotation),
-        },
-    }
-}
-
-/// A handler that writes down the annotations that it is called with, as `[key=value]` and `[!key=value]`.
-struct Listener {
-    kind: Kind,
-    calls: usize,
-    heard: [u8; 256],
-    length: usize,
-}
-
-const NOTHING_HEARD: [u8; 256] = [0; 256];
-
-impl Listener {
-    fn write(&mut self, part: &[u8]) {
-        for byte in part {
-            if let Some(place) = self.heard.get_mut(self.length) {
-                *place = *byte;
-                self.length = self.length.saturating_add(1);
-            }
-        }
-    }
-
-    fn write_units<T: EncodingType>(&mut self, units: &[T::CodeUnit]) {
-        for index in 0..units.len() {
-            if let Ok(Some(byte)) = T::get_ascii(units, index) {
-                self.write(&[byte]);
-            }
-        }
-    }
-
-    fn reply<'a, T: Foreign + 'static>(
-        &mut self,
-        annotation: Annotation<'a, T>,
-    ) -> Option<Annotation<'a, T>> {
-        self.write(if annotation.critical { b"[!" } else { b"[" });
-        self.write_units::<T>(annotation.key);
-        self.write(b"=");
-        self.write_units::<T>(annotation.value);
-        self.write(b"]");
-        let before = self.calls;
-        self.calls = self.calls.saturating_add(1);
-        reply(self.kind, before, annotation)
-    }
-
-    fn new(kind: Kind) -> Listener {
-        Listener {
-            kind,
-            calls: 0,
-            heard: NOTHING_HEARD,
-            length: 0,
-        }
-    }
-
-    // Whether it had these calls, in this order, and no more.
-    fn has_heard(&self, calls: &'static str) -> bool {
-        self.heard.get(..self.length) == Some(calls.as_bytes())
-    }
-}
-
-/// A reader with a handler.
-#[derive(Clone, Copy)]
-pub(super) enum Form {
-    /// `parse_with_annotation_handler`.
-    Parse,
-    /// `parse_year_month_with_annotation_handler`.
-    YearMonth,
-    /// `parse_month_day_with_annotation_handler`.
-    MonthDay,
-    /// `parse_time_with_annotation_handler`.
-    Time,
-}
-
-// What the reader returns with the listener as its handler.
-fn heard<'a, T: Foreign + 'static>(
-    parser: &mut IxdtfParser<'a, T>,
-    form: Form,
-    listener: &mut Listener,
-) -> ParserResult<IxdtfParseRecord<'a, T>> {
-    let handler = |annotation| listener.reply(annotation);
-    match form {
-        Form::Parse => parser.parse_with_annotation_handler(handler),
-        Form::YearMonth => parser.parse_year_month_with_annotation_handler(handler),
-        Form::MonthDay => parser.parse_month_day_with_annotation_handler(handler),
-        Form::Time => parser.parse_time_with_annotation_handler(handler),
-    }
-}
-
-// The same of the located form of the reader.
-fn heard_located<'a, T: Foreign + 'static>(
-    parser: &mut IxdtfParser<'a, T>,
-    form: Form,
-    listener: &mut Listener,
-) -> Result<IxdtfParseRecord<'a, T>, LocatedError> {
-    let handler = |annotation| listener.reply(annotation);
-    match form {
-        Form::Parse => parser.parse_with_annotation_handler_located(handler),
-        Form::YearMonth => parser.parse_year_month_with_annotation_handler_located(handler),
-        Form::MonthDay => parser.parse_month_day_with_annotation_handler_located(handler),
-        Form::Time => parser.parse_time_with_annotation_handler_located(handler),
-    }
-}
-
-/// A text, the calls of a handler that it makes, in order, and the place of its error, where it is refused.
-pub(super) struct Asked {
-    pub(super) form: Form,
-    pub(super) text: &'static str,
-    pub(super) kind: Kind,
-    pub(super) calls: &'static str,
-    pub(super) place: Option<usize>,
-}
-
-impl Asked {
-    // Whether the located form refuses with this error at the place of the row, or reads where there is no error, after the
-    // calls and no more.
-    fn is_located<'a, T: Foreign + 'static>(
-        &self,
-        parser: &mut IxdtfParser<'a, T>,
-        error: Option<ParseError>,
-    ) -> bool {
-        let mut listener = Listener::new(self.kind);
-        let found = match heard_located(parser, self.form, &mut listener) {
-            Ok(_record) => None,
-            Err(located) => Some(located),
-        };
-        found == self.wanted(error) && listener.has_heard(self.calls)
-    }
-
-    // The expected error, with its place.
-    fn wanted(&self, error: Option<ParseError>) -> Option<LocatedError> {
-        match (error, self.place) {
-            (Some(error), Some(at)) => Some(LocatedError { error, at }),
-            _ => None,
-        }
-    }
-}
-
-// Whether this is the result for a text and its handler, after its calls and no more.
-fn is_handled(asked: &Asked, wanted: &ParserResult<Record>) -> bool {
-    let mut listener = Listener::new(asked.kind);
-    let mut parser = IxdtfParser::from_str(asked.text);
-    heard(&mut parser, asked.form, &mut listener) == *wanted && listener.has_heard(asked.calls)
-}
-
-/// This is the result for the text and its handler, after its calls and no more.
-fn check_asked(rt: &impl Abort, wanted: &ParserResult<Record>, asked: &Asked) {
-    check(rt, asked.text, is_handled(asked, wanted));
-    let error = match wanted {
-        Ok(_record) => None,
-        Err(error) => Some(*error),
-    };
-    let is_located = asked.is_located(&mut IxdtfParser::from_str(asked.text), error);
-    assert!(rt; is_located, "located at {}", asked.text);
-}
-
-/// This is the result for each text and its handler, after its calls and no more.
-pub(super) fn check_handled(rt: &impl Abort, wanted: &ParserResult<Record>, rows: &[Asked]) {
-    for row in rows {
-        check_asked(rt, wanted, row);
-    }
-}
-
-/// Each text is refused with the error beside it, after its calls and no more.
-pub(super) fn check_refused_replies(rt: &impl Abort, rows: &[(ParseError, &[Asked])]) {
-    for (error, texts) in rows {
-        check_handled(rt, &Err(*error), texts);
-    }
-}
-
-/// A text that is read, with its parts: a date, the hour of a time, a zone by its `!` and its name, and a calendar.
-pub(super) struct Heeded {
-    pub(super) asked: Asked,
-    pub(super) date: Option<(i32, u8, u8)>,
-    pub(super) hour: Option<u8>,
-    pub(super) zone: Option<(bool, &'static str)>,
-    pub(super) calendar: Option<&'static str>,
-}
-
-fn record_of(row: &Heeded) -> Record {
-    let time = match row.hour {
-        Some(hour) => timed(hour, 0, 0, None),
-        None => None,
-    };
-    parts(row.date, time, None, row.zone, row.calendar)
-}
-
-/// Each text has its parts with its handler, after its calls and no more.
-pub(super) fn check_heeded(rt: &impl Abort, rows: &[Heeded]) {
-    for row in rows {
-        check_asked(rt, &Ok(record_of(row)), &row.asked);
-    }
-}
-
-// Whether the text is read, and refused then as the empty text is, with no call of the handler.
-fn is_read_once(form: Form, text: &'static str, at_end: ParseError) -> bool {
-    let mut parser = IxdtfParser::from_str(text);
-    let is_read = heard(&mut parser, form, &mut Listener::new(Kind::HandsBack)).is_ok();
-    let mut more_calls = Listener::new(Kind::HandsBack);
-    let is_at_its_end = heard(&mut parser, form, &mut more_calls) == Err(at_end);
-    is_read && is_at_its_end && more_calls.has_heard("")
-}
-
-// Whether the reader refuses the empty text with this error.
-fn refuses_nothing(form: Form, at_end: ParseError) -> bool {
-    let mut listener = Listener::new(Kind::HandsBack);
-    heard(&mut IxdtfParser::from_str(""), form, &mut listener) == Err(at_end)
-}
-
-/// Each text is read, and the parser refuses then as it refuses the empty text, with no call of the handler.
-pub(super) fn check_read_once(rt: &impl Abort, rows: &[(Form, &'static str, ParseError)]) {
-    for (form, text, at_end) in rows {
-        check(rt, text, is_read_once(*form, text, *at_end));
-        check(rt, "nothing", refuses_nothing(*form, *at_end));
-    }
-}
-
-// Whether a text in 16-bit code units is refused with this error, or has this calendar and no zone, after its calls.
-fn heeds_wide(asked: &Asked, error: Option<ParseError>, calendar: Option<&'static str>) -> bool {
-    let mut listener = Listener::new(asked.kind);
-    let wide = Wide::new(asked.text);
-    let mut parser = IxdtfParser::from_utf16(wide.units());
-    let as_wanted = match heard(&mut parser, asked.form, &mut listener) {
-        Ok(record) => {
-            let name = match calendar {
-                Some(name) => Some(name.as_bytes()),
-                None => None,
-            };
-            error.is_none() && record.tz.is_none() && same_calendar(name, record.calendar)
-        }
-        Err(found) => error == Some(found),
-    };
-    let is_located = asked.is_located(&mut IxdtfParser::from_utf16(wide.units()), error);
-    as_wanted && is_located && listener.has_heard(asked.calls)
-}
-
-/// Each text in 16-bit code units is refused with the error beside it, after its calls and no more.
-pub(super) fn check_wide_refusals(rt: &impl Abort, rows: &[(ParseError, &[Asked])]) {
-    for (error, texts) in rows {
-        for row in *texts {
-            check(rt, row.text, heeds_wide(row, Some(*error), None));
-        }
-    }
-}
-
-/// Each text in 16-bit code units has this calendar and no zone, after its calls and no more.
-pub(super) fn check_wide_calendars(
-    rt: &impl Abort,
-    calendar: Option<&'static str>,
-    rows: &[Asked],
-) {
-    for row in rows {
-        check(rt, row.text, heeds_wide(row, None, calendar));
-    }
-}
-
-const HEEDED: &[Heeded] = &[
-    Heeded {
-        asked: Asked {
-            form: Form::Parse,
-            text: "2020-01-01[a=a1]",
-            kind: Kind::HandsBack,
-            calls: "[a=a1]",
-            place: None,
-        },
-        date: Some((2020, 1, 1)),
-        hour: None,
-        zone: None,
-        calendar: None,
-    },
-    Heeded {
-        asked: Asked {
-            form: Form::Parse,
-            text: "2020-01-01[u-ca=gregory][!u-ca=1][!u-ca=a0sa-2l4s][u-ca=k-H0EGv]",
-            kind: Kind::RepliesNone,
-            calls: "[u-ca=gregory][!u-ca=1][!u-ca=a0sa-2l4s][u-ca=k-H0EGv]",
-            place: None,
-        },
-        date: Some((2020, 1, 1)),
-        hour: None,
-        zone: None,
-        calendar: None,
-    },
-    Heeded {
-        asked: Asked {
-            form: Form::Parse,
-            text: "2020-01-01[u-ca=japanese][!u-ca=FE-4-s-y]",
-            kind: Kind::RepliesNone,
-            calls: "[u-ca=japanese][!u-ca=FE-4-s-y]",
-            place: None,
-        },
-        date: Some((2020, 1, 1)),
-        hour: None,
-        zone: None,
-        calendar: None,
-    },
-    Heeded {
-        asked: Asked {
-            form: Form::Parse,
-            text: "2020-01-01[u-ca=a0sa-2l4s][u-ca=a0sa-2l4s][answer-to-universe=hebrew][a=gregory][u-ca=45W-E0h61U-kXpZ]",
-            kind: Kind::HandsBack,
-            calls: "[u-ca=a0sa-2l4s][u-ca=a0sa-2l4s][answer-to-universe=hebrew][a=gregory][u-ca=45W-E0h61U-kXpZ]",
-            place: None,
-        },
-        date: Some((2020, 1, 1)),
-        hour: None,
-        zone: None,
-        calendar: Some("a0sa-2l4s"),
-    },
-    Heeded {
-        asked: Asked {
-            form: Form::Parse,
-            text: "20200101T12[u-ca=A][qe7idr62=O-QXB-Ir]",
-            kind: Kind::HandsBack,
-            calls: "[u-ca=A][qe7idr62=O-QXB-Ir]",
-            place: None,
-        },
-        date: Some((2020, 1, 1)),
-        hour: Some(12),
-        zone: None,
-        calendar: Some("A"),
-    },
+const DATES: &[Heeded] = &[
+    ((Parse, HandsBack, "2020-01-01[a=a1]", "[a=a1]"), NEW_YEAR, None, None),
+    ((Parse, RepliesNone, "2020-01-01[u-ca=gregory][!u-ca=1][!u-ca=a0sa-2l4s][u-ca=k-H0EGv]",
+        "[u-ca=gregory][!u-ca=1][!u-ca=a0sa-2l4s][u-ca=k-H0EGv]"), NEW_YEAR, None, None),
+    ((Parse, RepliesNone, "2020-01-01[u-ca=japanese][!u-ca=FE-4-s-y]",
+        "[u-ca=japanese][!u-ca=FE-4-s-y]"), NEW_YEAR, None, None),
+    ((Parse, HandsBack, "2020-01-01[u-ca=a0sa-2l4s][u-ca=a0sa-2l4s][answer-to-universe=hebrew][a=gregory][u-ca=45W-E0h61U-kXpZ]",
+        "[u-ca=a0sa-2l4s][u-ca=a0sa-2l4s][answer-to-universe=hebrew][a=gregory][u-ca=45W-E0h61U-kXpZ]"), NEW_YEAR, None, Some("a0sa-2l4s")),
+    ((Parse, HandsBack, "20200101T12[u-ca=A][qe7idr62=O-QXB-Ir]",
+        "[u-ca=A][qe7idr62=O-QXB-Ir]"), NOON_OF_NEW_YEAR, None, Some("A")),
 ];
 
 #[test]
 fn heeds_handlers() {
     let rt = HostRuntime;
-    check_heeded(&rt, HEEDED);
+    check_heeded(&rt, DATES);
 }
 
 // Half a second past midnight, in UTC, with this calendar.
 fn half_past(rt: &impl Abort, calendar: Option<&'static str>) -> Record {
     let text = "+00:00:00.5";
     let fraction = fraction_of(text);
-    check_fraction(rt, text, &fraction, 500_000_000, false);
-    let zulu = Some(UtcOffsetRecordOrZ::Z);
-    parts(
-        Some((2020, 1, 1)),
-        timed(0, 0, 0, fraction),
-        zulu,
-        None,
-        calendar,
-    )
+    check_fraction(rt, text, &fraction, Exact(500_000_000));
+    let day = Some((2020, 1, 1));
+    let time = timed(0, 0, 0, fraction);
+    parts(day, time, Some(UtcOffsetRecordOrZ::Z), None, calendar)
 }
 
 // Texts of half a second past midnight, with their calendars.
-const AFTER_TIMES: &[(Option<&str>, Asked)] = &[
-    (
-        None,
-        Asked {
-            form: Form::Parse,
-            text: "2020-01-01 00:00:00.5Z[!u-ca=A]",
-            kind: Kind::RepliesNone,
-            calls: "[!u-ca=A]",
-            place: None,
-        },
-    ),
-    (
-        Some("n-dzMM2"),
-        Asked {
-            form: Form::Parse,
-            text: "2020-01-01 00:00:00.5Z[!u-ca=n-dzMM2]",
-            kind: Kind::MakesCritical,
-            calls: "[!u-ca=n-dzMM2]",
-            place: None,
-        },
-    ),
-    (
-        Some("mr-nUk-EDkNu"),
-        Asked {
-            form: Form::Parse,
-            text: "2020-01-01 00:00:00.5Z[u-ca=mr-nUk-EDkNu]",
-            kind: Kind::TurnsCritical,
-            calls: "[u-ca=mr-nUk-EDkNu]",
-            place: None,
-        },
-    ),
-    (
-        Some("a"),
-        Asked {
-            form: Form::Parse,
-            text: "2020-01-01 00:00:00.5Z[answer-to-universe=OSR]",
-            kind: Kind::RepliesAnother,
-            calls: "[answer-to-universe=OSR]",
-            place: None,
-        },
-    ),
+const AFTER_TIMES: &[(Asked, Option<&str>)] = &[
+    ((Parse, RepliesNone, "2020-01-01 00:00:00.5Z[!u-ca=A]", "[!u-ca=A]"), None),
+    ((Parse, RepliesNone, "2020-01-01 00:00:00.5Z[u-ca=a-b][u-ca=japanese][!u-ca=gB-DxG-f6UUB8-CIgGr]",
+        "[u-ca=a-b][u-ca=japanese][!u-ca=gB-DxG-f6UUB8-CIgGr]"), None),
+    ((Parse, MakesCritical, "2020-01-01 00:00:00.5Z[!u-ca=n-dzMM2]", "[!u-ca=n-dzMM2]"), Some("n-dzMM2")),
+    ((Parse, TurnsCritical, "2020-01-01 00:00:00.5Z[u-ca=mr-nUk-EDkNu]", "[u-ca=mr-nUk-EDkNu]"), Some("mr-nUk-EDkNu")),
+    ((Parse, RepliesAnother, "2020-01-01 00:00:00.5Z[answer-to-universe=OSR]", "[answer-to-universe=OSR]"), Some("a")),
 ];
 
 #[test]
 fn heeds_handlers_after_times() {
     let rt = HostRuntime;
-    for (calendar, asked) in AFTER_TIMES {
-        check_asked(&rt, &Ok(half_past(&rt, *calendar)), asked);
+    for (asked, calendar) in AFTER_TIMES {
+        check_read(&rt, *asked, &half_past(&rt, *calendar));
     }
 }
 
-const CRITICAL_REPLIES: &[Asked] = &[
-    Asked {
-        form: Form::Parse,
-        text: "2020-01-01[x=y]",
-        kind: Kind::MakesCritical,
-        calls: "[x=y]",
-        place: Some(15),
-    },
-    Asked {
-        form: Form::Parse,
-        text: "2020-01-01[a=b][!c=d][e=f]",
-        kind: Kind::HandsBack,
-        calls: "[a=b][!c=d]",
-        place: Some(21),
-    },
-    Asked {
-        form: Form::Parse,
-        text: "2020-01-01[u-ca=a][!c=d]",
-        kind: Kind::HandsBack,
-        calls: "[u-ca=a][!c=d]",
-        place: Some(24),
-    },
-    Asked {
-        form: Form::Parse,
-        text: "2020-01-01[u-ca=4-aYg][!u_ca=dbto-3eyv22-fA-rtts]",
-        kind: Kind::HandsBack,
-        calls: "[u-ca=4-aYg][!u_ca=dbto-3eyv22-fA-rtts]",
-        place: Some(49),
-    },
-    Asked {
-        form: Form::Parse,
-        text: "20200101T12[yh=Vx-Qi-v0Zpe7-Nx1][foo=B1aoE-XS-yGk-7][u-cb=iWnJ0a][!u-cb=l][u-ca=uz5HNg-NV3x]",
-        kind: Kind::HandsBack,
-        calls: "[yh=Vx-Qi-v0Zpe7-Nx1][foo=B1aoE-XS-yGk-7][u-cb=iWnJ0a][!u-cb=l]",
-        place: Some(74),
-    },
-    Asked {
-        form: Form::Parse,
-        text: "20200101T12[u-ca=a][s=iE-Dn-NXDPL]",
-        kind: Kind::MakesCritical,
-        calls: "[u-ca=a][s=iE-Dn-NXDPL]",
-        place: Some(34),
-    },
-    Asked {
-        form: Form::Parse,
-        text: "20200101T12[u-ca=R2-uY40-cvb-w][x-y=WXTo]",
-        kind: Kind::TurnsCritical,
-        calls: "[u-ca=R2-uY40-cvb-w][x-y=WXTo]",
-        place: Some(41),
-    },
-];
-
-const DUPLICATE_CALENDARS: &[Asked] = &[
-    Asked {
-        form: Form::Parse,
-        text: "2020-01-01[xy=a0sa-2l4s][!u-ca=iso8601][!u-ca=A][u-ca=a][u-ca=a]",
-        kind: Kind::HandsBack,
-        calls: "[xy=a0sa-2l4s][!u-ca=iso8601][!u-ca=A]",
-        place: Some(48),
-    },
-    Asked {
-        form: Form::Parse,
-        text: "2020-01-01[!u-ca=a-b][!u-ca=a3Z-DL-Irpq-2U]",
-        kind: Kind::RepliesAnother,
-        calls: "[!u-ca=a-b][!u-ca=a3Z-DL-Irpq-2U]",
-        place: Some(43),
-    },
-    Asked {
-        form: Form::Parse,
-        text: "2020-01-01[!u-ca=1][u-ca=xjQk-E][u-ca=b][!u-ca=UAq-KMwlE][u-ca =okKb7P]",
-        kind: Kind::RepliesAnother,
-        calls: "[!u-ca=1][u-ca=xjQk-E][u-ca=b][!u-ca=UAq-KMwlE]",
-        place: Some(57),
-    },
-];
-
-const REFUSED_REPLIES: &[(ParseError, &[Asked])] = &[
-    (UnrecognizedCritical, CRITICAL_REPLIES),
-    (CriticalDuplicateCalendar, DUPLICATE_CALENDARS),
+const YEAR_MONTHS: &[Heeded] = &[
+    ((YearMonth, HandsBack, "2020-01[_=iso8601]", "[_=iso8601]"), NEW_YEAR, None, None),
+    ((YearMonth, RepliesNone, "2020-01[!mr=A][!answer-to-universe=NLM-yw7][u-ca=eUfEnd]",
+        "[!mr=A][!answer-to-universe=NLM-yw7][u-ca=eUfEnd]"), NEW_YEAR, None, None),
+    ((YearMonth, TurnsCritical, "2020-01[u-ca=a]", "[u-ca=a]"), NEW_YEAR, None, Some("a")),
+    ((YearMonth, RepliesNone, "2020-01[!mbpxmqurx=a][u-ca=evRyBU-ahbf]",
+        "[!mbpxmqurx=a][u-ca=evRyBU-ahbf]"), NEW_YEAR, None, None),
 ];
 
 #[test]
-fn refuses_replies() {
+fn heeds_handlers_of_year_months() {
     let rt = HostRuntime;
-    check_refused_replies(&rt, REFUSED_REPLIES);
+    check_heeded(&rt, YEAR_MONTHS);
 }
 
-const BEFORE_A_WRONG_KEY: &[Asked] = &[
-    Asked {
-        form: Form::Parse,
-        text: "2020-01-01[u-ca=Nl8-jswAuQ-H][",
-        kind: Kind::HandsBack,
-        calls: "[u-ca=Nl8-jswAuQ-H]",
-        place: Some(30),
-    },
-    Asked {
-        form: Form::Parse,
-        text: "20200101T12[answer-to-universe=xRozE-IPf-E3][u-ca=a0sa-2l4s][answer-to-universe=OMr-WGJ2kC-6pOrnn][u-ca=iso8601][u-ca=a][!",
-        kind: Kind::RepliesAnother,
-        calls: "[answer-to-universe=xRozE-IPf-E3][u-ca=a0sa-2l4s][answer-to-universe=OMr-WGJ2kC-6pOrnn][u-ca=iso8601][u-ca=a]",
-        place: Some(122),
-    },
-];
-
-const BEFORE_A_WRONG_VALUE: &[Asked] = &[
-    Asked {
-        form: Form::Parse,
-        text: "2020-01-01 00:00:00.5Z[bsgaqql7=4FH][!nk_8nl=",
-        kind: Kind::RepliesNone,
-        calls: "[bsgaqql7=4FH]",
-        place: Some(45),
-    },
-    Asked {
-        form: Form::Parse,
-        text: "2020-01-01[u-ca=Cwup_-X]",
-        kind: Kind::TurnsCritical,
-        calls: "",
-        place: Some(20),
-    },
-];
-
-const BEFORE_A_WRONG_END: &[Asked] = &[
-    Asked {
-        form: Form::Parse,
-        text: "20200101WT12[!u--=1]",
-        kind: Kind::RepliesAnother,
-        calls: "",
-        place: Some(8),
-    },
-    Asked {
-        form: Form::Parse,
-        text: "2020-01-01[a=b]junk",
-        kind: Kind::HandsBack,
-        calls: "[a=b]",
-        place: Some(15),
-    },
-    Asked {
-        form: Form::Parse,
-        text: "2020-01-01[a=b][c=d]junk",
-        kind: Kind::HandsBack,
-        calls: "[a=b][c=d]",
-        place: Some(20),
-    },
-];
-
-const BEFORE_FAULTS: &[(ParseError, &[Asked])] = &[
-    (AnnotationKeyLeadingChar, BEFORE_A_WRONG_KEY),
-    (AnnotationValueChar, BEFORE_A_WRONG_VALUE),
-    (
-        AnnotationKeyValueSeparator,
-        &[Asked {
-            form: Form::Parse,
-            text: "2020-01-01 00:00:00.5Z[!u-ca=b][u-ca=AdUhu-LRdEB][!u-ca",
-            kind: Kind::RepliesAnother,
-            calls: "[!u-ca=b][u-ca=AdUhu-LRdEB]",
-            place: Some(55),
-        }],
-    ),
-    (InvalidEnd, BEFORE_A_WRONG_END),
-    (
-        AnnotationClose,
-        &[Asked {
-            form: Form::Parse,
-            text: "2020-01-01[a=b][c=d",
-            kind: Kind::HandsBack,
-            calls: "[a=b]",
-            place: Some(19),
-        }],
-    ),
+const MONTH_DAYS: &[Heeded] = &[
+    ((MonthDay, RepliesNone, "11-07[u-ca=Agregory]", "[u-ca=Agregory]"), NOVEMBER_7, None, None),
+    ((MonthDay, RepliesNone, "11-07[u-ca=1][u-c=Q1hBRV-7bzvj-opdF][u-caa=jKpQvd-FDtiq-Z][!u-ca=FDRH-KlFC-wT-B][!pd3v3t=04-LV2V]",
+        "[u-ca=1][u-c=Q1hBRV-7bzvj-opdF][u-caa=jKpQvd-FDtiq-Z][!u-ca=FDRH-KlFC-wT-B][!pd3v3t=04-LV2V]"), NOVEMBER_7, None, None),
+    ((MonthDay, TurnsCritical, "11-07[!u-ca7a-b]", ""), NOVEMBER_7, Some((true, "u-ca7a-b")), None),
+    ((MonthDay, RepliesNone, "--0229[r97bybgb-=mxYtOJ][u-ca=T-VkYi]",
+        "[r97bybgb-=mxYtOJ][u-ca=T-VkYi]"), FEBRUARY_29, None, None),
+    ((MonthDay, TurnsCritical, "--0229[!answer-to-universe=j9Ew][!u-ca=VywT9]",
+        "[!answer-to-universe=j9Ew][!u-ca=VywT9]"), FEBRUARY_29, None, Some("VywT9")),
+    ((MonthDay, RepliesAnother, "--0229[u-ca=K-lwPO-gDqQ][u-ca=jP5er][u_ca=A][u-ca=N6rxr]",
+        "[u-ca=K-lwPO-gDqQ][u-ca=jP5er][u_ca=A][u-ca=N6rxr]"), FEBRUARY_29, None, Some("a")),
+    ((MonthDay, RepliesAnother, "--0229[u-ca=rz44]", "[u-ca=rz44]"), FEBRUARY_29, None, Some("a")),
 ];
 
 #[test]
-fn asks_before_a_fault() {
+fn heeds_handlers_of_month_days() {
     let rt = HostRuntime;
-    check_refused_replies(&rt, BEFORE_FAULTS);
+    check_heeded(&rt, MONTH_DAYS);
 }
 
-const BEFORE_A_FAULT_OF_A_DATE: &[Asked] = &[
-    Asked {
-        form: Form::Parse,
-        text: "2020-01-0",
-        kind: Kind::RepliesNone,
-        calls: "",
-        place: Some(9),
-    },
-    Asked {
-        form: Form::Parse,
-        text: "2020-0",
-        kind: Kind::TurnsCritical,
-        calls: "",
-        place: Some(6),
-    },
+const TIMES_ALONE: &[Heeded] = &[
+    ((Time, RepliesAnother, "T12[u-caa=ldJ-5I]", "[u-caa=ldJ-5I]"), NOON, None, Some("a")),
+    ((Time, RepliesAnother, "T12[!SN9diiX.vB-fbtR3cerg/r][pqrfra=a0sa-2l4s][u-ca=japanese]",
+        "[pqrfra=a0sa-2l4s][u-ca=japanese]"), NOON, Some((true, "SN9diiX.vB-fbtR3cerg/r")), Some("a")),
+    ((Time, RepliesNone, "T12[u-ca=japanese][a=a-b]", "[u-ca=japanese][a=a-b]"), NOON, None, None),
 ];
 
-const FAULTS_OF_DATES: &[(ParseError, &[Asked])] = &[
-    (AT_DIGIT, BEFORE_A_FAULT_OF_A_DATE),
-    (
-        DateYear,
-        &[Asked {
-            form: Form::Parse,
-            text: "202-01-01[u-ca=iso8601][fgq=Czb32s-v-zayknf]",
-            kind: Kind::TurnsCritical,
-            calls: "",
-            place: Some(3),
-        }],
-    ),
-    (
-        InvalidMonthRange,
-        &[Asked {
-            form: Form::Parse,
-            text: "2020-13-01[a=b]",
-            kind: Kind::HandsBack,
-            calls: "",
-            place: Some(7),
-        }],
-    ),
+// Texts of noon, one hour to the east, with their zones and calendars.
+const WITH_AN_OFFSET: &[(Asked, Option<&str>, Option<&str>)] = &[
+    ((Time, RepliesNone, "12:00:00+01[m][u-ca=nTIl6][!u-ca=hebrew][u-ca=a0sa-2l4s][!vpzn-e=OZi5tA-W]",
+        "[u-ca=nTIl6][!u-ca=hebrew][u-ca=a0sa-2l4s][!vpzn-e=OZi5tA-W]"), Some("m"), None),
+    ((Time, RepliesAnother, "12:00:00+01[!u-cb=1][u-ca=LUnY-xN][!u-ca=b][u_ca=a][u-ca=p1-x-ZkQCD]",
+        "[!u-cb=1][u-ca=LUnY-xN][!u-ca=b][u_ca=a][u-ca=p1-x-ZkQCD]"), None, Some("a")),
 ];
 
-#[test]
-fn asks_nothing_before_a_fault_of_a_date() {
-    let rt = HostRuntime;
-    check_refused_replies(&rt, FAULTS_OF_DATES);
+// Noon, one hour to the east, in this zone and with this calendar.
+fn noon_in(name: Option<&'static str>, calendar: Option<&'static str>) -> Record {
+    let east = Some(UtcOffsetRecordOrZ::Offset(short(Sign::Positive, 1, 0)));
+    let zone = match name {
+        Some(name) => Some((false, name)),
+        None => None,
+    };
+    parts(None, timed(12, 0, 0, None), east, zone, calendar)
 }
 
 #[test]
-fn heeds_handlers_of_wide_texts() {
+fn heeds_handlers_of_times_alone() {
     let rt = HostRuntime;
-    check_wide_calendars(
-        &rt,
-        None,
-        &[Asked {
-            form: Form::Parse,
-            text: "2020-01-01 00:00:00.5Z[u-ca=a-b][u-ca=japanese][!u-ca=gB-DxG-f6UUB8-CIgGr]",
-            kind: Kind::RepliesNone,
-            calls: "[u-ca=a-b][u-ca=japanese][!u-ca=gB-DxG-f6UUB8-CIgGr]",
-            place: None,
-        }],
-    );
-    check_wide_calendars(
-        &rt,
-        Some("a"),
-        &[Asked {
-            form: Form::Parse,
-            text: "2020-01-01 00:00:00.5Z[answer-to-universe=OSR]",
-            kind: Kind::RepliesAnother,
-            calls: "[answer-to-universe=OSR]",
-            place: None,
-        }],
-    );
+    check_heeded(&rt, TIMES_ALONE);
+    for (asked, name, calendar) in WITH_AN_OFFSET {
+        check_read(&rt, *asked, &noon_in(*name, *calendar));
+    }
 }
 
-const WIDE_TEXTS: &[Asked] = &[
-    Asked {
-        form: Form::Parse,
-        text: "2020-01-01[18:01][!u-ca=japanese\u{7f}]",
-        kind: Kind::TurnsCritical,
-        calls: "",
-        place: Some(11),
-    },
-    Asked {
-        form: Form::Parse,
-        text: "2020-01-01[0u-ca=\u{7f}a8-2UZ-2b6iy]",
-        kind: Kind::MakesCritical,
-        calls: "",
-        place: Some(11),
-    },
-];
-
-const WIDE_NO_LETTER: &[Asked] = &[
-    Asked {
-        form: Form::Parse,
-        text: "2020-01-01 00:00:00.5Z[u-ca=CzQ0a3-PyM-ju][iwky-8bo=IwOJz-gjv-u4MDVT-zL4NDu][!jglkvdvm=XG\u{e9}Mqmt-Pe-Wz][u-ca=d-jX-Hmth-BXr]",
-        kind: Kind::RepliesNone,
-        calls: "[u-ca=CzQ0a3-PyM-ju][iwky-8bo=IwOJz-gjv-u4MDVT-zL4NDu]",
-        place: Some(89),
-    },
-    Asked {
-        form: Form::Parse,
-        text: "2020-01-01[u-\u{7f}ca=oQ-b-vC]",
-        kind: Kind::MakesCritical,
-        calls: "",
-        place: Some(13),
-    },
-    Asked {
-        form: Form::Parse,
-        text: "2020-01-01[u-ca=ZQ-PB9T][q-rrwv=jRSShrMIMY-5g-\u{ff}rE9][rs1tpdw=fua06i-bJ-VN5]",
-        kind: Kind::RepliesNone,
-        calls: "[u-ca=ZQ-PB9T]",
-        place: Some(46),
-    },
-    Asked {
-        form: Form::Parse,
-        text: "2020-01-01[!u-ca\u{130}=O8K-PA-73dBkw-WfIA9][!u-ca=japanese]",
-        kind: Kind::HandsBack,
-        calls: "",
-        place: Some(16),
-    },
-];
-
-const WIDE_REFUSALS: &[(ParseError, &[Asked])] = &[
-    (
-        UnrecognizedCritical,
-        &[Asked {
-            form: Form::Parse,
-            text: "2020-01-01[x-y=iso8601][!\u{15b}u-ca=hebrew][!u-cb=gregory][!u-c=TQ-of7][!u-ca=a0sa-2l4s]junk",
-            kind: Kind::MakesCritical,
-            calls: "[x-y=iso8601]",
-            place: Some(23),
-        }],
-    ),
-    (TzLeadingChar, WIDE_TEXTS),
-    (
-        CriticalDuplicateCalendar,
-        &[Asked {
-            form: Form::Parse,
-            text: "20200101T12[u-ca=iso8601][u-ca=e6dVZ][!answer-to-univers\u{12d}e=japanese][m1bs8=b]",
-            kind: Kind::MakesCritical,
-            calls: "[u-ca=iso8601][u-ca=e6dVZ]",
-            place: Some(37),
-        }],
-    ),
-    (NonAsciiCodePoint, WIDE_NO_LETTER),
+const PASSED_OVER: &[Heeded] = &[
+    ((Parse, RepliesNone, "2020-01-01[a=b][!c=d][e=f]", "[a=b][!c=d][e=f]"), NEW_YEAR, None, None),
+    ((YearMonth, RepliesNone, "2020-01[a=b][!c=d][e=f]", "[a=b][!c=d][e=f]"), NEW_YEAR, None, None),
+    ((MonthDay, RepliesNone, "11-07[a=b][!c=d][e=f]", "[a=b][!c=d][e=f]"), NOVEMBER_7, None, None),
+    ((Time, RepliesNone, "T12[a=b][!c=d][e=f]", "[a=b][!c=d][e=f]"), NOON, None, None),
 ];
 
 #[test]
-fn refuses_wide_texts_with_handlers() {
+fn asks_about_all_that_it_passes_over() {
     let rt = HostRuntime;
-    check_wide_refusals(&rt, WIDE_REFUSALS);
+    check_heeded(&rt, PASSED_OVER);
 }

@@ -5,7 +5,7 @@
 #[allow(unused_imports)]
 use crate::runtime::{HostRuntime, TryClone};
 
-use super::{Parsers, Reader, check, check_reader};
+use super::{Parsers, Reader, check};
 use ixdtf::ParseError;
 use ixdtf::encoding::{EncodingType, Utf16};
 use ixdtf::parsers::TimeZoneParser;
@@ -77,25 +77,6 @@ pub(super) fn refuses_wide_at(
     Parsers::from_utf16(wide.units()).refuses_at(reader, error, at)
 }
 
-/// The reader refuses the texts beside each error with it, each at its place, where each character is one code unit.
-pub(super) fn check_wide_refused(
-    rt: &impl Abort,
-    reader: Reader,
-    rows: &[(ParseError, &[(&'static str, usize)])],
-) {
-    for (error, texts) in rows {
-        for (text, at) in *texts {
-            let is_refused = refuses_wide_at(reader, text, *error, *at);
-            check_reader(rt, reader, text, is_refused);
-        }
-    }
-}
-
-/// The reader refuses each text for a bad code unit, at its place.
-pub(super) fn check_no_letter(rt: &impl Abort, reader: Reader, texts: &[(&'static str, usize)]) {
-    check_wide_refused(rt, reader, &[(ParseError::NonAsciiCodePoint, texts)]);
-}
-
 // Whether a code unit is seen as its ASCII character, or as a bad one.
 fn is_seen(unit: u16) -> bool {
     let letter = Utf16::get_ascii(&[unit], 0);
@@ -128,27 +109,6 @@ fn wide_slices_lie_within() {
     check_slice(&rt, 3, 3, Some(&[]));
     check_slice(&rt, 2, 1, None);
     check_slice(&rt, 0, 4, None);
-}
-
-fn check_wide_keys(rt: &impl Abort, keys: &[(&'static str, bool)]) {
-    for (key, is_calendar) in keys {
-        let wide = Wide::new(key);
-        let found = Utf16::check_calendar_key(wide.units());
-        check(rt, key, found == *is_calendar);
-    }
-}
-
-const WIDE_KEYS: &[(&str, bool)] = &[
-    ("u-ca", true),
-    ("u-cA", false),
-    ("u-c", false),
-    ("\u{175}-ca", false),
-];
-
-#[test]
-fn one_wide_key_is_of_calendars() {
-    let rt = HostRuntime;
-    check_wide_keys(&rt, WIDE_KEYS);
 }
 
 #[test]

@@ -1,10 +1,12 @@
 // Made by tools/to_rust.py of crates/ixdtf_tests/src/tests/zones.rt. Do not edit.
 
+//! Time zones that stand alone.
 
 #[allow(unused_imports)]
 use crate::runtime::{HostRuntime, TryClone};
-use super::{Found, Parsers, Reader, check, check_found, check_refusals, minutes, named};
-use ixdtf::ParseError::{self, IanaCharPostSeparator, OffsetNeedsSign};
+
+use super::offsets::Short;
+use super::{Found, Reader, check, check_found, minutes, named};
 use ixdtf::encoding::Utf8;
 use ixdtf::parsers::TimeZoneParser;
 use ixdtf::records::{Sign, TimeZoneRecord};
@@ -36,14 +38,7 @@ fn reads_names() {
     check_names(&rt, NAMES);
 }
 
-fn check_shifts(rt: &impl Abort, rows: &[(&'static str, Sign, u8, u8)]) {
-    for (text, sign, hour, minute) in rows {
-        let zone = TimeZoneRecord::Offset(minutes(*sign, *hour, *minute));
-        check_found(rt, Reader::Identifier, text, &Ok(Found::Zone(zone)));
-    }
-}
-
-const ZONES_THAT_ARE_OFFSETS: &[(&str, Sign, u8, u8)] = &[
+const ZONES_THAT_ARE_OFFSETS: &[Short] = &[
     ("+05:30", Sign::Positive, 5, 30),
     ("-0530", Sign::Negative, 5, 30),
     ("+08", Sign::Positive, 8, 0),
@@ -52,27 +47,10 @@ const ZONES_THAT_ARE_OFFSETS: &[(&str, Sign, u8, u8)] = &[
 #[test]
 fn reads_zones_that_are_offsets() {
     let rt = HostRuntime;
-    check_shifts(&rt, ZONES_THAT_ARE_OFFSETS);
-}
-
-const REFUSED_TWICE: &[(Reader, ParseError)] = &[
-    (Reader::IanaIdentifier, IanaCharPostSeparator),
-    (Reader::Identifier, IanaCharPostSeparator),
-    (Reader::Offset, OffsetNeedsSign),
-    (Reader::IanaIdentifier, IanaCharPostSeparator),
-    (Reader::Identifier, IanaCharPostSeparator),
-    (Reader::Offset, OffsetNeedsSign),
-];
-
-#[test]
-fn keeps_a_zone_that_it_refused() {
-    let rt = HostRuntime;
-    check_refusals(
-        &rt,
-        "Europe/",
-        &mut Parsers::from_str("Europe/"),
-        REFUSED_TWICE,
-    );
+    for (text, sign, hour, minute) in ZONES_THAT_ARE_OFFSETS {
+        let zone = TimeZoneRecord::Offset(minutes(*sign, *hour, *minute));
+        check_found(&rt, Reader::Identifier, text, &Ok(Found::Zone(zone)));
+    }
 }
 
 // Whether the parser reads all of the bytes as a name.
