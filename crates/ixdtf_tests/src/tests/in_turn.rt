@@ -14,7 +14,6 @@ use ixdtf::ParseError::{
     InvalidMinutePrecisionOffset, InvalidMonthRange, OffsetNeedsSign, TzLeadingChar,
 };
 use ixdtf::records::Sign;
-use std::process::Abort;
 
 // ==== After an error ====
 

@@ -26,7 +26,7 @@ pub(super) enum Kind {
 }
 
 /// Code units that are not of a source, for replies.
-trait Foreign: EncodingType {
+pub(super) trait Foreign: EncodingType {
     /// `u-ca`.
     fn key() -> &'static [Self::CodeUnit];
 

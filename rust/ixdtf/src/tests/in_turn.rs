@@ -19,7 +19,6 @@ use ixdtf::ParseError::{
     InvalidMinutePrecisionOffset, InvalidMonthRange, OffsetNeedsSign, TzLeadingChar,
 };
 use ixdtf::records::Sign;
-use crate::runtime::Abort;
 
 // ==== After an error ====
 

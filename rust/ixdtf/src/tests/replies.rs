@@ -12,7 +12,7 @@ use super::listener::{
     Asked, FEBRUARY_29, Heeded, NEW_YEAR, NOON, NOON_OF_NEW_YEAR, NOVEMBER_7, check_heeded,
     check_read,
 };
-use super::{Record, check_fraction, fraction_of, parts, short, timed};
+use super::{Record, check_fraction, fraction_of, minutes, parts, shifted, short, timed};
 use ixdtf::records::{Sign, UtcOffsetRecordOrZ};
 use crate::runtime::Abort;
 
@@ -71,10 +71,17 @@ const YEAR_MONTHS: &[Heeded] = &[
         "[!mbpxmqurx=a][u-ca=evRyBU-ahbf]"), NEW_YEAR, None, None),
 ];
 
+const IN_A_ZONE_BY_OFFSET: Asked =
+    (YearMonth, RepliesNone, "+00202001[-16:00][fgdci=a0sa-2l4s][!u-ca=FaoGG7-GO1GM-OUkuE][u-ca=FXVm-lFpcT-I-q97pX][!u-ca=iso8601][uh_ixs5qm=K4xwC-Hxl2-ivW5]",
+        "[fgdci=a0sa-2l4s][!u-ca=FaoGG7-GO1GM-OUkuE][u-ca=FXVm-lFpcT-I-q97pX][!u-ca=iso8601][uh_ixs5qm=K4xwC-Hxl2-ivW5]");
+
 #[test]
 fn heeds_handlers_of_year_months() {
     let rt = HostRuntime;
     check_heeded(&rt, YEAR_MONTHS);
+    let zone = minutes(Sign::Negative, 16, 0);
+    let wanted = shifted((2020, 1, 1), None, None, false, zone);
+    check_read(&rt, IN_A_ZONE_BY_OFFSET, &wanted);
 }
 
 const MONTH_DAYS: &[Heeded] = &[
