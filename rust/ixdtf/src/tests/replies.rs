@@ -58,7 +58,7 @@ const AFTER_TIMES: &[(Asked, Option<&str>)] = &[
 fn heeds_handlers_after_times() {
     let rt = HostRuntime;
     for (asked, calendar) in AFTER_TIMES {
-        check_read(&rt, *asked, &half_past(&rt, *calendar));
+        check_read(&rt, *asked, &Ok(half_past(&rt, *calendar)));
     }
 }
 
@@ -80,7 +80,7 @@ fn heeds_handlers_of_year_months() {
     let rt = HostRuntime;
     check_heeded(&rt, YEAR_MONTHS);
     let zone = minutes(Sign::Negative, 16, 0);
-    let wanted = shifted((2020, 1, 1), None, None, false, zone);
+    let wanted = Ok(shifted((2020, 1, 1), None, None, false, zone));
     check_read(&rt, IN_A_ZONE_BY_OFFSET, &wanted);
 }
 
@@ -134,7 +134,7 @@ fn heeds_handlers_of_times_alone() {
     let rt = HostRuntime;
     check_heeded(&rt, TIMES_ALONE);
     for (asked, name, calendar) in WITH_AN_OFFSET {
-        check_read(&rt, *asked, &noon_in(*name, *calendar));
+        check_read(&rt, *asked, &Ok(noon_in(*name, *calendar)));
     }
 }
 
