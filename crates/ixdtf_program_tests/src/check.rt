@@ -4,11 +4,22 @@ mod arguments;
 mod faults;
 mod worked;
 
+use ixdtf::parsers::Profile;
 use ixdtf_checks::checker::check;
-use ixdtf_checks::request::Request;
+use ixdtf_checks::kind::Kind;
+use ixdtf_checks::request::{Request, Task};
 use std::alloc::Global;
 use std::process::Abort;
 use std::test::Fail;
+
+/// A check of date-times.
+const DATE_TIMES: Request<'static> = Request {
+    name: "f",
+    task: Task::Check(Kind::DateTime),
+    profile: Profile::Crate,
+    field: None,
+    is_quiet: false,
+};
 
 /// A check of the input writes the bytes, and counts so many lines and so many that were refused.
 fn check_written(

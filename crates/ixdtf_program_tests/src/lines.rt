@@ -13,37 +13,24 @@ use std::process::Abort;
 use std::test::Fail;
 
 /// Lines of several words and of none, each with its answer.
+#[rattlefmt::skip]
 const LINES: [(&str, &str); 9] = [
     ("parse 20201108", "ok date=2020,11,8"),
     ("hello", "error unknown reader"),
     ("offset -05:00:30.5", "ok offset=-5,0,30.500000000"),
-    (
-        "parse 2021-02-29",
-        "error Parsed day value not in a valid range.",
-    ),
+    ("parse 2021-02-29", "error Parsed day value not in a valid range."),
     ("iana Europe/Berlin", "ok tz=Europe/Berlin"),
-    (
-        "parse 2020",
-        "error Parsing ended abruptly while parsing Date",
-    ),
+    ("parse 2020", "error Parsing ended abruptly while parsing Date"),
     ("", "error unknown reader"),
     ("parse -000400-02-29", "ok date=-400,2,29"),
-    (
-        "canonical 20200101T00+00[+00]",
-        "ok 2020-01-01T00:00:00+00:00[+00:00]",
-    ),
+    ("canonical 20200101T00+00[+00]", "ok 2020-01-01T00:00:00+00:00[+00:00]"),
 ];
 
 /// The lines of the stored run, each with its answer.
+#[rattlefmt::skip]
 const STORED: [(&str, &str); 6] = [
-    (
-        "parse 2021-01-29 02:12:48+01:00:00[u][u-ca=iso8601]",
-        "ok date=2021,1,29 time=2,12,48 offset=+1,0,0 tz=u calendar=iso8601",
-    ),
-    (
-        "duration -P1Y3wT0,5H",
-        "ok sign=- date=1,0,3,0 time=0.500000000",
-    ),
+    ("parse 2021-01-29 02:12:48+01:00:00[u][u-ca=iso8601]", "ok date=2021,1,29 time=2,12,48 offset=+1,0,0 tz=u calendar=iso8601"),
+    ("duration -P1Y3wT0,5H", "ok sign=- date=1,0,3,0 time=0.500000000"),
     ("zone +05:30", "ok tz=+5,30"),
     ("time 1200", "error Time is ambiguous with MonthDay"),
     ("parse ", "error Parsing ended abruptly while parsing digit"),
@@ -130,13 +117,11 @@ fn answers_unknown_words(rt: HostRuntime) -> Result<(), Fail> {
     Ok(())
 }
 
+#[rattlefmt::skip]
 const AFTER_THE_FIRST_SPACE: &[(&str, &str)] = &[
     ("parse ", "error Parsing ended abruptly while parsing digit"),
     ("parse 2020-01-01 05", "ok date=2020,1,1 time=5,0,0"),
-    (
-        "parse 20201108\r",
-        "error Unexpected character found after parsing was completed.",
-    ),
+    ("parse 20201108\r", "error Unexpected character found after parsing was completed."),
 ];
 
 #[test]

@@ -74,26 +74,31 @@ fn refuses_words_that_do_not_go_together(rt: HostRuntime) {
     }
 }
 
-/// Words in turn, and what each is.
-const WORDS: &[(&str, Word)] = &[
+/// Words in turn, each with what it is.
+const ONE_BY_ONE: &[(&str, Word)] = &[
     ("dates", Word::File),
     ("-", Word::File),
     ("--help", Word::Help),
     ("--kinds", Word::Unknown),
-    ("--field", Word::Option),
-    ("0", Word::Unknown),
-    ("--kind", Word::Option),
-    ("date", Word::Unknown),
-    ("--separator", Word::Option),
-    (",,", Word::Unknown),
     ("--", Word::Option),
     ("--help", Word::File),
+];
+
+/// Options, each with a word that is no value of it.
+const WITHOUT_VALUES: &[(&str, &str)] = &[
+    ("--field", "0"),
+    ("--kind", "date"),
+    ("--separator", ",,"),
 ];
 
 #[test]
 fn tells_files_from_options(rt: HostRuntime) {
     let mut options = Options::new();
-    for (word, wanted) in WORDS {
+    for (option, value) in WITHOUT_VALUES {
+        assert_eq!(rt; options.take(option), Word::Option);
+        assert_eq!(rt; options.take(value), Word::Unknown);
+    }
+    for (word, wanted) in ONE_BY_ONE {
         assert_eq!(rt; options.take(word), *wanted);
     }
 }

@@ -1,22 +1,12 @@
 //! Readers and writers that fail.
 
-use ixdtf::parsers::Profile;
+use super::DATE_TIMES;
 use ixdtf_buffers::error::RunError;
 use ixdtf_checks::checker::{Checked, check};
-use ixdtf_checks::kind::Kind;
-use ixdtf_checks::request::{Request, Task};
 use ixdtf_checks::tally::Tally;
 use std::io;
 use std::io::{ErrorKind, Read, Write};
 use std::test::Fail;
-
-const DATE_TIMES: Request<'static> = Request {
-    name: "f",
-    task: Task::Check(Kind::DateTime),
-    profile: Profile::Crate,
-    field: None,
-    is_quiet: false,
-};
 
 const TWO_LINES: &[u8] = b"2020-13-01\n2020-W01-1\n";
 

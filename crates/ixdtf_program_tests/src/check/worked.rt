@@ -1,20 +1,12 @@
 //! Worked lines.
 
-use super::check_written;
+use super::{DATE_TIMES, check_written};
 use ixdtf::parsers::Profile;
 use ixdtf_checks::kind::Kind;
 use ixdtf_checks::request::{Field, Request, Task};
 use std::alloc::Global;
 use std::process::Abort;
 use std::test::Fail;
-
-const DATE_TIMES: Request<'static> = Request {
-    name: "f",
-    task: Task::Check(Kind::DateTime),
-    profile: Profile::Crate,
-    field: None,
-    is_quiet: false,
-};
 
 const MIXED: &[u8] = b"2024-03-02T08:48:00Z\n2020-W01-1\n\n2021-02-29\r\n2020-01-01\r\n2020-13-01";
 
@@ -38,52 +30,50 @@ fn counts_in_quiet(rt: HostRuntime) -> Result<(), Fail> {
     check_written(&rt, rt.alloc(), &request, MIXED, b"", (6, 4))
 }
 
-/// A kind, a profile, a text of the kind, and what is written of it.
-const TEXTS: &[(Kind, Profile, &str, &str)] = &[
-    (Kind::DateTime, Profile::Crate, "2020-01-01", ""),
-    (Kind::YearMonth, Profile::Crate, "2020-11", ""),
-    (Kind::MonthDay, Profile::Crate, "--11-07", ""),
-    (Kind::Time, Profile::Crate, "T12:30", ""),
-    (Kind::Offset, Profile::Crate, "+05:30", ""),
-    (Kind::Zone, Profile::Crate, "-05:00", ""),
-    (Kind::ZoneName, Profile::Crate, "America/Chicago", ""),
-    (Kind::Duration, Profile::Crate, "P1Y2M", ""),
-    (
-        Kind::YearMonth,
-        Profile::Crate,
-        "2020",
-        "f:1:5: Parsing ended abruptly while parsing digit\n2020\n    ^\n",
-    ),
-    (
-        Kind::ZoneName,
-        Profile::Crate,
-        "America/",
-        "f:1:9: Expected time zone character after '/'.\nAmerica/\n        ^\n",
-    ),
-    (Kind::MonthDay, Profile::Crate, "11-00", ""),
-    (
-        Kind::MonthDay,
-        Profile::Strict,
-        "11-00",
-        "f:1:6: MonthDay was not valid.\n11-00\n     ^\n",
-    ),
+/// A text of each kind.
+const TEXTS: &[(Kind, &str)] = &[
+    (Kind::DateTime, "2020-01-01"),
+    (Kind::YearMonth, "2020-11"),
+    (Kind::MonthDay, "--11-07"),
+    (Kind::MonthDay, "11-00"),
+    (Kind::Time, "T12:30"),
+    (Kind::Offset, "+05:30"),
+    (Kind::Zone, "-05:00"),
+    (Kind::ZoneName, "America/Chicago"),
+    (Kind::Duration, "P1Y2M"),
 ];
+
+/// A text that is refused as one of the kind, under the profile, and what is written of it.
+#[rattlefmt::skip]
+const REFUSED: &[(Kind, Profile, &str, &str)] = &[
+    (Kind::YearMonth, Profile::Crate, "2020", "f:1:5: Parsing ended abruptly while parsing digit\n2020\n    ^\n"),
+    (Kind::ZoneName, Profile::Crate, "America/", "f:1:9: Expected time zone character after '/'.\nAmerica/\n        ^\n"),
+    (Kind::MonthDay, Profile::Strict, "11-00", "f:1:6: MonthDay was not valid.\n11-00\n     ^\n"),
+];
+
+/// A check of the kind under the profile.
+fn asked_of(kind: Kind, profile: Profile) -> Request<'static> {
+    let mut request = DATE_TIMES;
+    request.task = Task::Check(kind);
+    request.profile = profile;
+    request
+}
 
 #[test]
 fn reads_each_kind(rt: HostRuntime) -> Result<(), Fail> {
-    for (kind, profile, text, report) in TEXTS {
-        let mut request = DATE_TIMES;
-        request.task = Task::Check(*kind);
-        request.profile = *profile;
-        let refused = u64::from(!report.is_empty());
-        check_written(
-            &rt,
-            rt.alloc(),
-            &request,
-            text.as_bytes(),
-            report.as_bytes(),
-            (1, refused),
-        )?;
+    for (kind, text) in TEXTS {
+        let request = asked_of(*kind, Profile::Crate);
+        check_written(&rt, rt.alloc(), &request, text.as_bytes(), b"", (1, 0))?;
+    }
+    Ok(())
+}
+
+#[test]
+fn refuses_texts_of_other_kinds(rt: HostRuntime) -> Result<(), Fail> {
+    for (kind, profile, text, report) in REFUSED {
+        let request = asked_of(*kind, *profile);
+        let bytes = report.as_bytes();
+        check_written(&rt, rt.alloc(), &request, text.as_bytes(), bytes, (1, 1))?;
     }
     Ok(())
 }
