@@ -7,12 +7,12 @@
 
 ghost use Rattle.std.specs.Prelude.{◌≡◌, ℕ, ◌+◌, ◌-◌, ◌<◌, ◌≤◌, ◌∷◌, List, [], map, length, drop, Option, Result, Ok, Err, Some, None, IfOk, IfErr, OnOk, OnErr, IsTrue, IsFalse, nat_eq};
 ghost use Rattle.ixdtf_grammar.specs.language.Letters.{digit};
-ghost use Rattle.ixdtf_grammar.specs.language.Letters.Letter.{Plain};
+ghost use Rattle.ixdtf_grammar.specs.language.Digits.{decimal};
 ghost use Rattle.ixdtf_grammar.specs.table.Faults.{Fault};
 ghost use Rattle.ixdtf_grammar.specs.Views.{Unread, ascii_at};
 ghost use Rattle.ixdtf_reading.specs.reading.Clauses.{Reads, Settles, Spends, SpendsOr, Yields, YieldsAt, fault_of_stop, digit_seen, end_look};
 ghost use Rattle.ixdtf_reading.specs.reading.FixedPlaces.{letter_place, byte_place, byte_of_look};
-ghost use Rattle.ixdtf_reading.specs.reading.Looks.{seen, next_by, peek_by, digit_look, digits_by};
+ghost use Rattle.ixdtf_reading.specs.reading.Looks.{seen, next_by, peek_by, digit_look, digits_by, two_digits_of};
 
 use crate::grammar::two_digit_number;
 use crate::looks::Looks;
@@ -203,13 +203,14 @@ impl<'a, T: EncodingType> Cursor<'a, T> {
         }
     }
 
-    /// Takes two digits, and returns them as ASCII bytes, with one test for the end, and one by the tables for both.
+    /// Takes two digits, and returns their number, with one test for the end, and one by the tables for both. The end of the
+    /// input is `AbruptDigit`. Another code unit is this stop, and is not taken.
     #[inline(always)]
-    pub fn two_digits(&mut self, other: Stop) -> Result<(u8, u8), Stop>
-        ensures digits { Reads T.letter (λ ds. Plain ds.0 ∷ Plain ds.1 ∷ [])
-            self.old result self.new
+    pub fn two_digits(&mut self, other: Stop) -> Result<u8, Stop>
+        ensures digits { Reads T.letter two_digits_of self.old result self.new
             (digits_by (digit_look (fault_of_stop other)) 2) }
-        ensures are_digits { IfOk result (λ ds. IsTrue (digit ds.0) × IsTrue (digit ds.1)) }
+        ensures value { IfOk result (λ number. decimal (two_digits_of number) ≡ number) }
+        ensures small { IfOk result (λ number. number < 100) }
         ensures looks { SpendsOr 2 0 self.old result self.new }
         ensures few { self.new.looks ≤ self.old.looks + 2 }
     {
@@ -222,9 +223,10 @@ impl<'a, T: EncodingType> Cursor<'a, T> {
         let second = self.look_at(1);
         let tens = byte_of(first);
         let ones = byte_of(second);
-        if two_digit_number(tens, ones) <= 99 {
+        let number = two_digit_number(tens, ones);
+        if number <= 99 {
             self.advance_by(2);
-            return Ok((tens, ones));
+            return Ok(number);
         }
         if !tens.is_ascii_digit() {
             return Err(no_digit(first, other));

@@ -125,23 +125,10 @@ fn parse_six_digits<'a, T: EncodingType>(cursor: &mut Cursor<'a, T>) -> Result<u
     ensures small { IfOk result (λ number. number < 1000000) }
     ensures looks { SpendsInAll 2 6 cursor.old cursor.new }
 {
-    let high = parse_year_pair(cursor)?;
-    let middle = parse_year_pair(cursor)?;
-    let low = parse_year_pair(cursor)?;
+    let high = cursor.two_digits(Stop::DateExtendedYear)?;
+    let middle = cursor.two_digits(Stop::DateExtendedYear)?;
+    let low = cursor.two_digits(Stop::DateExtendedYear)?;
     Ok(10_000 * u32::from(high) + 100 * u32::from(middle) + u32::from(low))
-}
-
-/// Reads two of the six digits of a year, and returns their number.
-#[inline(always)]
-fn parse_year_pair<'a, T: EncodingType>(cursor: &mut Cursor<'a, T>) -> Result<u8, Stop>
-    ensures number { Reads T.letter (λ number. number) cursor.old result cursor.new
-        (λ text. as_number (digits_by (digit_look DateExtendedYear) 2 text)) }
-    ensures small { IfOk result (λ number. number < 100) }
-    ensures looks { SpendsOr 2 0 cursor.old result cursor.new }
-    ensures few { cursor.new.looks ≤ cursor.old.looks + 2 }
-{
-    let (tens, ones) = cursor.two_digits(Stop::DateExtendedYear)?;
-    Ok(digits_value(tens, ones))
 }
 
 /// Reads three digits, and returns their number. Another code unit is this stop.
@@ -202,7 +189,8 @@ pub fn parse_month<'a, T: EncodingType>(
     ensures few { cursor.new.looks ≤ cursor.old.looks + 3 }
 {
     let hyphened = take_hyphen(cursor, at_end, Stop::DateMonth)?;
-    let (tens, ones) = cursor.two_digits(Stop::DateMonth)?;
+    let tens = cursor.next_digit(Stop::DateMonth)?;
+    let ones = cursor.next_digit(Stop::DateMonth)?;
     let month = check_month(digits_value(tens, ones))?;
     Ok((month, hyphened))
 }
@@ -220,8 +208,8 @@ fn parse_day<'a, T: EncodingType>(
     ensures looks { Spends 3 cursor.old cursor.new }
 {
     take_separator(cursor, hyphened)?;
-    let (tens, ones) = cursor.two_digits(Stop::DateDay)?;
-    check_date(year, month, digits_value(tens, ones))
+    let day = cursor.two_digits(Stop::DateDay)?;
+    check_date(year, month, day)
 }
 
 /// Takes the hyphen after a month off where one stands before the month, and else wants a digit, which stays.

@@ -79,7 +79,7 @@ fn find_date_time<'a, T: EncodingType>(
     let date = fixed_date(cursor)?;
     fixed_separator(cursor, 10)?;
     let time = fixed_time(cursor)?;
-    if !is_date(date) || !is_time(time) {
+    if !is_time(time) || !is_date(date) {
         return None;
     }
     Some((date, time))

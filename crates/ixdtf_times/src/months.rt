@@ -18,7 +18,7 @@ use ixdtf_grammar::encoding::EncodingType;
 use ixdtf_grammar::profile::Profile;
 use ixdtf_grammar::records::DateRecord;
 use ixdtf_reading::cursor::Cursor;
-use ixdtf_reading::grammar::{digits_value, is_hyphen};
+use ixdtf_reading::grammar::is_hyphen;
 use ixdtf_reading::stop::Stop;
 
 // ==== Year-months ====
@@ -96,11 +96,11 @@ pub fn parse_month_day_parts<'a, T: EncodingType>(
     ensures looks { SpendsInAll 7 7 cursor.old cursor.new }
 {
     take_marks(cursor)?;
-    let (tens, ones) = cursor.two_digits(Stop::DateMonth)?;
-    let month = check_month(digits_value(tens, ones))?;
+    let month = cursor.two_digits(Stop::DateMonth)?;
+    check_month(month)?;
     take_hyphen(cursor, Stop::AbruptDigit, Stop::DateDay)?;
-    let (tens, ones) = cursor.two_digits(Stop::DateDay)?;
-    check_month_day(profile, month, digits_value(tens, ones))
+    let day = cursor.two_digits(Stop::DateDay)?;
+    check_month_day(profile, month, day)
 }
 
 /// Takes two hyphens off, where the text does not begin with a digit.

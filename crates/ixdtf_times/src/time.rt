@@ -122,8 +122,8 @@ fn next_number<'a, T: EncodingType>(
         (number_by (digit_look (fault_of_stop stop)) greatest (before (fault_of_stop stop))) }
     ensures looks { SpendsOr 2 0 cursor.old result cursor.new }
 {
-    let (tens, ones) = cursor.two_digits(stop)?;
-    check_most(digits_value(tens, ones), greatest, stop)
+    let number = cursor.two_digits(stop)?;
+    check_most(number, greatest, stop)
 }
 
 /// Reads a time, as far as it goes.

@@ -1,7 +1,12 @@
--- Two digits, by looks at the first two places.
-use Rattle.std.proofs.Common.{◌≡◌, ℕ, ◌≤◌, ◌<◌, true, IsTrue, List, [], ◌∷◌, length, map, drop, Option, Some, None, Result, Ok, Err, refl, arith}
-use Rattle.ixdtf_reading.specs.{declared.stop.Stop.Stop, reading.Looks.{Placed, Read, ◌>>=◌, look_at, next_by, digits_by, digit_look}}
-use Rattle.ixdtf_reading.specs.reading.{Clauses.{digit_seen, Yields}, FixedPlaces.byte_of_look}
+-- Two digits, by looks at the first two places, and their number.
+use Rattle.std.proofs.Common.{◌≡◌, ℕ, ◌+◌, ◌-◌, ◌*◌, ◌/◌, ◌%◌, ◌^◌, ◌≤◌, ◌<◌, true, IsTrue, List, [], ◌∷◌, length, map, drop, Option, Some, None, Result, Ok, Err, refl, arith, ◌∙◌, ap, sym}
+use Rattle.std.proofs.lemmas.Bool.Decides.{nat_tests}
+use Rattle.std.proofs.lemmas.Nat.{div-mul-add, mod-mul-add}
+use Rattle.std.proofs.Math.Nat.{div-one, mod-eq_of_lt}
+use Rattle.ixdtf_grammar.proofs.PaddedDigits.{decimal-whole}
+use Rattle.ixdtf_grammar.specs.language.Digits.{decimal}
+use Rattle.ixdtf_reading.specs.{declared.stop.Stop.Stop, reading.Looks.{Placed, Read, ◌>>=◌, look_at, next_by, digits_by, digit_look, two_digits_of}}
+use Rattle.ixdtf_reading.specs.reading.{Clauses.{digit_seen, Yields}, FixedPlaces.{byte_of_look, tens_value, ones_value}}
 use Rattle.ixdtf_reading.proofs.code.Units.{placed}
 use Rattle.ixdtf_grammar.specs.{language.Letters.{Letter, Text, digit, Letter.{Plain, Bad}}, table.{Faults.Fault, Lines.abrupt_digit}}
 use Rattle.ixdtf_grammar.specs.Views.{ascii_at, looked}
@@ -53,3 +58,22 @@ module _ (letter : ℕ → Letter) (other : Fault) where
   long_enough [] long = absurd (omega arith)
   long_enough (u ∷ []) long = absurd (omega arith)
   long_enough (u ∷ v ∷ units) long = first (letter u) (letter v) units
+
+-- ---- their number
+
+pub value_is : (number : ℕ) → number < 100 → decimal (two_digits_of number) ≡ number
+unfolding two_digits_of
+value_is number small = decimal-whole 2 number small
+
+-- what the tables say of two digits is the number that is written so
+pub are_written : (a b : ℕ) → IsTrue (digit a) → IsTrue (digit b) → two_digits_of (tens_value a + ones_value b) ≡ Plain a ∷ Plain b ∷ []
+unfolding two_digits_of
+are_written a b is_a is_b =
+    let number : tens_value a + ones_value b ≡ (a - 48) * 10 + (b - 48) = grind (arith, nat_tests) in
+    let small_a : a - 48 < 10 = grind (arith, nat_tests) in
+    let small_b : b - 48 < 10 = grind (arith, nat_tests) in
+    let a_is : 48 + (a - 48) ≡ a = grind (arith, nat_tests) in
+    let b_is : 48 + (b - 48) ≡ b = grind (arith, nat_tests) in
+    let tens : ((a - 48) * 10 + (b - 48)) / 10 % 10 ≡ a - 48 = rw (div-mul-add (a - 48) 10 (b - 48) small_b) (mod-eq_of_lt small_a) in
+    let ones : ((a - 48) * 10 + (b - 48)) / 1 % 10 ≡ b - 48 = rw div-one (mod-mul-add (a - 48) 10 (b - 48) small_b) in
+    rw number (rw (tens, ones, a_is, b_is) refl)

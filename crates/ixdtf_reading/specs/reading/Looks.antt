@@ -2,7 +2,7 @@
 -- cites one. It returns a value and the text after it, or a fault. What a fault is comes from outside, by what is made
 -- of a row: the row itself, or its error.
 use Rattle.std.specs.Prelude.{ℕ, Bool, true, zero, suc, [], ◌∷◌, drop, Option, Some, None, Result, Ok, Err, nat_le, if◌then◌else◌}
-use Rattle.ixdtf_grammar.specs.{language.{Letters.{Text, Class, digit, none, any, Letter.{Plain, Bad}}, Digits.decimal}, table.Faults.Fault}
+use Rattle.ixdtf_grammar.specs.{language.{Letters.{Text, Class, digit, none, any, Letter.{Plain, Bad}}, Digits.{decimal, padded_digits}}, table.Faults.Fault}
 use Rattle.ixdtf_grammar.specs.table.{Faults.Fault.NonAsciiCodePoint, LineNames.LineName, Lines.{Line, Ending, line_of, abrupt_digit}}
 use Rattle.ixdtf_grammar.specs.table.{Lines.{Line.{line, scanned, whole}, Ending.{ok, error}}, Rows.{Row, Place, left_at, Place.{end, other, bad, anywhere}}}
 
@@ -120,6 +120,10 @@ digits_by l (suc n) text =
 
 abbrev pub digits_at : {E : Type 0} → (Row → E) → LineName → ℕ → Text → Read E Text
 digits_at fault name n text = digits_by (look_at_line fault name) n text
+
+-- the two digits of a number
+unfoldable pub two_digits_of : ℕ → Text
+two_digits_of number = padded_digits 2 number
 
 -- the number of the digits that were read
 abbrev pub as_number : {E : Type 0} → Read E Text → Read E ℕ
