@@ -66,7 +66,7 @@ FOR_C = ('#![cfg_attr(not(test), no_std)]\n', '\n#[cfg(not(test))]\nmod abort;\n
 LAYERS = {
     'ixdtf_grammar': 'encoding error located packed pointed records parsers/profile'.split(),
     'ixdtf_reading': 'cursor grammar stop parsers/annotations parsers/letters'.split(),
-    'ixdtf_times': 'parsers/dates parsers/fixed parsers/months parsers/offsets parsers/time'.split(),
+    'ixdtf_times': 'parsers/date_times parsers/dates parsers/months parsers/offsets parsers/time'.split(),
     'ixdtf_brackets': 'parsers/brackets parsers/zone'.split(),
     'ixdtf_durations': 'parsers/duration'.split(),
 }

@@ -5,13 +5,13 @@
 
 #![tactic(auto, unfolding(crate::specs::reading::Looks::look_readings))]
 
-ghost use Rattle.std.specs.Prelude.{◌≡◌, ℕ, ◌+◌, ◌-◌, ◌<◌, ◌≤◌, ◌∷◌, List, [], map, length, drop, Option, Result, Ok, Err, Some, None, IfOk, IfErr, OnOk, OnErr, IsTrue, IsFalse, nat_eq};
+ghost use Rattle.std.specs.Prelude.{◌≡◌, ℕ, ◌+◌, ◌-◌, ◌<◌, ◌≤◌, ◌∷◌, List, [], map, length, drop, Option, Result, Ok, Err, Some, None, IfOk, IfErr, IfSome, OnOk, OnErr, IsTrue, IsFalse, nat_eq};
 ghost use Rattle.ixdtf_grammar.specs.language.Letters.{digit};
 ghost use Rattle.ixdtf_grammar.specs.language.Digits.{decimal};
 ghost use Rattle.ixdtf_grammar.specs.table.Faults.{Fault};
 ghost use Rattle.ixdtf_grammar.specs.Views.{Unread, ascii_at};
 ghost use Rattle.ixdtf_reading.specs.reading.Clauses.{Reads, Settles, Spends, SpendsOr, Yields, YieldsAt, fault_of_stop, digit_seen, end_look};
-ghost use Rattle.ixdtf_reading.specs.reading.FixedPlaces.{letter_place, byte_place, byte_of_look};
+ghost use Rattle.ixdtf_reading.specs.reading.FixedPlaces.{letter_place, byte_place, byte_of_look, number_place};
 ghost use Rattle.ixdtf_reading.specs.reading.Looks.{seen, next_by, peek_by, digit_look, digits_by, two_digits_of};
 
 use crate::grammar::two_digit_number;
@@ -274,6 +274,27 @@ impl<'a, T: EncodingType> Cursor<'a, T> {
             Ok(Some(byte)) if byte == letter => Some(byte),
             _ => None,
         }
+    }
+
+    /// The number of the two digits at a fixed index of the remaining input and the next, or `None` where one of them is none.
+    /// Both are looked at.
+    #[inline(always)]
+    #[tactic(auto, unfolding(crate::specs::reading::FixedPlaces::number_place))]
+    pub fn fixed_number(&mut self, index: usize) -> Option<u8>
+        requires early { index < 18 }
+        ensures there { result ≡ number_place index (map T.letter self.old.rest) }
+        ensures small { IfSome result (λ number. number < 100) }
+        ensures rest { self.new.rest ≡ self.old.rest }
+        ensures few { self.new.looks ≤ self.old.looks + 2 }
+        ensures counted { self.old.looks ≤ self.new.looks }
+    {
+        let tens = self.byte_at(index);
+        let ones = self.byte_at(index + 1);
+        let number = two_digit_number(tens, ones);
+        if number > 99 {
+            return None;
+        }
+        Some(number)
     }
 
     /// Expects the end of the input: any code unit is `InvalidEnd`.

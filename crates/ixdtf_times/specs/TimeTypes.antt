@@ -1,12 +1,12 @@
--- What the code's own types of times stand for.
+-- What the code's own types of dates and times stand for.
 use Rattle.ixdtf_times.specs.declared.time.Clock.TheVariants as code_clocks
 use Rattle.ixdtf_times.specs.declared.time.TimeShape.TheVariants as code_shapes
 use Rattle.std.specs.Prelude.{Option, Some, None}
 use Rattle.ixdtf_grammar.specs.{declared.records.{DateRecord.DateRecord, TimeRecord.TimeRecord}, language.Letters.Text}
 use Rattle.ixdtf_grammar.specs.{language.{Times.{Clock, TimeShape, Clock as clocks, TimeShape as shapes}, Cores.core_of}, table.LineNames.of_date}
 use Rattle.ixdtf_grammar.specs.table.LineNames.DateLine.{after_date}
-use Rattle.ixdtf_times.specs.declared.{time.{Clock.{Clock as CodeClock}, TimeShape.{TimeShape as CodeTimeShape}}, fixed.WholeTime.WholeTime}
-use Rattle.ixdtf_reading.specs.reading.{Looks.{Read, Placed, error_of}, Times.{OpenTime, time_of}, Cores.{ClosedCore, core_end_at, after_time_at}}
+use Rattle.ixdtf_times.specs.declared.{time.{Clock.{Clock as CodeClock}, TimeShape.{TimeShape as CodeTimeShape}, WholeTime.WholeTime}, dates.DateDigits.DateDigits}
+use Rattle.ixdtf_reading.specs.reading.{Looks.{Read, Placed, error_of}, Dates.date_of, Times.{OpenTime, time_of}, Cores.{ClosedCore, core_end_at, after_time_at}}
 
 abbrev pub clock_of : CodeClock → Clock
 clock_of code_clocks.Time = clocks.Time
@@ -19,6 +19,10 @@ shape_of code_shapes.BasicMinutes = shapes.basic_minutes
 shape_of code_shapes.ColonMinutes = shapes.colon_minutes
 shape_of code_shapes.Seconds = shapes.seconds
 shape_of code_shapes.Fractions = shapes.fractions
+
+-- the date that digits are, whatever its month and its day
+abbrev pub digits_date : DateDigits → DateRecord
+digits_date digits = date_of digits.year digits.month digits.day
 
 -- a time that ends with its second
 abbrev pub time_to_second : WholeTime → TimeRecord

@@ -1,17 +1,17 @@
 //! Reading dates.
 
-#![tactic(auto, unfolding(ixdtf_reading::specs::reading::Dates::date_readings))]
+#![tactic(auto, unfolding(ixdtf_reading::specs::reading::Dates::date_readings, ixdtf_reading::specs::reading::FixedPlaces::fixed_readings))]
 
-ghost use Rattle.std.specs.Prelude.{◌≡◌, ◌&&◌, ◌+◌, ◌*◌, ◌-◌, ◌<◌, ◌≤◌, map, nat_le, pos, length, None, IsTrue, IfOk, IfSome, OnOk};
+ghost use Rattle.std.specs.Prelude.{◌≡◌, ◌&&◌, ◌+◌, ◌*◌, ◌-◌, ◌<◌, ◌≤◌, map, drop, option_map, nat_le, pos, length, None, IsTrue, IfOk, IfSome, OnOk};
 ghost use Rattle.ixdtf_grammar.specs.language.Letters.{Text, digit, hyphen};
 ghost use Rattle.ixdtf_grammar.specs.language.Dates.{is_leap, month_length};
 ghost use Rattle.ixdtf_grammar.specs.table.Faults.Fault.{DateExtendedYear, DateMonth, InvalidMonthRange, InvalidDayRange};
-ghost use Rattle.ixdtf_reading.specs.reading.Clauses.{Reads, Spends, SpendsInAll, SpendsOr, Checks, Yields, fault_of_stop, hyphen_look};
-ghost use Rattle.ixdtf_reading.specs.reading.FixedPlaces.{ranged};
+ghost use Rattle.ixdtf_reading.specs.reading.Clauses.{Reads, Spends, SpendsInAll, SpendsOr, Checks, YieldsAt, fault_of_stop, hyphen_look};
+ghost use Rattle.ixdtf_reading.specs.reading.FixedPlaces.{year_place, days_place, basic_days_place, date_place, ranged, date_in_range};
+ghost use Rattle.ixdtf_times.specs.TimeTypes.{digits_date};
 ghost use Rattle.ixdtf_reading.specs.reading.Looks.{error_of, as_number, digits_by, digit_look, mark_by, mark_at};
 ghost use Rattle.ixdtf_reading.specs.reading.Dates.{date_of, year_at, four_digit_year_at, extended_year_at, date_at, days_at, month_by, day_at, line_after_month};
 
-use crate::fixed::take_fixed_date;
 use ixdtf_grammar::encoding::EncodingType;
 use ixdtf_grammar::records::DateRecord;
 use ixdtf_reading::cursor::Cursor;
@@ -31,6 +31,178 @@ pub fn parse_date<'a, T: EncodingType>(cursor: &mut Cursor<'a, T>) -> Result<Dat
     }
 }
 
+// ==== At fixed places ====
+
+/// The digits of a date, as three numbers. They are not checked.
+#[derive(Clone, Copy)]
+pub struct DateDigits {
+    pub year: i32,
+    pub month: u8,
+    pub day: u8,
+}
+
+impl DateDigits {
+    /// The first day of a month.
+    #[inline(always)]
+    pub fn first_day(year: u16, month: u8) -> Self
+        ensures { digits_date result ≡ date_of (pos year) month 1 }
+    {
+        DateDigits {
+            year: i32::from(year),
+            month,
+            day: 1,
+        }
+    }
+
+    /// The date that they are, where its month is one and has the day.
+    #[inline(always)]
+    pub fn record(self) -> DateRecord
+        ensures { result ≡ digits_date self }
+    {
+        DateRecord {
+            year: self.year,
+            month: self.month,
+            day: self.day,
+        }
+    }
+
+    /// Whether the month is one and has the day.
+    #[inline(always)]
+    pub fn is_date(self) -> bool
+        ensures { result ≡ date_in_range (digits_date self) }
+    {
+        self.month >= 1 && self.month <= 12 && has_day(self.year, self.month, self.day)
+    }
+}
+
+/// The date at the first ten places, or `None` at the first that does not fit. Its month and its day are not checked.
+#[inline(always)]
+pub fn fixed_date<'a, T: EncodingType>(cursor: &mut Cursor<'a, T>) -> Option<DateDigits>
+    ensures there { option_map digits_date result ≡ date_place (map T.letter cursor.old.rest) }
+    ensures long { IfSome result (λ _. 10 ≤ length cursor.old.rest) }
+    ensures rest { cursor.new.rest ≡ cursor.old.rest }
+    ensures few { cursor.new.looks ≤ cursor.old.looks + 10 }
+    ensures counted { cursor.old.looks ≤ cursor.new.looks }
+{
+    if cursor.remaining() < 10 {
+        return None;
+    }
+    let year = fixed_year(cursor)?;
+    cursor.fixed_letter(4, b'-')?;
+    fixed_days(cursor, year)
+}
+
+/// Reads the date that stands at the first ten places, or at the eight of one without hyphens. Where only its year does, what
+/// follows is read on part by part. It is `None`, with the rest unchanged, where its year does not fit.
+#[inline(always)]
+fn take_fixed_date<'a, T: EncodingType>(
+    cursor: &mut Cursor<'a, T>,
+) -> Option<Result<DateRecord, Stop>>
+    ensures read { IfSome result (λ read. Reads T.letter (λ date. date) cursor.old read cursor.new
+        (date_at error_of)) }
+    ensures rest { result ≡ None → cursor.new.rest ≡ cursor.old.rest }
+    ensures few { result ≡ None → cursor.new.looks ≤ cursor.old.looks + 4 }
+    ensures looks { Spends 10 cursor.old cursor.new }
+{
+    if cursor.remaining() < 8 {
+        return None;
+    }
+    let year = fixed_year(cursor)?;
+    if is_hyphen(cursor.byte_at(4)) {
+        if let Some(digits) = fixed_days(cursor, year) {
+            return Some(take_date(cursor, digits, 7, 10));
+        }
+    } else if let Some(digits) = fixed_basic_days(cursor, year) {
+        return Some(take_date(cursor, digits, 6, 8));
+    }
+    cursor.advance_by(4);
+    Some(parse_days(cursor, year))
+}
+
+/// Takes a date off, whose month and whose day end behind so many units. Where its month is none, what stands behind the
+/// month stays.
+#[inline(always)]
+fn take_date<'a, T: EncodingType>(
+    cursor: &mut Cursor<'a, T>,
+    digits: DateDigits,
+    month_end: usize,
+    day_end: usize,
+) -> Result<DateRecord, Stop>
+    requires month { month_end ≤ length cursor.old.rest }
+    requires day { day_end ≤ length cursor.old.rest }
+    ensures ranged { YieldsAt (λ date. (date, map T.letter cursor.new.rest)) result
+        (map T.letter cursor.new.rest)
+        (ranged (digits_date digits) (map T.letter (drop month_end cursor.old.rest))
+        (map T.letter (drop day_end cursor.old.rest))) }
+    ensures shorter { length cursor.new.rest ≤ length cursor.old.rest }
+    ensures looks { cursor.new.looks ≡ cursor.old.looks }
+{
+    if let Err(stop) = check_month(digits.month) {
+        cursor.advance_by(month_end);
+        return Err(stop);
+    }
+    cursor.advance_by(day_end);
+    check_date(digits.year, digits.month, digits.day)
+}
+
+/// The year at the first four places, or `None` where one of them is no digit.
+#[inline(always)]
+pub fn fixed_year<'a, T: EncodingType>(cursor: &mut Cursor<'a, T>) -> Option<u16>
+    ensures there { result ≡ year_place (map T.letter cursor.old.rest) }
+    ensures rest { cursor.new.rest ≡ cursor.old.rest }
+    ensures few { cursor.new.looks ≤ cursor.old.looks + 4 }
+    ensures counted { cursor.old.looks ≤ cursor.new.looks }
+{
+    let century = cursor.fixed_number(0)?;
+    let year = cursor.fixed_number(2)?;
+    Some(100 * u16::from(century) + u16::from(year))
+}
+
+/// The date of a year and of the month and the day at their places behind a hyphen, or `None` at the first place that does
+/// not fit. Its month and its day are not checked.
+#[inline(always)]
+fn fixed_days<'a, T: EncodingType>(cursor: &mut Cursor<'a, T>, year: u16) -> Option<DateDigits>
+    ensures there { option_map digits_date result ≡ days_place year (map T.letter cursor.old.rest) }
+    ensures long { IfSome result (λ _. 10 ≤ length cursor.old.rest) }
+    ensures rest { cursor.new.rest ≡ cursor.old.rest }
+    ensures few { cursor.new.looks ≤ cursor.old.looks + 5 }
+    ensures counted { cursor.old.looks ≤ cursor.new.looks }
+{
+    if cursor.remaining() < 10 {
+        return None;
+    }
+    let month = cursor.fixed_number(5)?;
+    cursor.fixed_letter(7, b'-')?;
+    let day = cursor.fixed_number(8)?;
+    Some(DateDigits {
+        year: i32::from(year),
+        month,
+        day,
+    })
+}
+
+/// The same at their places in a date without hyphens.
+#[inline(always)]
+fn fixed_basic_days<'a, T: EncodingType>(
+    cursor: &mut Cursor<'a, T>,
+    year: u16,
+) -> Option<DateDigits>
+    ensures there { option_map digits_date result ≡ basic_days_place year (map T.letter cursor.old.rest) }
+    ensures rest { cursor.new.rest ≡ cursor.old.rest }
+    ensures few { cursor.new.looks ≤ cursor.old.looks + 4 }
+    ensures counted { cursor.old.looks ≤ cursor.new.looks }
+{
+    let month = cursor.fixed_number(4)?;
+    let day = cursor.fixed_number(6)?;
+    Some(DateDigits {
+        year: i32::from(year),
+        month,
+        day,
+    })
+}
+
+// ==== Part by part ====
+
 /// Reads the parts of a date.
 #[inline(always)]
 fn parse_date_parts<'a, T: EncodingType>(cursor: &mut Cursor<'a, T>) -> Result<DateRecord, Stop>
@@ -45,7 +217,7 @@ fn parse_date_parts<'a, T: EncodingType>(cursor: &mut Cursor<'a, T>) -> Result<D
 
 /// Reads the month and the day after a year of four digits, part by part.
 #[inline(always)]
-pub fn parse_days<'a, T: EncodingType>(
+fn parse_days<'a, T: EncodingType>(
     cursor: &mut Cursor<'a, T>,
     year: u16,
 ) -> Result<DateRecord, Stop>

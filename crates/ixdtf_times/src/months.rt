@@ -1,19 +1,21 @@
 //! Reading year-months and month-days.
 
-#![tactic(auto, unfolding(ixdtf_reading::specs::reading::Months::month_readings))]
+#![tactic(auto, unfolding(ixdtf_reading::specs::reading::Months::month_readings, ixdtf_reading::specs::reading::FixedPlaces::fixed_readings))]
 
-ghost use Rattle.std.specs.Prelude.{◌≡◌, ◌+◌, ◌≤◌, ◌&&◌, nat_le, pos};
-ghost use Rattle.ixdtf_grammar.specs.language.Letters.{Text};
+ghost use Rattle.std.specs.Prelude.{◌≡◌, ◌+◌, ◌<◌, ◌≤◌, ◌&&◌, nat_le, pos, map, drop, length, option_map, Some, None, IfSome, IsTrue};
+ghost use Rattle.ixdtf_grammar.specs.language.Letters.{Text, digit};
 ghost use Rattle.ixdtf_grammar.specs.language.Months.{greatest_day, least_day};
 ghost use Rattle.ixdtf_grammar.specs.table.Faults.Fault.{InvalidMonthDay};
 ghost use Rattle.ixdtf_reading.specs.reading.Clauses.{Reads, Checks, YieldsAt, Spends, SpendsInAll};
 ghost use Rattle.ixdtf_reading.specs.reading.Looks.{error_of};
 ghost use Rattle.ixdtf_reading.specs.reading.Dates.{date_of};
-ghost use Rattle.ixdtf_reading.specs.reading.Months.{year_month_at, marks_at, month_day_at};
-ghost use Rattle.ixdtf_reading.specs.reading.FixedPlaces.{ranged_month};
+ghost use Rattle.ixdtf_reading.specs.reading.Months.{year_month_at, marks_at, month_day_at, lone_day_at};
+ghost use Rattle.ixdtf_reading.specs.reading.FixedPlaces.{byte_place, number_place, month_of_year_place, ranged_month, unmarked_at};
+ghost use Rattle.ixdtf_times.specs.TimeTypes.{digits_date};
 
-use crate::dates::{check_month, days_in_month, parse_date_year, parse_month, take_hyphen};
-use crate::fixed::{take_fixed_month_day, take_fixed_year_month};
+use crate::dates::{
+    DateDigits, check_month, days_in_month, fixed_year, parse_date_year, parse_month, take_hyphen,
+};
 use ixdtf_grammar::encoding::EncodingType;
 use ixdtf_grammar::profile::Profile;
 use ixdtf_grammar::records::DateRecord;
@@ -33,19 +35,64 @@ pub fn parse_year_month_date<'a, T: EncodingType>(
     ensures looks { Spends 12 cursor.old cursor.new }
 {
     match take_fixed_year_month(cursor) {
-        Some(date) => check_year_month(date),
+        Some(first) => check_year_month(first),
         None => parse_year_month_parts(cursor),
     }
 }
 
 /// The year-month that begins with the day, where its month is one.
 #[inline(always)]
-fn check_year_month(first: DateRecord) -> Result<DateRecord, Stop>
+fn check_year_month(first: DateDigits) -> Result<DateRecord, Stop>
     ensures { (rest : Text) → YieldsAt (λ date. (date, rest)) result rest
-        (ranged_month first rest) }
+        (ranged_month (digits_date first) rest) }
 {
     check_month(first.month)?;
-    Ok(first)
+    Ok(first.record())
+}
+
+/// Takes off the year-month that stands at the first seven places, or at the six of one without a hyphen, as a date with
+/// day 1. It is `None`, with the rest unchanged, at the first place that does not fit. Its month is not checked.
+#[inline(always)]
+fn take_fixed_year_month<'a, T: EncodingType>(cursor: &mut Cursor<'a, T>) -> Option<DateDigits>
+    ensures read { IfSome result (λ digits. year_month_at error_of (map T.letter cursor.old.rest) ≡
+        ranged_month (digits_date digits) (map T.letter cursor.new.rest)) }
+    ensures rest { result ≡ None → cursor.new.rest ≡ cursor.old.rest }
+    ensures shorter { length cursor.new.rest ≤ length cursor.old.rest }
+    ensures few { cursor.new.looks ≤ cursor.old.looks + 7 }
+    ensures counted { cursor.old.looks ≤ cursor.new.looks }
+{
+    if cursor.remaining() < 6 {
+        return None;
+    }
+    let year = fixed_year(cursor)?;
+    if is_hyphen(cursor.byte_at(4)) {
+        if cursor.remaining() < 7 {
+            return None;
+        }
+        let digits = fixed_month_of(cursor, year, 5)?;
+        cursor.advance_by(7);
+        return Some(digits);
+    }
+    let digits = fixed_month_of(cursor, year, 4)?;
+    cursor.advance_by(6);
+    Some(digits)
+}
+
+/// The first day of a month of the year, where its two digits stand at a place and the next, or `None`. It is not checked.
+#[inline(always)]
+fn fixed_month_of<'a, T: EncodingType>(
+    cursor: &mut Cursor<'a, T>,
+    year: u16,
+    place: usize,
+) -> Option<DateDigits>
+    requires early { place < 18 }
+    ensures there { option_map digits_date result ≡ month_of_year_place year place (map T.letter cursor.old.rest) }
+    ensures rest { cursor.new.rest ≡ cursor.old.rest }
+    ensures few { cursor.new.looks ≤ cursor.old.looks + 2 }
+    ensures counted { cursor.old.looks ≤ cursor.new.looks }
+{
+    let month = cursor.fixed_number(place)?;
+    Some(DateDigits::first_day(year, month))
 }
 
 /// Reads the parts of a year-month.
@@ -85,6 +132,86 @@ pub fn parse_month_day_date<'a, T: EncodingType>(
     }
 }
 
+/// Reads the month-day that stands at its five places, or at the four of one without a hyphen, with two hyphens before it or
+/// none, as a date with year 0. Where only its month does, what follows is read on part by part. It is `None`, with the rest
+/// unchanged, where its month does not fit.
+#[inline(always)]
+fn take_fixed_month_day<'a, T: EncodingType>(
+    cursor: &mut Cursor<'a, T>,
+    profile: Profile,
+) -> Option<Result<DateRecord, Stop>>
+    ensures read { IfSome result (λ read. Reads T.letter (λ date. date) cursor.old read cursor.new
+        (month_day_at error_of profile)) }
+    ensures rest { result ≡ None → cursor.new.rest ≡ cursor.old.rest }
+    ensures few { result ≡ None → cursor.new.looks ≤ cursor.old.looks + 4 }
+    ensures looks { Spends 10 cursor.old cursor.new }
+{
+    if cursor.remaining() < 4 {
+        return None;
+    }
+    if is_hyphen(cursor.byte_at(0)) {
+        if !is_hyphen(cursor.byte_at(1)) {
+            return None;
+        }
+        return take_month_day_at(cursor, profile, 2);
+    }
+    take_month_day_at(cursor, profile, 0)
+}
+
+/// Reads the month-day whose month stands at a place and the next, and takes off what stands before it too. It is `None`, with
+/// the rest unchanged, where its month does not fit.
+#[inline(always)]
+#[tactic(auto, using(crate::proofs::code::FixedMonths::first_digit))]
+fn take_month_day_at<'a, T: EncodingType>(
+    cursor: &mut Cursor<'a, T>,
+    profile: Profile,
+    start: usize,
+) -> Option<Result<DateRecord, Stop>>
+    requires early { start ≤ 2 }
+    requires long { start + 2 ≤ length cursor.old.rest }
+    ensures read { IfSome result (λ read. YieldsAt (λ date. (date, map T.letter cursor.new.rest))
+        read (map T.letter cursor.new.rest)
+        (unmarked_at profile (drop start (map T.letter cursor.old.rest)))) }
+    ensures digit { IfSome result (λ _.
+        IsTrue (digit (byte_place start (map T.letter cursor.old.rest)))) }
+    ensures rest { result ≡ None → cursor.new.rest ≡ cursor.old.rest }
+    ensures few { result ≡ None → cursor.new.looks ≤ cursor.old.looks + 2 }
+    ensures looks { Spends 8 cursor.old cursor.new }
+{
+    let month = cursor.fixed_number(start)?;
+    if let Err(stop) = check_month(month) {
+        cursor.advance_by(start + 2);
+        return Some(Err(stop));
+    }
+    if is_hyphen(cursor.byte_at(start + 2)) {
+        if let Some(day) = fixed_day(cursor, start + 3) {
+            cursor.advance_by(start + 5);
+            return Some(check_month_day(profile, month, day));
+        }
+    } else if let Some(day) = fixed_day(cursor, start + 2) {
+        cursor.advance_by(start + 4);
+        return Some(check_month_day(profile, month, day));
+    }
+    cursor.advance_by(start + 2);
+    Some(parse_day_of_month(cursor, profile, month))
+}
+
+/// The number of the two digits of a day at a place and the next, or `None`. It is not checked.
+#[inline(always)]
+fn fixed_day<'a, T: EncodingType>(cursor: &mut Cursor<'a, T>, place: usize) -> Option<u8>
+    requires early { place < 18 }
+    ensures there { IfSome result (λ day. number_place place (map T.letter cursor.old.rest) ≡ Some day) }
+    ensures long { IfSome result (λ _. place + 2 ≤ length cursor.old.rest) }
+    ensures rest { cursor.new.rest ≡ cursor.old.rest }
+    ensures few { cursor.new.looks ≤ cursor.old.looks + 2 }
+    ensures counted { cursor.old.looks ≤ cursor.new.looks }
+{
+    if cursor.remaining() < place + 2 {
+        return None;
+    }
+    cursor.fixed_number(place)
+}
+
 /// Reads the parts of a month-day.
 #[inline(always)]
 pub fn parse_month_day_parts<'a, T: EncodingType>(
@@ -98,6 +225,20 @@ pub fn parse_month_day_parts<'a, T: EncodingType>(
     take_marks(cursor)?;
     let month = cursor.two_digits(Stop::DateMonth)?;
     check_month(month)?;
+    parse_day_of_month(cursor, profile, month)
+}
+
+/// Reads the day after a month, with a hyphen before it or none.
+#[inline(always)]
+fn parse_day_of_month<'a, T: EncodingType>(
+    cursor: &mut Cursor<'a, T>,
+    profile: Profile,
+    month: u8,
+) -> Result<DateRecord, Stop>
+    ensures date { Reads T.letter (λ date. date) cursor.old result cursor.new
+        (lone_day_at error_of profile month) }
+    ensures looks { SpendsInAll 3 3 cursor.old cursor.new }
+{
     take_hyphen(cursor, Stop::AbruptDigit, Stop::DateDay)?;
     let day = cursor.two_digits(Stop::DateDay)?;
     check_month_day(profile, month, day)

@@ -17,7 +17,6 @@ ghost use Rattle.ixdtf_reading.specs.reading.FixedPlaces.{offset_place};
 ghost use Rattle.ixdtf_reading.specs.reading.Cores.{offset_core_at};
 ghost use Rattle.ixdtf_reading.specs.reading.Zones.{offset_at, offset_alone_at, minute_offset_alone_at};
 
-use crate::fixed::fixed_number;
 use crate::time::{Clock, TimeShape, parse_clock};
 use ixdtf_grammar::encoding::EncodingType;
 use ixdtf_grammar::records::{
@@ -65,9 +64,9 @@ fn fixed_offset<'a, T: EncodingType>(
     ensures few { cursor.new.looks ≤ cursor.old.looks + 5 }
     ensures counted { cursor.old.looks ≤ cursor.new.looks }
 {
-    let hour = fixed_number(cursor, 0)?;
+    let hour = cursor.fixed_number(0)?;
     cursor.fixed_letter(2, b':')?;
-    let minute = fixed_number(cursor, 3)?;
+    let minute = cursor.fixed_number(3)?;
     if hour > 23 || minute > 59 {
         return None;
     }

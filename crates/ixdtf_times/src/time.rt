@@ -2,14 +2,15 @@
 
 #![tactic(auto, unfolding(ixdtf_reading::specs::reading::Times::time_readings))]
 
-ghost use Rattle.std.specs.Prelude.{◌≡◌, ◌+◌, ◌≤◌, ◌∷◌, [], map, nat_le, length, false, true, None, IsTrue, IfSome, OnOk};
+ghost use Rattle.std.specs.Prelude.{◌≡◌, ◌+◌, ◌≤◌, ◌∷◌, [], map, nat_le, length, false, true, None, IsTrue, IfSome, OnOk, option_map};
 ghost use Rattle.ixdtf_grammar.specs.language.Letters.{Text, digit};
 ghost use Rattle.ixdtf_grammar.specs.language.Letters.Letter.{Plain};
 ghost use Rattle.ixdtf_grammar.specs.language.Fractions.{fraction_of};
 ghost use Rattle.ixdtf_grammar.specs.language.Times.{Clock as clocks, greatest_second, writes_seconds};
 ghost use Rattle.ixdtf_grammar.specs.table.Lines.{mixed, second_fault, seconds_after};
 ghost use Rattle.ixdtf_reading.specs.reading.Clauses.{Reads, Spends, SpendsOr, Checks, more_digits_at, fault_of_stop};
-ghost use Rattle.ixdtf_times.specs.TimeTypes.{clock_of, shape_of, open_time_of};
+ghost use Rattle.ixdtf_times.specs.TimeTypes.{clock_of, shape_of, open_time_of, time_to_second};
+ghost use Rattle.ixdtf_reading.specs.reading.FixedPlaces.{time_place, time_in_range};
 ghost use Rattle.ixdtf_reading.specs.reading.Looks.{error_of, before, digit_look, number_by};
 ghost use Rattle.ixdtf_reading.specs.reading.Times.{time_of, second_start, clock_at, minute_at, second_at, after_second_at, fraction_at};
 
@@ -83,6 +84,50 @@ impl TimeShape {
         }
     }
 }
+
+// ==== The time at its places after a date ====
+
+/// A time to its second.
+#[derive(Clone, Copy)]
+pub struct WholeTime {
+    pub hour: u8,
+    pub minute: u8,
+    pub second: u8,
+}
+
+impl WholeTime {
+    /// Whether the hour, the minute and the second are at most the greatest of their places.
+    #[inline(always)]
+    pub fn is_time(self) -> bool
+        ensures { result ≡ time_in_range (time_to_second self) }
+    {
+        self.hour <= 23 && self.minute <= 59 && self.second <= 60
+    }
+}
+
+/// The time at the eight places after a date and a separator, or `None` at the first that does not fit. Its numbers are not
+/// checked.
+#[inline(always)]
+#[tactic(auto, unfolding(ixdtf_reading::specs::reading::FixedPlaces::fixed_readings))]
+pub fn fixed_time<'a, T: EncodingType>(cursor: &mut Cursor<'a, T>) -> Option<WholeTime>
+    ensures there { option_map time_to_second result ≡ time_place (map T.letter cursor.old.rest) }
+    ensures rest { cursor.new.rest ≡ cursor.old.rest }
+    ensures few { cursor.new.looks ≤ cursor.old.looks + 8 }
+    ensures counted { cursor.old.looks ≤ cursor.new.looks }
+{
+    let hour = cursor.fixed_number(11)?;
+    cursor.fixed_letter(13, b':')?;
+    let minute = cursor.fixed_number(14)?;
+    cursor.fixed_letter(16, b':')?;
+    let second = cursor.fixed_number(17)?;
+    Some(WholeTime {
+        hour,
+        minute,
+        second,
+    })
+}
+
+// ==== Times digit by digit ====
 
 /// Writes a time of these parts, as far as the shape.
 #[inline(always)]

@@ -118,9 +118,10 @@ impl<'a, T: EncodingType> Cursor<'a, T> {
         }
     }
 
-    /// Takes two digits, and returns them as ASCII bytes, with one test for the end, and one by the tables for both.
+    /// Takes two digits, and returns their number, with one test for the end, and one by the tables for both. The end of the
+    /// input is `AbruptDigit`. Another code unit is this stop, and is not taken.
     #[inline(always)]
-    pub fn two_digits(&mut self, other: Stop) -> Result<(u8, u8), Stop> {
+    pub fn two_digits(&mut self, other: Stop) -> Result<u8, Stop> {
         if self.rest.len() < 2 {
             self.digit_at(0, other)?;
             self.advance();
@@ -130,9 +131,10 @@ impl<'a, T: EncodingType> Cursor<'a, T> {
         let second = self.look_at(1);
         let tens = byte_of(first);
         let ones = byte_of(second);
-        if two_digit_number(tens, ones) <= 99 {
+        let number = two_digit_number(tens, ones);
+        if number <= 99 {
             self.advance_by(2);
-            return Ok((tens, ones));
+            return Ok(number);
         }
         if !tens.is_ascii_digit() {
             return Err(no_digit(first, other));
@@ -164,6 +166,19 @@ impl<'a, T: EncodingType> Cursor<'a, T> {
             Ok(Some(byte)) if byte == letter => Some(byte),
             _ => None,
         }
+    }
+
+    /// The number of the two digits at a fixed index of the remaining input and the next, or `None` where one of them is none.
+    /// Both are looked at.
+    #[inline(always)]
+    pub fn fixed_number(&mut self, index: usize) -> Option<u8> {
+        let tens = self.byte_at(index);
+        let ones = self.byte_at(index + 1);
+        let number = two_digit_number(tens, ones);
+        if number > 99 {
+            return None;
+        }
+        Some(number)
     }
 
     /// Expects the end of the input: any code unit is `InvalidEnd`.

@@ -11,9 +11,9 @@
 mod annotations;
 mod brackets;
 mod cores;
+mod date_times;
 mod dates;
 mod duration;
-mod fixed;
 mod handled;
 mod letters;
 mod months;

@@ -24,7 +24,7 @@ use ixdtf_reading::grammar::{
 };
 use ixdtf_reading::stop::Stop;
 use ixdtf_times::dates::parse_date;
-use ixdtf_times::fixed::fixed_date_time;
+use ixdtf_times::date_times::take_fixed_date_time;
 use ixdtf_times::months::{
     parse_month_day_date, parse_month_day_parts, parse_year_month_date, parse_year_month_parts,
 };
@@ -172,7 +172,7 @@ fn parse_date_time<'a, T: EncodingType>(
     ensures kept { KeepsBrackets found.old found.new }
     ensures looks { Spends (length cursor.old.rest + 22) cursor.old cursor.new }
 {
-    match fixed_date_time(cursor) {
+    match take_fixed_date_time(cursor) {
         Some((date, whole)) => {
             found.date = Some(date);
             let shape = parse_after_second(cursor, whole.hour, whole.minute, whole.second, time)?;

@@ -5,7 +5,7 @@ use Rattle.ixdtf_grammar.specs.{declared.records.TimeRecord.TimeRecord, language
 use Rattle.ixdtf_grammar.specs.language.{Letters.Letter.{Plain, Bad}, Digits.{digit_value, decimal}, Dates.month_length, Offsets.minutes_of}
 use Rattle.ixdtf_grammar.specs.table.{Faults.Fault.InvalidMonthRange, LineNames.{of_month_day, MonthDayLine.month_day_month_digits}}
 use Rattle.ixdtf_reading.specs.reading.{Looks.{Read, Placed, ◌>>=◌, error_of, digits_at}, Dates.{date_of, day_in_range}}
-use Rattle.ixdtf_reading.specs.reading.{Months.{lone_month_in_range, lone_day_in_range, lone_day_at}, Times.time_of}
+use Rattle.ixdtf_reading.specs.reading.{Months.{lone_month_in_range, lone_day_at}, Times.time_of}
 
 -- from what was found to what is found with it
 infixl 10 ◌>>?◌
@@ -107,19 +107,9 @@ offset_place c text =
 unfoldable pub month_of_year_place : ℕ → ℕ → Text → Option DateRecord
 month_of_year_place year place text = number_place place text >>? λ month. Some (date_of (pos year) month 1)
 
--- the month-day of a month's day that stands at a place and the next, whatever these are
-unfoldable pub day_of_month_place : ℕ → ℕ → Text → Option DateRecord
-day_of_month_place month place text = number_place place text >>? λ day. Some (date_of (pos 0) month day)
-
 -- the year-month with the text after it, where its month is one
 abbrev pub ranged_month : DateRecord → Text → Read Placed DateRecord
 ranged_month date rest = if nat_le 1 date.month && nat_le date.month 12 then Ok (date, rest) else Err (InvalidMonthRange, rest)
-
--- the month-day with the text after it, where its month is one and the profile has its day, and the text after its month
-abbrev pub ranged_day : Profile → DateRecord → Text → Text → Read Placed DateRecord
-ranged_day profile date after_month rest =
-    if nat_le 1 date.month && nat_le date.month 12 then lone_day_in_range error_of profile date.month date.day rest
-    else Err (InvalidMonthRange, after_month)
 
 -- whether two hyphens stand in front
 abbrev pub marks_place : Text → Bool
@@ -135,5 +125,5 @@ unmarked_at profile text = do
 -- opening this opens the readings of parts at fixed places
 unfoldable pub fixed_readings : ℕ
 unfolding number_place year_place days_place basic_days_place date_place basic_date_place time_place date_time_place
-    offset_place month_of_year_place day_of_month_place
+    offset_place month_of_year_place
 fixed_readings = 0

@@ -1,14 +1,14 @@
 -- A year-month, and a month-day, at fixed places: what is found there is read so.
-use Rattle.std.proofs.Common.{subst, ◌≡◌, ℕ, suc, ◌+◌, Bool, true, false, IsTrue, [], ◌∷◌, drop, Option, Some, None, Ok, refl, sym, ap, ◌∙◌, pos}
+use Rattle.std.proofs.Common.{subst, ◌≡◌, ℕ, suc, ◌+◌, Bool, true, false, IsTrue, [], ◌∷◌, drop, map, Option, Some, None, Ok, refl, sym, ap, ◌∙◌, pos}
 use Rattle.std.proofs.{Common.{arith, ◌++◌, append_assoc, inl, inr}, lemmas.Bool.and_parts}
-use Rattle.std.specs.Prelude.{IfSome}
-use Rattle.ixdtf_grammar.specs.{declared.{profile.Profile.Profile, records.DateRecord.DateRecord}, language.Letters.{Text, digit, hyphen}}
-use Rattle.ixdtf_grammar.specs.{language.Letters.Letter.{Plain, Bad}, table.LineNames.{of_year_month, of_month_day, YearMonthLine.after_year_in_year_month}}
+use Rattle.std.specs.Prelude.{IfSome, Result, Err, nat_le, ◌&&◌, IsFalse}
+use Rattle.ixdtf_grammar.specs.{declared.{profile.Profile.Profile, records.DateRecord.DateRecord}, language.Letters.{Letter, Text, digit, hyphen}, Views.Unread}
+use Rattle.ixdtf_grammar.specs.{language.Letters.Letter.{Plain, Bad}, table.Faults.Fault.{InvalidMonthRange, InvalidMonthDay}, language.Months.{greatest_day, least_day}, table.LineNames.{of_year_month, of_month_day, YearMonthLine.after_year_in_year_month}}
 use Rattle.ixdtf_grammar.specs.table.LineNames.MonthDayLine.{month_day_month_digits}
-use Rattle.ixdtf_reading.specs.{reading.{Dates.{date_of, month_at}}}
-use Rattle.ixdtf_reading.specs.reading.Looks.{error_of, look_at, next_by, mark_by, digits_by, ◌>>=◌}
-use Rattle.ixdtf_reading.specs.reading.{Months.{year_month_at, marks_at, month_day_at, lone_month_in_range, lone_day_at}, FixedPlaces.first_byte}
-use Rattle.ixdtf_reading.specs.reading.FixedPlaces.{byte_place, number_place, year_place, month_of_year_place, day_of_month_place, ranged_month, ranged_day}
+use Rattle.ixdtf_reading.specs.{declared.stop.Stop.Stop, reading.{Clauses.{Checks, Reads, YieldsAt}, Dates.{date_of, month_at}}}
+use Rattle.ixdtf_reading.specs.reading.Looks.{Read, Placed, error_of, look_at, next_by, mark_by, digits_by, ◌>>=◌}
+use Rattle.ixdtf_reading.specs.reading.{Months.{year_month_at, marks_at, month_day_at, lone_month_in_range, lone_day_in_range, lone_day_at}, FixedPlaces.first_byte}
+use Rattle.ixdtf_reading.specs.reading.FixedPlaces.{byte_place, number_place, year_place, month_of_year_place, ranged_month}
 use Rattle.ixdtf_reading.specs.reading.FixedPlaces.{marks_place, unmarked_at}
 use Rattle.ixdtf_reading.proofs.{parts.{Looks.{onto, digits_go}, Marks.hyphens_of, Years.year_takes}, code.DigitClasses.digit_no_hyphen}
 use Rattle.ixdtf_reading.proofs.code.FixedPlaces.{then_some, Number, number_at_place, over_two, two_digits, two}
@@ -60,45 +60,65 @@ basic_month_is_read text year date years months = month_is_read false text year 
 
 -- ---- month-days
 
--- a month and a day that are found are read, with a hyphen before the day or with none
-days_are_read : (b : Bool) (profile : Profile) (text : Text) (start behind place last month day : ℕ) (date : DateRecord) → Number start text month
-    → Number place text day → Some (date_of (pos 0) month day) ≡ Some date → suc (suc start) ≡ behind → suc (suc place) ≡ last
-    → drop behind text ≡ hyphens_of b ++ drop place text
-    → unmarked_at profile (drop start text) ≡ ranged_day profile date (drop behind text) (drop last text)
-unfolding lone_month_in_range
-days_are_read b profile text start behind place last month day date m d e is_behind is_last at_day =
-    let is : date_of (pos 0) month day ≡ date = cc in
-    let split : drop behind text ≡ (hyphens_of b ++ two d) ++ drop last text =
-    at_day ∙ ap (λ t. hyphens_of b ++ t) (over_two d (ap (λ p. drop p text) is_last)) ∙ sym (append_assoc (hyphens_of b) (two d) (drop last text)) in
-    ap (unmarked_at profile) (over_two m (ap (λ p. drop p text) is_behind))
-    ∙ rw (digits_go error_of (of_month_day month_day_month_digits) (λ c. refl) 2 (two m) (drop behind text) (two_digits m refl).0, ← m.value, ← is)
-    (elim (month_or_none month) [
-      | inl h ↦ rw (month_is month h.0 h.1) (
-          ap (lone_day_at error_of profile month) split
-          ∙ (over_lone_day error_of profile month b (two d) day (two_digits d refl)).over (drop last text)
-          )
-      | inr h ↦ rw (month_is_none month h) refl
-    ])
+module _ (profile : Profile) (text : Text) (start month : ℕ) where
+  abbrev behind : Text
+  behind = drop (start + 2) text
 
-pub hyphened_day_is_read : (profile : Profile) (text : Text) (start month : ℕ) (date : DateRecord) → number_place start text ≡ Some month
-    → IsTrue (hyphen (byte_place (start + 2) text)) → day_of_month_place month (start + 3) text ≡ Some date
-    → unmarked_at profile (drop start text) ≡ ranged_day profile date (drop (start + 2) text) (drop (start + 5) text)
-unfolding day_of_month_place
-hyphened_day_is_read profile text start month date months mark days =
-    let hyphens = byte_is_mark 45 (start + 2) text refl mark in
-    let third : suc (start + 2) ≡ start + 3 = omega arith in
-    then_some (number_place (start + 3) text) _ date days λ day f e.
-    days_are_read true profile text start (start + 2) (start + 3) (start + 5) month day date (number_at_place start text month months)
-    (number_at_place (start + 3) text day f) e (omega arith) (omega arith) (hyphens ∙ onto 45 (ap (λ p. drop p text) third))
+  -- a month that is found is read, and what is behind it where it is one
+  pub month_goes_on : number_place start text ≡ Some month → IsTrue (nat_le 1 month && nat_le month 12)
+      → unmarked_at profile (drop start text) ≡ lone_day_at error_of profile month behind
+  unfolding lone_month_in_range
+  month_goes_on months is =
+      let m = number_at_place start text month months in
+      let second : suc (suc start) ≡ start + 2 = omega arith in
+      ap (unmarked_at profile) (over_two m (ap (λ p. drop p text) second))
+      ∙ rw (digits_go error_of (of_month_day month_day_month_digits) (λ c. refl) 2 (two m) behind (two_digits m refl).0, ← m.value, is) refl
 
-pub basic_day_is_read : (profile : Profile) (text : Text) (start month : ℕ) (date : DateRecord) → number_place start text ≡ Some month
-    → day_of_month_place month (start + 2) text ≡ Some date
-    → unmarked_at profile (drop start text) ≡ ranged_day profile date (drop (start + 2) text) (drop (start + 4) text)
-unfolding day_of_month_place
-basic_day_is_read profile text start month date months days =
-    then_some (number_place (start + 2) text) _ date days λ day f e.
-    days_are_read false profile text start (start + 2) (start + 2) (start + 4) month day date (number_at_place start text month months)
-    (number_at_place (start + 2) text day f) e (omega arith) (omega arith) refl
+  pub month_stops : number_place start text ≡ Some month → IsFalse (nat_le 1 month && nat_le month 12)
+      → unmarked_at profile (drop start text) ≡ Err (InvalidMonthRange, behind)
+  unfolding lone_month_in_range
+  month_stops months is_none =
+      let m = number_at_place start text month months in
+      let second : suc (suc start) ≡ start + 2 = omega arith in
+      ap (unmarked_at profile) (over_two m (ap (λ p. drop p text) second))
+      ∙ rw (digits_go error_of (of_month_day month_day_month_digits) (λ c. refl) 2 (two m) behind (two_digits m refl).0, ← m.value, is_none) refl
+
+  -- and a day that is found is read, with a hyphen before it or with none
+  day_is_read : (b : Bool) (place day : ℕ) → behind ≡ hyphens_of b ++ drop place text → number_place place text ≡ Some day
+      → lone_day_at error_of profile month behind ≡ lone_day_in_range error_of profile month day (drop (suc (suc place)) text)
+  day_is_read b place day at_day days =
+      let d = number_at_place place text day days in
+      let after = drop (suc (suc place)) text in
+      let split : behind ≡ (hyphens_of b ++ two d) ++ after = at_day ∙ ap (λ t. hyphens_of b ++ t) (over_two d refl) ∙ sym (append_assoc (hyphens_of b) (two d) after) in
+      ap (lone_day_at error_of profile month) split ∙ (over_lone_day error_of profile month b (two d) day (two_digits d refl)).over after
+
+  pub hyphened_day_is_read : (day : ℕ) → IsTrue (hyphen (byte_place (start + 2) text)) → number_place (start + 3) text ≡ Some day
+      → lone_day_at error_of profile month behind ≡ lone_day_in_range error_of profile month day (drop (start + 5) text)
+  hyphened_day_is_read day mark days =
+      let third : suc (start + 2) ≡ start + 3 = omega arith in
+      let last : suc (suc (start + 3)) ≡ start + 5 = omega arith in
+      rw last at (day_is_read true (start + 3) day (byte_is_mark 45 (start + 2) text refl mark ∙ onto 45 (ap (λ p. drop p text) third)) days)
+
+  pub basic_day_is_read : (day : ℕ) → number_place (start + 2) text ≡ Some day
+      → lone_day_at error_of profile month behind ≡ lone_day_in_range error_of profile month day (drop (start + 4) text)
+  basic_day_is_read day days =
+      let last : suc (suc (start + 2)) ≡ start + 4 = omega arith in
+      rw last at (day_is_read false (start + 2) day refl days)
+
+-- a day that was tested
+pub day_tested : (profile : Profile) (month day : ℕ) (rest : Text) (result : Result DateRecord Stop)
+    → Checks (λ date. date) result (date_of (pos 0) month day) (nat_le (least_day profile) day && nat_le day (greatest_day month)) InvalidMonthDay
+    → YieldsAt (λ date. (date, rest)) result rest (lone_day_in_range error_of profile month day rest)
+unfolding lone_day_in_range
+day_tested profile month day rest (Ok date) is = rw (is.1, is.0) refl
+day_tested profile month day rest (Err stop) is = rw (is.1, is.0) refl
+
+-- what is read from a place on
+pub yields_on : (letter : ℕ → Letter) (here new : Unread) (result : Result DateRecord Stop) (reading : Text → Read Placed DateRecord) (wanted : Read Placed DateRecord)
+    → wanted ≡ reading (map letter here.rest) → Reads letter (λ date. date) here result new reading
+    → YieldsAt (λ date. (date, map letter new.rest)) result (map letter new.rest) wanted
+yields_on letter here new (Ok date) reading wanted same is = same ∙ is
+yields_on letter here new (Err stop) reading wanted same is = same ∙ is
 
 -- two hyphens in front are taken
 pub marked_is_read : (profile : Profile) (text : Text) → IsTrue (marks_place text) → month_day_at error_of profile text ≡ unmarked_at profile (drop 2 text)

@@ -12,7 +12,7 @@ use crate::grammar::{
 };
 use crate::stop::Stop;
 use crate::parsers::dates::parse_date;
-use crate::parsers::fixed::fixed_date_time;
+use crate::parsers::date_times::take_fixed_date_time;
 use crate::parsers::months::{
     parse_month_day_date, parse_month_day_parts, parse_year_month_date, parse_year_month_parts,
 };
@@ -113,7 +113,7 @@ fn parse_date_time<'a, T: EncodingType>(
     time: &mut TimeRecord,
     found: &mut IxdtfParseRecord<'a, T>,
 ) -> Result<Option<TimeShape>, Stop> {
-    match fixed_date_time(cursor) {
+    match take_fixed_date_time(cursor) {
         Some((date, whole)) => {
             found.date = Some(date);
             let shape = parse_after_second(cursor, whole.hour, whole.minute, whole.second, time)?;

@@ -2,7 +2,6 @@
 
 //! Reading dates.
 
-use crate::parsers::fixed::take_fixed_date;
 use crate::encoding::EncodingType;
 use crate::records::DateRecord;
 use crate::cursor::Cursor;
@@ -18,6 +17,135 @@ pub fn parse_date<'a, T: EncodingType>(cursor: &mut Cursor<'a, T>) -> Result<Dat
     }
 }
 
+// ==== At fixed places ====
+
+/// The digits of a date, as three numbers. They are not checked.
+#[derive(Clone, Copy)]
+pub struct DateDigits {
+    pub year: i32,
+    pub month: u8,
+    pub day: u8,
+}
+
+impl DateDigits {
+    /// The first day of a month.
+    #[inline(always)]
+    pub fn first_day(year: u16, month: u8) -> Self {
+        DateDigits {
+            year: i32::from(year),
+            month,
+            day: 1,
+        }
+    }
+
+    /// The date that they are, where its month is one and has the day.
+    #[inline(always)]
+    pub fn record(self) -> DateRecord {
+        DateRecord {
+            year: self.year,
+            month: self.month,
+            day: self.day,
+        }
+    }
+
+    /// Whether the month is one and has the day.
+    #[inline(always)]
+    pub fn is_date(self) -> bool {
+        self.month >= 1 && self.month <= 12 && has_day(self.year, self.month, self.day)
+    }
+}
+
+/// The date at the first ten places, or `None` at the first that does not fit. Its month and its day are not checked.
+#[inline(always)]
+pub fn fixed_date<'a, T: EncodingType>(cursor: &mut Cursor<'a, T>) -> Option<DateDigits> {
+    if cursor.remaining() < 10 {
+        return None;
+    }
+    let year = fixed_year(cursor)?;
+    cursor.fixed_letter(4, b'-')?;
+    fixed_days(cursor, year)
+}
+
+/// Reads the date that stands at the first ten places, or at the eight of one without hyphens. Where only its year does, what
+/// follows is read on part by part. It is `None`, with the rest unchanged, where its year does not fit.
+#[inline(always)]
+fn take_fixed_date<'a, T: EncodingType>(
+    cursor: &mut Cursor<'a, T>,
+) -> Option<Result<DateRecord, Stop>> {
+    if cursor.remaining() < 8 {
+        return None;
+    }
+    let year = fixed_year(cursor)?;
+    if is_hyphen(cursor.byte_at(4)) {
+        if let Some(digits) = fixed_days(cursor, year) {
+            return Some(take_date(cursor, digits, 7, 10));
+        }
+    } else if let Some(digits) = fixed_basic_days(cursor, year) {
+        return Some(take_date(cursor, digits, 6, 8));
+    }
+    cursor.advance_by(4);
+    Some(parse_days(cursor, year))
+}
+
+/// Takes a date off, whose month and whose day end behind so many units. Where its month is none, what stands behind the
+/// month stays.
+#[inline(always)]
+fn take_date<'a, T: EncodingType>(
+    cursor: &mut Cursor<'a, T>,
+    digits: DateDigits,
+    month_end: usize,
+    day_end: usize,
+) -> Result<DateRecord, Stop> {
+    if let Err(stop) = check_month(digits.month) {
+        cursor.advance_by(month_end);
+        return Err(stop);
+    }
+    cursor.advance_by(day_end);
+    check_date(digits.year, digits.month, digits.day)
+}
+
+/// The year at the first four places, or `None` where one of them is no digit.
+#[inline(always)]
+pub fn fixed_year<'a, T: EncodingType>(cursor: &mut Cursor<'a, T>) -> Option<u16> {
+    let century = cursor.fixed_number(0)?;
+    let year = cursor.fixed_number(2)?;
+    Some(100 * u16::from(century) + u16::from(year))
+}
+
+/// The date of a year and of the month and the day at their places behind a hyphen, or `None` at the first place that does
+/// not fit. Its month and its day are not checked.
+#[inline(always)]
+fn fixed_days<'a, T: EncodingType>(cursor: &mut Cursor<'a, T>, year: u16) -> Option<DateDigits> {
+    if cursor.remaining() < 10 {
+        return None;
+    }
+    let month = cursor.fixed_number(5)?;
+    cursor.fixed_letter(7, b'-')?;
+    let day = cursor.fixed_number(8)?;
+    Some(DateDigits {
+        year: i32::from(year),
+        month,
+        day,
+    })
+}
+
+/// The same at their places in a date without hyphens.
+#[inline(always)]
+fn fixed_basic_days<'a, T: EncodingType>(
+    cursor: &mut Cursor<'a, T>,
+    year: u16,
+) -> Option<DateDigits> {
+    let month = cursor.fixed_number(4)?;
+    let day = cursor.fixed_number(6)?;
+    Some(DateDigits {
+        year: i32::from(year),
+        month,
+        day,
+    })
+}
+
+// ==== Part by part ====
+
 /// Reads the parts of a date.
 #[inline(always)]
 fn parse_date_parts<'a, T: EncodingType>(cursor: &mut Cursor<'a, T>) -> Result<DateRecord, Stop> {
@@ -28,7 +156,7 @@ fn parse_date_parts<'a, T: EncodingType>(cursor: &mut Cursor<'a, T>) -> Result<D
 
 /// Reads the month and the day after a year of four digits, part by part.
 #[inline(always)]
-pub fn parse_days<'a, T: EncodingType>(
+fn parse_days<'a, T: EncodingType>(
     cursor: &mut Cursor<'a, T>,
     year: u16,
 ) -> Result<DateRecord, Stop> {
@@ -84,17 +212,10 @@ fn parse_extended_year<'a, T: EncodingType>(
 /// Reads six digits, two by two, and returns their number.
 #[inline(always)]
 fn parse_six_digits<'a, T: EncodingType>(cursor: &mut Cursor<'a, T>) -> Result<u32, Stop> {
-    let high = parse_year_pair(cursor)?;
-    let middle = parse_year_pair(cursor)?;
-    let low = parse_year_pair(cursor)?;
+    let high = cursor.two_digits(Stop::DateExtendedYear)?;
+    let middle = cursor.two_digits(Stop::DateExtendedYear)?;
+    let low = cursor.two_digits(Stop::DateExtendedYear)?;
     Ok(10_000 * u32::from(high) + 100 * u32::from(middle) + u32::from(low))
-}
-
-/// Reads two of the six digits of a year, and returns their number.
-#[inline(always)]
-fn parse_year_pair<'a, T: EncodingType>(cursor: &mut Cursor<'a, T>) -> Result<u8, Stop> {
-    let (tens, ones) = cursor.two_digits(Stop::DateExtendedYear)?;
-    Ok(digits_value(tens, ones))
 }
 
 /// Reads three digits, and returns their number. Another code unit is this stop.
@@ -138,7 +259,8 @@ pub fn parse_month<'a, T: EncodingType>(
     at_end: Stop,
 ) -> Result<(u8, bool), Stop> {
     let hyphened = take_hyphen(cursor, at_end, Stop::DateMonth)?;
-    let (tens, ones) = cursor.two_digits(Stop::DateMonth)?;
+    let tens = cursor.next_digit(Stop::DateMonth)?;
+    let ones = cursor.next_digit(Stop::DateMonth)?;
     let month = check_month(digits_value(tens, ones))?;
     Ok((month, hyphened))
 }
@@ -152,8 +274,8 @@ fn parse_day<'a, T: EncodingType>(
     hyphened: bool,
 ) -> Result<DateRecord, Stop> {
     take_separator(cursor, hyphened)?;
-    let (tens, ones) = cursor.two_digits(Stop::DateDay)?;
-    check_date(year, month, digits_value(tens, ones))
+    let day = cursor.two_digits(Stop::DateDay)?;
+    check_date(year, month, day)
 }
 
 /// Takes the hyphen after a month off where one stands before the month, and else wants a digit, which stays.

@@ -2,13 +2,14 @@
 
 //! Reading year-months and month-days.
 
-use crate::parsers::dates::{check_month, days_in_month, parse_date_year, parse_month, take_hyphen};
-use crate::parsers::fixed::{take_fixed_month_day, take_fixed_year_month};
+use crate::parsers::dates::{
+    DateDigits, check_month, days_in_month, fixed_year, parse_date_year, parse_month, take_hyphen,
+};
 use crate::encoding::EncodingType;
 use crate::parsers::profile::Profile;
 use crate::records::DateRecord;
 use crate::cursor::Cursor;
-use crate::grammar::{digits_value, is_hyphen};
+use crate::grammar::is_hyphen;
 use crate::stop::Stop;
 
 // ==== Year-months ====
@@ -19,16 +20,48 @@ pub fn parse_year_month_date<'a, T: EncodingType>(
     cursor: &mut Cursor<'a, T>,
 ) -> Result<DateRecord, Stop> {
     match take_fixed_year_month(cursor) {
-        Some(date) => check_year_month(date),
+        Some(first) => check_year_month(first),
         None => parse_year_month_parts(cursor),
     }
 }
 
 /// The year-month that begins with the day, where its month is one.
 #[inline(always)]
-fn check_year_month(first: DateRecord) -> Result<DateRecord, Stop> {
+fn check_year_month(first: DateDigits) -> Result<DateRecord, Stop> {
     check_month(first.month)?;
-    Ok(first)
+    Ok(first.record())
+}
+
+/// Takes off the year-month that stands at the first seven places, or at the six of one without a hyphen, as a date with
+/// day 1. It is `None`, with the rest unchanged, at the first place that does not fit. Its month is not checked.
+#[inline(always)]
+fn take_fixed_year_month<'a, T: EncodingType>(cursor: &mut Cursor<'a, T>) -> Option<DateDigits> {
+    if cursor.remaining() < 6 {
+        return None;
+    }
+    let year = fixed_year(cursor)?;
+    if is_hyphen(cursor.byte_at(4)) {
+        if cursor.remaining() < 7 {
+            return None;
+        }
+        let digits = fixed_month_of(cursor, year, 5)?;
+        cursor.advance_by(7);
+        return Some(digits);
+    }
+    let digits = fixed_month_of(cursor, year, 4)?;
+    cursor.advance_by(6);
+    Some(digits)
+}
+
+/// The first day of a month of the year, where its two digits stand at a place and the next, or `None`. It is not checked.
+#[inline(always)]
+fn fixed_month_of<'a, T: EncodingType>(
+    cursor: &mut Cursor<'a, T>,
+    year: u16,
+    place: usize,
+) -> Option<DateDigits> {
+    let month = cursor.fixed_number(place)?;
+    Some(DateDigits::first_day(year, month))
 }
 
 /// Reads the parts of a year-month.
@@ -60,6 +93,61 @@ pub fn parse_month_day_date<'a, T: EncodingType>(
     }
 }
 
+/// Reads the month-day that stands at its five places, or at the four of one without a hyphen, with two hyphens before it or
+/// none, as a date with year 0. Where only its month does, what follows is read on part by part. It is `None`, with the rest
+/// unchanged, where its month does not fit.
+#[inline(always)]
+fn take_fixed_month_day<'a, T: EncodingType>(
+    cursor: &mut Cursor<'a, T>,
+    profile: Profile,
+) -> Option<Result<DateRecord, Stop>> {
+    if cursor.remaining() < 4 {
+        return None;
+    }
+    if is_hyphen(cursor.byte_at(0)) {
+        if !is_hyphen(cursor.byte_at(1)) {
+            return None;
+        }
+        return take_month_day_at(cursor, profile, 2);
+    }
+    take_month_day_at(cursor, profile, 0)
+}
+
+/// Reads the month-day whose month stands at a place and the next, and takes off what stands before it too. It is `None`, with
+/// the rest unchanged, where its month does not fit.
+#[inline(always)]
+fn take_month_day_at<'a, T: EncodingType>(
+    cursor: &mut Cursor<'a, T>,
+    profile: Profile,
+    start: usize,
+) -> Option<Result<DateRecord, Stop>> {
+    let month = cursor.fixed_number(start)?;
+    if let Err(stop) = check_month(month) {
+        cursor.advance_by(start + 2);
+        return Some(Err(stop));
+    }
+    if is_hyphen(cursor.byte_at(start + 2)) {
+        if let Some(day) = fixed_day(cursor, start + 3) {
+            cursor.advance_by(start + 5);
+            return Some(check_month_day(profile, month, day));
+        }
+    } else if let Some(day) = fixed_day(cursor, start + 2) {
+        cursor.advance_by(start + 4);
+        return Some(check_month_day(profile, month, day));
+    }
+    cursor.advance_by(start + 2);
+    Some(parse_day_of_month(cursor, profile, month))
+}
+
+/// The number of the two digits of a day at a place and the next, or `None`. It is not checked.
+#[inline(always)]
+fn fixed_day<'a, T: EncodingType>(cursor: &mut Cursor<'a, T>, place: usize) -> Option<u8> {
+    if cursor.remaining() < place + 2 {
+        return None;
+    }
+    cursor.fixed_number(place)
+}
+
 /// Reads the parts of a month-day.
 #[inline(always)]
 pub fn parse_month_day_parts<'a, T: EncodingType>(
@@ -67,11 +155,21 @@ pub fn parse_month_day_parts<'a, T: EncodingType>(
     profile: Profile,
 ) -> Result<DateRecord, Stop> {
     take_marks(cursor)?;
-    let (tens, ones) = cursor.two_digits(Stop::DateMonth)?;
-    let month = check_month(digits_value(tens, ones))?;
+    let month = cursor.two_digits(Stop::DateMonth)?;
+    check_month(month)?;
+    parse_day_of_month(cursor, profile, month)
+}
+
+/// Reads the day after a month, with a hyphen before it or none.
+#[inline(always)]
+fn parse_day_of_month<'a, T: EncodingType>(
+    cursor: &mut Cursor<'a, T>,
+    profile: Profile,
+    month: u8,
+) -> Result<DateRecord, Stop> {
     take_hyphen(cursor, Stop::AbruptDigit, Stop::DateDay)?;
-    let (tens, ones) = cursor.two_digits(Stop::DateDay)?;
-    check_month_day(profile, month, digits_value(tens, ones))
+    let day = cursor.two_digits(Stop::DateDay)?;
+    check_month_day(profile, month, day)
 }
 
 /// Takes two hyphens off, where the text does not begin with a digit.

@@ -2,7 +2,6 @@
 
 //! Reading offsets from UTC.
 
-use crate::parsers::fixed::fixed_number;
 use crate::parsers::time::{Clock, TimeShape, parse_clock};
 use crate::encoding::EncodingType;
 use crate::records::{
@@ -40,9 +39,9 @@ fn fixed_offset<'a, T: EncodingType>(
     cursor: &mut Cursor<'a, T>,
     sign: u8,
 ) -> Option<MinutePrecisionOffset> {
-    let hour = fixed_number(cursor, 0)?;
+    let hour = cursor.fixed_number(0)?;
     cursor.fixed_letter(2, b':')?;
-    let minute = fixed_number(cursor, 3)?;
+    let minute = cursor.fixed_number(3)?;
     if hour > 23 || minute > 59 {
         return None;
     }

@@ -67,6 +67,42 @@ impl TimeShape {
     }
 }
 
+// ==== The time at its places after a date ====
+
+/// A time to its second.
+#[derive(Clone, Copy)]
+pub struct WholeTime {
+    pub hour: u8,
+    pub minute: u8,
+    pub second: u8,
+}
+
+impl WholeTime {
+    /// Whether the hour, the minute and the second are at most the greatest of their places.
+    #[inline(always)]
+    pub fn is_time(self) -> bool {
+        self.hour <= 23 && self.minute <= 59 && self.second <= 60
+    }
+}
+
+/// The time at the eight places after a date and a separator, or `None` at the first that does not fit. Its numbers are not
+/// checked.
+#[inline(always)]
+pub fn fixed_time<'a, T: EncodingType>(cursor: &mut Cursor<'a, T>) -> Option<WholeTime> {
+    let hour = cursor.fixed_number(11)?;
+    cursor.fixed_letter(13, b':')?;
+    let minute = cursor.fixed_number(14)?;
+    cursor.fixed_letter(16, b':')?;
+    let second = cursor.fixed_number(17)?;
+    Some(WholeTime {
+        hour,
+        minute,
+        second,
+    })
+}
+
+// ==== Times digit by digit ====
+
 /// Writes a time of these parts, as far as the shape.
 #[inline(always)]
 fn write_time(time: &mut TimeRecord, hour: u8, minute: u8, second: u8, fraction: Option<Fraction>) {
@@ -95,8 +131,8 @@ fn next_number<'a, T: EncodingType>(
     greatest: u8,
     stop: Stop,
 ) -> Result<u8, Stop> {
-    let (tens, ones) = cursor.two_digits(stop)?;
-    check_most(digits_value(tens, ones), greatest, stop)
+    let number = cursor.two_digits(stop)?;
+    check_most(number, greatest, stop)
 }
 
 /// Reads a time, as far as it goes.

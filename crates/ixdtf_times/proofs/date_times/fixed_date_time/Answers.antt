@@ -1,4 +1,4 @@
-use Rattle.ixdtf_times.proofs.fixed.find_date_time.Goals as goal
+use Rattle.ixdtf_times.proofs.date_times.fixed_date_time.Goals as goal
 use Rattle.std.proofs.{Common.{map, sym, arith}, lemmas.List.length-map}
 use Rattle.ixdtf_reading.proofs.code.FixedPlaces.{too_short}
 
