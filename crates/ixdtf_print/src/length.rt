@@ -1,5 +1,5 @@
 //! How long the text of a record is.
-#![tactic(auto, using(crate::proofs::Lengths::lengths))]
+#![tactic(auto, using(crate::proofs::code::CanonicalLengths::lengths))]
 
 ghost use Rattle.std.specs.Prelude.{◌≡◌, ◌↔◌, ◌<◌, ◌≤◌, ◌+◌, ◌^◌, length, map, option_map, IfSome, OnSome, None};
 ghost use Rattle.ixdtf.specs.Views.{note_of, zone_of};
