@@ -2,7 +2,7 @@
 
 #![tactic(auto, unfolding(ixdtf_reading::specs::reading::Brackets::bracket_readings))]
 
-ghost use Rattle.std.specs.Prelude.{◌≡◌, ◌+◌, ◌≤◌, map, length, true, Ok, IfOk};
+ghost use Rattle.std.specs.Prelude.{◌≡◌, ◌≤◌, map, length, true, Ok, IfOk};
 ghost use Rattle.ixdtf_grammar.specs.language.Letters.{slash, zone_char};
 ghost use Rattle.ixdtf_grammar.specs.Views.{zone_of};
 ghost use Rattle.ixdtf_reading.specs.reading.Clauses.{Reads, Spends, fault_of_stop, closing_look};

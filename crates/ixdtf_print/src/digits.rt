@@ -1,5 +1,4 @@
 //! Digits put into a slice.
-ghost use Rattle.std.specs.Prelude.{◌∷◌};
 ghost use Rattle.ixdtf.specs.language.Digits.{padded_digits};
 ghost use Rattle.ixdtf_print.specs.Canonical.{fraction_text};
 ghost use Rattle.ixdtf_print.specs.Puts.{HasRoom, Puts};

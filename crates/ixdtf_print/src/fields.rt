@@ -1,5 +1,5 @@
 //! The fields of a record put into a slice.
-ghost use Rattle.std.specs.Prelude.{◌≡◌, ◌∷◌, map, nat_abs, option_map, Some};
+ghost use Rattle.std.specs.Prelude.{◌≡◌, ◌∷◌, map, nat_abs, option_map};
 ghost use Rattle.ixdtf.specs.Views.{note_of, zone_of};
 ghost use Rattle.ixdtf_print.specs.Printable.{record_of};
 ghost use Rattle.ixdtf.specs.language.Letters.{Plain};

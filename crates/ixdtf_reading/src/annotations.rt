@@ -2,15 +2,12 @@
 
 #![tactic(auto, unfolding(crate::specs::reading::Pairs::pair_readings))]
 
-ghost use Rattle.std.specs.Prelude.{◌≡◌, ◌+◌, ◌≤◌, ◌<◌, ◌*◌, ◌↔◌, [], ◌∷◌, map, length, drop, option_map, IsTrue, OnOk, IfOk, IfErr, IsSome};
-ghost use Rattle.std.specs.Option.{option_or};
-ghost use Rattle.ixdtf_grammar.specs.table.Faults.{Fault};
-ghost use Rattle.ixdtf_reading.specs.reading.Clauses.{Reads, Spends, SpendsOr, fault_of_stop, yielded};
+ghost use Rattle.std.specs.Prelude.{◌≡◌, ◌+◌, ◌≤◌, ◌<◌, ◌*◌, map, length, drop, option_map, OnOk, IfOk, IsSome};
+ghost use Rattle.ixdtf_reading.specs.reading.Clauses.{Reads, Spends, SpendsOr, fault_of_stop};
 ghost use Rattle.ixdtf_reading.specs.reading.Looks.{error_of, next_by};
 ghost use Rattle.ixdtf_reading.specs.reading.Runs.{key_after, component_after};
 ghost use Rattle.ixdtf_reading.specs.reading.Pairs.{AtStart, BeginsKey, key_run, component_look, value_run, pair_at, critical_pair_at, later_pair_at, next_pair_at};
-ghost use Rattle.ixdtf_grammar.specs.Handlers.{RefusedBeside, first_calendar, pair_of};
-ghost use Rattle.ixdtf_reading.specs.reading.Chains.{PairsRead, first_pairs};
+ghost use Rattle.ixdtf_grammar.specs.Handlers.{pair_of};
 
 use crate::cursor::Cursor;
 use crate::grammar::{
