@@ -145,7 +145,7 @@ pub fn parse_tz_name<'a, T: EncodingType>(
     })
 }
 
-/// Reads a name, and expects the end of the input.
+/// Reads a name, and expects the end of the input. Its first code unit has been seen.
 fn parse_name_alone<'a, T: EncodingType>(
     cursor: &mut Cursor<'a, T>,
 ) -> Result<&'a [T::CodeUnit], Stop>
@@ -161,7 +161,7 @@ fn parse_name_alone<'a, T: EncodingType>(
     }
 }
 
-/// Reads a name, and expects the end of the input. Its first code unit has been seen.
+/// Reads a name, and expects the end of the input.
 pub fn parse_iana_identifier_text<'a, T: EncodingType>(
     cursor: &mut Cursor<'a, T>,
 ) -> Result<&'a [T::CodeUnit], Stop>
@@ -207,8 +207,8 @@ pub fn parse_identifier_text<'a, T: EncodingType>(
 
 /// Expects `]`: the end of the input is `AnnotationClose`, and another code unit is this stop.
 #[inline(always)]
-fn close_bracket<'a, T: EncodingType>(cursor: &mut Cursor<'a, T>, other: Stop) -> Result<u8, Stop>
-    ensures end { Reads T.letter (λ byte. byte) cursor.old result cursor.new
+fn close_bracket<'a, T: EncodingType>(cursor: &mut Cursor<'a, T>, other: Stop) -> Result<(), Stop>
+    ensures end { Reads T.letter (λ _. 93) cursor.old result cursor.new
         (next_by (closing_look (fault_of_stop other))) }
     ensures looks { Spends 1 cursor.old cursor.new }
 {
@@ -216,7 +216,7 @@ fn close_bracket<'a, T: EncodingType>(cursor: &mut Cursor<'a, T>, other: Stop) -
         None => Err(Stop::AnnotationClose),
         Some(byte) if is_annotation_close(byte) => {
             cursor.advance();
-            Ok(byte)
+            Ok(())
         }
         Some(_) => Err(other),
     }

@@ -2,9 +2,10 @@
 
 #![tactic(auto, unfolding(crate::specs::reading::Pairs::pair_readings))]
 
-ghost use Rattle.std.specs.Prelude.{◌≡◌, ◌+◌, ◌≤◌, ◌<◌, ◌*◌, map, length, drop, option_map, OnOk, IfOk, IsSome};
+ghost use Rattle.std.specs.Prelude.{◌≡◌, ◌+◌, ◌≤◌, ◌<◌, ◌*◌, map, length, drop, option_map, true, OnOk, IfOk, IsSome};
+ghost use Rattle.ixdtf_grammar.specs.language.Letters.{value_char};
 ghost use Rattle.ixdtf_reading.specs.reading.Clauses.{Reads, Spends, SpendsOr, fault_of_stop};
-ghost use Rattle.ixdtf_reading.specs.reading.Looks.{error_of, next_by};
+ghost use Rattle.ixdtf_reading.specs.reading.Looks.{error_of, mark_by};
 ghost use Rattle.ixdtf_reading.specs.reading.Runs.{key_after, component_after};
 ghost use Rattle.ixdtf_reading.specs.reading.Pairs.{AtStart, BeginsKey, key_run, component_look, value_run, pair_at, critical_pair_at, later_pair_at, next_pair_at};
 ghost use Rattle.ixdtf_grammar.specs.Handlers.{pair_of};
@@ -78,9 +79,9 @@ impl Letters for ComponentLetters {
 /// Takes the first code unit of a component. Another code unit, or the end of the input, is this stop, and is not
 /// taken.
 #[inline(always)]
-fn start_component<'a, T: EncodingType>(cursor: &mut Cursor<'a, T>, other: Stop) -> Result<u8, Stop>
-    ensures letter { Reads T.letter (λ byte. byte) cursor.old result cursor.new
-        (next_by (component_look (fault_of_stop other))) }
+fn start_component<'a, T: EncodingType>(cursor: &mut Cursor<'a, T>, other: Stop) -> Result<(), Stop>
+    ensures letter { Reads T.letter (λ _. true) cursor.old result cursor.new
+        (mark_by (component_look (fault_of_stop other)) value_char) }
     ensures rest { OnOk result (cursor.new.rest ≡ drop 1 cursor.old.rest) }
     ensures shorter { OnOk result (length cursor.new.rest < length cursor.old.rest) }
     ensures looks { SpendsOr 1 0 cursor.old result cursor.new }
@@ -88,7 +89,7 @@ fn start_component<'a, T: EncodingType>(cursor: &mut Cursor<'a, T>, other: Stop)
     match cursor.look()? {
         Some(byte) if is_annotation_value_component(byte) => {
             cursor.advance();
-            Ok(byte)
+            Ok(())
         }
         _ => Err(other),
     }

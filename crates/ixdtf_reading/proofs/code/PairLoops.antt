@@ -3,7 +3,7 @@ use Rattle.std.proofs.Common.{◌≡◌, ℕ, Bool, true, false, List, [], ◌�
 use Rattle.std.proofs.{Common.{if◌then◌else◌, arith}, lemmas.Bool.Decides.nat_tests}
 use Rattle.ixdtf_reading.specs.{declared.annotations.{KeyLetters.KeyLetters, ComponentLetters.ComponentLetters}, reading.Pairs.{ValueState, AtStart, Inside, BeginsKey}}
 use Rattle.ixdtf_reading.specs.reading.Pairs.{AfterHyphen, GoesOn, Ends, Stops, key_run, component_look, value_run, value_mark, value_step, value_end}
-use Rattle.ixdtf_reading.specs.reading.{Pairs.value_other, Looks.{Placed, look_at, seen, next_by, error_of}, Zones.with_letter}
+use Rattle.ixdtf_reading.specs.reading.{Pairs.value_other, Looks.{Placed, look_at, seen, next_by, mark_by, error_of}, Zones.with_letter}
 use Rattle.ixdtf_reading.specs.reading.Runs.{Taken, letters_by, key_after, component_after}
 use Rattle.ixdtf_reading.proofs.code.{FirstLetter.{first_is as letter_first, nothing_is}, LetterLoops.{test_held, test_failed, first_is, Stays, next_shown}}
 use Rattle.ixdtf_reading.proofs.code.LetterLoops.{next_stays, run_failed, run_passed, IsFar, one_far, more_far, far_fails}
@@ -93,8 +93,8 @@ no_hyphen c is = grind (arith, nat_tests)
 
 -- where no component begins
 pub value_unstarted : (state : ValueState) (fault : Fault) → value_end state ≡ fault → value_other state ≡ fault → ((c : ℕ) → value_mark state c ≡ Stops)
-    → (text : Text) (placed : Placed) → next_by (component_look fault) text ≡ Err placed → value_run error_of state text ≡ Err placed
-unfolding next_by look_at value_run
+    → (text : Text) (placed : Placed) → mark_by (component_look fault) value_char text ≡ Err placed → value_run error_of state text ≡ Err placed
+unfolding mark_by next_by look_at value_run
 value_unstarted state fault at_end other marks [] placed e = let same : (fault, []) ≡ placed = cc in ap (λ f. Err (f, [])) at_end ∙ ap Err same
 value_unstarted state fault at_end other marks (Bad ∷ rest) placed e = let same : (NonAsciiCodePoint, Bad ∷ rest) ≡ placed = cc in ap Err same
 value_unstarted state fault at_end other marks (Plain c ∷ rest) placed e =
@@ -103,14 +103,10 @@ value_unstarted state fault at_end other marks (Plain c ∷ rest) placed e =
     value_stops state c rest (rw out (marks c)) ∙ ap (λ f. Err (f, Plain c ∷ rest)) other ∙ ap Err same
 
 -- the code unit that a component begins with
-started : (fault : Fault) (text left : Text) (c : ℕ) → next_by (component_look fault) text ≡ Ok (c, left) → (seen text ≡ Ok (Some c)) × (value_char c ≡ true)
-unfolding next_by look_at
-started fault (Plain n ∷ rest) left c e =
-    let is : value_char n ≡ true = grind (arith, e) in
-    let both : ◌≡◌ {A = ℕ × Text} (n, rest) (c, left) = cc (rw is at e) in
-    let same : n ≡ c = ap (λ x. x.0) both in
-    (ap (λ m. Ok (Some m)) same, ap value_char (sym same) ∙ is)
-started fault text left c e = absurd cc
+started : (fault : Fault) (text left : Text) → mark_by (component_look fault) value_char text ≡ Ok (true, left) → (c : ℕ) × (seen text ≡ Ok (Some c)) × (value_char c ≡ true)
+unfolding mark_by next_by look_at
+started fault (Plain c ∷ rest) left e = let is : value_char c ≡ true = grind (arith, e) in (c, refl, is)
+started fault text left e = absurd cc
 
 -- a component inside a value
 component_over : (state next : ComponentLetters) (c : ℕ) (rest : Text) → component_after state c ≡ Some next
@@ -137,10 +133,10 @@ module _ (letter : ℕ → Letter) (faithful : (unit n : ℕ) → letter unit �
     value_fails fault e = far_fails far (λ c e. refl) fault e
 
     -- a component begins
-    pub value_starts : (fault : Fault) (left : List ℕ) (c : ℕ) → next_by (component_look fault) (map letter rest) ≡ Ok (c, map letter left) → left ≡ drop 1 rest
+    pub value_starts : (fault : Fault) (left : List ℕ) → mark_by (component_look fault) value_char (map letter rest) ≡ Ok (true, map letter left) → left ≡ drop 1 rest
         → Far left Inside
-    value_starts fault left c e moved =
-        let (found, is) = started fault (map letter rest) (map letter left) c e in
+    value_starts fault left e moved =
+        let (c, found, is) = started fault (map letter rest) (map letter left) e in
         one_far far faithful left Inside c found (λ more. value_on state Inside c more (at_letter state c is)) moved
 
   module _ (rest : List ℕ) (far : ValueSoFar letter whole rest Inside) (letters : ComponentLetters) where

@@ -61,11 +61,11 @@ impl Letters for ComponentLetters {
 /// Takes the first code unit of a component. Another code unit, or the end of the input, is this stop, and is not
 /// taken.
 #[inline(always)]
-fn start_component<'a, T: EncodingType>(cursor: &mut Cursor<'a, T>, other: Stop) -> Result<u8, Stop> {
+fn start_component<'a, T: EncodingType>(cursor: &mut Cursor<'a, T>, other: Stop) -> Result<(), Stop> {
     match cursor.look()? {
         Some(byte) if is_annotation_value_component(byte) => {
             cursor.advance();
-            Ok(byte)
+            Ok(())
         }
         _ => Err(other),
     }

@@ -14,7 +14,7 @@ returns-in_err-start_component-clause-value g c =
 pub loop-component-init : goal.loop-component-init
 loop-component-init g c = record {
   start = c.rest-start.ensures;
-  far = value_starts g.T.EncodingType.letter g.met.T.EncodingType.faithful _ _ AtStart (value_begins _ _) _ _ _ c.in_ok-start_component.ensures.letter
+  far = value_starts g.T.EncodingType.letter g.met.T.EncodingType.faithful _ _ AtStart (value_begins _ _) _ _ c.in_ok-start_component.ensures.letter
       c.in_ok-start_component.ensures.rest;
   looks = omega (arith, c.in_ok-start_component.ensures.looks);
   counted = omega (arith, c.in_ok-start_component.ensures.looks);
@@ -73,7 +73,7 @@ loop-component-preserved g c =
     let begun = c.in_ok-start_component-2.ensures in
     record {
       start = c.loop-component.invariant.start;
-      far = value_starts g.T.EncodingType.letter g.met.T.EncodingType.faithful _ _ AfterHyphen far _ _ _ c.in_ok-start_component-2.ensures.letter
+      far = value_starts g.T.EncodingType.letter g.met.T.EncodingType.faithful _ _ AfterHyphen far _ _ c.in_ok-start_component-2.ensures.letter
           c.in_ok-start_component-2.ensures.rest;
       looks = omega (arith, counts.looks, walked.looks, paid, off, kept, begun.looks);
       counted = omega (arith, counts.counted, walked.looks, kept, begun.looks);
