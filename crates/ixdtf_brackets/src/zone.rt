@@ -7,9 +7,9 @@ ghost use Rattle.ixdtf_grammar.specs.language.Letters.{slash, zone_char};
 ghost use Rattle.ixdtf_grammar.specs.Views.{zone_of};
 ghost use Rattle.ixdtf_reading.specs.reading.Clauses.{Reads, Spends, fault_of_stop, closing_look};
 ghost use Rattle.ixdtf_reading.specs.reading.Looks.{error_of, next_by, seen};
-ghost use Rattle.ixdtf_reading.specs.reading.Runs.{Passes, letters_by};
+ghost use Rattle.ixdtf_reading.specs.reading.Runs.{letters_by};
 ghost use Rattle.ixdtf_reading.specs.reading.Zones.{name_run, name_alone_at, iana_identifier_at, identifier_at};
-ghost use Rattle.ixdtf_brackets.specs.BracketTypes.{part_after, name_after};
+ghost use Rattle.ixdtf_brackets.specs.BracketTypes.{Passes, name_after};
 ghost use Rattle.ixdtf_reading.specs.reading.Brackets.{name_fault, next_is, name_in_bracket_at, offset_in_bracket_at};
 
 use ixdtf_grammar::encoding::EncodingType;
@@ -18,7 +18,7 @@ use ixdtf_reading::cursor::Cursor;
 use ixdtf_reading::grammar::{
     is_annotation_close, is_ascii_sign, is_tz_char, is_tz_leading_char, is_tz_name_separator,
 };
-use ixdtf_reading::letters::{Letters, Passed, pass_letters};
+use ixdtf_reading::letters::{Letters, pass_letters};
 use ixdtf_reading::stop::Stop;
 use ixdtf_times::offsets::{minute_offset, take_last_offset};
 use ixdtf_times::time::{Clock, parse_clock};
@@ -26,15 +26,14 @@ use ixdtf_times::time::{Clock, parse_clock};
 // ==== Names ====
 
 /// The code units of a part of a name.
-#[derive(Clone, Copy)]
 pub struct PartLetters;
 
 impl Letters for PartLetters {
-    ghost after = { part_after };
+    ghost class = { zone_char };
 
     #[inline(always)]
-    fn go_on(self, byte: u8) -> Option<Self> {
-        is_tz_char(byte).then_some(self)
+    fn has(byte: u8) -> bool {
+        is_tz_char(byte)
     }
 }
 
@@ -58,6 +57,13 @@ impl NameState {
     }
 }
 
+/// The state of a name that was passed over, and the code unit that ended it.
+#[derive(Clone, Copy)]
+pub struct PassedName {
+    pub state: NameState,
+    pub next: Option<u8>,
+}
+
 /// Whether the code unit is the `/` after a part of a name.
 #[inline(always)]
 fn ends_part(next: Option<u8>) -> bool
@@ -76,7 +82,7 @@ fn starts_part(next: Option<u8>) -> bool
 
 /// Passes over the code units of a name, part by part between its slashes.
 #[inline(always)]
-pub fn pass_name<'a, T: EncodingType>(cursor: &mut Cursor<'a, T>) -> Result<Passed<NameState>, Stop>
+pub fn pass_name<'a, T: EncodingType>(cursor: &mut Cursor<'a, T>) -> Result<PassedName, Stop>
     ensures letters { Passes T.letter cursor.old result cursor.new
         (letters_by name_after (record { may_end = true })) }
     ensures looks { Spends 1 cursor.old cursor.new }
@@ -90,24 +96,24 @@ pub fn pass_name<'a, T: EncodingType>(cursor: &mut Cursor<'a, T>) -> Result<Pass
 
 /// Passes over the parts of a name, as `pass_name` does, with this cursor itself.
 #[inline(always)]
-fn pass_parts<'a, T: EncodingType>(cursor: &mut Cursor<'a, T>) -> Result<Passed<NameState>, Stop>
+fn pass_parts<'a, T: EncodingType>(cursor: &mut Cursor<'a, T>) -> Result<PassedName, Stop>
     ensures letters { Passes T.letter cursor.old result cursor.new
         (letters_by name_after (record { may_end = true })) }
     ensures looks { Spends 1 cursor.old cursor.new }
     ensures shorter { length cursor.new.rest ≤ length cursor.old.rest }
 {
     loop {
-        let part = pass_letters(cursor, PartLetters)?;
-        if !ends_part(part.next) {
-            return Ok(Passed {
+        let behind = pass_letters::<T, PartLetters>(cursor)?;
+        if !ends_part(behind) {
+            return Ok(PassedName {
                 state: NameState { may_end: true },
-                next: part.next,
+                next: behind,
             });
         }
         cursor.advance();
         let next = cursor.look()?;
         if !starts_part(next) {
-            return Ok(Passed {
+            return Ok(PassedName {
                 state: NameState { may_end: false },
                 next,
             });
