@@ -1,5 +1,5 @@
 //! The fields of what a reader found.
-ghost use Rattle.std.specs.Prelude.{◌≡◌, ◌++◌, codes, map, option_map};
+ghost use Rattle.std.specs.Prelude.{◌≡◌, map, option_map};
 ghost use Rattle.ixdtf.specs.Views.{parsed_of, note_of, zone_of};
 ghost use Rattle.ixdtf.specs.language.Languages.Found.{parsed};
 ghost use Rattle.ixdtf_print.specs.Printable.{record_of};

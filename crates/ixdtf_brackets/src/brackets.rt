@@ -3,8 +3,8 @@
 #![tactic(auto, unfolding(ixdtf_reading::specs::reading::Brackets::bracket_readings))]
 
 ghost use Rattle.std.specs.Prelude.{◌≡◌, ◌+◌, ◌*◌, map, length};
+ghost use Rattle.ixdtf_grammar.specs.language.Brackets.{skipped};
 ghost use Rattle.ixdtf_grammar.specs.language.Letters.{equals, closing};
-ghost use Rattle.ixdtf_brackets.specs.BracketTypes.{bracket_after};
 ghost use Rattle.ixdtf_reading.specs.reading.Clauses.{Reads, Spends, SpendsOr, fault_of_stop};
 ghost use Rattle.ixdtf_brackets.specs.BracketTypes.{bracket_of};
 ghost use Rattle.ixdtf_reading.specs.reading.Looks.{error_of};
@@ -120,10 +120,10 @@ fn parse_name_or_pair<'a, T: EncodingType>(
     ensures looks { SpendsOr (2 * length cursor.old.rest + 3) 3 cursor.old result cursor.new }
 {
     let start = cursor.rest();
-    let passed = pass_letters(cursor, KeyLetters)?;
+    let next = pass_letters::<T, KeyLetters>(cursor)?;
     let behind_key = cursor.rest();
     let key = &start[..start.len().saturating_sub(behind_key.len())];
-    if ends_key(passed.next) {
+    if ends_key(next) {
         cursor.advance();
         let value = parse_annotation_value(cursor)?;
         return Ok(Bracket::Pair(Annotation {
@@ -150,16 +150,14 @@ fn parse_name_or_pair<'a, T: EncodingType>(
 }
 
 /// The code units of a first bracket before an `=` or a `]`.
-#[derive(Clone, Copy)]
 pub struct BracketLetters;
 
 impl Letters for BracketLetters {
-    ghost after = { bracket_after };
+    ghost class = { skipped };
 
     #[inline(always)]
-    fn go_on(self, byte: u8) -> Option<Self> {
-        let skipped = !is_annotation_key_value_separator(byte) && !is_annotation_close(byte);
-        skipped.then_some(self)
+    fn has(byte: u8) -> bool {
+        !is_annotation_key_value_separator(byte) && !is_annotation_close(byte)
     }
 }
 
@@ -186,9 +184,9 @@ fn refuse_bracket<'a, T: EncodingType>(
 {
     let behind_name = here.rest();
     let mut ahead = here;
-    match pass_letters(&mut ahead, BracketLetters) {
+    match pass_letters::<T, BracketLetters>(&mut ahead) {
         Err(stop) => Refused { stop, there: ahead },
-        Ok(passed) => match passed.next {
+        Ok(next) => match next {
             None => Refused {
                 stop: Stop::AbruptBracket,
                 there: ahead,

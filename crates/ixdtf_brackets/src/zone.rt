@@ -2,14 +2,14 @@
 
 #![tactic(auto, unfolding(ixdtf_reading::specs::reading::Brackets::bracket_readings))]
 
-ghost use Rattle.std.specs.Prelude.{◌≡◌, ◌+◌, ◌≤◌, map, length, true, Ok, IfOk};
+ghost use Rattle.std.specs.Prelude.{◌≡◌, ◌≤◌, map, length, true, Ok, IfOk};
 ghost use Rattle.ixdtf_grammar.specs.language.Letters.{slash, zone_char};
 ghost use Rattle.ixdtf_grammar.specs.Views.{zone_of};
 ghost use Rattle.ixdtf_reading.specs.reading.Clauses.{Reads, Spends, fault_of_stop, closing_look};
 ghost use Rattle.ixdtf_reading.specs.reading.Looks.{error_of, next_by, seen};
-ghost use Rattle.ixdtf_reading.specs.reading.Runs.{Passes, letters_by};
+ghost use Rattle.ixdtf_reading.specs.reading.Runs.{letters_by};
 ghost use Rattle.ixdtf_reading.specs.reading.Zones.{name_run, name_alone_at, iana_identifier_at, identifier_at};
-ghost use Rattle.ixdtf_brackets.specs.BracketTypes.{part_after, name_after};
+ghost use Rattle.ixdtf_brackets.specs.BracketTypes.{Passes, name_after};
 ghost use Rattle.ixdtf_reading.specs.reading.Brackets.{name_fault, next_is, name_in_bracket_at, offset_in_bracket_at};
 
 use ixdtf_grammar::encoding::EncodingType;
@@ -18,7 +18,7 @@ use ixdtf_reading::cursor::Cursor;
 use ixdtf_reading::grammar::{
     is_annotation_close, is_ascii_sign, is_tz_char, is_tz_leading_char, is_tz_name_separator,
 };
-use ixdtf_reading::letters::{Letters, Passed, pass_letters};
+use ixdtf_reading::letters::{Letters, pass_letters};
 use ixdtf_reading::stop::Stop;
 use ixdtf_times::offsets::{minute_offset, take_last_offset};
 use ixdtf_times::time::{Clock, parse_clock};
@@ -26,15 +26,14 @@ use ixdtf_times::time::{Clock, parse_clock};
 // ==== Names ====
 
 /// The code units of a part of a name.
-#[derive(Clone, Copy)]
 pub struct PartLetters;
 
 impl Letters for PartLetters {
-    ghost after = { part_after };
+    ghost class = { zone_char };
 
     #[inline(always)]
-    fn go_on(self, byte: u8) -> Option<Self> {
-        is_tz_char(byte).then_some(self)
+    fn has(byte: u8) -> bool {
+        is_tz_char(byte)
     }
 }
 
@@ -58,6 +57,13 @@ impl NameState {
     }
 }
 
+/// The state of a name that was passed over, and the code unit that ended it.
+#[derive(Clone, Copy)]
+pub struct PassedName {
+    pub state: NameState,
+    pub next: Option<u8>,
+}
+
 /// Whether the code unit is the `/` after a part of a name.
 #[inline(always)]
 fn ends_part(next: Option<u8>) -> bool
@@ -76,7 +82,7 @@ fn starts_part(next: Option<u8>) -> bool
 
 /// Passes over the code units of a name, part by part between its slashes.
 #[inline(always)]
-pub fn pass_name<'a, T: EncodingType>(cursor: &mut Cursor<'a, T>) -> Result<Passed<NameState>, Stop>
+pub fn pass_name<'a, T: EncodingType>(cursor: &mut Cursor<'a, T>) -> Result<PassedName, Stop>
     ensures letters { Passes T.letter cursor.old result cursor.new
         (letters_by name_after (record { may_end = true })) }
     ensures looks { Spends 1 cursor.old cursor.new }
@@ -90,24 +96,24 @@ pub fn pass_name<'a, T: EncodingType>(cursor: &mut Cursor<'a, T>) -> Result<Pass
 
 /// Passes over the parts of a name, as `pass_name` does, with this cursor itself.
 #[inline(always)]
-fn pass_parts<'a, T: EncodingType>(cursor: &mut Cursor<'a, T>) -> Result<Passed<NameState>, Stop>
+fn pass_parts<'a, T: EncodingType>(cursor: &mut Cursor<'a, T>) -> Result<PassedName, Stop>
     ensures letters { Passes T.letter cursor.old result cursor.new
         (letters_by name_after (record { may_end = true })) }
     ensures looks { Spends 1 cursor.old cursor.new }
     ensures shorter { length cursor.new.rest ≤ length cursor.old.rest }
 {
     loop {
-        let part = pass_letters(cursor, PartLetters)?;
-        if !ends_part(part.next) {
-            return Ok(Passed {
+        let behind = pass_letters::<T, PartLetters>(cursor)?;
+        if !ends_part(behind) {
+            return Ok(PassedName {
                 state: NameState { may_end: true },
-                next: part.next,
+                next: behind,
             });
         }
         cursor.advance();
         let next = cursor.look()?;
         if !starts_part(next) {
-            return Ok(Passed {
+            return Ok(PassedName {
                 state: NameState { may_end: false },
                 next,
             });
@@ -145,7 +151,7 @@ pub fn parse_tz_name<'a, T: EncodingType>(
     })
 }
 
-/// Reads a name, and expects the end of the input.
+/// Reads a name, and expects the end of the input. Its first code unit has been seen.
 fn parse_name_alone<'a, T: EncodingType>(
     cursor: &mut Cursor<'a, T>,
 ) -> Result<&'a [T::CodeUnit], Stop>
@@ -161,7 +167,7 @@ fn parse_name_alone<'a, T: EncodingType>(
     }
 }
 
-/// Reads a name, and expects the end of the input. Its first code unit has been seen.
+/// Reads a name, and expects the end of the input.
 pub fn parse_iana_identifier_text<'a, T: EncodingType>(
     cursor: &mut Cursor<'a, T>,
 ) -> Result<&'a [T::CodeUnit], Stop>
@@ -207,8 +213,8 @@ pub fn parse_identifier_text<'a, T: EncodingType>(
 
 /// Expects `]`: the end of the input is `AnnotationClose`, and another code unit is this stop.
 #[inline(always)]
-fn close_bracket<'a, T: EncodingType>(cursor: &mut Cursor<'a, T>, other: Stop) -> Result<u8, Stop>
-    ensures end { Reads T.letter (λ byte. byte) cursor.old result cursor.new
+fn close_bracket<'a, T: EncodingType>(cursor: &mut Cursor<'a, T>, other: Stop) -> Result<(), Stop>
+    ensures end { Reads T.letter (λ _. 93) cursor.old result cursor.new
         (next_by (closing_look (fault_of_stop other))) }
     ensures looks { Spends 1 cursor.old cursor.new }
 {
@@ -216,7 +222,7 @@ fn close_bracket<'a, T: EncodingType>(cursor: &mut Cursor<'a, T>, other: Stop) -
         None => Err(Stop::AnnotationClose),
         Some(byte) if is_annotation_close(byte) => {
             cursor.advance();
-            Ok(byte)
+            Ok(())
         }
         Some(_) => Err(other),
     }

@@ -12,7 +12,7 @@ use Rattle.ixdtf_c.specs.{Crossing.record_for, Outcomes.GivesRecord}
 use Rattle.ixdtf_c.specs.Standing.{where_there, fraction_by, date_by, time_by, minutes_by, offset_by, zone_by, parsed_by, record_by}
 use Rattle.ixdtf_c.proofs.Numbers.{number_some}
 use Rattle.ixdtf_print.specs.{Canonical.canonical_text, Printable.IsPrintable, Spelled.{HasTime, HasDigits, IsDayTime, IsShift}}
-use Rattle.ixdtf_print.proofs.{Parse.to_parts, Printable.{printable_iff, of_record}}
+use Rattle.ixdtf_print.proofs.{parts.ParsedParts.to_parts, theorems.PrintableRecords.{printable_iff, of_record}}
 
 time_of_both : (time : Option TimeRecord) (offset : Option UtcOffsetRecordOrZ) → HasTime time offset → IfSome time IsDayTime
 time_of_both None offset has = tt

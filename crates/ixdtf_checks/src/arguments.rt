@@ -1,5 +1,4 @@
 //! The words after the program's name.
-ghost use Rattle.std.specs.Prelude.{◌≡◌};
 
 use crate::kind::Kind;
 use crate::request::{Field, Request, Task};

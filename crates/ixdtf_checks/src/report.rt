@@ -1,6 +1,4 @@
 //! The report of a line.
-ghost use Rattle.std.specs.Prelude.{◌≡◌, ◌∷◌, ◌++◌};
-ghost use Rattle.ixdtf_buffers.specs.Lines.{newline};
 ghost use Rattle.ixdtf_buffers.specs.Output.{Puts};
 ghost use Rattle.ixdtf_checks.specs.Reports.{place_of, refusal_of, report_of};
 ghost use Rattle.ixdtf_checks.specs.Seen.{seen, message_in, lines_in, lines_at};

@@ -1,5 +1,5 @@
 //! How many lines there were.
-ghost use Rattle.std.specs.Prelude.{◌≡◌, ◌<◌, ◌+◌, ◌-◌, ◌^◌, min, if◌then◌else◌};
+ghost use Rattle.std.specs.Prelude.{◌≡◌, ◌+◌, ◌-◌, ◌^◌, min, if◌then◌else◌};
 
 /// How many lines there were, how many of them were refused, and how many bytes were read.
 #[derive(Clone, Copy, Debug, PartialEq)]

@@ -1,14 +1,3 @@
-pub mod PaddedDigits
-pub mod Parse
-pub mod ReadBack
-pub mod Derived
-pub mod DerivedTimes
-pub mod Printable
-pub mod Puts
-pub mod DigitLoop
-pub mod Values
-pub mod Lengths
-pub mod Years
-pub mod ValueLoop
-pub mod Shown
-pub mod Ascii
+pub mod code
+pub mod parts
+pub mod theorems

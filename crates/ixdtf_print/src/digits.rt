@@ -1,5 +1,4 @@
 //! Digits put into a slice.
-ghost use Rattle.std.specs.Prelude.{◌∷◌};
 ghost use Rattle.ixdtf.specs.language.Digits.{padded_digits};
 ghost use Rattle.ixdtf_print.specs.Canonical.{fraction_text};
 ghost use Rattle.ixdtf_print.specs.Puts.{HasRoom, Puts};
@@ -12,7 +11,7 @@ use ixdtf::records::Fraction;
 /// It is a call of its own, since of a loop that puts zeros alone a compiler would make a call of `memset`, and the library
 /// for C calls nothing.
 #[inline(never)]
-#[tactic(auto, using(crate::proofs::DigitLoop::digit_steps))]
+#[tactic(auto, using(crate::proofs::code::DigitLoop::digit_steps))]
 pub fn put_digits(out: &mut [u8], at: usize, count: usize, number: u64) -> usize
     requires { HasRoom out.old at (padded_digits count number) }
     ensures { Puts out.old out.new at result (padded_digits count number) }

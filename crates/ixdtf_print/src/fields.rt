@@ -1,5 +1,5 @@
 //! The fields of a record put into a slice.
-ghost use Rattle.std.specs.Prelude.{◌≡◌, ◌∷◌, map, nat_abs, option_map, Some};
+ghost use Rattle.std.specs.Prelude.{◌≡◌, ◌∷◌, map, nat_abs, option_map};
 ghost use Rattle.ixdtf.specs.Views.{note_of, zone_of};
 ghost use Rattle.ixdtf_print.specs.Printable.{record_of};
 ghost use Rattle.ixdtf.specs.language.Letters.{Plain};
@@ -24,7 +24,7 @@ fn distance_of(date: DateRecord) -> u64
 }
 
 /// Puts the year at the place, and returns the place behind it.
-#[tactic(auto, using(crate::proofs::Puts::putting, crate::proofs::Years::years))]
+#[tactic(auto, using(crate::proofs::code::PutBytes::putting, crate::proofs::code::YearSigns::years))]
 fn put_year(out: &mut [u8], at: usize, date: DateRecord) -> usize
     requires { HasRoom out.old at (year_text date.year) }
     ensures { Puts out.old out.new at result (year_text date.year) }
@@ -42,7 +42,7 @@ fn put_year(out: &mut [u8], at: usize, date: DateRecord) -> usize
 }
 
 /// Puts the date at the place, and returns the place behind it.
-#[tactic(auto, using(crate::proofs::Puts::putting), unfolding(crate::specs::Canonical::date_text))]
+#[tactic(auto, using(crate::proofs::code::PutBytes::putting), unfolding(crate::specs::Canonical::date_text))]
 fn put_date(out: &mut [u8], at: usize, date: DateRecord) -> usize
     requires { HasRoom out.old at (date_text date) }
     ensures { Puts out.old out.new at result (date_text date) }
@@ -64,7 +64,7 @@ fn put_optional_date(out: &mut [u8], at: usize, date: Option<DateRecord>) -> usi
 }
 
 /// Puts a mark, an hour and a minute at the place, and returns the place behind them.
-#[tactic(auto, using(crate::proofs::Puts::putting), unfolding(crate::specs::Canonical::minutes_text))]
+#[tactic(auto, using(crate::proofs::code::PutBytes::putting), unfolding(crate::specs::Canonical::minutes_text))]
 fn put_minutes(out: &mut [u8], at: usize, mark: u8, hour: u8, minute: u8) -> usize
     requires { HasRoom out.old at (Plain mark ∷ minutes_text hour minute) }
     ensures { Puts out.old out.new at result (Plain mark ∷ minutes_text hour minute) }
@@ -178,7 +178,7 @@ fn put_zone(out: &mut [u8], at: usize, zone: &TimeZoneRecord<'_, Utf8>) -> usize
 }
 
 /// Puts the zone in its bracket at the place, where there is one, and returns the place behind it.
-#[tactic(auto, using(crate::proofs::Puts::putting))]
+#[tactic(auto, using(crate::proofs::code::PutBytes::putting))]
 fn put_bracket(out: &mut [u8], at: usize, note: &Option<TimeZoneAnnotation<'_, Utf8>>) -> usize
     requires { HasRoom out.old at (bracket_text (option_map (note_of (λ byte. byte)) note.now)) }
     ensures { Puts out.old out.new at result
@@ -212,7 +212,7 @@ fn put_calendar(out: &mut [u8], at: usize, calendar: Option<&[u8]>) -> usize
 }
 
 /// Puts the date, the time and the offset at the place, and returns the place behind them.
-#[tactic(auto, using(crate::proofs::Puts::putting), unfolding(crate::specs::Canonical::core_text))]
+#[tactic(auto, using(crate::proofs::code::PutBytes::putting), unfolding(crate::specs::Canonical::core_text))]
 pub fn put_core(out: &mut [u8], at: usize, parsed: &IxdtfParseRecord<'_, Utf8>) -> usize
     requires { HasRoom out.old at (core_text (record_of parsed.now)) }
     ensures { Puts out.old out.new at result (core_text (record_of parsed.now)) }
@@ -223,7 +223,7 @@ pub fn put_core(out: &mut [u8], at: usize, parsed: &IxdtfParseRecord<'_, Utf8>) 
 }
 
 /// Puts the record at the front, and returns the place behind it.
-#[tactic(auto, using(crate::proofs::Puts::putting), unfolding(crate::specs::Canonical::canonical_text))]
+#[tactic(auto, using(crate::proofs::code::PutBytes::putting), unfolding(crate::specs::Canonical::canonical_text))]
 pub fn put_record(out: &mut [u8], parsed: &IxdtfParseRecord<'_, Utf8>) -> usize
     requires { HasRoom out.old 0 (canonical_text (record_of parsed.now)) }
     ensures { Puts out.old out.new 0 result

@@ -1,7 +1,7 @@
 //! How long the text of a record is.
-#![tactic(auto, using(crate::proofs::Lengths::lengths))]
+#![tactic(auto, using(crate::proofs::code::CanonicalLengths::lengths))]
 
-ghost use Rattle.std.specs.Prelude.{◌≡◌, ◌↔◌, ◌<◌, ◌≤◌, ◌+◌, ◌^◌, length, map, option_map, IfSome, OnSome, None};
+ghost use Rattle.std.specs.Prelude.{◌≡◌, ◌↔◌, ◌<◌, ◌≤◌, ◌^◌, length, map, option_map, IfSome, OnSome, None};
 ghost use Rattle.ixdtf.specs.Views.{note_of, zone_of};
 ghost use Rattle.ixdtf_print.specs.Printable.{IsPrintable, record_of};
 ghost use Rattle.ixdtf_print.specs.Canonical.{fraction_text, time_text, offset_text, zone_text, bracket_text, calendar_text};

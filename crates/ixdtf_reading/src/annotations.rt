@@ -2,15 +2,12 @@
 
 #![tactic(auto, unfolding(crate::specs::reading::Pairs::pair_readings))]
 
-ghost use Rattle.std.specs.Prelude.{◌≡◌, ◌+◌, ◌≤◌, ◌<◌, ◌*◌, ◌↔◌, [], ◌∷◌, map, length, drop, option_map, IsTrue, OnOk, IfOk, IfErr, IsSome};
-ghost use Rattle.std.specs.Option.{option_or};
-ghost use Rattle.ixdtf_grammar.specs.table.Faults.{Fault};
-ghost use Rattle.ixdtf_reading.specs.reading.Clauses.{Reads, Spends, SpendsOr, fault_of_stop, yielded};
-ghost use Rattle.ixdtf_reading.specs.reading.Looks.{error_of, next_by};
-ghost use Rattle.ixdtf_reading.specs.reading.Runs.{key_after, component_after};
+ghost use Rattle.std.specs.Prelude.{◌≡◌, ◌+◌, ◌≤◌, ◌<◌, ◌*◌, map, length, drop, option_map, true, OnOk, IfOk, IsSome};
+ghost use Rattle.ixdtf_grammar.specs.language.Letters.{key_char, value_char};
+ghost use Rattle.ixdtf_reading.specs.reading.Clauses.{Reads, Spends, SpendsOr, fault_of_stop};
+ghost use Rattle.ixdtf_reading.specs.reading.Looks.{error_of, mark_by};
 ghost use Rattle.ixdtf_reading.specs.reading.Pairs.{AtStart, BeginsKey, key_run, component_look, value_run, pair_at, critical_pair_at, later_pair_at, next_pair_at};
-ghost use Rattle.ixdtf_grammar.specs.Handlers.{RefusedBeside, first_calendar, pair_of};
-ghost use Rattle.ixdtf_reading.specs.reading.Chains.{PairsRead, first_pairs};
+ghost use Rattle.ixdtf_grammar.specs.Handlers.{pair_of};
 
 use crate::cursor::Cursor;
 use crate::grammar::{
@@ -25,15 +22,14 @@ use ixdtf_grammar::records::Annotation;
 // ==== Keys and values ====
 
 /// The code units of a key.
-#[derive(Clone, Copy)]
 pub struct KeyLetters;
 
 impl Letters for KeyLetters {
-    ghost after = { key_after };
+    ghost class = { key_char };
 
     #[inline(always)]
-    fn go_on(self, byte: u8) -> Option<Self> {
-        is_a_key_char(byte).then_some(self)
+    fn has(byte: u8) -> bool {
+        is_a_key_char(byte)
     }
 }
 
@@ -50,12 +46,12 @@ pub fn parse_annotation_key<'a, T: EncodingType>(
 {
     let start = cursor.rest();
     cursor.advance();
-    let passed = pass_letters(cursor, KeyLetters)?;
+    let next = pass_letters::<T, KeyLetters>(cursor)?;
     // It always is there: with this test a compiler sees it too, and keeps no panic.
     let Some(key) = start.get(..start.len() - cursor.rest().len()) else {
         return Err(Stop::AnnotationKeyChar);
     };
-    match passed.next {
+    match next {
         None => Err(Stop::AnnotationKeyValueSeparator),
         Some(byte) if is_annotation_key_value_separator(byte) => {
             cursor.advance();
@@ -66,24 +62,23 @@ pub fn parse_annotation_key<'a, T: EncodingType>(
 }
 
 /// The code units of a component of a value.
-#[derive(Clone, Copy)]
 pub struct ComponentLetters;
 
 impl Letters for ComponentLetters {
-    ghost after = { component_after };
+    ghost class = { value_char };
 
     #[inline(always)]
-    fn go_on(self, byte: u8) -> Option<Self> {
-        is_annotation_value_component(byte).then_some(self)
+    fn has(byte: u8) -> bool {
+        is_annotation_value_component(byte)
     }
 }
 
 /// Takes the first code unit of a component. Another code unit, or the end of the input, is this stop, and is not
 /// taken.
 #[inline(always)]
-fn start_component<'a, T: EncodingType>(cursor: &mut Cursor<'a, T>, other: Stop) -> Result<u8, Stop>
-    ensures letter { Reads T.letter (λ byte. byte) cursor.old result cursor.new
-        (next_by (component_look (fault_of_stop other))) }
+fn start_component<'a, T: EncodingType>(cursor: &mut Cursor<'a, T>, other: Stop) -> Result<(), Stop>
+    ensures letter { Reads T.letter (λ _. true) cursor.old result cursor.new
+        (mark_by (component_look (fault_of_stop other)) value_char) }
     ensures rest { OnOk result (cursor.new.rest ≡ drop 1 cursor.old.rest) }
     ensures shorter { OnOk result (length cursor.new.rest < length cursor.old.rest) }
     ensures looks { SpendsOr 1 0 cursor.old result cursor.new }
@@ -91,7 +86,7 @@ fn start_component<'a, T: EncodingType>(cursor: &mut Cursor<'a, T>, other: Stop)
     match cursor.look()? {
         Some(byte) if is_annotation_value_component(byte) => {
             cursor.advance();
-            Ok(byte)
+            Ok(())
         }
         _ => Err(other),
     }
@@ -110,8 +105,8 @@ pub fn parse_annotation_value<'a, T: EncodingType>(
     let start = cursor.rest();
     start_component(cursor, Stop::AnnotationValueChar)?;
     loop {
-        let component = pass_letters(cursor, ComponentLetters)?;
-        match component.next {
+        let next = pass_letters::<T, ComponentLetters>(cursor)?;
+        match next {
             None => return Err(Stop::AnnotationClose),
             Some(byte) if is_annotation_close(byte) => {
                 cursor.advance();

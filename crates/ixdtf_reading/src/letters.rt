@@ -1,58 +1,48 @@
 //! Passing over code units one by one.
 
-ghost use Rattle.std.specs.Prelude.{◌≡◌, ℕ, ◌+◌, ◌≤◌, Option, length, drop, IfOk, IsSome};
+ghost use Rattle.std.specs.Prelude.{◌≡◌, ◌+◌, ◌≤◌, length, drop, IfOk, IsSome};
+ghost use Rattle.ixdtf_grammar.specs.language.Letters.{Class};
 ghost use Rattle.ixdtf_reading.specs.reading.Clauses.{Spends};
-ghost use Rattle.ixdtf_reading.specs.reading.Runs.{Passes, letters_by};
+ghost use Rattle.ixdtf_reading.specs.reading.Runs.{PassesOver};
 
 use crate::cursor::Cursor;
 use crate::stop::Stop;
 use ixdtf_grammar::encoding::EncodingType;
 
-/// The state of a run of code units of one kind.
-pub trait Letters: Copy {
-    /// The state after the code unit, or `None` where it ends the run.
-    ghost after: { Self → ℕ → Option Self };
+/// A class of code units.
+pub trait Letters {
+    /// The class.
+    ghost class: { Class };
 
-    /// The state after the code unit, or `None` where it ends the run.
-    fn go_on(self, byte: u8) -> Option<Self>
-        ensures { result ≡ after self byte };
+    /// Whether the code unit is one of the class.
+    fn has(byte: u8) -> bool
+        ensures { result ≡ class byte };
 }
 
-/// The state after a run, and the code unit that ended it.
-#[derive(Drop)]
-pub struct Passed<S: Copy> {
-    pub state: S,
-    pub next: Option<u8>,
-}
-
-/// Passes over the run of code units. The one that ends it is not taken.
+/// Passes over the run of code units of a class, and returns the one that ends it, which is not taken.
 #[inline(always)]
 pub fn pass_letters<'a, T: EncodingType, S: Letters>(
     cursor: &mut Cursor<'a, T>,
-    first: S,
-) -> Result<Passed<S>, Stop>
-    ensures letters { Passes T.letter cursor.old result cursor.new (letters_by S.after first) }
+) -> Result<Option<u8>, Stop>
+    ensures letters { PassesOver T.letter cursor.old result cursor.new S.class }
     ensures looks { Spends 1 cursor.old cursor.new }
-    ensures stays { IfOk result (λ passed. IsSome passed.next →
+    ensures stays { IfOk result (λ next. IsSome next →
         length (drop 1 cursor.new.rest) + 1 ≡ length cursor.new.rest) }
     ensures shorter { length cursor.new.rest ≤ length cursor.old.rest }
 {
     let mut here = cursor.fork();
-    let mut state = first;
     let found = loop {
         match here.look() {
             Err(stop) => break Err(stop),
             Ok(None) => break Ok(None),
-            Ok(Some(byte)) => match state.go_on(byte) {
-                None => break Ok(Some(byte)),
-                Some(next) => {
-                    here.advance();
-                    state = next;
+            Ok(Some(byte)) => {
+                if !S::has(byte) {
+                    break Ok(Some(byte));
                 }
-            },
+                here.advance();
+            }
         }
     };
     *cursor = here;
-    let next = found?;
-    Ok(Passed { state, next })
+    found
 }

@@ -2,11 +2,10 @@
 
 #![tactic(auto, unfolding(ixdtf_reading::specs::reading::Pairs::pair_readings))]
 
-ghost use Rattle.std.specs.Prelude.{◌≡◌, ◌+◌, ◌≤◌, ◌<◌, ◌*◌, ◌↔◌, [], ◌∷◌, map, length, option_map, IsTrue, OnOk, IfOk, IfErr, IsSome};
+ghost use Rattle.std.specs.Prelude.{◌≡◌, ◌+◌, ◌↔◌, [], ◌∷◌, map, length, option_map, IsTrue, OnOk, IfOk, IfErr};
 ghost use Rattle.std.specs.Option.{option_or};
 ghost use Rattle.ixdtf_grammar.specs.table.Faults.{Fault};
-ghost use Rattle.ixdtf_reading.specs.reading.Clauses.{Reads, Spends, SpendsOr, fault_of_stop, yielded_at};
-ghost use Rattle.ixdtf_reading.specs.reading.Looks.{error_of};
+ghost use Rattle.ixdtf_reading.specs.reading.Clauses.{Spends, fault_of_stop, yielded_at};
 ghost use Rattle.ixdtf_grammar.specs.Handlers.{RefusedBeside, first_calendar, pair_of};
 ghost use Rattle.ixdtf_reading.specs.reading.Chains.{PairsRead, first_pairs};
 

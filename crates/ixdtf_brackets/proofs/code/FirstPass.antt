@@ -1,7 +1,7 @@
 -- One pass over a first bracket that begins as a key may: the code units of a key, and then those of a name.
 use Rattle.std.proofs.Common.{◌≡◌, ℕ, ◌&&◌, Bool, true, false, IsTrue, List, [], ◌∷◌, ◌++◌, drop, Option, Some, None, Result, Ok, Err}
 use Rattle.std.proofs.{Common.{refl, sym, ap, subst, ◌∙◌, arith, if◌then◌else◌}, lemmas.Bool.{and_parts, Decides.nat_tests}}
-use Rattle.ixdtf_reading.specs.{declared.annotations.KeyLetters.KeyLetters, reading.Looks.{Placed, Read, ◌>>=◌, seen, next_by, error_of}}
+use Rattle.ixdtf_reading.specs.reading.Looks.{Placed, Read, ◌>>=◌, seen, next_by, error_of}
 use Rattle.ixdtf_reading.specs.reading.{Zones.{with_letter, name_run, as_zone}, Pairs.{AtStart, value_run, pair_at}, Runs.{Taken, letters_by, key_after}}
 use Rattle.ixdtf_reading.specs.reading.Brackets.{Bracket, zoned, paired, noted, as_pair, refusal, name_fault, next_is, sight_at, name_in_bracket_at}
 use Rattle.ixdtf_reading.specs.reading.Brackets.{name_or_pair_at}
@@ -9,7 +9,7 @@ use Rattle.ixdtf_reading.proofs.code.FirstLetter.{first_is, nothing_is}
 use Rattle.ixdtf_reading.proofs.code.LetterLoops.{test_held, Stays, next_shown, next_stays, run_passed, walk_failed, walk_passed}
 use Rattle.ixdtf_reading.proofs.{code.PairLoops.{key_closed, key_refused}, parts.LookAhead.{over_letter, zone_char_skipped, slash_skipped, key_char_skipped}}
 use Rattle.ixdtf_reading.proofs.parts.Steps.{steps, with_letters, letters_before, letters_err}
-use Rattle.ixdtf_brackets.specs.{declared.{brackets.BracketLetters.BracketLetters, zone.NameState.NameState}, BracketTypes.{name_after, bracket_after}}
+use Rattle.ixdtf_brackets.specs.{declared.zone.NameState.NameState, BracketTypes.{name_after, bracket_after}}
 use Rattle.ixdtf_brackets.proofs.code.NameLoop.{name_start, name_ended, name_refused, some_next}
 use Rattle.ixdtf_grammar.specs.language.{Letters.{Text, equals, closing, key_char, zone_char, Letter.{Plain, Bad}}, ZoneNames.Zone.Name}
 use Rattle.ixdtf_grammar.specs.{language.Brackets.skipped, table.Faults.Fault.{NonAsciiCodePoint, AnnotationKeyChar, IanaCharPostSeparator}}
@@ -58,22 +58,22 @@ sight_at_closing text c e is = rw (first_is text c e, no_equals c is, is) refl
 
 -- ---- code units before an `=` or a `]`
 
-bracket_over : (state next : BracketLetters) (c : ℕ) → bracket_after state c ≡ Some next → IsTrue (skipped c)
+bracket_over : (state next : Unit {0}) (c : ℕ) → bracket_after state c ≡ Some next → IsTrue (skipped c)
 bracket_over state next c e = test_held _ state next e
 
-pub bracket_failed : (letters : BracketLetters) (text : Text) (fault : Placed) → letters_by bracket_after letters text ≡ Err fault
+pub bracket_failed : (letters : Unit {0}) (text : Text) (fault : Placed) → letters_by bracket_after letters text ≡ Err fault
     → sight_at error_of text ≡ Err fault
 bracket_failed letters text fault e = sight_fails bracket_after bracket_over letters text fault e
 
-pub bracket_ended : (letters : BracketLetters) (text rest : Text) (taken : Taken BracketLetters) → letters_by bracket_after letters text ≡ Ok (taken, rest)
+pub bracket_ended : (letters : Unit {0}) (text rest : Text) (taken : Taken (Unit {0})) → letters_by bracket_after letters text ≡ Ok (taken, rest)
     → taken.next ≡ None → sight_at error_of text ≡ Err (abrupt_bracket, rest)
 bracket_ended letters text rest taken e is =
     sight_goes_on bracket_after bracket_over letters text rest taken e ∙ sight_at_end rest (next_shown bracket_after letters text rest taken e ∙ ap Ok is)
 
-bracket_other : (letters : BracketLetters) (c : ℕ) → bracket_after letters c ≡ None → equals c ≡ false → closing c ≡ true
+bracket_other : (letters : Unit {0}) (c : ℕ) → bracket_after letters c ≡ None → equals c ≡ false → closing c ≡ true
 bracket_other letters c e is = grind (arith, nat_tests)
 
-pub bracket_sighted : (letters : BracketLetters) (text rest : Text) (taken : Taken BracketLetters) (c : ℕ)
+pub bracket_sighted : (letters : Unit {0}) (text rest : Text) (taken : Taken (Unit {0})) (c : ℕ)
     → letters_by bracket_after letters text ≡ Ok (taken, rest) → taken.next ≡ Some c → sight_at error_of text ≡ Ok (equals c)
 bracket_sighted letters text rest taken c e is =
     sight_goes_on bracket_after bracket_over letters text rest taken e ∙ go _ refl
@@ -93,7 +93,7 @@ pub ruleset sights = (bracket_failed, bracket_ended, bracket_sighted)
 
 -- ---- the code units of a key, and those of a name after them
 
-key_over : (state next : KeyLetters) (c : ℕ) → key_after state c ≡ Some next → IsTrue (skipped c)
+key_over : (state next : Unit {0}) (c : ℕ) → key_after state c ≡ Some next → IsTrue (skipped c)
 key_over state next c e = key_char_skipped c (test_held (key_char c) state next e)
 
 name_over : (state next : NameState) (c : ℕ) → name_after state c ≡ Some next → IsTrue (skipped c)
@@ -102,17 +102,17 @@ name_over state next c e = grind (arith, zone_char_skipped, slash_skipped)
 key_is_zone : (c : ℕ) → key_char c ≡ true → zone_char c ≡ true
 key_is_zone c is = grind (arith, nat_tests)
 
-key_in_name : (state next : KeyLetters) (c : ℕ) (rest : Text) → key_after state c ≡ Some next
+key_in_name : (state next : Unit {0}) (c : ℕ) (rest : Text) → key_after state c ≡ Some next
     → name_run error_of true (Plain c ∷ rest) ≡ with_letter c (name_run error_of true rest)
 unfolding name_run
 key_in_name state next c rest e = rw (key_is_zone c (test_held (key_char c) state next e)) refl
 
-bad_in_name : (letters : KeyLetters) (rest : Text) → name_run error_of true (Bad ∷ rest) ≡ Err (NonAsciiCodePoint, Bad ∷ rest)
+bad_in_name : (letters : Unit {0}) (rest : Text) → name_run error_of true (Bad ∷ rest) ≡ Err (NonAsciiCodePoint, Bad ∷ rest)
 unfolding name_run
 bad_in_name letters rest = refl
 
 -- the code units of a key are the first of a name
-name_keyed : (letters : KeyLetters) (text rest : Text) (key : Taken KeyLetters) → letters_by key_after letters text ≡ Ok (key, rest)
+name_keyed : (letters : Unit {0}) (text rest : Text) (key : Taken (Unit {0})) → letters_by key_after letters text ≡ Ok (key, rest)
     → name_run error_of true text ≡ with_letters key.letters (name_run error_of true rest)
 name_keyed letters text rest key e = run_passed key_after (λ letters text. name_run error_of true text) key_in_name bad_in_name letters text rest key e
 
@@ -130,11 +130,11 @@ sighted : (critical : Bool) (text : Text) (b : Bool) → sight text ≡ Ok b
 unfolding name_or_pair_at
 sighted critical text b e = rw e refl
 
-module _ (critical : Bool) (letters : KeyLetters) (text : Text) where
+module _ (critical : Bool) (letters : Unit {0}) (text : Text) where
   pub pass_failed : (fault : Placed) → letters_by key_after letters text ≡ Err fault → read_at critical text ≡ Err fault
   pass_failed fault e = unseen critical text fault (sight_fails key_after key_over letters text fault e)
 
-  module _ (rest : Text) (key : Taken KeyLetters) (keys : letters_by key_after letters text ≡ Ok (key, rest)) where
+  module _ (rest : Text) (key : Taken (Unit {0})) (keys : letters_by key_after letters text ≡ Ok (key, rest)) where
     sight_is : sight text ≡ sight rest
     sight_is = sight_goes_on key_after key_over letters text rest key keys
 

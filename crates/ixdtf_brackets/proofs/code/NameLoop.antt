@@ -1,7 +1,7 @@
 -- The code units of a zone name, taken one by one.
 use Rattle.std.proofs.Common.{◌≡◌, ℕ, ◌&&◌, Bool, true, false, List, ◌∷◌, ◌++◌, map, drop, Option, Some, None, option_map, IsSome, Ok, Err, refl, ap}
 use Rattle.std.proofs.{Common.{◌∙◌, if◌then◌else◌}, Math.Bool.and-false}
-use Rattle.ixdtf_brackets.specs.{declared.zone.{NameState.NameState, PartLetters.PartLetters}, BracketTypes.{part_after, name_after}}
+use Rattle.ixdtf_brackets.specs.{declared.zone.NameState.NameState, BracketTypes.{part_after, name_after}}
 use Rattle.ixdtf_grammar.specs.language.Letters.{Letter, Text, Class, zone_char, slash, Letter.{Plain, Bad}}
 use Rattle.ixdtf_grammar.specs.table.Faults.Fault.{NonAsciiCodePoint, IanaCharPostSeparator}
 use Rattle.ixdtf_reading.specs.reading.{Looks.{Placed, Read, seen, error_of}, Zones.{with_letter, name_stops, name_run}, Runs.{Taken, letters_by}}
@@ -68,14 +68,14 @@ module _ (text rest : Text) (taken : Taken NameState) (passed : letters_by name_
 -- ---- parts of a name
 
 -- a code unit of a part goes on where the name may end
-part_within : (state next : PartLetters) (c : ℕ) → part_after state c ≡ Some next → name_after name_start c ≡ Some name_start
+part_within : (state next : Unit {0}) (c : ℕ) → part_after state c ≡ Some next → name_after name_start c ≡ Some name_start
 part_within state next c e = rw (test_held (zone_char c) state next e) refl
 
-part_stays : (letters : PartLetters) (c : ℕ) → part_after letters c ≡ None → zone_char c ≡ false
+part_stays : (letters : Unit {0}) (c : ℕ) → part_after letters c ≡ None → zone_char c ≡ false
 part_stays letters c e = test_failed (zone_char c) letters e
 
 -- behind a part, where no slash follows, the name goes no further
-pub part_last : (letters : PartLetters) (next : Option ℕ) → Stays part_after letters next → next_is slash next ≡ false → Stays name_after name_start next
+pub part_last : (letters : Unit {0}) (next : Option ℕ) → Stays part_after letters next → next_is slash next ≡ false → Stays name_after name_start next
 part_last letters None stays other = tt
 part_last letters (Some c) stays other = rw (part_stays letters c stays, other) refl
 
@@ -85,7 +85,7 @@ slash_last None other = tt
 slash_last (Some c) other = rw (other, and-false (slash c)) refl
 
 -- the slash behind a part goes on
-pub part_slashed : (letters : PartLetters) (c : ℕ) → part_after letters c ≡ None → slash c ≡ true → name_after name_start c ≡ Some name_slash
+pub part_slashed : (letters : Unit {0}) (c : ℕ) → part_after letters c ≡ None → slash c ≡ true → name_after name_start c ≡ Some name_slash
 part_slashed letters c stays is = rw (part_stays letters c stays, is) refl
 
 -- a code unit of a part goes on behind a slash
@@ -102,12 +102,12 @@ is_some class None e = absurd cc
 is_some class (Some c) e = refl
 
 module _ {letter : ℕ → Letter} (faithful : (unit n : ℕ) → letter unit ≡ Plain n → n ≡ unit) {whole rest : List ℕ}
-    (far : IsSoFar name_after letter name_start whole rest name_start) (letters : PartLetters) where
+    (far : IsSoFar name_after letter name_start whole rest name_start) (letters : Unit {0}) where
   -- a part is refused
   pub part_fails : (fault : Placed) → letters_by part_after letters (map letter rest) ≡ Err fault → letters_by name_after name_start (map letter whole) ≡ Err fault
   part_fails fault e = fails_over part_after name_after name_start part_within letter name_start whole rest far letters fault e
 
-  module _ (left : List ℕ) (taken : Taken PartLetters) (passed : letters_by part_after letters (map letter rest) ≡ Ok (taken, map letter left))
+  module _ (left : List ℕ) (taken : Taken (Unit {0})) (passed : letters_by part_after letters (map letter rest) ≡ Ok (taken, map letter left))
       (split : rest ≡ taken.letters ++ left) where
     part_passed : IsSoFar name_after letter name_start whole left name_start
     part_passed = goes_over part_after name_after name_start part_within letter name_start whole rest far left taken.letters letters taken split passed refl

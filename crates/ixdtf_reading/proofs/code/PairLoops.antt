@@ -1,9 +1,9 @@
 -- The code units of a key and of a value, taken one by one.
 use Rattle.std.proofs.Common.{◌≡◌, ℕ, Bool, true, false, List, [], ◌∷◌, ◌++◌, map, drop, Option, Some, None, Ok, Err, refl, sym, ap, subst, ◌∙◌}
 use Rattle.std.proofs.{Common.{if◌then◌else◌, arith}, lemmas.Bool.Decides.nat_tests}
-use Rattle.ixdtf_reading.specs.{declared.annotations.{KeyLetters.KeyLetters, ComponentLetters.ComponentLetters}, reading.Pairs.{ValueState, AtStart, Inside, BeginsKey}}
+use Rattle.ixdtf_reading.specs.reading.Pairs.{ValueState, AtStart, Inside, BeginsKey}
 use Rattle.ixdtf_reading.specs.reading.Pairs.{AfterHyphen, GoesOn, Ends, Stops, key_run, component_look, value_run, value_mark, value_step, value_end}
-use Rattle.ixdtf_reading.specs.reading.{Pairs.value_other, Looks.{Placed, look_at, seen, next_by, error_of}, Zones.with_letter}
+use Rattle.ixdtf_reading.specs.reading.{Pairs.value_other, Looks.{Placed, look_at, seen, next_by, mark_by, error_of}, Zones.with_letter}
 use Rattle.ixdtf_reading.specs.reading.Runs.{Taken, letters_by, key_after, component_after}
 use Rattle.ixdtf_reading.proofs.code.{FirstLetter.{first_is as letter_first, nothing_is}, LetterLoops.{test_held, test_failed, first_is, Stays, next_shown}}
 use Rattle.ixdtf_reading.proofs.code.LetterLoops.{next_stays, run_failed, run_passed, IsFar, one_far, more_far, far_fails}
@@ -13,20 +13,20 @@ use Rattle.ixdtf_grammar.specs.table.Faults.Fault.{AnnotationKeyValueSeparator, 
 
 -- ---- keys
 
-key_over : (state next : KeyLetters) (c : ℕ) (rest : Text) → key_after state c ≡ Some next
+key_over : (state next : Unit {0}) (c : ℕ) (rest : Text) → key_after state c ≡ Some next
     → key_run error_of (Plain c ∷ rest) ≡ with_letter c (key_run error_of rest)
 unfolding key_run
 key_over state next c rest e = rw (test_held (key_char c) state next e) refl
 
-key_bad : (letters : KeyLetters) (rest : Text) → key_run error_of (Bad ∷ rest) ≡ Err (NonAsciiCodePoint, Bad ∷ rest)
+key_bad : (letters : Unit {0}) (rest : Text) → key_run error_of (Bad ∷ rest) ≡ Err (NonAsciiCodePoint, Bad ∷ rest)
 unfolding key_run
 key_bad letters rest = refl
 
-module _ (letters : KeyLetters) (text : Text) where
+module _ (letters : Unit {0}) (text : Text) where
   pub key_failed : (fault : Placed) → letters_by key_after letters text ≡ Err fault → key_run error_of text ≡ Err fault
   key_failed fault e = run_failed key_after (λ letters text. key_run error_of text) key_over key_bad letters text fault e
 
-  module _ (rest : Text) (taken : Taken KeyLetters) (passed : letters_by key_after letters text ≡ Ok (taken, rest)) where
+  module _ (rest : Text) (taken : Taken (Unit {0})) (passed : letters_by key_after letters text ≡ Ok (taken, rest)) where
     key_passed : key_run error_of text ≡ with_letters taken.letters (key_run error_of rest)
     key_passed = run_passed key_after (λ letters text. key_run error_of text) key_over key_bad letters text rest taken passed
 
@@ -93,8 +93,8 @@ no_hyphen c is = grind (arith, nat_tests)
 
 -- where no component begins
 pub value_unstarted : (state : ValueState) (fault : Fault) → value_end state ≡ fault → value_other state ≡ fault → ((c : ℕ) → value_mark state c ≡ Stops)
-    → (text : Text) (placed : Placed) → next_by (component_look fault) text ≡ Err placed → value_run error_of state text ≡ Err placed
-unfolding next_by look_at value_run
+    → (text : Text) (placed : Placed) → mark_by (component_look fault) value_char text ≡ Err placed → value_run error_of state text ≡ Err placed
+unfolding mark_by next_by look_at value_run
 value_unstarted state fault at_end other marks [] placed e = let same : (fault, []) ≡ placed = cc in ap (λ f. Err (f, [])) at_end ∙ ap Err same
 value_unstarted state fault at_end other marks (Bad ∷ rest) placed e = let same : (NonAsciiCodePoint, Bad ∷ rest) ≡ placed = cc in ap Err same
 value_unstarted state fault at_end other marks (Plain c ∷ rest) placed e =
@@ -103,21 +103,18 @@ value_unstarted state fault at_end other marks (Plain c ∷ rest) placed e =
     value_stops state c rest (rw out (marks c)) ∙ ap (λ f. Err (f, Plain c ∷ rest)) other ∙ ap Err same
 
 -- the code unit that a component begins with
-started : (fault : Fault) (text left : Text) (c : ℕ) → next_by (component_look fault) text ≡ Ok (c, left) → (seen text ≡ Ok (Some c)) × (value_char c ≡ true)
-unfolding next_by look_at
-started fault (Plain n ∷ rest) left c e =
-    let is : value_char n ≡ true = grind (arith, e) in
-    let both : ◌≡◌ {A = ℕ × Text} (n, rest) (c, left) = cc (rw is at e) in
-    let same : n ≡ c = ap (λ x. x.0) both in
-    (ap (λ m. Ok (Some m)) same, ap value_char (sym same) ∙ is)
-started fault text left c e = absurd cc
+started : (fault : Fault) (text left : Text) → mark_by (component_look fault) value_char text ≡ Ok (true, left)
+    → (c : ℕ) × (seen text ≡ Ok (Some c)) × (value_char c ≡ true)
+unfolding mark_by next_by look_at
+started fault (Plain c ∷ rest) left e = let is : value_char c ≡ true = grind (arith, e) in (c, refl, is)
+started fault text left e = absurd cc
 
 -- a component inside a value
-component_over : (state next : ComponentLetters) (c : ℕ) (rest : Text) → component_after state c ≡ Some next
+component_over : (state next : Unit {0}) (c : ℕ) (rest : Text) → component_after state c ≡ Some next
     → value_run error_of Inside (Plain c ∷ rest) ≡ with_letter c (value_run error_of Inside rest)
 component_over state next c rest e = value_on Inside Inside c rest (at_letter Inside c (test_held (value_char c) state next e))
 
-component_bad : (letters : ComponentLetters) (rest : Text) → value_run error_of Inside (Bad ∷ rest) ≡ Err (NonAsciiCodePoint, Bad ∷ rest)
+component_bad : (letters : Unit {0}) (rest : Text) → value_run error_of Inside (Bad ∷ rest) ≡ Err (NonAsciiCodePoint, Bad ∷ rest)
 unfolding value_run
 component_bad letters rest = refl
 
@@ -137,13 +134,13 @@ module _ (letter : ℕ → Letter) (faithful : (unit n : ℕ) → letter unit �
     value_fails fault e = far_fails far (λ c e. refl) fault e
 
     -- a component begins
-    pub value_starts : (fault : Fault) (left : List ℕ) (c : ℕ) → next_by (component_look fault) (map letter rest) ≡ Ok (c, map letter left) → left ≡ drop 1 rest
-        → Far left Inside
-    value_starts fault left c e moved =
-        let (found, is) = started fault (map letter rest) (map letter left) c e in
+    pub value_starts : (fault : Fault) (left : List ℕ) → mark_by (component_look fault) value_char (map letter rest) ≡ Ok (true, map letter left)
+        → left ≡ drop 1 rest → Far left Inside
+    value_starts fault left e moved =
+        let (c, found, is) = started fault (map letter rest) (map letter left) e in
         one_far far faithful left Inside c found (λ more. value_on state Inside c more (at_letter state c is)) moved
 
-  module _ (rest : List ℕ) (far : ValueSoFar letter whole rest Inside) (letters : ComponentLetters) where
+  module _ (rest : List ℕ) (far : ValueSoFar letter whole rest Inside) (letters : Unit {0}) where
     -- a component is refused
     pub component_fails : (fault : Placed) → letters_by component_after letters (map letter rest) ≡ Err fault
         → value_run error_of AtStart (map letter whole) ≡ Err fault
@@ -151,7 +148,7 @@ module _ (letter : ℕ → Letter) (faithful : (unit n : ℕ) → letter unit �
         value_fails rest Inside far fault
         (run_failed component_after (λ letters text. value_run error_of Inside text) component_over component_bad letters (map letter rest) fault e)
 
-    module _ (left : List ℕ) (taken : Taken ComponentLetters) (passed : letters_by component_after letters (map letter rest) ≡ Ok (taken, map letter left))
+    module _ (left : List ℕ) (taken : Taken (Unit {0})) (passed : letters_by component_after letters (map letter rest) ≡ Ok (taken, map letter left))
         (split : rest ≡ taken.letters ++ left) where
       -- behind a component
       component_passed : Far left Inside

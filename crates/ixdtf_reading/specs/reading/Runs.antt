@@ -1,8 +1,8 @@
 -- Code units that are taken one by one, with a state.
 use Rattle.std.specs.Prelude.{◌≡◌, ℕ, List, [], ◌∷◌, ◌++◌, map, Option, Some, None, Result, Ok, Err, if◌then◌else◌}
-use Rattle.ixdtf_reading.specs.declared.{annotations.{KeyLetters.KeyLetters, ComponentLetters.ComponentLetters}, letters.Passed.Passed, stop.Stop.Stop}
+use Rattle.ixdtf_reading.specs.declared.stop.Stop.{Stop}
 use Rattle.ixdtf_reading.specs.reading.{Clauses.fault_of_stop, Looks.{Read, Placed}}
-use Rattle.ixdtf_grammar.specs.{language.Letters.{Letter, Text, key_char, value_char, Letter.{Plain, Bad}}, table.Faults.Fault.NonAsciiCodePoint}
+use Rattle.ixdtf_grammar.specs.{language.Letters.{Letter, Text, Class, key_char, value_char, Letter.{Plain, Bad}}, table.Faults.Fault.NonAsciiCodePoint}
 use Rattle.ixdtf_grammar.specs.Views.{Unread}
 
 -- the code units that were taken, the state after them, and the code unit that does not go on
@@ -31,15 +31,18 @@ letters_by after state (Bad ∷ rest) = Err (NonAsciiCodePoint, Bad ∷ rest)
 letters_by after state (Plain c ∷ rest) =
     on_letter (after state c) (λ next. one_more c (letters_by after next rest)) (Ok (nothing_taken state (Some c), Plain c ∷ rest))
 
--- The code units that a function passed over, and where it stopped, are what reading takes of the remaining input.
-abbrev pub Passes : {S : Type 0} → (ℕ → Letter) → Unread → Result (Passed S) Stop → Unread → (Text → Read Placed (Taken S)) → Type 0
-Passes letter old (Ok passed) new reading = (letters : List ℕ) × (old.rest ≡ letters ++ new.rest)
-    × (reading (map letter old.rest) ≡ Ok (record { letters = letters; state = passed.state; next = passed.next }, map letter new.rest))
-Passes letter old (Err stop) new reading = reading (map letter old.rest) ≡ Err (fault_of_stop stop, map letter new.rest)
+-- the only state of a run of a class after a code unit, and that of a key and of a component of a value
+abbrev pub within : Class → Unit {0} → ℕ → Option (Unit {0})
+within class state c = if class c then Some state else None
 
--- the state of a key after a code unit, and that of a component of a value
-abbrev pub key_after : KeyLetters → ℕ → Option KeyLetters
-key_after letters c = if key_char c then Some letters else None
+abbrev pub key_after : Unit {0} → ℕ → Option (Unit {0})
+key_after = within key_char
 
-abbrev pub component_after : ComponentLetters → ℕ → Option ComponentLetters
-component_after letters c = if value_char c then Some letters else None
+abbrev pub component_after : Unit {0} → ℕ → Option (Unit {0})
+component_after = within value_char
+
+-- The code units of a class that a function passed over, and where it stopped, are those of the run in the remaining input.
+abbrev pub PassesOver : (ℕ → Letter) → Unread → Result (Option ℕ) Stop → Unread → Class → Type 0
+PassesOver letter old (Ok next) new class = (letters : List ℕ) × (old.rest ≡ letters ++ new.rest)
+    × (letters_by (within class) tt (map letter old.rest) ≡ Ok (record { letters = letters; state = tt; next = next }, map letter new.rest))
+PassesOver letter old (Err stop) new class = letters_by (within class) tt (map letter old.rest) ≡ Err (fault_of_stop stop, map letter new.rest)

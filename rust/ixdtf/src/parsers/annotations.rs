@@ -15,13 +15,12 @@ use crate::records::Annotation;
 // ==== Keys and values ====
 
 /// The code units of a key.
-#[derive(Clone, Copy)]
 pub struct KeyLetters;
 
 impl Letters for KeyLetters {
     #[inline(always)]
-    fn go_on(self, byte: u8) -> Option<Self> {
-        is_a_key_char(byte).then_some(self)
+    fn has(byte: u8) -> bool {
+        is_a_key_char(byte)
     }
 }
 
@@ -32,12 +31,12 @@ pub fn parse_annotation_key<'a, T: EncodingType>(
 ) -> Result<&'a [T::CodeUnit], Stop> {
     let start = cursor.rest();
     cursor.advance();
-    let passed = pass_letters(cursor, KeyLetters)?;
+    let next = pass_letters::<T, KeyLetters>(cursor)?;
     // It always is there: with this test a compiler sees it too, and keeps no panic.
     let Some(key) = start.get(..start.len() - cursor.rest().len()) else {
         return Err(Stop::AnnotationKeyChar);
     };
-    match passed.next {
+    match next {
         None => Err(Stop::AnnotationKeyValueSeparator),
         Some(byte) if is_annotation_key_value_separator(byte) => {
             cursor.advance();
@@ -48,24 +47,23 @@ pub fn parse_annotation_key<'a, T: EncodingType>(
 }
 
 /// The code units of a component of a value.
-#[derive(Clone, Copy)]
 pub struct ComponentLetters;
 
 impl Letters for ComponentLetters {
     #[inline(always)]
-    fn go_on(self, byte: u8) -> Option<Self> {
-        is_annotation_value_component(byte).then_some(self)
+    fn has(byte: u8) -> bool {
+        is_annotation_value_component(byte)
     }
 }
 
 /// Takes the first code unit of a component. Another code unit, or the end of the input, is this stop, and is not
 /// taken.
 #[inline(always)]
-fn start_component<'a, T: EncodingType>(cursor: &mut Cursor<'a, T>, other: Stop) -> Result<u8, Stop> {
+fn start_component<'a, T: EncodingType>(cursor: &mut Cursor<'a, T>, other: Stop) -> Result<(), Stop> {
     match cursor.look()? {
         Some(byte) if is_annotation_value_component(byte) => {
             cursor.advance();
-            Ok(byte)
+            Ok(())
         }
         _ => Err(other),
     }
@@ -79,8 +77,8 @@ pub fn parse_annotation_value<'a, T: EncodingType>(
     let start = cursor.rest();
     start_component(cursor, Stop::AnnotationValueChar)?;
     loop {
-        let component = pass_letters(cursor, ComponentLetters)?;
-        match component.next {
+        let next = pass_letters::<T, ComponentLetters>(cursor)?;
+        match next {
             None => return Err(Stop::AnnotationClose),
             Some(byte) if is_annotation_close(byte) => {
                 cursor.advance();

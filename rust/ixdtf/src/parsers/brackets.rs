@@ -91,10 +91,10 @@ fn parse_name_or_pair<'a, T: EncodingType>(
     critical: bool,
 ) -> Result<Bracket<'a, T>, Stop> {
     let start = cursor.rest();
-    let passed = pass_letters(cursor, KeyLetters)?;
+    let next = pass_letters::<T, KeyLetters>(cursor)?;
     let behind_key = cursor.rest();
     let key = &start[..start.len().saturating_sub(behind_key.len())];
-    if ends_key(passed.next) {
+    if ends_key(next) {
         cursor.advance();
         let value = parse_annotation_value(cursor)?;
         return Ok(Bracket::Pair(Annotation {
@@ -121,14 +121,12 @@ fn parse_name_or_pair<'a, T: EncodingType>(
 }
 
 /// The code units of a first bracket before an `=` or a `]`.
-#[derive(Clone, Copy)]
 pub struct BracketLetters;
 
 impl Letters for BracketLetters {
     #[inline(always)]
-    fn go_on(self, byte: u8) -> Option<Self> {
-        let skipped = !is_annotation_key_value_separator(byte) && !is_annotation_close(byte);
-        skipped.then_some(self)
+    fn has(byte: u8) -> bool {
+        !is_annotation_key_value_separator(byte) && !is_annotation_close(byte)
     }
 }
 
@@ -148,9 +146,9 @@ fn refuse_bracket<'a, T: EncodingType>(
 ) -> Refused<'a, T> {
     let behind_name = here.rest();
     let mut ahead = here;
-    match pass_letters(&mut ahead, BracketLetters) {
+    match pass_letters::<T, BracketLetters>(&mut ahead) {
         Err(stop) => Refused { stop, there: ahead },
-        Ok(passed) => match passed.next {
+        Ok(next) => match next {
             None => Refused {
                 stop: Stop::AbruptBracket,
                 there: ahead,

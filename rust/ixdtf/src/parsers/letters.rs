@@ -6,40 +6,30 @@ use crate::cursor::Cursor;
 use crate::stop::Stop;
 use crate::encoding::EncodingType;
 
-/// The state of a run of code units of one kind.
-pub trait Letters: Copy {
-    /// The state after the code unit, or `None` where it ends the run.
-    fn go_on(self, byte: u8) -> Option<Self>;
+/// A class of code units.
+pub trait Letters {
+    /// Whether the code unit is one of the class.
+    fn has(byte: u8) -> bool;
 }
 
-/// The state after a run, and the code unit that ended it.
-pub struct Passed<S: Copy> {
-    pub state: S,
-    pub next: Option<u8>,
-}
-
-/// Passes over the run of code units. The one that ends it is not taken.
+/// Passes over the run of code units of a class, and returns the one that ends it, which is not taken.
 #[inline(always)]
 pub fn pass_letters<'a, T: EncodingType, S: Letters>(
     cursor: &mut Cursor<'a, T>,
-    first: S,
-) -> Result<Passed<S>, Stop> {
+) -> Result<Option<u8>, Stop> {
     let mut here = cursor.fork();
-    let mut state = first;
     let found = loop {
         match here.look() {
             Err(stop) => break Err(stop),
             Ok(None) => break Ok(None),
-            Ok(Some(byte)) => match state.go_on(byte) {
-                None => break Ok(Some(byte)),
-                Some(next) => {
-                    here.advance();
-                    state = next;
+            Ok(Some(byte)) => {
+                if !S::has(byte) {
+                    break Ok(Some(byte));
                 }
-            },
+                here.advance();
+            }
         }
     };
     *cursor = here;
-    let next = found?;
-    Ok(Passed { state, next })
+    found
 }

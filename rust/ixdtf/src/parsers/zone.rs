@@ -8,7 +8,7 @@ use crate::cursor::Cursor;
 use crate::grammar::{
     is_annotation_close, is_ascii_sign, is_tz_char, is_tz_leading_char, is_tz_name_separator,
 };
-use crate::parsers::letters::{Letters, Passed, pass_letters};
+use crate::parsers::letters::{Letters, pass_letters};
 use crate::stop::Stop;
 use crate::parsers::offsets::{minute_offset, take_last_offset};
 use crate::parsers::time::{Clock, parse_clock};
@@ -16,13 +16,12 @@ use crate::parsers::time::{Clock, parse_clock};
 // ==== Names ====
 
 /// The code units of a part of a name.
-#[derive(Clone, Copy)]
 pub struct PartLetters;
 
 impl Letters for PartLetters {
     #[inline(always)]
-    fn go_on(self, byte: u8) -> Option<Self> {
-        is_tz_char(byte).then_some(self)
+    fn has(byte: u8) -> bool {
+        is_tz_char(byte)
     }
 }
 
@@ -44,6 +43,13 @@ impl NameState {
     }
 }
 
+/// The state of a name that was passed over, and the code unit that ended it.
+#[derive(Clone, Copy)]
+pub struct PassedName {
+    pub state: NameState,
+    pub next: Option<u8>,
+}
+
 /// Whether the code unit is the `/` after a part of a name.
 #[inline(always)]
 fn ends_part(next: Option<u8>) -> bool {
@@ -58,7 +64,7 @@ fn starts_part(next: Option<u8>) -> bool {
 
 /// Passes over the code units of a name, part by part between its slashes.
 #[inline(always)]
-pub fn pass_name<'a, T: EncodingType>(cursor: &mut Cursor<'a, T>) -> Result<Passed<NameState>, Stop> {
+pub fn pass_name<'a, T: EncodingType>(cursor: &mut Cursor<'a, T>) -> Result<PassedName, Stop> {
     let mut here = cursor.fork();
     let passed = pass_parts(&mut here);
     *cursor = here;
@@ -67,19 +73,19 @@ pub fn pass_name<'a, T: EncodingType>(cursor: &mut Cursor<'a, T>) -> Result<Pass
 
 /// Passes over the parts of a name, as `pass_name` does, with this cursor itself.
 #[inline(always)]
-fn pass_parts<'a, T: EncodingType>(cursor: &mut Cursor<'a, T>) -> Result<Passed<NameState>, Stop> {
+fn pass_parts<'a, T: EncodingType>(cursor: &mut Cursor<'a, T>) -> Result<PassedName, Stop> {
     loop {
-        let part = pass_letters(cursor, PartLetters)?;
-        if !ends_part(part.next) {
-            return Ok(Passed {
+        let behind = pass_letters::<T, PartLetters>(cursor)?;
+        if !ends_part(behind) {
+            return Ok(PassedName {
                 state: NameState { may_end: true },
-                next: part.next,
+                next: behind,
             });
         }
         cursor.advance();
         let next = cursor.look()?;
         if !starts_part(next) {
-            return Ok(Passed {
+            return Ok(PassedName {
                 state: NameState { may_end: false },
                 next,
             });
@@ -111,7 +117,7 @@ pub fn parse_tz_name<'a, T: EncodingType>(
     })
 }
 
-/// Reads a name, and expects the end of the input.
+/// Reads a name, and expects the end of the input. Its first code unit has been seen.
 fn parse_name_alone<'a, T: EncodingType>(
     cursor: &mut Cursor<'a, T>,
 ) -> Result<&'a [T::CodeUnit], Stop> {
@@ -123,7 +129,7 @@ fn parse_name_alone<'a, T: EncodingType>(
     }
 }
 
-/// Reads a name, and expects the end of the input. Its first code unit has been seen.
+/// Reads a name, and expects the end of the input.
 pub fn parse_iana_identifier_text<'a, T: EncodingType>(
     cursor: &mut Cursor<'a, T>,
 ) -> Result<&'a [T::CodeUnit], Stop> {
@@ -161,12 +167,12 @@ pub fn parse_identifier_text<'a, T: EncodingType>(
 
 /// Expects `]`: the end of the input is `AnnotationClose`, and another code unit is this stop.
 #[inline(always)]
-fn close_bracket<'a, T: EncodingType>(cursor: &mut Cursor<'a, T>, other: Stop) -> Result<u8, Stop> {
+fn close_bracket<'a, T: EncodingType>(cursor: &mut Cursor<'a, T>, other: Stop) -> Result<(), Stop> {
     match cursor.look()? {
         None => Err(Stop::AnnotationClose),
         Some(byte) if is_annotation_close(byte) => {
             cursor.advance();
-            Ok(byte)
+            Ok(())
         }
         Some(_) => Err(other),
     }

@@ -4,50 +4,50 @@ use Rattle.ixdtf_reading.proofs.code.{LetterLoops.begins, Units.stepped}
 use Rattle.ixdtf_grammar.specs.language.Letters.{slash, zone_char}
 use Rattle.ixdtf_brackets.proofs.code.NameLoop.{is_some, some_next, part_fails, part_ceases, part_slashes, slash_fails, slash_ceases, slash_goes_on}
 
-pub loop-part-init : goal.loop-part-init
-loop-part-init g c = record { far = begins _ _ _ _; looks = omega arith; counted = omega arith; shorter = omega arith }
+pub loop-behind-init : goal.loop-behind-init
+loop-behind-init g c = record { far = begins _ _ _ _; looks = omega arith; counted = omega arith; shorter = omega arith }
 
-pub returns-in_err-part-clause-letters : goal.returns-in_err-part-clause-letters
-returns-in_err-part-clause-letters g c =
+pub returns-in_err-behind-clause-letters : goal.returns-in_err-behind-clause-letters
+returns-in_err-behind-clause-letters g c =
     let p = err_from_is_err_and c.from_residual.result c.from_residual.ensures.1 in
-    rw (p.1, p.2) (part_fails g.met.T.EncodingType.faithful c.loop-part.invariant.far _ _ c.in_err-part.ensures.letters)
+    rw (p.1, p.2) (part_fails g.met.T.EncodingType.faithful c.loop-behind.invariant.far _ _ c.in_err-behind.ensures.letters)
 
 -- no slash follows a part
 pub returns-then-not-ends_part-clause-letters : goal.returns-then-not-ends_part-clause-letters
 returns-then-not-ends_part-clause-letters g c =
-    let passed = c.in_ok-part.ensures.letters in
-    part_ceases g.met.T.EncodingType.faithful c.loop-part.invariant.far _ _ _ passed.2 passed.1 (sym c.ends_part.ensures ∙ c.if-not-ends_part.true)
+    let passed = c.in_ok-behind.ensures.letters in
+    part_ceases g.met.T.EncodingType.faithful c.loop-behind.invariant.far _ _ _ passed.2 passed.1 (sym c.ends_part.ensures ∙ c.if-not-ends_part.true)
 
 -- the look behind a slash failed
 pub returns-in_err-next-clause-letters : goal.returns-in_err-next-clause-letters
 returns-in_err-next-clause-letters g c =
     let faithful = g.met.T.EncodingType.faithful in
     let p = err_from_is_err_and c.from_residual-in_err-next.result c.from_residual-in_err-next.ensures.1 in
-    let passed = c.in_ok-part.ensures.letters in
+    let passed = c.in_ok-behind.ensures.letters in
     let is = sym c.ends_part.ensures ∙ c.if-not-ends_part.false in
-    let far = part_slashes faithful c.loop-part.invariant.far _ _ _ passed.2 passed.1 _ is c.advance.ensures.rest in
+    let far = part_slashes faithful c.loop-behind.invariant.far _ _ _ passed.2 passed.1 _ is c.advance.ensures.rest in
     rw (p.1, p.2, c.look.ensures.rest) (slash_fails faithful far _ c.in_err-next.ensures.letter)
 
 -- no part follows a slash
 pub returns-then-not-starts_part-clause-letters : goal.returns-then-not-starts_part-clause-letters
 returns-then-not-starts_part-clause-letters g c =
     let faithful = g.met.T.EncodingType.faithful in
-    let passed = c.in_ok-part.ensures.letters in
+    let passed = c.in_ok-behind.ensures.letters in
     let is = sym c.ends_part.ensures ∙ c.if-not-ends_part.false in
-    let far = part_slashes faithful c.loop-part.invariant.far _ _ _ passed.2 passed.1 _ is c.advance.ensures.rest in
+    let far = part_slashes faithful c.loop-behind.invariant.far _ _ _ passed.2 passed.1 _ is c.advance.ensures.rest in
     rw c.look.ensures.rest (slash_ceases faithful far _ c.in_ok-next.ensures.letter (sym c.starts_part.ensures ∙ c.if-not-starts_part.true))
 
-pub loop-part-preserved : goal.loop-part-preserved
-loop-part-preserved g c =
+pub loop-behind-preserved : goal.loop-behind-preserved
+loop-behind-preserved g c =
     let faithful = g.met.T.EncodingType.faithful in
-    let passed = c.in_ok-part.ensures.letters in
+    let passed = c.in_ok-behind.ensures.letters in
     let is = sym c.ends_part.ensures ∙ c.if-not-ends_part.false in
-    let far = part_slashes faithful c.loop-part.invariant.far _ _ _ passed.2 passed.1 _ is c.advance.ensures.rest in
+    let far = part_slashes faithful c.loop-behind.invariant.far _ _ _ passed.2 passed.1 _ is c.advance.ensures.rest in
     let starts = sym c.starts_part.ensures ∙ c.if-not-starts_part.false in
     let found = some_next zone_char _ starts in
-    let moved = c.advance-in-loop-part.ensures.rest ∙ ap (λ t. drop 1 t) c.look.ensures.rest in
-    let counts = c.loop-part.invariant in
-    let walked = c.in_ok-part.ensures in
+    let moved = c.advance-in-loop-behind.ensures.rest ∙ ap (λ t. drop 1 t) c.look.ensures.rest in
+    let counts = c.loop-behind.invariant in
+    let walked = c.in_ok-behind.ensures in
     let paid = walked.stays (is_some slash _ is) in
     let joined = stepped g.T.EncodingType.letter _ found.0 (c.in_ok-next.ensures.letter ∙ ap Ok found.1) in
     let off = ap (λ (t : List ℕ). length t) c.advance.ensures.rest in
@@ -62,14 +62,14 @@ loop-part-preserved g c =
 -- the slash pays for the look at it
 pub returns-then-not-starts_part-clause-looks : goal.returns-then-not-starts_part-clause-looks
 returns-then-not-starts_part-clause-looks g c =
-    let walked = c.in_ok-part.ensures in
+    let walked = c.in_ok-behind.ensures in
     let paid = walked.stays (is_some slash _ (sym c.ends_part.ensures ∙ c.if-not-ends_part.false)) in
     let off = ap (λ (t : List ℕ). length t) (c.look.ensures.rest ∙ c.advance.ensures.rest) in
-    (omega (arith, c.loop-part.invariant.looks, walked.looks, paid, off), omega (arith, c.loop-part.invariant.counted, walked.looks))
+    (omega (arith, c.loop-behind.invariant.looks, walked.looks, paid, off), omega (arith, c.loop-behind.invariant.counted, walked.looks))
 
 pub returns-in_err-next-clause-looks : goal.returns-in_err-next-clause-looks
 returns-in_err-next-clause-looks g c =
-    let walked = c.in_ok-part.ensures in
+    let walked = c.in_ok-behind.ensures in
     let paid = walked.stays (is_some slash _ (sym c.ends_part.ensures ∙ c.if-not-ends_part.false)) in
     let off = ap (λ (t : List ℕ). length t) (c.look.ensures.rest ∙ c.advance.ensures.rest) in
-    (omega (arith, c.loop-part.invariant.looks, walked.looks, paid, off), omega (arith, c.loop-part.invariant.counted, walked.looks))
+    (omega (arith, c.loop-behind.invariant.looks, walked.looks, paid, off), omega (arith, c.loop-behind.invariant.counted, walked.looks))

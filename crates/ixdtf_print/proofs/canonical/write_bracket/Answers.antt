@@ -1,7 +1,7 @@
 use Rattle.ixdtf_print.proofs.canonical.write_bracket.Goals as goal
 use Rattle.std.proofs.{Common.refl, Output.{has_written_styled_append, has_written_styled_of_eq}}
 use Rattle.ixdtf.specs.Views.{note_of}
-use Rattle.ixdtf_print.proofs.Shown.{bracket_bytes}
+use Rattle.ixdtf_print.proofs.code.DisplayedBytes.{bracket_bytes}
 
 pub returns-in_ok-write_zone-in-Some : goal.returns-in_ok-write_zone-in-Some
 returns-in_ok-write_zone-in-Some g c = λ flush ok.

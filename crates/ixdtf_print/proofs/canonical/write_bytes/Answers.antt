@@ -1,6 +1,6 @@
 use Rattle.ixdtf_print.proofs.canonical.write_bytes.Goals as goal
 use Rattle.std.proofs.{Common.{true, refl}, Output.{has_written_styled_append, has_written_styled_of_eq}}
-use Rattle.ixdtf_print.proofs.Shown.{one_more}
+use Rattle.ixdtf_print.proofs.code.DisplayedBytes.{one_more}
 
 pub loop-byte-preserved : goal.loop-byte-preserved
 loop-byte-preserved g c = λ flush.

@@ -1,7 +1,7 @@
 use Rattle.ixdtf_print.proofs.canonical.write_calendar.Goals as goal
 use Rattle.std.proofs.{Common.{ℕ, List, Some, refl, sym, ap, ◌∙◌}, Output.{has_written_styled_append, has_written_styled_of_eq}, lemmas.List.map-id}
 use Rattle.ixdtf_print.specs.{Canonical.calendar_text, Shown.bytes_of}
-use Rattle.ixdtf_print.proofs.Shown.{calendar_bytes}
+use Rattle.ixdtf_print.proofs.code.DisplayedBytes.{calendar_bytes}
 
 pub returns-in_ok-write_bytes-in-Some : goal.returns-in_ok-write_bytes-in-Some
 returns-in_ok-write_bytes-in-Some g c = λ flush ok.

@@ -1,7 +1,7 @@
 use Rattle.ixdtf_print.proofs.canonical.write_core.Goals as goal
 use Rattle.std.proofs.{Common.{ap, ◌∙◌}, Output.has_written_styled_of_eq}
 use Rattle.std.specs.Str.{encode_utf8_all}
-use Rattle.ixdtf_print.proofs.Shown.{counted_bytes}
+use Rattle.ixdtf_print.proofs.code.DisplayedBytes.{counted_bytes}
 
 pub returns : goal.returns
 returns g c = λ flush ok.

@@ -1,6 +1,6 @@
 use Rattle.ixdtf_print.proofs.canonical.write_minute_offset.Goals as goal
 use Rattle.std.proofs.{Common.arith, Output.has_written_styled_of_eq}
-use Rattle.ixdtf_print.proofs.{Lengths.minute_offset_long, Shown.whole_bytes}
+use Rattle.ixdtf_print.proofs.{code.CanonicalLengths.minute_offset_long, code.DisplayedBytes.whole_bytes}
 
 pub put_minute_offset-requires : goal.put_minute_offset-requires
 put_minute_offset-requires g c = record { room = omega (arith, minute_offset_long c.args.offset) }

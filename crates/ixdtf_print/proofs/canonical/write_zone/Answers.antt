@@ -1,6 +1,6 @@
 use Rattle.ixdtf_print.proofs.canonical.write_zone.Goals as goal
 use Rattle.std.proofs.{Common.sym, Output.has_written_styled_of_eq, lemmas.List.map-id}
-use Rattle.ixdtf_print.proofs.Shown.{bytes-plain}
+use Rattle.ixdtf_print.proofs.code.DisplayedBytes.{bytes-plain}
 
 pub returns-in-Name : goal.returns-in-Name
 returns-in-Name g c = λ flush ok.

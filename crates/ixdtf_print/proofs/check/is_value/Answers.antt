@@ -1,6 +1,6 @@
 use Rattle.ixdtf_print.proofs.check.is_value.Goals as goal
 use Rattle.std.proofs.Common.{◌+◌, ◌∙◌, sym, ap, inl, inr}
-use Rattle.ixdtf_print.proofs.ValueLoop.{from_place, over_alphanumeric, over_mark, value_refused, value_ends}
+use Rattle.ixdtf_print.proofs.code.ValueLoop.{from_place, over_alphanumeric, over_mark, value_refused, value_ends}
 use Rattle.ixdtf_print.proofs.check.is_value.Goals.{then-is_ascii_alphanumeric, else-is_ascii_alphanumeric+then-byte-eq45+then-in_run}
 use Rattle.ixdtf_print.proofs.check.is_value.Goals.{else-byte-eq45-via-then-byte-eq45+else-in_run, else-byte-eq45-via-else-byte-eq45}
 

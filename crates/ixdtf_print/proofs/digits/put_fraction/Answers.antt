@@ -1,6 +1,6 @@
 use Rattle.ixdtf_print.proofs.digits.put_fraction.Goals as goal
 use Rattle.std.proofs.Common.{min, ◌-◌, ap, ◌∙◌}
-use Rattle.ixdtf_print.proofs.{PaddedDigits.fraction_is, Puts.{puts_then, room_first, room_then}}
+use Rattle.ixdtf_print.proofs.{parts.PaddedDigits.fraction_is, code.PutBytes.{puts_then, room_first, room_then}}
 
 pub put_digits-zeros-requires : goal.put_digits-zeros-requires
 put_digits-zeros-requires c =

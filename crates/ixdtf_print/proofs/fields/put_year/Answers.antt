@@ -1,7 +1,7 @@
 use Rattle.ixdtf_print.proofs.fields.put_year.Goals as goal
 use Rattle.std.proofs.{Common.{pos, arith}, lemmas.Int.ints}
 use Rattle.std.specs.Prelude.{◌≤ℤ◌, ◌<ℤ◌}
-use Rattle.ixdtf_print.proofs.{Years.{negative_year, far_year}, Puts.{puts_then, room_then}}
+use Rattle.ixdtf_print.proofs.{code.YearSigns.{negative_year, far_year}, code.PutBytes.{puts_then, room_then}}
 
 -- ---- before year 0
 

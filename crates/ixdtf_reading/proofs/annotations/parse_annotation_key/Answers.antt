@@ -4,22 +4,22 @@ use Rattle.ixdtf_grammar.specs.language.Letters.{equals}
 use Rattle.ixdtf_reading.specs.reading.Zones.{with_letter}
 use Rattle.ixdtf_reading.proofs.code.{LetterLoops.{front_is, range_is}, PairLoops.{key_behind, key_failed, key_ended, key_closed, key_refused}}
 
-pub returns-in_err-passed-clause-key : goal.returns-in_err-passed-clause-key
-returns-in_err-passed-clause-key g c =
+pub returns-in_err-next-clause-key : goal.returns-in_err-next-clause-key
+returns-in_err-next-clause-key g c =
     let p = err_from_is_err_and c.from_residual.result c.from_residual.ensures.1 in
     let behind = key_behind _ g.met.T.EncodingType.faithful _ _ c.requires.first c.advance.ensures.rest in
-    rw (p.1, p.2) (behind.2 ∙ ap (with_letter behind.0) (key_failed _ _ _ c.in_err-passed.ensures.letters))
+    rw (p.1, p.2) (behind.2 ∙ ap (with_letter behind.0) (key_failed _ _ _ c.in_err-next.ensures.letters))
 
 pub returns-in-None-clause-key : goal.returns-in-None-clause-key
 returns-in-None-clause-key g c =
     let behind = key_behind _ g.met.T.EncodingType.faithful _ _ c.requires.first c.advance.ensures.rest in
-    behind.2 ∙ ap (with_letter behind.0) (key_ended _ _ _ _ c.in_ok-passed.ensures.letters.2 c.in-None.is)
+    behind.2 ∙ ap (with_letter behind.0) (key_ended _ _ _ _ c.in_ok-next.ensures.letters.2 c.in-None.is)
 
 pub returns-in-Some-next-clause-key : goal.returns-in-Some-next-clause-key
 returns-in-Some-next-clause-key g c =
     let closes : equals c.in-Some-next.byte ≡ true = search rules in
     let behind = key_behind _ g.met.T.EncodingType.faithful _ _ c.requires.first c.advance.ensures.rest in
-    let passed = c.in_ok-passed.ensures.letters in
+    let passed = c.in_ok-next.ensures.letters in
     let front = front_is g.T.EncodingType.number c.rest-start.result.now c.rest.result.now (behind.0 ∷ passed.0) c.pass_letters.new.cursor.rest _
     c.rest-start.ensures (behind.1 ∙ ap (λ t. behind.0 ∷ t) passed.1) c.rest.ensures in
     rw (c.in-Some.ensures.lookup.0.2, range_is c.rest-start.result.now _, front, c.advance-in-Some-next.ensures.letters)
@@ -29,7 +29,7 @@ pub returns-in-Some-2-clause-key : goal.returns-in-Some-2-clause-key
 returns-in-Some-2-clause-key g c =
     let refuses : equals c.in-Some-next.byte ≡ false = search rules in
     let behind = key_behind _ g.met.T.EncodingType.faithful _ _ c.requires.first c.advance.ensures.rest in
-    behind.2 ∙ ap (with_letter behind.0) (key_refused _ _ _ _ c.in_ok-passed.ensures.letters.2 _ c.in-Some-next.is refuses)
+    behind.2 ∙ ap (with_letter behind.0) (key_refused _ _ _ _ c.in_ok-next.ensures.letters.2 _ c.in-Some-next.is refuses)
 
 -- the key's code units always stand there
 pub returns-in_default-clause-key : goal.returns-in_default-clause-key

@@ -11,69 +11,69 @@ returns-in_err-start_component-clause-value g c =
     let p = err_from_is_err_and c.from_residual.result c.from_residual.ensures.1 in
     rw (p.1, p.2) (value_unstarted AtStart _ refl refl (λ c. refl) _ _ c.in_err-start_component.ensures.letter)
 
-pub loop-component-init : goal.loop-component-init
-loop-component-init g c = record {
+pub loop-next-init : goal.loop-next-init
+loop-next-init g c = record {
   start = c.rest-start.ensures;
-  far = value_starts g.T.EncodingType.letter g.met.T.EncodingType.faithful _ _ AtStart (value_begins _ _) _ _ _ c.in_ok-start_component.ensures.letter
+  far = value_starts g.T.EncodingType.letter g.met.T.EncodingType.faithful _ _ AtStart (value_begins _ _) _ _ c.in_ok-start_component.ensures.letter
       c.in_ok-start_component.ensures.rest;
   looks = omega (arith, c.in_ok-start_component.ensures.looks);
   counted = omega (arith, c.in_ok-start_component.ensures.looks);
   shorter = c.in_ok-start_component.ensures.shorter;
 }
 
-pub returns-in_err-component-clause-value : goal.returns-in_err-component-clause-value
-returns-in_err-component-clause-value g c =
-    let p = err_from_is_err_and c.from_residual-in_err-component.result c.from_residual-in_err-component.ensures.1 in
-    rw (p.1, p.2) (component_fails g.T.EncodingType.letter g.met.T.EncodingType.faithful _ _ c.loop-component.invariant.far _ _ c.in_err-component.ensures.letters)
+pub returns-in_err-next-clause-value : goal.returns-in_err-next-clause-value
+returns-in_err-next-clause-value g c =
+    let p = err_from_is_err_and c.from_residual-in_err-next.result c.from_residual-in_err-next.ensures.1 in
+    rw (p.1, p.2) (component_fails g.T.EncodingType.letter g.met.T.EncodingType.faithful _ _ c.loop-next.invariant.far _ _ c.in_err-next.ensures.letters)
 
 pub returns-in-None-clause-value : goal.returns-in-None-clause-value
 returns-in-None-clause-value g c =
-    let passed = c.in_ok-component.ensures.letters in
-    component_last g.T.EncodingType.letter g.met.T.EncodingType.faithful _ _ c.loop-component.invariant.far _ _ _ passed.2 passed.1 c.in-None.is
+    let passed = c.in_ok-next.ensures.letters in
+    component_last g.T.EncodingType.letter g.met.T.EncodingType.faithful _ _ c.loop-next.invariant.far _ _ _ passed.2 passed.1 c.in-None.is
 
 pub returns-in-Some-clause-value : goal.returns-in-Some-clause-value
 returns-in-Some-clause-value g c =
-    let passed = c.in_ok-component.ensures.letters in
+    let passed = c.in_ok-next.ensures.letters in
     let closes : closing c.in-Some.byte ≡ true = search rules in
-    let closed = component_closed g.T.EncodingType.letter g.met.T.EncodingType.faithful _ _ c.loop-component.invariant.far _ _ _ passed.2 passed.1 _ c.in-Some.is closes in
-    let stays = c.in_ok-component.ensures.stays (subst (λ next. IsSome next) (sym c.in-Some.is) refl) in
-    let front = front_before g.T.EncodingType.number c.rest-start.result.now _ closed.0 c.pass_letters.new.cursor.rest _ c.loop-component.invariant.start
+    let closed = component_closed g.T.EncodingType.letter g.met.T.EncodingType.faithful _ _ c.loop-next.invariant.far _ _ _ passed.2 passed.1 _ c.in-Some.is closes in
+    let stays = c.in_ok-next.ensures.stays (subst (λ next. IsSome next) (sym c.in-Some.is) refl) in
+    let front = front_before g.T.EncodingType.number c.rest-start.result.now _ closed.0 c.pass_letters.new.cursor.rest _ c.loop-next.invariant.start
     closed.1 (behind_last g.T.EncodingType.number c.rest.result.now _ _ c.rest.ensures c.advance.ensures.rest stays) in
     rw (c.saturating_sub.ensures, front, c.advance.ensures.letters) closed.2
 
 pub returns-in-Some-3-clause-value : goal.returns-in-Some-3-clause-value
 returns-in-Some-3-clause-value g c =
-    let passed = c.in_ok-component.ensures.letters in
+    let passed = c.in_ok-next.ensures.letters in
     let shut : closing c.in-Some-3.field-0 ≡ false = search rules in
     let dash : hyphen c.in-Some-3.field-0 ≡ false = search rules in
-    component_refused g.T.EncodingType.letter g.met.T.EncodingType.faithful _ _ c.loop-component.invariant.far _ _ _ passed.2 passed.1 _ c.in-Some-3.is shut dash
+    component_refused g.T.EncodingType.letter g.met.T.EncodingType.faithful _ _ c.loop-next.invariant.far _ _ _ passed.2 passed.1 _ c.in-Some-3.is shut dash
 
 -- behind a hyphen no component begins
 pub returns-in_err-start_component-2-clause-value : goal.returns-in_err-start_component-2-clause-value
 returns-in_err-start_component-2-clause-value g c =
     let p = err_from_is_err_and c.from_residual-in_err-start_component-2.result c.from_residual-in_err-start_component-2.ensures.1 in
-    let passed = c.in_ok-component.ensures.letters in
+    let passed = c.in_ok-next.ensures.letters in
     let dash : hyphen c.in-Some-2.byte ≡ true = search rules in
-    let far = component_joined g.T.EncodingType.letter g.met.T.EncodingType.faithful _ _ c.loop-component.invariant.far _ _ _ passed.2 passed.1 _ _ c.in-Some-2.is dash
+    let far = component_joined g.T.EncodingType.letter g.met.T.EncodingType.faithful _ _ c.loop-next.invariant.far _ _ _ passed.2 passed.1 _ _ c.in-Some-2.is dash
     c.advance-in-Some-2.ensures.rest in
     rw (p.1, p.2) (value_fails g.T.EncodingType.letter g.met.T.EncodingType.faithful _ _ AfterHyphen far _
     (value_unstarted AfterHyphen _ refl refl (λ c. refl) _ _ c.in_err-start_component-2.ensures.letter))
 
-pub loop-component-preserved : goal.loop-component-preserved
-loop-component-preserved g c =
-    let passed = c.in_ok-component.ensures.letters in
+pub loop-next-preserved : goal.loop-next-preserved
+loop-next-preserved g c =
+    let passed = c.in_ok-next.ensures.letters in
     let dash : hyphen c.in-Some-2.byte ≡ true = search rules in
-    let far = component_joined g.T.EncodingType.letter g.met.T.EncodingType.faithful _ _ c.loop-component.invariant.far _ _ _ passed.2 passed.1 _ _ c.in-Some-2.is dash
+    let far = component_joined g.T.EncodingType.letter g.met.T.EncodingType.faithful _ _ c.loop-next.invariant.far _ _ _ passed.2 passed.1 _ _ c.in-Some-2.is dash
     c.advance-in-Some-2.ensures.rest in
-    let counts = c.loop-component.invariant in
-    let paid = c.in_ok-component.ensures.stays (subst (λ next. IsSome next) (sym c.in-Some-2.is) refl) in
+    let counts = c.loop-next.invariant in
+    let paid = c.in_ok-next.ensures.stays (subst (λ next. IsSome next) (sym c.in-Some-2.is) refl) in
     let off = ap (λ (t : List ℕ). length t) c.advance-in-Some-2.ensures.rest in
     let kept = c.advance-in-Some-2.ensures.looks in
-    let walked = c.in_ok-component.ensures in
+    let walked = c.in_ok-next.ensures in
     let begun = c.in_ok-start_component-2.ensures in
     record {
-      start = c.loop-component.invariant.start;
-      far = value_starts g.T.EncodingType.letter g.met.T.EncodingType.faithful _ _ AfterHyphen far _ _ _ c.in_ok-start_component-2.ensures.letter
+      start = c.loop-next.invariant.start;
+      far = value_starts g.T.EncodingType.letter g.met.T.EncodingType.faithful _ _ AfterHyphen far _ _ c.in_ok-start_component-2.ensures.letter
           c.in_ok-start_component-2.ensures.rest;
       looks = omega (arith, counts.looks, walked.looks, paid, off, kept, begun.looks);
       counted = omega (arith, counts.counted, walked.looks, kept, begun.looks);

@@ -3,8 +3,8 @@ use Rattle.std.proofs.Common.{◌≡◌, ◌+◌, ◌<◌, ◌≤◌, length, ma
 use Rattle.ixdtf_reading.specs.reading.Pairs.{Inside}
 use Rattle.ixdtf_reading.proofs.code.PairLoops.{ValueSoFar}
 
-abbrev pub invariant-loop-component : goal.invariant-loop-component
-invariant-loop-component g l = record {
+abbrev pub invariant-loop-next : goal.invariant-loop-next
+invariant-loop-next g l = record {
   start : map g.T.EncodingType.number l.start ≡ l.fn.cursor.rest;
   far : ValueSoFar g.T.EncodingType.letter l.fn.cursor.rest l.cursor.rest Inside;
   looks : l.cursor.looks + length l.cursor.rest ≤ l.fn.cursor.looks + length l.fn.cursor.rest;
@@ -12,5 +12,5 @@ invariant-loop-component g l = record {
   shorter : length l.cursor.rest < length l.fn.cursor.rest;
 }
 
-abbrev pub decreases-loop-component : goal.decreases-loop-component
-decreases-loop-component g l = length l.cursor.rest
+abbrev pub decreases-loop-next : goal.decreases-loop-next
+decreases-loop-next g l = length l.cursor.rest

@@ -1,8 +1,8 @@
 use Rattle.ixdtf_reading.proofs.letters.pass_letters.Goals as goal
-use Rattle.std.proofs.{Common.{◌≡◌, ℕ, map, Option, Some, None, Ok, IsSome, refl, arith, rules}, lemmas.Result.err_from_is_err_and}
+use Rattle.std.proofs.Common.{◌≡◌, map, Some, None, Ok, true, false, refl, arith, rules}
 use Rattle.ixdtf_reading.specs.reading.Looks.{seen}
+use Rattle.ixdtf_reading.specs.reading.Runs.{within}
 use Rattle.ixdtf_reading.proofs.code.{FractionLoop.one_taken, LetterLoops.{begins, goes_on, ceases, fails}}
-use Rattle.ixdtf_reading.proofs.letters.pass_letters.Goals.{in-Err, in-Ok-None, in-Ok-Some+in-None}
 
 pub loop-stop-init : goal.loop-stop-init
 loop-stop-init g c = rw c.fork-here.ensures.same record {
@@ -20,7 +20,8 @@ loop-stop-smaller g c =
 pub loop-stop-preserved : goal.loop-stop-preserved
 loop-stop-preserved g c =
     let off = one_taken {letter = g.T.EncodingType.letter} c.in-Ok-Some.ensures.letter c.in-Ok-Some.field-0-is c.look.ensures.rest c.advance.ensures.rest in
-    let next : g.S.Letters.after c.loop-stop.state c.in-Ok-Some.byte ≡ Some c.in-Some.next = search rules in
+    let has : g.S.Letters.class c.in-Ok-Some.byte ≡ true = search rules in
+    let next : within g.S.Letters.class tt c.in-Ok-Some.byte ≡ Some tt = rw has refl in
     let invariant = c.loop-stop.invariant in
     record {
       far = goes_on _ g.T.EncodingType.letter g.met.T.EncodingType.faithful _ _ _ _ invariant.far _ _ _ off.found next off.moved;
@@ -30,47 +31,27 @@ loop-stop-preserved g c =
     }
 
 -- the look failed
-pub returns-in_err-next-clause-letters : goal.returns-in_err-next-clause-letters
-returns-in_err-next-clause-letters g c =
-    let p = err_from_is_err_and c.from_residual.result c.from_residual.ensures.1 in
-    rw (p.1, p.2, c.look.ensures.rest) elim c.match-look.branch [
-      | in-Err w ↦
-          let same : c.in_err-next.field-0.0 ≡ w.in-Err.stop = search rules in
-          rw same (fails _ g.T.EncodingType.letter g.met.T.EncodingType.faithful _ _ _ _ c.loop-stop.invariant.far _ w.in-Err.ensures.letter)
-      | in-Ok-None w ↦ cc (w.found-is, c.in_err-next.was)
-      | in-Ok-Some+in-None w ↦ cc (w.found-is, c.in_err-next.was)
-    ]
+pub returns-in-Err-clause-letters : goal.returns-in-Err-clause-letters
+returns-in-Err-clause-letters g c =
+    rw c.look.ensures.rest (fails _ g.T.EncodingType.letter g.met.T.EncodingType.faithful _ _ _ _ c.loop-stop.invariant.far _ c.in-Err.ensures.letter)
 
--- the run ends, at a code unit or at the end
-pub returns-clause-letters : goal.returns-clause-letters
-returns-clause-letters g c =
+-- the run ends at the end, or at a code unit
+pub returns-in-Ok-None-clause-letters : goal.returns-in-Ok-None-clause-letters
+returns-in-Ok-None-clause-letters g c =
     let far = c.loop-stop.invariant.far in
-    rw c.look.ensures.rest (
-      far.taken,
-      far.units,
-      elim c.match-look.branch [
-        | in-Err w ↦ cc (w.found-is, c.in_ok-next.was)
-        | in-Ok-None w ↦
-            let over : seen (map g.T.EncodingType.letter c.loop-stop.here.rest) ≡ Ok None = search rules in
-            let none : c.in_ok-next.next ≡ None = search rules in
-            rw none (ceases _ g.T.EncodingType.letter g.met.T.EncodingType.faithful _ _ _ _ far None over tt)
-        | in-Ok-Some+in-None w ↦
-            let found : seen (map g.T.EncodingType.letter c.loop-stop.here.rest) ≡ Ok (Some w.in-Ok-Some.byte) = search rules in
-            let none : g.S.Letters.after c.loop-stop.state w.in-Ok-Some.byte ≡ None = search rules in
-            let next : c.in_ok-next.next ≡ Some w.in-Ok-Some.byte = search rules in
-            rw next (ceases _ g.T.EncodingType.letter g.met.T.EncodingType.faithful _ _ _ _ far (Some w.in-Ok-Some.byte) found none)
-      ],
-    )
+    let over : seen (map g.T.EncodingType.letter c.loop-stop.here.rest) ≡ Ok None = search rules in
+    rw c.look.ensures.rest (far.taken, far.units, ceases _ g.T.EncodingType.letter g.met.T.EncodingType.faithful _ _ _ _ far None over tt)
+
+pub returns-then-not-has-clause-letters : goal.returns-then-not-has-clause-letters
+returns-then-not-has-clause-letters g c =
+    let far = c.loop-stop.invariant.far in
+    let found : seen (map g.T.EncodingType.letter c.loop-stop.here.rest) ≡ Ok (Some c.in-Ok-Some.byte) = search rules in
+    let other : g.S.Letters.class c.in-Ok-Some.byte ≡ false = search rules in
+    let none : within g.S.Letters.class tt c.in-Ok-Some.byte ≡ None = rw other refl in
+    rw c.look.ensures.rest
+    (far.taken, far.units, ceases _ g.T.EncodingType.letter g.met.T.EncodingType.faithful _ _ _ _ far (Some c.in-Ok-Some.byte) found none)
 
 -- a code unit that was looked at is taken by a step
-pub returns-clause-stays : goal.returns-clause-stays
-returns-clause-stays g c some = elim c.match-look.branch [
-  | in-Err w ↦ cc (w.found-is, c.in_ok-next.was)
-  | in-Ok-None w ↦ absurd (nothing_next _ (search rules) some)
-  | in-Ok-Some+in-None w ↦
-      rw c.look.ensures.rest (one_taken {letter = g.T.EncodingType.letter} w.in-Ok-Some.ensures.letter w.in-Ok-Some.field-0-is refl refl).shorter
-]
-  where
-    nothing_next : (next : Option ℕ) → next ≡ None → IsSome next → ⊥
-    nothing_next None is some = cc
-    nothing_next (Some c) is some = cc
+pub returns-then-not-has-clause-stays : goal.returns-then-not-has-clause-stays
+returns-then-not-has-clause-stays g c some =
+    rw c.look.ensures.rest (one_taken {letter = g.T.EncodingType.letter} c.in-Ok-Some.ensures.letter c.in-Ok-Some.field-0-is refl refl).shorter

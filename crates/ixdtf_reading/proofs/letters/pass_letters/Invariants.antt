@@ -1,10 +1,11 @@
 use Rattle.ixdtf_reading.proofs.letters.pass_letters.Given as goal
 use Rattle.std.proofs.Common.{◌+◌, ◌≤◌, length}
+use Rattle.ixdtf_reading.specs.reading.Runs.{within}
 use Rattle.ixdtf_reading.proofs.code.LetterLoops.{IsSoFar}
 
 abbrev pub invariant-loop-stop : goal.invariant-loop-stop
 invariant-loop-stop g l = record {
-  far : IsSoFar g.S.Letters.after g.T.EncodingType.letter l.fn.first l.fn.cursor.rest l.here.rest l.state;
+  far : IsSoFar (within g.S.Letters.class) g.T.EncodingType.letter tt l.fn.cursor.rest l.here.rest tt;
   looks : l.here.looks + length l.here.rest ≤ l.fn.cursor.looks + length l.fn.cursor.rest;
   counted : l.fn.cursor.looks ≤ l.here.looks;
   shorter : length l.here.rest ≤ length l.fn.cursor.rest;

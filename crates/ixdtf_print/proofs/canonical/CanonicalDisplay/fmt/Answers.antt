@@ -1,7 +1,7 @@
 use Rattle.ixdtf_print.proofs.canonical.CanonicalDisplay.fmt.Goals as goal
 use Rattle.std.proofs.{Common.refl, Output.{has_written_styled_append, has_written_styled_of_eq}}
 use Rattle.ixdtf.specs.Views.{parsed_of}
-use Rattle.ixdtf_print.proofs.Shown.{all_bytes}
+use Rattle.ixdtf_print.proofs.code.DisplayedBytes.{all_bytes}
 
 pub returns-clause-styled : goal.returns-clause-styled
 returns-clause-styled g c = λ flush ok.

@@ -6,8 +6,8 @@ use Rattle.ixdtf.specs.Handlers.{UnhandledRecord, own_replies, calendar_value, f
 use Rattle.ixdtf_grammar.specs.declared.records.{DateRecord.DateRecord, TimeRecord.TimeRecord, UtcOffsetRecordOrZ.UtcOffsetRecordOrZ}
 use Rattle.ixdtf_print.specs.Canonical.{date_text, time_text, offset_text, bracket_text, calendar_text, optional_date_text, core_text, canonical_text}
 use Rattle.ixdtf_print.specs.{Printable.{IsPrintable, IsReadBack}, Spelled.{HasDay, HasTime, HasZone, HasCalendar, IsSpelled}}
-use Rattle.ixdtf_print.proofs.{Parse.{HasParts, to_parts, of_parts, one_record}, ReadBack.canonical_reads_back, Derived.of_date}
-use Rattle.ixdtf_print.proofs.DerivedTimes.{of_time, of_offset, of_bracket, of_pairs}
+use Rattle.ixdtf_print.proofs.{parts.ParsedParts.{HasParts, to_parts, of_parts, one_record}, theorems.ReadBack.canonical_reads_back, parts.DerivedDates.of_date}
+use Rattle.ixdtf_print.proofs.parts.DerivedTimes.{of_time, of_offset, of_bracket, of_pairs}
 
 abbrev text_of : Core → Text
 text_of core = optional_date_text core.date ++ (time_text core.time ++ offset_text core.offset)

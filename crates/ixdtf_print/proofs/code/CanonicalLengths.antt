@@ -7,7 +7,7 @@ use Rattle.ixdtf_grammar.specs.declared.records.TimeRecord.{TimeRecord}
 use Rattle.ixdtf.specs.language.{Letters.Letter, Fractions.FractionParts, Languages.Parsed}
 use Rattle.ixdtf_print.specs.Canonical.{year_text, date_text, fraction_text, time_text, minute_offset_text, full_offset_text, offset_text, bracket_text}
 use Rattle.ixdtf_print.specs.Canonical.{calendar_text, optional_date_text, core_text, canonical_text}
-use Rattle.ixdtf_print.proofs.{Derived.{fraction_long, year_few, date_long}, DerivedTimes.{minutes_long, clock_long}}
+use Rattle.ixdtf_print.proofs.{parts.DerivedDates.{fraction_long, year_few, date_long}, parts.DerivedTimes.{minutes_long, clock_long}}
 
 pub some_fraction_long : (fraction : FractionParts) → length (fraction_text (Some fraction)) ≡ 1 + fraction.count
 some_fraction_long fraction = omega (arith, fraction_long fraction)

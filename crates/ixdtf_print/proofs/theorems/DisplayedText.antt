@@ -5,7 +5,7 @@ use Rattle.ixdtf.specs.language.{Letters.{Text, Letter.{Plain, Bad}}, Readers.Co
 use Rattle.ixdtf_grammar.proofs.parts.Classes.{ascii, AllOf, all_append, all_within}
 use Rattle.ixdtf_grammar.proofs.{theorems.CoreEnds.core_inside, widths.PlainTexts.{core_ascii, tail_ascii}}
 use Rattle.ixdtf_print.specs.{Canonical.canonical_text, Shown.{bytes_of, shown_text}, Spelled.IsSpelled}
-use Rattle.ixdtf_print.proofs.{Parse.HasParts, ReadBack.canonical_reads_back}
+use Rattle.ixdtf_print.proofs.{parts.ParsedParts.HasParts, theorems.ReadBack.canonical_reads_back}
 
 ascii_of : (text : Text) (found : Parsed) → HasParts text found → AllOf ascii text
 ascii_of text found h =

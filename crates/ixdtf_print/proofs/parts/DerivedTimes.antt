@@ -15,7 +15,7 @@ use Rattle.ixdtf_print.specs.Canonical.{two_digits, minutes_text, seconds_text, 
 use Rattle.ixdtf_print.specs.Canonical.{opening_text, bracket_text, calendar_text}
 use Rattle.ixdtf_print.specs.Spelled.{HasDigits, IsClock, IsDayTime, IsMinuteClock, IsShift, IsZoneText, HasZone, HasCalendar}
 use Rattle.ixdtf_grammar.proofs.theorems.CoreSizes.{digits_long}
-use Rattle.ixdtf_print.proofs.Derived.{of_fraction}
+use Rattle.ixdtf_print.proofs.parts.DerivedDates.{of_fraction}
 
 -- ---- clocks
 

@@ -4,7 +4,7 @@ use Rattle.std.proofs.{Common.{append-nil, subst}, Math.Nat.{pow-succ', div-one,
 use Rattle.ixdtf.specs.language.{Letters.{Text, Letter.Plain}, Digits.padded_digits}
 use Rattle.ixdtf_grammar.proofs.PaddedDigits.{length-padded}
 use Rattle.ixdtf_print.specs.Puts.{HasRoom, Puts}
-use Rattle.ixdtf_print.proofs.Puts.{text_long, puts_length, puts_nothing, puts_before}
+use Rattle.ixdtf_print.proofs.code.PutBytes.{text_long, puts_length, puts_nothing, puts_before}
 
 -- the digits of a number are those of its tenth, and its last digit
 pub last_digit : (count number : ℕ) → padded_digits (suc count) number ≡ padded_digits count (number / 10) ++ (Plain (48 + number % 10) ∷ [])

@@ -22,7 +22,7 @@ use Rattle.ixdtf_print.specs.Canonical.{two_digits, year_text, date_text, minute
 use Rattle.ixdtf_print.specs.Canonical.{minute_offset_text, offset_text, zone_text, opening_text, bracket_text, calendar_text, optional_date_text, core_text}
 use Rattle.ixdtf_print.specs.{Canonical.canonical_text, Spelled.{IsDay, AreDigits, HasDigits, IsClock, IsDayTime, IsMinuteClock, IsShift, HasDay, HasTime}}
 use Rattle.ixdtf_print.specs.Spelled.{IsZoneText, HasZone, HasCalendar, IsSpelled}
-use Rattle.ixdtf_print.proofs.{Parse.HasParts, PaddedDigits.{padded_are, two_are, up_to, digits-append, zeros_are}}
+use Rattle.ixdtf_print.proofs.{parts.ParsedParts.HasParts, parts.PaddedDigits.{padded_are, two_are, up_to, digits-append, zeros_are}}
 
 -- ---- dates
 

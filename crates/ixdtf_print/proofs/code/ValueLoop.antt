@@ -3,7 +3,7 @@ use Rattle.std.proofs.Common.{ℕ, ◌+◌, ◌<◌, ◌≤◌, ◌≡◌, ◌�
 use Rattle.std.proofs.{Common.{get_or, length, refl, sym, ◌∙◌, ap, arith, add-one, subst}, Math.Seq.drop-cons, lemmas.{List.drop_all, Bool.Decides.nat_tests}}
 use Rattle.std.specs.Char.{is_ascii_alphanumeric}
 use Rattle.ixdtf.specs.language.{Letters.{Text, hyphen, value_char, Letter.Plain}, Brackets.Value}
-use Rattle.ixdtf_print.proofs.Values.{goes_as_value, value_test}
+use Rattle.ixdtf_print.proofs.code.ValueTest.{goes_as_value, value_test}
 
 -- what goes on from a place
 abbrev pub from_place : Bool → List ℕ → ℕ → Bool

@@ -5,7 +5,7 @@ use Rattle.std.specs.{Char.encode_utf8, Str.encode_utf8_all}
 use Rattle.ixdtf.specs.language.{Letters.{Text, Letter.Plain}, Brackets.ZoneNote, Languages.Parsed}
 use Rattle.ixdtf_print.specs.{Canonical.{opening_text, zone_text, bracket_text, calendar_text, core_text, canonical_text}, Puts.Puts}
 use Rattle.ixdtf_print.specs.Shown.{code_point, bytes_of, shown_text}
-use Rattle.ixdtf_print.proofs.Puts.{front_of_new, text_long, puts_length}
+use Rattle.ixdtf_print.proofs.code.PutBytes.{front_of_new, text_long, puts_length}
 
 bytes-append : (a b : Text) → bytes_of (a ++ b) ≡ bytes_of a ++ bytes_of b
 bytes-append a b = ap encode_utf8_all (map-append code_point a b) ∙ encodes-append (map code_point a) (map code_point b)

@@ -1,0 +1,8 @@
+-- What the functions of the code use.
+pub mod CanonicalLengths
+pub mod DigitLoop
+pub mod DisplayedBytes
+pub mod PutBytes
+pub mod ValueLoop
+pub mod ValueTest
+pub mod YearSigns

@@ -1,0 +1,5 @@
+-- What canonical texts and what `parse` reads are made of.
+pub mod DerivedDates
+pub mod DerivedTimes
+pub mod PaddedDigits
+pub mod ParsedParts

@@ -1,0 +1,4 @@
+-- What follows for every record.
+pub mod DisplayedText
+pub mod PrintableRecords
+pub mod ReadBack
