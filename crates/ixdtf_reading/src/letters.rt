@@ -3,7 +3,7 @@
 ghost use Rattle.std.specs.Prelude.{◌≡◌, ◌+◌, ◌≤◌, length, drop, IfOk, IsSome};
 ghost use Rattle.ixdtf_grammar.specs.language.Letters.{Class};
 ghost use Rattle.ixdtf_reading.specs.reading.Clauses.{Spends};
-ghost use Rattle.ixdtf_reading.specs.reading.Runs.{PassesOver};
+ghost use Rattle.ixdtf_reading.specs.reading.Runs.{PassesOver, found_in};
 
 use crate::cursor::Cursor;
 use crate::stop::Stop;
@@ -32,17 +32,23 @@ pub fn pass_letters<'a, T: EncodingType, S: Letters>(
 {
     let mut here = cursor.fork();
     let found = loop {
-        match here.look() {
-            Err(stop) => break Err(stop),
-            Ok(None) => break Ok(None),
-            Ok(Some(byte)) => {
-                if !S::has(byte) {
-                    break Ok(Some(byte));
-                }
-                here.advance();
-            }
+        let found = here.look();
+        if !goes_on::<S>(found) {
+            break found;
         }
+        here.advance();
     };
     *cursor = here;
     found
+}
+
+/// Whether a look found a code unit of the class.
+#[inline(always)]
+fn goes_on<S: Letters>(found: Result<Option<u8>, Stop>) -> bool
+    ensures { result ≡ found_in S.class found }
+{
+    match found {
+        Ok(Some(byte)) => S::has(byte),
+        Ok(None) | Err(_) => false,
+    }
 }

@@ -1,5 +1,5 @@
 -- Code units that are taken one by one, with a state.
-use Rattle.std.specs.Prelude.{◌≡◌, ℕ, List, [], ◌∷◌, ◌++◌, map, Option, Some, None, Result, Ok, Err, if◌then◌else◌}
+use Rattle.std.specs.Prelude.{◌≡◌, ℕ, Bool, false, List, [], ◌∷◌, ◌++◌, map, Option, Some, None, Result, Ok, Err, if◌then◌else◌}
 use Rattle.ixdtf_reading.specs.declared.stop.Stop.{Stop}
 use Rattle.ixdtf_reading.specs.reading.{Clauses.fault_of_stop, Looks.{Read, Placed}}
 use Rattle.ixdtf_grammar.specs.{language.Letters.{Letter, Text, Class, key_char, value_char, Letter.{Plain, Bad}}, table.Faults.Fault.NonAsciiCodePoint}
@@ -40,6 +40,12 @@ key_after = within key_char
 
 abbrev pub component_after : Unit {0} → ℕ → Option (Unit {0})
 component_after = within value_char
+
+-- whether a look found a code unit of the class
+abbrev pub found_in : Class → Result (Option ℕ) Stop → Bool
+found_in class (Ok (Some c)) = class c
+found_in class (Ok None) = false
+found_in class (Err stop) = false
 
 -- The code units of a class that a function passed over, and where it stopped, are those of the run in the remaining input.
 abbrev pub PassesOver : (ℕ → Letter) → Unread → Result (Option ℕ) Stop → Unread → Class → Type 0

@@ -19,7 +19,7 @@ pub fn parse_date<'a, T: EncodingType>(cursor: &mut Cursor<'a, T>) -> Result<Dat
 
 // ==== At fixed places ====
 
-/// The digits of a date, as three numbers. They are not checked.
+/// The three numbers of a date's digits, which may be no date: its year, and what stands where its month and its day do.
 #[derive(Clone, Copy)]
 pub struct DateDigits {
     pub year: i32,
@@ -38,7 +38,7 @@ impl DateDigits {
         }
     }
 
-    /// The date that they are, where its month is one and has the day.
+    /// The date of the digits, once they are known to be one.
     #[inline(always)]
     pub fn record(self) -> DateRecord {
         DateRecord {

@@ -20,14 +20,9 @@ pub fn pass_letters<'a, T: EncodingType, S: Letters>(
     let mut here = cursor.fork();
     let found = loop {
         match here.look() {
+            Ok(Some(byte)) if S::has(byte) => here.advance(),
+            Ok(next) => break Ok(next),
             Err(stop) => break Err(stop),
-            Ok(None) => break Ok(None),
-            Ok(Some(byte)) => {
-                if !S::has(byte) {
-                    break Ok(Some(byte));
-                }
-                here.advance();
-            }
         }
     };
     *cursor = here;

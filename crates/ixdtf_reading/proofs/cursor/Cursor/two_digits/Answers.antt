@@ -29,8 +29,17 @@ returns-then-number-le99-clause-digits g c =
     (rw (← c.byte_of-tens.ensures) digits.0) in
     let ones = seen_digit (fault_of_stop c.args.other) c.look_at-second.result (ascii_at letter 1 units) second (rw (← c.byte_of-ones.ensures) digits.1) in
     let number = are_written c.byte_of-tens.result c.byte_of-ones.result digits.0 digits.1 in
-    read ∙ rw (tens, ones, c.two_digit_number-number.ensures.value, number, c.byte_of-tens.ensures, c.byte_of-ones.ensures, c.advance_by.ensures.rest,
-        c.look_at-second.ensures.rest, c.look_at-first.ensures.rest) refl
+    read ∙ rw (
+      tens,
+      ones,
+      c.two_digit_number-number.ensures.value,
+      number,
+      c.byte_of-tens.ensures,
+      c.byte_of-ones.ensures,
+      c.advance_by.ensures.rest,
+      c.look_at-second.ensures.rest,
+      c.look_at-first.ensures.rest,
+    ) refl
 
 pub returns-then-number-le99-clause-value : goal.returns-then-number-le99-clause-value
 returns-then-number-le99-clause-value g c = value_is c.two_digit_number-number.result (omega (arith, c.if-number-le99.true))
