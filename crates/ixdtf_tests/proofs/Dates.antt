@@ -64,15 +64,8 @@ dates : Compute parse (
     ∷ gives (codes "-000400-02-29") (date (neg_ℤ (pos 400)) 2 29)
     ∷ gives (codes "+999999-12-31") (date (pos 999999) 12 31)
     ∷ gives (codes "-999999-01-01") (date (neg_ℤ (pos 999999)) 1 1)
-    ∷ [])
-unfolding all_readings
-dates = refl
-
--- ---- texts that are no date
-
-no_date : Compute parse (
-    -- in a year
-    map (ends (of_date year_digits) abrupt_digit) (codes "2" ∷ codes "20" ∷ [])
+    -- no dates: in a year
+    ∷ map (ends (of_date year_digits) abrupt_digit) (codes "2" ∷ codes "20" ∷ [])
     ++ (goes_off (of_date year_digits) DateYear (codes "20|-06-05") ∷ [])
     ++ map (ends (of_date extended_year_digits) abrupt_digit) (codes "+" ∷ codes "-00000" ∷ [])
     ++ (goes_off (of_date extended_year_digits) DateExtendedYear (codes "-|P12Y") ∷ [])
@@ -100,4 +93,4 @@ no_date : Compute parse (
     -- `é` in UTF-8
     ++ goes_off (of_date after_date) InvalidEnd (codes "2020-01-01|" ++ 195 ∷ 169 ∷ []) ∷ [])
 unfolding all_readings
-no_date = refl
+dates = refl

@@ -109,16 +109,18 @@ zone_and_calendar : UnhandledRecord parse (text_of (codes "2021-01-29 02:12:48+0
 unfolding all_readings
 zone_and_calendar = unhandled_record (codes "2021-01-29 02:12:48+01:00:00[u][u-ca=iso8601]") night (calendar false (codes "iso8601") ∷ []) refl refl
 
-two_calendars : UnhandledRecord parse (text_of (codes "2024-03-02T08:48:00-05:00[u-ca=iso8601][u-ca=japanese]"))
-    (with_calendar morning (Some (codes "iso8601")))
+-- the text gives the morning in the first of its calendars
+abbrev MorningInIso : List ℕ → Type 0
+MorningInIso units = UnhandledRecord parse (text_of units) (with_calendar morning (Some (codes "iso8601")))
+
+two_calendars : MorningInIso (codes "2024-03-02T08:48:00-05:00[u-ca=iso8601][u-ca=japanese]")
 unfolding all_readings
 two_calendars =
     unhandled_record (codes "2024-03-02T08:48:00-05:00[u-ca=iso8601][u-ca=japanese]") morning
     (calendar false (codes "iso8601") ∷ calendar false (codes "japanese") ∷ []) refl refl
 
 -- a critical calendar with the value of the first one
-same_calendar_twice : UnhandledRecord parse (text_of (codes "2024-03-02T08:48:00-05:00[u-ca=iso8601][!u-ca=iso8601]"))
-    (with_calendar morning (Some (codes "iso8601")))
+same_calendar_twice : MorningInIso (codes "2024-03-02T08:48:00-05:00[u-ca=iso8601][!u-ca=iso8601]")
 unfolding all_readings
 same_calendar_twice =
     unhandled_record (codes "2024-03-02T08:48:00-05:00[u-ca=iso8601][!u-ca=iso8601]") morning

@@ -141,49 +141,8 @@ offsets : Compute parse_offset (
     ∷ gives (codes "-050030,25") (alone (long Negative 5 0 30 (Some (record { count = 2; value = 25 }))))
     ∷ gives (codes "-05:00:30.5") (alone (long Negative 5 0 30 (Some (record { count = 1; value = 5 }))))
     ∷ gives (codes "-05:00:30.123456789") (alone (long Negative 5 0 30 (Some (record { count = 9; value = 123456789 }))))
-    ∷ [])
-unfolding all_readings
-offsets = refl
-
-offsets_after_times : Compute parse (
-    gives (codes "2024-03-02T08:48:00-05:00") (morning (Some (Offset (short Negative 5 0))) None)
-    ∷ gives (codes "2024-03-02T08:48-05") (morning (Some (Offset (short Negative 5 0))) None)
-    ∷ gives (codes "2024-03-02T08:48:00-00:00") (morning (Some (Offset (short Negative 0 0))) None)
-    ∷ gives (codes "2024-03-02 08:48:00+01:00:00") (morning (Some (Offset (long Positive 1 0 0 None))) None)
-    ∷ gives (codes "2020-01-01T00:00z") (with new_years_day (Some (time_of 0 0 0 None)) (Some Z) None)
-    ∷ gives (codes "2024-03-02T08:48:00Z") (morning (Some Z) None)
-    ∷ [])
-unfolding all_readings
-offsets_after_times = refl
-
--- a zone that is an offset
-abbrev zone : Sign → ℕ → ℕ → Outcome
-zone sign hour minute = derived (identified (zone_offset (record { sign = sign; hour = hour; minute = minute }))) []
-
-zones : Compute parse_identifier (
-    gives (codes "+05:30") (zone Positive 5 30)
-    ∷ gives (codes "-0530") (zone Negative 5 30)
-    ∷ gives (codes "+08") (zone Positive 8 0)
-    ∷ [])
-unfolding all_readings
-zones = refl
-
-abbrev zone_at : Bool → Sign → ℕ → ℕ → Option ZoneNote
-zone_at critical sign hour minute = Some (record { critical = critical; zone = zone_offset (record { sign = sign; hour = hour; minute = minute }) })
-
-offsets_in_brackets : Compute parse (
-    gives (codes "2020-01-01[-05:00]") (with new_years_day None None (zone_at false Negative 5 0))
-    ∷ gives (codes "2020-01-01[!+0530]") (with new_years_day None None (zone_at true Positive 5 30))
-    ∷ gives (codes "2020-01-01[+08]") (with new_years_day None None (zone_at false Positive 8 0))
-    ∷ gives (codes "2024-03-02T08:48:00-05:00[-05:00]") (morning (Some (Offset (short Negative 5 0))) (zone_at false Negative 5 0))
-    ∷ [])
-unfolding all_readings
-offsets_in_brackets = refl
-
--- ---- texts that are no offset
-
-no_offset : Compute parse_offset (
-    map (goes_off (of_offset offset_start) OffsetNeedsSign) (codes "|00:00" ∷ codes "|Z" ∷ [])
+    -- no offsets
+    ∷ map (goes_off (of_offset offset_start) OffsetNeedsSign) (codes "|00:00" ∷ codes "|Z" ∷ [])
     ++ (goes_off (of_full after_hour) InvalidEnd (codes "+05|.5") ∷ [])
     ++ map (ends (of_full minute_digits) abrupt_digit) (codes "+08:0" ∷ codes "+080" ∷ [])
     ++ map (goes_off (of_full minute_digits) TimeMinuteSecond) (codes "+08:0|x" ∷ codes "+080|x" ∷ [])
@@ -196,11 +155,41 @@ no_offset : Compute parse_offset (
     ++ (goes_off (of_full after_second) InvalidEnd (codes "+08:00:00|[") ∷ [])
     ++ stands_before_bad (of_full hour_range) TimeHour (codes "+24|") ∷ [])
 unfolding all_readings
-no_offset = refl
+offsets = refl
 
-no_offset_beside_a_date : Compute parse (
-    -- after a time
-    (goes_off (of_full after_colon_minute) InvalidEnd (codes "2020-01-01T00:00:00+01:00|Z") ∷ [])
+-- a zone that is an offset
+abbrev zone : Sign → ℕ → ℕ → Outcome
+zone sign hour minute = derived (identified (zone_offset (record { sign = sign; hour = hour; minute = minute }))) []
+
+zones : Compute parse_identifier (
+    gives (codes "+05:30") (zone Positive 5 30)
+    ∷ gives (codes "-0530") (zone Negative 5 30)
+    ∷ gives (codes "+08") (zone Positive 8 0)
+    -- with seconds or a fraction, or out of range
+    ∷ map (goes_off (of_short after_colon_minute) InvalidMinutePrecisionOffset) (codes "+00:00|:00" ∷ codes "+00:00|0" ∷ [])
+    ++ map (goes_off (of_short after_basic_minute) InvalidMinutePrecisionOffset) (codes "+0000|00" ∷ codes "+0000|:00" ∷ [])
+    ++ (goes_off (of_short after_colon_minute) InvalidEnd (codes "+00:00|.1") ∷ [])
+    ++ (stands (of_short hour_range) TimeHour (codes "+24|:00") ∷ [])
+    ++ stands (of_short minute_range) TimeMinuteSecond (codes "+0060|") ∷ [])
+unfolding all_readings
+zones = refl
+
+abbrev zone_at : Bool → Sign → ℕ → ℕ → Option ZoneNote
+zone_at critical sign hour minute = Some (record { critical = critical; zone = zone_offset (record { sign = sign; hour = hour; minute = minute }) })
+
+offsets_beside_dates : Compute parse (
+    gives (codes "2024-03-02T08:48:00-05:00") (morning (Some (Offset (short Negative 5 0))) None)
+    ∷ gives (codes "2024-03-02T08:48-05") (morning (Some (Offset (short Negative 5 0))) None)
+    ∷ gives (codes "2024-03-02T08:48:00-00:00") (morning (Some (Offset (short Negative 0 0))) None)
+    ∷ gives (codes "2024-03-02 08:48:00+01:00:00") (morning (Some (Offset (long Positive 1 0 0 None))) None)
+    ∷ gives (codes "2020-01-01T00:00z") (with new_years_day (Some (time_of 0 0 0 None)) (Some Z) None)
+    ∷ gives (codes "2024-03-02T08:48:00Z") (morning (Some Z) None)
+    ∷ gives (codes "2020-01-01[-05:00]") (with new_years_day None None (zone_at false Negative 5 0))
+    ∷ gives (codes "2020-01-01[!+0530]") (with new_years_day None None (zone_at true Positive 5 30))
+    ∷ gives (codes "2020-01-01[+08]") (with new_years_day None None (zone_at false Positive 8 0))
+    ∷ gives (codes "2024-03-02T08:48:00-05:00[-05:00]") (morning (Some (Offset (short Negative 5 0))) (zone_at false Negative 5 0))
+    -- no offsets: after a time
+    ∷ (goes_off (of_full after_colon_minute) InvalidEnd (codes "2020-01-01T00:00:00+01:00|Z") ∷ [])
     ++ map (stands (of_full second_range) TimeMinuteSecond) (codes "2024-08-24T14:00:00-05:00:60|" ∷ codes "2024-08-24T14:00:00-050060|" ∷ [])
     ++ (goes_off (of_full after_colon_minute) UtcTimeSeparator (codes "2024-08-24T14:00:00-05:00|60") ∷ [])
     ++ (goes_off (of_full after_basic_minute) UtcTimeSeparator (codes "2024-08-24T14:00:00-0500|:60") ∷ [])
@@ -212,14 +201,4 @@ no_offset_beside_a_date : Compute parse (
     ++ (goes_off (of_short after_colon_minute) AnnotationClose (codes "2024-08-24T14:00:00-05:00[-05:00|.1]") ∷ [])
     ++ goes_off (of_short after_hour) AnnotationClose (codes "2020-01-01[+05|=]") ∷ [])
 unfolding all_readings
-no_offset_beside_a_date = refl
-
--- an offset without seconds, with seconds or a fraction
-no_short_offset : Compute parse_identifier (
-    map (goes_off (of_short after_colon_minute) InvalidMinutePrecisionOffset) (codes "+00:00|:00" ∷ codes "+00:00|0" ∷ [])
-    ++ map (goes_off (of_short after_basic_minute) InvalidMinutePrecisionOffset) (codes "+0000|00" ∷ codes "+0000|:00" ∷ [])
-    ++ (goes_off (of_short after_colon_minute) InvalidEnd (codes "+00:00|.1") ∷ [])
-    ++ (stands (of_short hour_range) TimeHour (codes "+24|:00") ∷ [])
-    ++ stands (of_short minute_range) TimeMinuteSecond (codes "+0060|") ∷ [])
-unfolding all_readings
-no_short_offset = refl
+offsets_beside_dates = refl

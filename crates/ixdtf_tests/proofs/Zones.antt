@@ -51,14 +51,24 @@ names : Compute parse_iana_identifier (
     ∷ gives (codes ".") (derived (named (codes ".")) [])
     ∷ gives (codes "Etc/GMT+5") (derived (named (codes "Etc/GMT+5")) [])
     ∷ gives (codes "a/-1") (derived (named (codes "a/-1")) [])
-    ∷ [])
+    -- no names
+    ∷ map (goes_off (of_zone zone_name_start) TzLeadingChar) (codes "|+05:00" ∷ codes "|1UTC" ∷ [])
+    -- `é` in UTF-8
+    ++ (goes_off (of_zone zone_name_start) TzLeadingChar (codes "|" ++ 195 ∷ 169 ∷ []) ∷ [])
+    ++ (goes_off (of_zone in_zone_name) InvalidEnd (codes "UTC|]") ∷ [])
+    ++ (goes_off (of_zone in_zone_name) IanaChar (codes "UTC|=x") ∷ [])
+    ++ goes_off (of_zone after_zone_slash) IanaCharPostSeparator (codes "America/|/Chicago") ∷ [])
 unfolding all_readings
 names = refl
 
 identifiers : Compute parse_identifier (
     gives (codes "u") (derived (identified (Name (codes "u"))) [])
     ∷ gives (codes "America/Argentina/Buenos_Aires") (derived (identified (Name (codes "America/Argentina/Buenos_Aires"))) [])
-    ∷ [])
+    -- no names
+    ∷ (goes_off (of_zone identifier_start) TzLeadingChar (codes "|1UTC") ∷ [])
+    ++ map (goes_off (of_zone in_zone_name) InvalidEnd) (codes "UTC|]" ∷ codes "a/b|]" ∷ [])
+    ++ (goes_off (of_zone in_zone_name) IanaChar (codes "UTC|=x") ∷ [])
+    ++ ends (of_zone after_zone_slash) IanaCharPostSeparator (codes "America/") ∷ [])
 unfolding all_readings
 identifiers = refl
 
@@ -68,32 +78,9 @@ names_in_brackets : Compute parse (
     ∷ gives (codes "2020-01-01[asia/kolkata]") (with new_years_day None None (zone_named false (codes "asia/kolkata")))
     ∷ gives (codes "2020-01-01[!cet]") (with new_years_day None None (zone_named true (codes "cet")))
     ∷ gives (codes "2020-01-01[.x]") (with new_years_day None None (zone_named false (codes ".x")))
-    ∷ [])
-unfolding all_readings
-names_in_brackets = refl
-
--- ---- texts that are no name
-
-no_identifier : Compute parse_identifier (
-    (goes_off (of_zone identifier_start) TzLeadingChar (codes "|1UTC") ∷ [])
-    ++ map (goes_off (of_zone in_zone_name) InvalidEnd) (codes "UTC|]" ∷ codes "a/b|]" ∷ [])
-    ++ (goes_off (of_zone in_zone_name) IanaChar (codes "UTC|=x") ∷ [])
-    ++ ends (of_zone after_zone_slash) IanaCharPostSeparator (codes "America/") ∷ [])
-unfolding all_readings
-no_identifier = refl
-
-no_name : Compute parse_iana_identifier (
-    map (goes_off (of_zone zone_name_start) TzLeadingChar) (codes "|+05:00" ∷ codes "|1UTC" ∷ [])
-    -- `é` in UTF-8
-    ++ (goes_off (of_zone zone_name_start) TzLeadingChar (codes "|" ++ 195 ∷ 169 ∷ []) ∷ [])
-    ++ (goes_off (of_zone in_zone_name) InvalidEnd (codes "UTC|]") ∷ [])
-    ++ (goes_off (of_zone in_zone_name) IanaChar (codes "UTC|=x") ∷ [])
-    ++ goes_off (of_zone after_zone_slash) IanaCharPostSeparator (codes "America/|/Chicago") ∷ [])
-unfolding all_readings
-no_name = refl
-
-no_name_in_a_bracket : Compute parse (
-    map (goes_off (of_zone in_zone_name) IanaChar) (codes "2020-04-08[America/Chicago|)" ∷ codes "2020-01-01[UTC|=x]" ∷ codes "2020-01-01[A|=b]" ∷ (codes "2020-01-01[A|!" ++ (128 ∷ [])) ∷ [])
+    -- no names
+    ∷ map (goes_off (of_zone in_zone_name) IanaChar) (codes "2020-04-08[America/Chicago|)" ∷ codes "2020-01-01[UTC|=x]" ∷ codes "2020-01-01[A|=b]" ∷ [])
+    ++ (goes_off (of_zone in_zone_name) IanaChar (codes "2020-01-01[A|!" ++ 128 ∷ []) ∷ [])
     ++ map (goes_off (of_zone after_zone_slash) IanaCharPostSeparator) (codes "2020-04-08[America/| Chicago)" ∷ codes "2020-01-01[America/|/Chicago]" ∷ [])
     ++ cut_off (of_zone in_zone_name) AnnotationClose (codes "2020-01-01[!UTC" ∷ [])
     -- a name that begins as a key may: a `]` comes before any `=`, the end and any bad code unit, so the rows for these fit no text
@@ -102,4 +89,4 @@ no_name_in_a_bracket : Compute parse (
     -- the mask of a bad code unit
     ++ goes_off (of_zone in_zone_name) IanaChar (codes "2020-01-01[cet|!" ++ (128 ∷ []) ++ codes "]") ∷ [])
 unfolding all_readings
-no_name_in_a_bracket = refl
+names_in_brackets = refl

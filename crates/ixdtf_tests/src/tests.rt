@@ -5,7 +5,6 @@ mod dates;
 mod durations;
 mod encodings;
 mod errors;
-mod fixed_places;
 mod handlers;
 mod in_turn;
 mod languages;

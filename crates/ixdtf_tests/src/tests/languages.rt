@@ -2,70 +2,47 @@
 
 use super::Reader::{self, Duration, MonthDay, Parse, Time, YearMonth};
 use super::durations::{Units, lasts, timed as lasting};
-use super::{
-    AT_DATE, AT_DIGIT, Found, Parsers, alone, check_once_read, check_refusals, dated, timed,
-};
+use super::{AT_DATE, AT_DIGIT, Found, Parsers, check_once_read, check_refusals, parts, timed};
 use ixdtf::ParseError::{
     self, AmbiguousTimeMonthDay, AmbiguousTimeYearMonth, DateDay, DateMonth, DateSeparator,
     DateYear, DurationDisgnator, InvalidEnd, InvalidMonthRange, MonthDayHyphen, TimeHour,
 };
 use ixdtf::records::Sign;
 
-#[rattlefmt::skip]
-const BESIDE_A_BASIC_DATE: &[(Reader, ParseError)] =
-    &[(YearMonth, InvalidEnd), (MonthDay, InvalidMonthRange), (Time, InvalidEnd), (Duration, DurationDisgnator)];
-
-#[test]
-fn reads_a_basic_date_as_a_date(rt: HostRuntime) {
-    let date = Found::Parts(dated(2020, 11, 8, None));
-    check_once_read(&rt, "20201108", BESIDE_A_BASIC_DATE, Parse, &Ok(date), &[]);
-}
-
-#[rattlefmt::skip]
-const BESIDE_A_YEAR_MONTH: &[(Reader, ParseError)] =
-    &[(Parse, DateSeparator), (MonthDay, InvalidMonthRange), (Time, AmbiguousTimeYearMonth), (Duration, DurationDisgnator)];
-
-#[test]
-fn reads_a_year_and_a_month_as_a_year_month(rt: HostRuntime) {
-    let month = Found::Parts(dated(2021, 12, 1, None));
-    check_once_read(
-        &rt,
-        "2021-12",
-        BESIDE_A_YEAR_MONTH,
-        YearMonth,
-        &Ok(month),
-        &[],
-    );
-}
+/// A text, its reader, the date or the hour that this finds, and the errors of the other readers.
+type OfOne = (
+    &'static str,
+    Reader,
+    Option<(i32, u8, u8)>,
+    Option<u8>,
+    &'static [(Reader, ParseError)],
+);
 
 #[rattlefmt::skip]
-const BESIDE_1208_10: &[(Reader, ParseError)] =
-    &[(Parse, DateSeparator), (MonthDay, InvalidEnd), (Time, AmbiguousTimeMonthDay), (Duration, DurationDisgnator)];
+const OF_ONE_LANGUAGE: &[OfOne] = &[
+    ("20201108", Parse, Some((2020, 11, 8)), None,
+        &[(YearMonth, InvalidEnd), (MonthDay, InvalidMonthRange), (Time, InvalidEnd), (Duration, DurationDisgnator)]),
+    ("2021-12", YearMonth, Some((2021, 12, 1)), None,
+        &[(Parse, DateSeparator), (MonthDay, InvalidMonthRange), (Time, AmbiguousTimeYearMonth), (Duration, DurationDisgnator)]),
+    // a year that begins as a month-day
+    ("1208-10", YearMonth, Some((1208, 10, 1)), None,
+        &[(Parse, DateSeparator), (MonthDay, InvalidEnd), (Time, AmbiguousTimeMonthDay), (Duration, DurationDisgnator)]),
+    ("11-07", MonthDay, Some((0, 11, 7)), None,
+        &[(Parse, DateYear), (YearMonth, DateYear), (Time, AmbiguousTimeMonthDay), (Duration, DurationDisgnator)]),
+    ("12:00", Time, None, Some(12),
+        &[(Parse, DateYear), (YearMonth, DateYear), (MonthDay, DateDay), (Duration, DurationDisgnator)]),
+];
 
 #[test]
-fn reads_a_year_that_begins_as_a_month_day_as_a_year_month(rt: HostRuntime) {
-    let month = Found::Parts(dated(1208, 10, 1, None));
-    check_once_read(&rt, "1208-10", BESIDE_1208_10, YearMonth, &Ok(month), &[]);
-}
-
-#[rattlefmt::skip]
-const BESIDE_A_MONTH_DAY: &[(Reader, ParseError)] =
-    &[(Parse, DateYear), (YearMonth, DateYear), (Time, AmbiguousTimeMonthDay), (Duration, DurationDisgnator)];
-
-#[test]
-fn reads_a_month_and_a_day_as_a_month_day(rt: HostRuntime) {
-    let day = Found::Parts(dated(0, 11, 7, None));
-    check_once_read(&rt, "11-07", BESIDE_A_MONTH_DAY, MonthDay, &Ok(day), &[]);
-}
-
-#[rattlefmt::skip]
-const BESIDE_A_TIME: &[(Reader, ParseError)] =
-    &[(Parse, DateYear), (YearMonth, DateYear), (MonthDay, DateDay), (Duration, DurationDisgnator)];
-
-#[test]
-fn reads_an_hour_and_a_minute_as_a_time(rt: HostRuntime) {
-    let noon = Found::Parts(alone(timed(12, 0, 0, None), None));
-    check_once_read(&rt, "12:00", BESIDE_A_TIME, Time, &Ok(noon), &[]);
+fn reads_texts_of_one_language(rt: HostRuntime) {
+    for (text, reader, date, hour, before) in OF_ONE_LANGUAGE {
+        let time = match *hour {
+            Some(hour) => timed(hour, 0, 0, None),
+            None => None,
+        };
+        let wanted = Ok(Found::Parts(parts(*date, time, None, None, None)));
+        check_once_read(&rt, text, before, *reader, &wanted, &[]);
+    }
 }
 
 #[rattlefmt::skip]

@@ -216,7 +216,7 @@ fn asks_handlers_of_strict_times(rt: HostRuntime) {
     let text = "1200[a=b][!c=d]";
     let parser = IxdtfParser::from_str(text).with_profile(Profile::Strict);
     let asked = (Form::Time, Kind::RepliesNone, text, "[a=b][!c=d]");
-    check(&rt, text, reads(parser, asked).is_some());
+    check(&rt, text, reads(parser, asked, false).is_some());
     let text = "1214[a=b]";
     let mut parser = IxdtfParser::from_str(text).with_profile(Profile::Strict);
     let asked = (Form::Time, Kind::RepliesNone, text, "");

@@ -1,15 +1,18 @@
-//! Times. What is expected of a fraction are its nanoseconds; those of most texts are of the Rust crate's own tests.
+//! Times. What is expected of a fraction are its nanoseconds; those of most texts are of the Rust crate's own tests. At
+//! fixed places it is what the Rust crate returns.
 
 use super::Nanoseconds::{self, Cut, Exact};
 use super::{
-    Found, Reader, check_found, check_fraction, check_parsed, dated, fraction_in, parts, timed,
+    Found, Reader, Record, check_found, check_fraction, check_parsed, dated, fraction_in, parts,
+    timed,
 };
+use ixdtf::records::UtcOffsetRecordOrZ;
 use std::process::Abort;
 
 /// A text, and its date and time, which has no fraction.
-pub(super) type Whole = (&'static str, (i32, u8, u8), (u8, u8, u8));
+type Whole = (&'static str, (i32, u8, u8), (u8, u8, u8));
 
-pub(super) fn check_whole(rt: &impl Abort, rows: &[Whole]) {
+fn check_whole(rt: &impl Abort, rows: &[Whole]) {
     for (text, (year, month, day), (hour, minute, second)) in rows {
         let time = timed(*hour, *minute, *second, None);
         check_parsed(rt, text, &Ok(dated(*year, *month, *day, time)));
@@ -23,6 +26,12 @@ const TIMES: &[Whole] = &[
     ("20200101 05:06", (2020, 1, 1), (5, 6, 0)),
     ("2020-01-01T050607", (2020, 1, 1), (5, 6, 7)),
     ("2020-01-01T23:59:60", (2020, 1, 1), (23, 59, 60)),
+    // at fixed places, `YYYY-MM-DD`, a separator and `HH:MM:SS`, or nearly so
+    ("2020-02-29T23:59:60", (2020, 2, 29), (23, 59, 60)),
+    ("2020-01-01T00:00:60", (2020, 1, 1), (0, 0, 60)),
+    ("2020-01-01 23:59:60", (2020, 1, 1), (23, 59, 60)),
+    ("2020-01-01t00:00:60", (2020, 1, 1), (0, 0, 60)),
+    ("+002020-01-01T00:00:00", (2020, 1, 1), (0, 0, 0)),
 ];
 
 #[test]
@@ -31,7 +40,7 @@ fn reads_times(rt: HostRuntime) {
 }
 
 /// A text with a fraction of a second: its date, where it has one, its time, and the nanoseconds.
-pub(super) type Fractional = (
+type Fractional = (
     &'static str,
     Option<(i32, u8, u8)>,
     (u8, u8, u8),
@@ -39,7 +48,7 @@ pub(super) type Fractional = (
 );
 
 /// The reader finds the date and the time with its fraction in each text, and nothing besides.
-pub(super) fn check_fractional(rt: &impl Abort, reader: Reader, rows: &[Fractional]) {
+fn check_fractional(rt: &impl Abort, reader: Reader, rows: &[Fractional]) {
     for (text, date, (hour, minute, second), nanoseconds) in rows {
         let fraction = fraction_in(reader, text);
         check_fraction(rt, text, &fraction, *nanoseconds);
@@ -57,6 +66,9 @@ const FRACTIONS_AFTER_DATES: &[Fractional] = &[
     ("2022-06-05 043422.000", Some((2022, 6, 5)), (4, 34, 22), Exact(0)),
     ("2024-03-02T08:48:00,25", Some((2024, 3, 2)), (8, 48, 0), Exact(250_000_000)),
     ("2020-01-01T15:23:30.1234567898765432101234567890987654321", Some((2020, 1, 1)), (15, 23, 30), Cut(123_456_789)),
+    // nearly at fixed places
+    ("20200101T00:00:00.25", Some((2020, 1, 1)), (0, 0, 0), Exact(250_000_000)),
+    ("2020-01-01T000000.25", Some((2020, 1, 1)), (0, 0, 0), Exact(250_000_000)),
 ];
 
 #[test]
@@ -80,4 +92,16 @@ const FRACTIONS_OF_TIMES_ALONE: &[Fractional] = &[
 #[test]
 fn reads_fractions_of_times_alone(rt: HostRuntime) {
     check_fractional(&rt, Reader::Time, FRACTIONS_OF_TIMES_ALONE);
+}
+
+#[test]
+fn reads_on_after_fixed_places(rt: HostRuntime) {
+    let text = "2020-01-01t00:00:00,5Z";
+    let fraction = fraction_in(Reader::Parse, text);
+    check_fraction(&rt, text, &fraction, Exact(500_000_000));
+    let record = Record {
+        offset: Some(UtcOffsetRecordOrZ::Z),
+        ..dated(2020, 1, 1, timed(0, 0, 0, fraction))
+    };
+    check_parsed(&rt, text, &Ok(record));
 }

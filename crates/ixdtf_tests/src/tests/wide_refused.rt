@@ -386,11 +386,6 @@ const BEFORE_NO_LETTER_IN_OFFSETS: &[Refused] = &[
     ("-155859\\\u{0}", InvalidEnd, 7),
 ];
 
-#[test]
-fn refuses_what_stands_before_such_a_unit_in_offsets(rt: HostRuntime) {
-    check_refused(&rt, Reader::Offset, BEFORE_NO_LETTER_IN_OFFSETS);
-}
-
 #[rattlefmt::skip]
 const BEFORE_NO_LETTER_IN_IDENTIFIERS: &[Refused] = &[
     ("+M\u{133}00", TimeHour, 1),
@@ -398,7 +393,8 @@ const BEFORE_NO_LETTER_IN_IDENTIFIERS: &[Refused] = &[
 ];
 
 #[test]
-fn refuses_what_stands_before_such_a_unit_in_identifiers(rt: HostRuntime) {
+fn refuses_what_stands_before_such_a_unit_in_zones(rt: HostRuntime) {
+    check_refused(&rt, Reader::Offset, BEFORE_NO_LETTER_IN_OFFSETS);
     check_refused(&rt, Reader::Identifier, BEFORE_NO_LETTER_IN_IDENTIFIERS);
 }
 

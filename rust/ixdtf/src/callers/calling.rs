@@ -11,7 +11,10 @@ use ixdtf::ParseError::{
 };
 use ixdtf::encoding::{Utf8, Utf16};
 use ixdtf::parsers::{IsoDurationParser, IxdtfParser, TimeZoneParser};
-use ixdtf::records::{Annotation, Sign, TimeDurationRecord, TimeZoneRecord, UtcOffsetRecordOrZ};
+use ixdtf::records::{
+    Annotation, DateRecord, IxdtfParseRecord, Sign, TimeDurationRecord, TimeZoneRecord,
+    UtcOffsetRecordOrZ,
+};
 use ixdtf::{LocatedError, ParserResult};
 use crate::runtime::{AllocError, Global, String};
 use crate::runtime::Fail;
@@ -117,31 +120,30 @@ fn takes_a_text_apart() {
 
 // ==== One call of each reader ====
 
+// The date of what a reader returned, or its error.
+fn date_in(read: &ParserResult<IxdtfParseRecord<'_, Utf8>>) -> ParserResult<Option<DateRecord>> {
+    match read {
+        Ok(record) => Ok(record.date),
+        Err(error) => Err(*error),
+    }
+}
+
 // The year, month and day of a text.
 fn date_of(text: &str) -> ParserResult<Option<(i32, u8, u8)>> {
-    let mut parser = IxdtfParser::from_str(text);
-    match parser.parse() {
-        Ok(record) => Ok(record.date.map(|date| (date.year, date.month, date.day))),
-        Err(error) => Err(error),
-    }
+    let date = date_in(&IxdtfParser::from_str(text).parse())?;
+    Ok(date.map(|date| (date.year, date.month, date.day)))
 }
 
 // The year and the month of a text such as `2020-11`.
 fn month_of(text: &str) -> ParserResult<Option<(i32, u8)>> {
-    let mut parser = IxdtfParser::from_str(text);
-    match parser.parse_year_month() {
-        Ok(record) => Ok(record.date.map(|date| (date.year, date.month))),
-        Err(error) => Err(error),
-    }
+    let date = date_in(&IxdtfParser::from_str(text).parse_year_month())?;
+    Ok(date.map(|date| (date.year, date.month)))
 }
 
 // The month and the day of a text such as `11-07`.
 fn birthday_of(text: &str) -> ParserResult<Option<(u8, u8)>> {
-    let mut parser = IxdtfParser::from_str(text);
-    match parser.parse_month_day() {
-        Ok(record) => Ok(record.date.map(|date| (date.month, date.day))),
-        Err(error) => Err(error),
-    }
+    let date = date_in(&IxdtfParser::from_str(text).parse_month_day())?;
+    Ok(date.map(|date| (date.month, date.day)))
 }
 
 // The hour and the minute of a text such as `T1200`. Without the `T` this one is refused: it begins as a month and a day.
@@ -295,12 +297,12 @@ fn names_the_calendar() {
 }
 
 const SECONDS: &[(&str, Option<(Sign, u128)>)] = &[
-    ("-PT1H30.5M", Some((Sign::Negative, 5430))),
+    ("1H", None),
+    ("P1D", None),
+    ("P1DT1H", None),
     ("PT0,25H", Some((Sign::Positive, 900))),
     ("PT1M2.999S", Some((Sign::Positive, 62))),
-    ("P1DT1H", None),
-    ("P1D", None),
-    ("1H", None),
+    ("-PT1H30.5M", Some((Sign::Negative, 5430))),
 ];
 
 #[test]
@@ -599,10 +601,10 @@ where
     F: FnMut(Annotation<'a, Utf8>) -> Option<Annotation<'a, Utf8>>,
 {
     let mut parser = IxdtfParser::from_str(text);
-    match parser.parse_with_annotation_handler(handler) {
-        Ok(record) => Some(record.calendar),
-        Err(_) => None,
-    }
+    let Ok(record) = parser.parse_with_annotation_handler(handler) else {
+        return None;
+    };
+    Some(record.calendar)
 }
 
 // With a handler for sources of every lifetime.
@@ -610,11 +612,8 @@ fn has_calendar<F>(text: &str, handler: F) -> ParserResult<bool>
 where
     F: for<'b> FnMut(Annotation<'b, Utf8>) -> Option<Annotation<'b, Utf8>>,
 {
-    let mut parser = IxdtfParser::from_str(text);
-    match parser.parse_with_annotation_handler(handler) {
-        Ok(record) => Ok(record.calendar.is_some()),
-        Err(error) => Err(error),
-    }
+    let calendar = calendar_or::<ParseError, _>(text, handler)?;
+    Ok(calendar.is_some())
 }
 
 // The calendar of a text, or the caller's own error.

@@ -223,18 +223,6 @@ pub(super) fn refusal<'a, T: Foreign + 'static>(
     }
 }
 
-// The same of the located form of the reader.
-fn located_refusal<'a, T: Foreign + 'static>(
-    parser: &mut IxdtfParser<'a, T>,
-    (form, kind, _text, calls): Asked,
-) -> Option<LocatedError> {
-    let mut listener = Listener::new(kind);
-    match heard_located(parser, form, &mut listener) {
-        Err(error) if listener.has_heard(calls) => Some(error),
-        _ => None,
-    }
-}
-
 // Whether the reader refuses with this error, and its located form, which is called next, with the error at this place.
 fn refuses_at<'a, T: Foreign + 'static>(
     parser: &mut IxdtfParser<'a, T>,
@@ -242,8 +230,15 @@ fn refuses_at<'a, T: Foreign + 'static>(
     error: ParseError,
     at: usize,
 ) -> bool {
-    refusal(parser, asked) == Some(error)
-        && located_refusal(parser, asked) == Some(LocatedError { error, at })
+    let is_refused = refusal(parser, asked) == Some(error);
+    let (form, kind, _text, calls) = asked;
+    let mut listener = Listener::new(kind);
+    match heard_located(parser, form, &mut listener) {
+        Err(located) if listener.has_heard(calls) => {
+            is_refused && located == LocatedError { error, at }
+        }
+        _ => false,
+    }
 }
 
 /// What is asked, the error, and its place.
@@ -281,27 +276,23 @@ pub(super) fn check_no_letter_replies(rt: &impl Abort, rows: &[RefusedReply]) {
 
 // ==== Texts that are read ====
 
-/// What the reader reads after the calls and no more.
+/// What the reader, or its located form, reads after the calls and no more.
 pub(super) fn reads<'a, T: Foreign + 'static>(
     mut parser: IxdtfParser<'a, T>,
     (form, kind, _text, calls): Asked,
+    is_located: bool,
 ) -> Option<IxdtfParseRecord<'a, T>> {
     let mut listener = Listener::new(kind);
-    match heard(&mut parser, form, &mut listener) {
-        Ok(record) if listener.has_heard(calls) => Some(record),
-        _ => None,
-    }
-}
-
-// The same of the located form of the reader.
-fn reads_located<'a, T: Foreign + 'static>(
-    mut parser: IxdtfParser<'a, T>,
-    (form, kind, _text, calls): Asked,
-) -> Option<IxdtfParseRecord<'a, T>> {
-    let mut listener = Listener::new(kind);
-    match heard_located(&mut parser, form, &mut listener) {
-        Ok(record) if listener.has_heard(calls) => Some(record),
-        _ => None,
+    if is_located {
+        match heard_located(&mut parser, form, &mut listener) {
+            Ok(record) if listener.has_heard(calls) => Some(record),
+            _ => None,
+        }
+    } else {
+        match heard(&mut parser, form, &mut listener) {
+            Ok(record) if listener.has_heard(calls) => Some(record),
+            _ => None,
+        }
     }
 }
 
@@ -326,14 +317,14 @@ pub(super) fn check_read(rt: &impl Abort, asked: Asked, wanted: &ParserResult<Re
         assert!(rt; false, "at {text}");
         return;
     };
-    let found = reads(IxdtfParser::from_str(text), asked);
+    let found = reads(IxdtfParser::from_str(text), asked, false);
     check(rt, text, is_record(&found, wanted));
-    let found = reads_located(IxdtfParser::from_str(text), asked);
+    let found = reads(IxdtfParser::from_str(text), asked, true);
     assert!(rt; is_record(&found, wanted), "located at {text}");
     let wide = Wide::new(text);
-    let found = reads(IxdtfParser::from_utf16(wide.units()), asked);
+    let found = reads(IxdtfParser::from_utf16(wide.units()), asked, false);
     assert!(rt; is_wide_record(&found, wanted), "at {text} in 16-bit units");
-    let found = reads_located(IxdtfParser::from_utf16(wide.units()), asked);
+    let found = reads(IxdtfParser::from_utf16(wide.units()), asked, true);
     assert!(rt;
         is_wide_record(&found, wanted),
         "located at {text} in 16-bit units"

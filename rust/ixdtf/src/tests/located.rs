@@ -78,6 +78,26 @@ fn check_pointed(
     Ok(())
 }
 
+const MARKS: &[(&str, usize, &str)] = &[
+    ("2020-13-01", 7, "2020-13-01\n       ^"),
+    ("x", 0, "x\n^"),
+    ("2020-", 5, "2020-\n     ^"),
+    ("2020-", 1000, "2020-\n     ^"),
+    ("", 0, "\n^"),
+    ("", 1, "\n^"),
+    // columns are counted by characters
+    ("\u{e9}1\u{1f600}2", 2, "\u{e9}1\u{1f600}2\n ^"),
+    ("\u{e9}1\u{1f600}2", 7, "\u{e9}1\u{1f600}2\n   ^"),
+    ("\u{e9}1\u{1f600}2", 8, "\u{e9}1\u{1f600}2\n    ^"),
+    // places inside a character
+    ("\u{e9}1\u{1f600}2", 1, "\u{e9}1\u{1f600}2\n^"),
+    ("\u{e9}1\u{1f600}2", 6, "\u{e9}1\u{1f600}2\n  ^"),
+    // controls are shown as dots
+    ("2020\n-01", 4, "2020.-01\n    ^"),
+    ("\t\0\r\u{7f}x", 4, "....x\n    ^"),
+    ("\u{85}\u{a0}", 2, ".\u{a0}\n ^"),
+];
+
 // The texts have the lines, each with a mark under its place.
 fn check_marks(
     rt: &impl Abort,
@@ -90,46 +110,10 @@ fn check_marks(
     Ok(())
 }
 
-const MARKS: &[(&str, usize, &str)] = &[
-    ("2020-13-01", 7, "2020-13-01\n       ^"),
-    ("x", 0, "x\n^"),
-    ("2020-", 5, "2020-\n     ^"),
-    ("2020-", 1000, "2020-\n     ^"),
-    ("", 0, "\n^"),
-    ("", 1, "\n^"),
-];
-
 #[test]
 fn marks_the_place() -> Result<(), Fail> {
     let rt = HostRuntime;
     check_marks(&rt, rt.alloc(), MARKS)
-}
-
-// The last two places are inside a character.
-const COLUMNS: &[(&str, usize, &str)] = &[
-    ("\u{e9}1\u{1f600}2", 2, "\u{e9}1\u{1f600}2\n ^"),
-    ("\u{e9}1\u{1f600}2", 7, "\u{e9}1\u{1f600}2\n   ^"),
-    ("\u{e9}1\u{1f600}2", 8, "\u{e9}1\u{1f600}2\n    ^"),
-    ("\u{e9}1\u{1f600}2", 1, "\u{e9}1\u{1f600}2\n^"),
-    ("\u{e9}1\u{1f600}2", 6, "\u{e9}1\u{1f600}2\n  ^"),
-];
-
-#[test]
-fn counts_columns_by_characters() -> Result<(), Fail> {
-    let rt = HostRuntime;
-    check_marks(&rt, rt.alloc(), COLUMNS)
-}
-
-const CONTROLS: &[(&str, usize, &str)] = &[
-    ("2020\n-01", 4, "2020.-01\n    ^"),
-    ("\t\0\r\u{7f}x", 4, "....x\n    ^"),
-    ("\u{85}\u{a0}", 2, ".\u{a0}\n ^"),
-];
-
-#[test]
-fn shows_controls_as_dots() -> Result<(), Fail> {
-    let rt = HostRuntime;
-    check_marks(&rt, rt.alloc(), CONTROLS)
 }
 
 // Thirty times the ten digits.

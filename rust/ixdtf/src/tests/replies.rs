@@ -16,22 +16,43 @@ use super::{Record, check_fraction, fraction_of, minutes, parts, shifted, short,
 use ixdtf::records::{Sign, UtcOffsetRecordOrZ};
 use crate::runtime::Abort;
 
-const DATES: &[Heeded] = &[
+const HEEDED: &[Heeded] = &[
     ((Parse, HandsBack, "2020-01-01[a=a1]", "[a=a1]"), NEW_YEAR, None, None),
     ((Parse, RepliesNone, "2020-01-01[u-ca=gregory][!u-ca=1][!u-ca=a0sa-2l4s][u-ca=k-H0EGv]",
         "[u-ca=gregory][!u-ca=1][!u-ca=a0sa-2l4s][u-ca=k-H0EGv]"), NEW_YEAR, None, None),
-    ((Parse, RepliesNone, "2020-01-01[u-ca=japanese][!u-ca=FE-4-s-y]",
-        "[u-ca=japanese][!u-ca=FE-4-s-y]"), NEW_YEAR, None, None),
+    ((Parse, RepliesNone, "2020-01-01[u-ca=japanese][!u-ca=FE-4-s-y]", "[u-ca=japanese][!u-ca=FE-4-s-y]"), NEW_YEAR, None, None),
     ((Parse, HandsBack, "2020-01-01[u-ca=a0sa-2l4s][u-ca=a0sa-2l4s][answer-to-universe=hebrew][a=gregory][u-ca=45W-E0h61U-kXpZ]",
         "[u-ca=a0sa-2l4s][u-ca=a0sa-2l4s][answer-to-universe=hebrew][a=gregory][u-ca=45W-E0h61U-kXpZ]"), NEW_YEAR, None, Some("a0sa-2l4s")),
-    ((Parse, HandsBack, "20200101T12[u-ca=A][qe7idr62=O-QXB-Ir]",
-        "[u-ca=A][qe7idr62=O-QXB-Ir]"), NOON_OF_NEW_YEAR, None, Some("A")),
+    ((Parse, HandsBack, "20200101T12[u-ca=A][qe7idr62=O-QXB-Ir]", "[u-ca=A][qe7idr62=O-QXB-Ir]"), NOON_OF_NEW_YEAR, None, Some("A")),
+    ((YearMonth, HandsBack, "2020-01[_=iso8601]", "[_=iso8601]"), NEW_YEAR, None, None),
+    ((YearMonth, RepliesNone, "2020-01[!mr=A][!answer-to-universe=NLM-yw7][u-ca=eUfEnd]",
+        "[!mr=A][!answer-to-universe=NLM-yw7][u-ca=eUfEnd]"), NEW_YEAR, None, None),
+    ((YearMonth, TurnsCritical, "2020-01[u-ca=a]", "[u-ca=a]"), NEW_YEAR, None, Some("a")),
+    ((YearMonth, RepliesNone, "2020-01[!mbpxmqurx=a][u-ca=evRyBU-ahbf]", "[!mbpxmqurx=a][u-ca=evRyBU-ahbf]"), NEW_YEAR, None, None),
+    ((MonthDay, RepliesNone, "11-07[u-ca=Agregory]", "[u-ca=Agregory]"), NOVEMBER_7, None, None),
+    ((MonthDay, RepliesNone, "11-07[u-ca=1][u-c=Q1hBRV-7bzvj-opdF][u-caa=jKpQvd-FDtiq-Z][!u-ca=FDRH-KlFC-wT-B][!pd3v3t=04-LV2V]",
+        "[u-ca=1][u-c=Q1hBRV-7bzvj-opdF][u-caa=jKpQvd-FDtiq-Z][!u-ca=FDRH-KlFC-wT-B][!pd3v3t=04-LV2V]"), NOVEMBER_7, None, None),
+    ((MonthDay, TurnsCritical, "11-07[!u-ca7a-b]", ""), NOVEMBER_7, Some((true, "u-ca7a-b")), None),
+    ((MonthDay, RepliesNone, "--0229[r97bybgb-=mxYtOJ][u-ca=T-VkYi]", "[r97bybgb-=mxYtOJ][u-ca=T-VkYi]"), FEBRUARY_29, None, None),
+    ((MonthDay, TurnsCritical, "--0229[!answer-to-universe=j9Ew][!u-ca=VywT9]", "[!answer-to-universe=j9Ew][!u-ca=VywT9]"), FEBRUARY_29, None, Some("VywT9")),
+    ((MonthDay, RepliesAnother, "--0229[u-ca=K-lwPO-gDqQ][u-ca=jP5er][u_ca=A][u-ca=N6rxr]",
+        "[u-ca=K-lwPO-gDqQ][u-ca=jP5er][u_ca=A][u-ca=N6rxr]"), FEBRUARY_29, None, Some("a")),
+    ((MonthDay, RepliesAnother, "--0229[u-ca=rz44]", "[u-ca=rz44]"), FEBRUARY_29, None, Some("a")),
+    ((Time, RepliesAnother, "T12[u-caa=ldJ-5I]", "[u-caa=ldJ-5I]"), NOON, None, Some("a")),
+    ((Time, RepliesAnother, "T12[!SN9diiX.vB-fbtR3cerg/r][pqrfra=a0sa-2l4s][u-ca=japanese]",
+        "[pqrfra=a0sa-2l4s][u-ca=japanese]"), NOON, Some((true, "SN9diiX.vB-fbtR3cerg/r")), Some("a")),
+    ((Time, RepliesNone, "T12[u-ca=japanese][a=a-b]", "[u-ca=japanese][a=a-b]"), NOON, None, None),
+    // all are passed over
+    ((Parse, RepliesNone, "2020-01-01[a=b][!c=d][e=f]", "[a=b][!c=d][e=f]"), NEW_YEAR, None, None),
+    ((YearMonth, RepliesNone, "2020-01[a=b][!c=d][e=f]", "[a=b][!c=d][e=f]"), NEW_YEAR, None, None),
+    ((MonthDay, RepliesNone, "11-07[a=b][!c=d][e=f]", "[a=b][!c=d][e=f]"), NOVEMBER_7, None, None),
+    ((Time, RepliesNone, "T12[a=b][!c=d][e=f]", "[a=b][!c=d][e=f]"), NOON, None, None),
 ];
 
 #[test]
 fn heeds_handlers() {
     let rt = HostRuntime;
-    check_heeded(&rt, DATES);
+    check_heeded(&rt, HEEDED);
 }
 
 // Half a second past midnight, in UTC, with this calendar.
@@ -62,54 +83,17 @@ fn heeds_handlers_after_times() {
     }
 }
 
-const YEAR_MONTHS: &[Heeded] = &[
-    ((YearMonth, HandsBack, "2020-01[_=iso8601]", "[_=iso8601]"), NEW_YEAR, None, None),
-    ((YearMonth, RepliesNone, "2020-01[!mr=A][!answer-to-universe=NLM-yw7][u-ca=eUfEnd]",
-        "[!mr=A][!answer-to-universe=NLM-yw7][u-ca=eUfEnd]"), NEW_YEAR, None, None),
-    ((YearMonth, TurnsCritical, "2020-01[u-ca=a]", "[u-ca=a]"), NEW_YEAR, None, Some("a")),
-    ((YearMonth, RepliesNone, "2020-01[!mbpxmqurx=a][u-ca=evRyBU-ahbf]",
-        "[!mbpxmqurx=a][u-ca=evRyBU-ahbf]"), NEW_YEAR, None, None),
-];
-
 const IN_A_ZONE_BY_OFFSET: Asked =
     (YearMonth, RepliesNone, "+00202001[-16:00][fgdci=a0sa-2l4s][!u-ca=FaoGG7-GO1GM-OUkuE][u-ca=FXVm-lFpcT-I-q97pX][!u-ca=iso8601][uh_ixs5qm=K4xwC-Hxl2-ivW5]",
         "[fgdci=a0sa-2l4s][!u-ca=FaoGG7-GO1GM-OUkuE][u-ca=FXVm-lFpcT-I-q97pX][!u-ca=iso8601][uh_ixs5qm=K4xwC-Hxl2-ivW5]");
 
 #[test]
-fn heeds_handlers_of_year_months() {
+fn heeds_a_handler_in_a_zone_by_offset() {
     let rt = HostRuntime;
-    check_heeded(&rt, YEAR_MONTHS);
     let zone = minutes(Sign::Negative, 16, 0);
     let wanted = Ok(shifted((2020, 1, 1), None, None, false, zone));
     check_read(&rt, IN_A_ZONE_BY_OFFSET, &wanted);
 }
-
-const MONTH_DAYS: &[Heeded] = &[
-    ((MonthDay, RepliesNone, "11-07[u-ca=Agregory]", "[u-ca=Agregory]"), NOVEMBER_7, None, None),
-    ((MonthDay, RepliesNone, "11-07[u-ca=1][u-c=Q1hBRV-7bzvj-opdF][u-caa=jKpQvd-FDtiq-Z][!u-ca=FDRH-KlFC-wT-B][!pd3v3t=04-LV2V]",
-        "[u-ca=1][u-c=Q1hBRV-7bzvj-opdF][u-caa=jKpQvd-FDtiq-Z][!u-ca=FDRH-KlFC-wT-B][!pd3v3t=04-LV2V]"), NOVEMBER_7, None, None),
-    ((MonthDay, TurnsCritical, "11-07[!u-ca7a-b]", ""), NOVEMBER_7, Some((true, "u-ca7a-b")), None),
-    ((MonthDay, RepliesNone, "--0229[r97bybgb-=mxYtOJ][u-ca=T-VkYi]",
-        "[r97bybgb-=mxYtOJ][u-ca=T-VkYi]"), FEBRUARY_29, None, None),
-    ((MonthDay, TurnsCritical, "--0229[!answer-to-universe=j9Ew][!u-ca=VywT9]",
-        "[!answer-to-universe=j9Ew][!u-ca=VywT9]"), FEBRUARY_29, None, Some("VywT9")),
-    ((MonthDay, RepliesAnother, "--0229[u-ca=K-lwPO-gDqQ][u-ca=jP5er][u_ca=A][u-ca=N6rxr]",
-        "[u-ca=K-lwPO-gDqQ][u-ca=jP5er][u_ca=A][u-ca=N6rxr]"), FEBRUARY_29, None, Some("a")),
-    ((MonthDay, RepliesAnother, "--0229[u-ca=rz44]", "[u-ca=rz44]"), FEBRUARY_29, None, Some("a")),
-];
-
-#[test]
-fn heeds_handlers_of_month_days() {
-    let rt = HostRuntime;
-    check_heeded(&rt, MONTH_DAYS);
-}
-
-const TIMES_ALONE: &[Heeded] = &[
-    ((Time, RepliesAnother, "T12[u-caa=ldJ-5I]", "[u-caa=ldJ-5I]"), NOON, None, Some("a")),
-    ((Time, RepliesAnother, "T12[!SN9diiX.vB-fbtR3cerg/r][pqrfra=a0sa-2l4s][u-ca=japanese]",
-        "[pqrfra=a0sa-2l4s][u-ca=japanese]"), NOON, Some((true, "SN9diiX.vB-fbtR3cerg/r")), Some("a")),
-    ((Time, RepliesNone, "T12[u-ca=japanese][a=a-b]", "[u-ca=japanese][a=a-b]"), NOON, None, None),
-];
 
 // Texts of noon, one hour to the east, with their zones and calendars.
 const WITH_AN_OFFSET: &[(Asked, Option<&str>, Option<&str>)] = &[
@@ -130,23 +114,9 @@ fn noon_in(name: Option<&'static str>, calendar: Option<&'static str>) -> Record
 }
 
 #[test]
-fn heeds_handlers_of_times_alone() {
+fn heeds_handlers_of_times_with_an_offset() {
     let rt = HostRuntime;
-    check_heeded(&rt, TIMES_ALONE);
     for (asked, name, calendar) in WITH_AN_OFFSET {
         check_read(&rt, *asked, &Ok(noon_in(*name, *calendar)));
     }
-}
-
-const PASSED_OVER: &[Heeded] = &[
-    ((Parse, RepliesNone, "2020-01-01[a=b][!c=d][e=f]", "[a=b][!c=d][e=f]"), NEW_YEAR, None, None),
-    ((YearMonth, RepliesNone, "2020-01[a=b][!c=d][e=f]", "[a=b][!c=d][e=f]"), NEW_YEAR, None, None),
-    ((MonthDay, RepliesNone, "11-07[a=b][!c=d][e=f]", "[a=b][!c=d][e=f]"), NOVEMBER_7, None, None),
-    ((Time, RepliesNone, "T12[a=b][!c=d][e=f]", "[a=b][!c=d][e=f]"), NOON, None, None),
-];
-
-#[test]
-fn asks_about_all_that_it_passes_over() {
-    let rt = HostRuntime;
-    check_heeded(&rt, PASSED_OVER);
 }

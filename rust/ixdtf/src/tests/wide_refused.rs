@@ -390,20 +390,15 @@ const BEFORE_NO_LETTER_IN_OFFSETS: &[Refused] = &[
     ("-155859\\\u{0}", InvalidEnd, 7),
 ];
 
-#[test]
-fn refuses_what_stands_before_such_a_unit_in_offsets() {
-    let rt = HostRuntime;
-    check_refused(&rt, Reader::Offset, BEFORE_NO_LETTER_IN_OFFSETS);
-}
-
 const BEFORE_NO_LETTER_IN_IDENTIFIERS: &[Refused] = &[
     ("+M\u{133}00", TimeHour, 1),
     (",\u{15b}\u{161}", TzLeadingChar, 0),
 ];
 
 #[test]
-fn refuses_what_stands_before_such_a_unit_in_identifiers() {
+fn refuses_what_stands_before_such_a_unit_in_zones() {
     let rt = HostRuntime;
+    check_refused(&rt, Reader::Offset, BEFORE_NO_LETTER_IN_OFFSETS);
     check_refused(&rt, Reader::Identifier, BEFORE_NO_LETTER_IN_IDENTIFIERS);
 }
 

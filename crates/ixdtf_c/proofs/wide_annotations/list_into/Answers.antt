@@ -1,14 +1,12 @@
 -- The list keeps its loan of the slots.
 use Rattle.ixdtf_c.proofs.wide_annotations.list_into.Goals as goal
 use Rattle.std.proofs.Common.{rules}
-use Rattle.ixdtf.specs.Views.{parsed_of}
 use Rattle.ixdtf_c.specs.Wide.{contents}
 use Rattle.ixdtf_c.proofs.{Crossed.{outcome_ok, outcome_err}, Listed.slots_left}
 
 pub returns-in-Ok-clause-lists : goal.returns-in-Ok-clause-lists
-returns-in-Ok-clause-lists g c =
-    outcome_ok (parsed_of (λ unit. unit)) c.list_as-read.result (slots_left (search rules) c.list_as-read.ensures.lists) (contents c.args.out.now) c.in-Ok.is c.write.ensures
+returns-in-Ok-clause-lists g c = outcome_ok _ _ (slots_left (search rules) c.list_as-read.ensures.lists) (contents c.args.out.now) c.in-Ok.is c.write.ensures
 
 pub returns-in-Err-clause-lists : goal.returns-in-Err-clause-lists
-returns-in-Err-clause-lists g c = outcome_err (parsed_of (λ unit. unit)) c.list_as-read.result (slots_left (search rules) c.list_as-read.ensures.lists) (contents c.args.out.now)
+returns-in-Err-clause-lists g c = outcome_err _ _ (slots_left (search rules) c.list_as-read.ensures.lists) (contents c.args.out.now)
     c.in-Err.is c.refuse.ensures.number c.refuse.ensures.error
