@@ -1,7 +1,7 @@
 //! The reader of durations.
 
-ghost use Rattle.std.specs.Prelude.{◌≡◌, ◌↔◌, ◌+◌, ◌-◌, ◌*◌, ◌≤◌, List, [], ◌∷◌, map, length, nat_le, ◌<◌, slice_set};
-ghost use Rattle.std.specs.Prelude.{Ok, Err, Some, None, OnOk, IfOk, IfErr, IsTrue, IsFalse, IsSome};
+ghost use Rattle.std.specs.Prelude.{◌≡◌, ◌+◌, ◌-◌, ◌*◌, ◌≤◌, List, [], ◌∷◌, map, length, nat_le, ◌<◌, slice_set};
+ghost use Rattle.std.specs.Prelude.{Ok, Err, Some, None, OnOk, OnErr, IfOk, IfErr, IsTrue, IsSome};
 ghost use Rattle.ixdtf_grammar.specs.declared.profile.Profile.{Profile};
 ghost use Rattle.ixdtf_grammar.specs.language.Letters.{Text, digit};
 ghost use Rattle.ixdtf_grammar.specs.language.Letters.Letter.{Plain};
@@ -13,30 +13,28 @@ ghost use Rattle.ixdtf_grammar.specs.table.Faults.Fault.{DurationValueExceededRa
 ghost use Rattle.ixdtf_grammar.specs.table.DurationFronts.Context.{in_dates, in_times};
 ghost use Rattle.ixdtf_grammar.specs.declared.records.DurationParseRecord.{DurationParseRecord};
 ghost use Rattle.ixdtf_grammar.specs.language.Readers.Reader.{parse_duration};
-ghost use Rattle.ixdtf_grammar.specs.language.Languages.{lasting, Derives};
-ghost use Rattle.ixdtf_grammar.specs.table.Faults.{fault_of, fault_of_located};
-ghost use Rattle.ixdtf_grammar.specs.table.Outcomes.{HasFault, HasFaultAt, OnlyPlace, NoRowFits, OnlyFault};
+ghost use Rattle.ixdtf_grammar.specs.language.Languages.{lasting};
+ghost use Rattle.ixdtf_grammar.specs.table.Faults.{fault_of};
 ghost use Rattle.ixdtf_grammar.specs.Laws.{InNoOther};
 ghost use Rattle.ixdtf_grammar.specs.Promises.{ReadsPart, ReadsPartAt};
-ghost use Rattle.ixdtf_grammar.specs.Views.{UnreadUnder, under, unread_of, LeavesBehind, returned, returned_by};
-ghost use Rattle.ixdtf_reading.specs.reading.Looks.{error_of};
-ghost use Rattle.ixdtf_reading.specs.reading.Clauses.{Reads, Spends, Checks, Yields, fault_of_stop};
-ghost use Rattle.ixdtf_reading.specs.reading.Durations.{duration_at};
+ghost use Rattle.ixdtf_grammar.specs.Views.{UnreadUnder, under, unread_of};
+ghost use Rattle.ixdtf_reading.specs.reading.Clauses.{Spends, Checks, Yields, fault_of_stop};
 ghost use Rattle.ixdtf_reading.specs.reading.Durations.State.{started, signed, between, in_number, at_mark};
-ghost use Rattle.ixdtf_durations.specs.reading.DurationClauses.{run_from, ReadsOn, ReadsNumber, AreDates, HasSmallDates, IsDateRecord, IsTimeRecord};
-ghost use Rattle.ixdtf_durations.specs.reading.DurationClauses.{rank_seen, date_rank_from, time_rank_from, after_time_group, begins_group, behind_unit, dated};
+ghost use Rattle.ixdtf_durations.specs.reading.DurationClauses.{run_from, ReadsOn, SettlesFrom, ReadsNumber, AreDates, HasSmallDates};
+ghost use Rattle.ixdtf_durations.specs.reading.DurationClauses.{IsDateRecord, IsTimeRecord, rank_seen, date_rank_from, time_rank_from};
+ghost use Rattle.ixdtf_durations.specs.reading.DurationClauses.{after_time_group, begins_group, behind_unit, dated};
 
 use ixdtf_grammar::encoding::{EncodingType, Utf8, Utf16};
 use ixdtf_grammar::profile::Profile;
 use ixdtf_grammar::records::{
     DateDurationRecord, DurationParseRecord, Fraction, Sign, TimeDurationRecord,
 };
-use ixdtf_grammar::{LocatedError, ParserResult};
+use ixdtf_grammar::{LocatedError, ParseError, ParserResult};
 use ixdtf_reading::cursor::Cursor;
 use ixdtf_reading::grammar::{
     is_ascii_sign, is_decimal_separator, is_duration_designator, is_time_designator,
 };
-use ixdtf_reading::stop::Stop;
+use ixdtf_reading::stop::{FromStop, Stop};
 use ixdtf_times::offsets::sign_from;
 use ixdtf_times::time::parse_fraction;
 use std::marker::Model;
@@ -198,6 +196,7 @@ impl<'a, T: EncodingType> IsoDurationParser<'a, T> {
     /// - `FractionPart` where no digit follows a decimal mark;
     /// - `InvalidEnd` at any other character after `P` or after a group;
     /// - `NonAsciiCodePoint` at a 16-bit code unit that is not from 1 to 126.
+    #[inline(always)]
     pub fn parse(&mut self) -> ParserResult<DurationParseRecord>
         ensures reads { ReadsPart T.letter fault_of (λ duration. duration) lasting (parse_duration self.old.profile) (unread_of self.old) result (unread_of self.new) }
         // `Ok` only where no other reader of dates, times and durations accepts the text.
@@ -205,8 +204,10 @@ impl<'a, T: EncodingType> IsoDurationParser<'a, T> {
         ensures profile { self.new.profile ≡ self.old.profile }
     {
         let mut here = self.cursor.fork();
-        let read = parse_duration_text(&mut here, self.profile);
-        self.cursor.settle(here, read)
+        match parse_opening(&mut here) {
+            Ok(sign) => self.parse_groups::<ParseError>(here, sign),
+            Err(stop) => self.cursor.settle::<_, ParseError>(here, Err(stop)),
+        }
     }
 
     /// Reads as [`parse`](Self::parse) does, and returns an error with its place: the number of code units before it in the
@@ -233,6 +234,7 @@ impl<'a, T: EncodingType> IsoDurationParser<'a, T> {
     /// # Errors
     ///
     /// Those of [`parse`](Self::parse), each with its place.
+    #[inline(always)]
     pub fn parse_located(&mut self) -> Result<DurationParseRecord, LocatedError>
         ensures reads { ReadsPartAt T.letter (λ duration. duration) lasting (parse_duration self.old.profile) (unread_of self.old) result (unread_of self.new) }
         // `Ok` only where no other reader of dates, times and durations accepts the text.
@@ -240,8 +242,32 @@ impl<'a, T: EncodingType> IsoDurationParser<'a, T> {
         ensures profile { self.new.profile ≡ self.old.profile }
     {
         let mut here = self.cursor.fork();
-        let outcome = parse_duration_text(&mut here, self.profile);
-        self.cursor.settle(here, outcome)
+        match parse_opening(&mut here) {
+            Ok(sign) => self.parse_groups::<LocatedError>(here, sign),
+            Err(stop) => self.cursor.settle::<_, LocatedError>(here, Err(stop)),
+        }
+    }
+
+    /// Reads a duration after its sign and its `P` or `p`, from a second cursor on, and expects the end of the input.
+    ///
+    /// The two readers are inlined where they are called, and this function has no attribute. So what a duration begins
+    /// with is read at each call, and groups in one function for each error. With a whole reader in one function all calls
+    /// are slower.
+    fn parse_groups<E: FromStop>(
+        &mut self,
+        from: Cursor<'a, T>,
+        sign: Sign,
+    ) -> Result<DurationParseRecord, E>
+        ensures groups { SettlesFrom T.letter self.old.profile (between (in_dates sign []))
+            E.fault E.stands self.old.rest from.entry result self.new.rest }
+        ensures unchanged { OnErr result (self.new.rest ≡ self.old.rest) }
+        ensures looks { self.new.looks ≤ from.entry.looks + length from.entry.rest + 7 }
+        ensures counted { from.entry.looks ≤ self.new.looks }
+        ensures profile { self.new.profile ≡ self.old.profile }
+    {
+        let mut here = from;
+        let read = parse_after_designator(&mut here, sign, self.profile);
+        self.cursor.settle(here, read)
     }
 }
 
@@ -757,18 +783,4 @@ fn parse_after_designator<'a, T: EncodingType>(
         }
         Some(_) => Err(Stop::InvalidEnd),
     }
-}
-
-/// Reads a duration, and expects the end of the input.
-#[inline(always)]
-fn parse_duration_text<'a, T: EncodingType>(
-    cursor: &mut Cursor<'a, T>,
-    profile: Profile,
-) -> Result<DurationParseRecord, Stop>
-    ensures duration { Reads T.letter (λ d. d) cursor.old result cursor.new
-        (duration_at error_of profile) }
-    ensures looks { Spends 9 cursor.old cursor.new }
-{
-    let sign = parse_opening(cursor)?;
-    parse_after_designator(cursor, sign, profile)
 }

@@ -7,7 +7,8 @@ use Rattle.ixdtf_grammar.specs.language.{Digits.decimal, Offsets.sign_of, Durati
 use Rattle.ixdtf_grammar.specs.table.Faults.Fault.{NonAsciiCodePoint, InvalidEnd, DurationDisgnator, TimeDurationDesignator}
 use Rattle.ixdtf_grammar.specs.table.{Lines.{abrupt_duration_start, abrupt_duration_designator, abrupt_duration}, DurationFronts.Context}
 use Rattle.ixdtf_grammar.specs.table.DurationFronts.Context.{in_dates, in_times}
-use Rattle.ixdtf_reading.specs.{declared.stop.Stop.Stop, reading.{Looks.{Placed, Read, error_of, look_at, seen}, Durations.{State, state_look, step, run}}}
+use Rattle.ixdtf_reading.specs.{declared.stop.Stop.Stop, reading.{Looks.{Placed, Read, error_of, look_at, seen}, Clauses.Reads}}
+use Rattle.ixdtf_reading.specs.reading.Durations.{State, state_look, step, run, duration_at}
 use Rattle.ixdtf_reading.specs.reading.Durations.State.{started, signed, between, in_number, ended}
 use Rattle.ixdtf_reading.proofs.code.FirstLetter.{first_is, nothing_is}
 use Rattle.ixdtf_durations.specs.reading.DurationClauses.{run_from, ReadsOn}
@@ -160,6 +161,14 @@ pub reads_on_earlier : {X : Type 0} (letter : ℕ → Letter) (profile : Profile
     → ReadsOn letter profile from old result new next
 reads_on_earlier letter profile from here old mid new (Ok x) next e is = e ∙ is
 reads_on_earlier letter profile from here old mid new (Err stop) next e is = e ∙ is
+
+-- a duration is read from its beginning, where reading goes from there to where a function read on
+pub reads_whole : (letter : ℕ → Letter) (profile : Profile) (here : State) (old mid left : Unread) (read : Result DurationParseRecord Stop)
+    → run_from profile started (map letter old.rest) ≡ run_from profile here (map letter mid.rest)
+    → ReadsOn letter profile here mid read left (λ duration text. Ok (duration, text))
+    → Reads letter (λ duration. duration) old read left (duration_at error_of profile)
+reads_whole letter profile here old mid left (Ok x) e is = e ∙ is
+reads_whole letter profile here old mid left (Err stop) e is = e ∙ is
 
 -- what stands between the parts of a duration
 pub ruleset openings = (fails, start_at_end, signed_at_end, start_at_sign, start_at_designator, start_at_other, signed_at_designator, signed_at_other)

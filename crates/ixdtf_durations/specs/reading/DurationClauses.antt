@@ -1,6 +1,6 @@
 -- Forms of the clauses of the private functions that read durations, and what their types stand for. No public clause cites one.
 use Rattle.std.specs.Prelude.{◌≡◌, ◌≤◌, ℕ, Bool, false, IsFalse, IsTrue, List, [], ◌∷◌, map, Option, Some, None, Result, Ok, Err, nat_le, drop}
-use Rattle.std.specs.Prelude.{slice_index_or, if◌then◌else◌}
+use Rattle.std.specs.Prelude.{slice_index_or, if◌then◌else◌, ◌-◌, length, OnOk, IfErr}
 use Rattle.ixdtf_grammar.specs.declared.{profile.Profile.Profile, records.{Sign.Sign, DurationParseRecord.DurationParseRecord}}
 use Rattle.ixdtf_grammar.specs.declared.records.{DateDurationRecord.DateDurationRecord, TimeDurationRecord.TimeDurationRecord}
 use Rattle.ixdtf_grammar.specs.language.{Letters.{Letter, Text, digit, Letter.Plain}, Digits.decimal, Fractions.FractionParts, Durations.{Half, DurationUnit}}
@@ -8,8 +8,8 @@ use Rattle.ixdtf_grammar.specs.language.Durations.{Group, designator, unit_of, g
 use Rattle.ixdtf_grammar.specs.language.Durations.{Half.{date, time}, DurationUnit.{years, months, weeks, days, hours, minutes, seconds}}
 use Rattle.ixdtf_grammar.specs.table.Faults.{Fault, Fault.{DurationValueExceededRange, DateDurationPartOrder, TimeDurationPartOrder}}
 use Rattle.ixdtf_grammar.specs.{table.{DurationFronts.{Context, half_of, Context.{in_dates, in_times}}, Lines.no_designator}, Views.Unread}
-use Rattle.ixdtf_reading.specs.{declared.stop.Stop.Stop, reading.{Looks.{Read, Placed, error_of, seen}, Clauses.fault_of_stop, Durations.{State, run}}}
-use Rattle.ixdtf_reading.specs.reading.Durations.State.{between, in_number, ended}
+use Rattle.ixdtf_reading.specs.{declared.stop.Stop.Stop, reading.{Looks.{Read, Placed, error_of, seen}, Clauses.{fault_of_stop, Settles}}}
+use Rattle.ixdtf_reading.specs.reading.Durations.{State, run, State.{between, in_number, ended}}
 use Rattle.ixdtf_durations.specs.declared.duration.{Number.Number, Dates.Dates, TimeGroup.TimeGroup}
 
 -- reading a duration from a state on, by errors
@@ -20,6 +20,17 @@ run_from profile state text = run error_of profile state text
 abbrev pub ReadsOn : {X : Type 0} → (ℕ → Letter) → Profile → State → Unread → Result X Stop → Unread → (X → Text → Read Placed DurationParseRecord) → Type 0
 ReadsOn letter profile from old (Ok x) new next = run_from profile from (map letter old.rest) ≡ next x (map letter new.rest)
 ReadsOn letter profile from old (Err e) new next = run_from profile from (map letter old.rest) ≡ Err (fault_of_stop e, map letter new.rest)
+
+-- What a function returned that read on from a state, up to the end, and settled a cursor at `start` with that: some value or
+-- stop was read, and something was left then.
+pub record SettlesFrom {E : Type 0} (letter : ℕ → Letter) (profile : Profile) (from : State) (named : E → Fault) (stands : ℕ → E → Type 0)
+    (start : List ℕ) (old : Unread) (result : Result DurationParseRecord E) (new : List ℕ) : Type 0 where
+  pub read : Result DurationParseRecord Stop
+  pub left : Unread
+  pub reads : ReadsOn letter profile from old read left (λ duration text. Ok (duration, text))
+  pub settled : Settles named read result
+  pub place : IfErr result (stands (length start - length left.rest))
+  pub ended : OnOk result (new ≡ left.rest)
 
 -- ---- numbers
 

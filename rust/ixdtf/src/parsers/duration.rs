@@ -7,12 +7,12 @@ use crate::parsers::profile::Profile;
 use crate::records::{
     DateDurationRecord, DurationParseRecord, Fraction, Sign, TimeDurationRecord,
 };
-use crate::{LocatedError, ParserResult};
+use crate::{LocatedError, ParseError, ParserResult};
 use crate::cursor::Cursor;
 use crate::grammar::{
     is_ascii_sign, is_decimal_separator, is_duration_designator, is_time_designator,
 };
-use crate::stop::Stop;
+use crate::stop::{FromStop, Stop};
 use crate::parsers::offsets::sign_from;
 use crate::parsers::time::parse_fraction;
 
@@ -154,10 +154,13 @@ impl<'a, T: EncodingType> IsoDurationParser<'a, T> {
     /// - `FractionPart` where no digit follows a decimal mark;
     /// - `InvalidEnd` at any other character after `P` or after a group;
     /// - `NonAsciiCodePoint` at a 16-bit code unit that is not from 1 to 126.
+    #[inline(always)]
     pub fn parse(&mut self) -> ParserResult<DurationParseRecord> {
         let mut here = self.cursor.fork();
-        let read = parse_duration_text(&mut here, self.profile);
-        self.cursor.settle(here, read)
+        match parse_opening(&mut here) {
+            Ok(sign) => self.parse_groups::<ParseError>(here, sign),
+            Err(stop) => self.cursor.settle::<_, ParseError>(here, Err(stop)),
+        }
     }
 
     /// Reads as [`parse`](Self::parse) does, and returns an error with its place: the number of code units before it in the
@@ -184,10 +187,28 @@ impl<'a, T: EncodingType> IsoDurationParser<'a, T> {
     /// # Errors
     ///
     /// Those of [`parse`](Self::parse), each with its place.
+    #[inline(always)]
     pub fn parse_located(&mut self) -> Result<DurationParseRecord, LocatedError> {
         let mut here = self.cursor.fork();
-        let outcome = parse_duration_text(&mut here, self.profile);
-        self.cursor.settle(here, outcome)
+        match parse_opening(&mut here) {
+            Ok(sign) => self.parse_groups::<LocatedError>(here, sign),
+            Err(stop) => self.cursor.settle::<_, LocatedError>(here, Err(stop)),
+        }
+    }
+
+    /// Reads a duration after its sign and its `P` or `p`, from a second cursor on, and expects the end of the input.
+    ///
+    /// The two readers are inlined where they are called, and this function has no attribute. So what a duration begins
+    /// with is read at each call, and groups in one function for each error. With a whole reader in one function all calls
+    /// are slower.
+    fn parse_groups<E: FromStop>(
+        &mut self,
+        from: Cursor<'a, T>,
+        sign: Sign,
+    ) -> Result<DurationParseRecord, E> {
+        let mut here = from;
+        let read = parse_after_designator(&mut here, sign, self.profile);
+        self.cursor.settle(here, read)
     }
 }
 
@@ -595,14 +616,4 @@ fn parse_after_designator<'a, T: EncodingType>(
         }
         Some(_) => Err(Stop::InvalidEnd),
     }
-}
-
-/// Reads a duration, and expects the end of the input.
-#[inline(always)]
-fn parse_duration_text<'a, T: EncodingType>(
-    cursor: &mut Cursor<'a, T>,
-    profile: Profile,
-) -> Result<DurationParseRecord, Stop> {
-    let sign = parse_opening(cursor)?;
-    parse_after_designator(cursor, sign, profile)
 }
