@@ -19,12 +19,21 @@ pub fn pass_letters<'a, T: EncodingType, S: Letters>(
 ) -> Result<Option<u8>, Stop> {
     let mut here = cursor.fork();
     let found = loop {
-        match here.look() {
-            Ok(Some(byte)) if S::has(byte) => here.advance(),
-            Ok(next) => break Ok(next),
-            Err(stop) => break Err(stop),
+        let found = here.look();
+        if !goes_on::<S>(found) {
+            break found;
         }
+        here.advance();
     };
     *cursor = here;
     found
+}
+
+/// Whether a look found a code unit of the class.
+#[inline(always)]
+fn goes_on<S: Letters>(found: Result<Option<u8>, Stop>) -> bool {
+    match found {
+        Ok(Some(byte)) => S::has(byte),
+        Ok(None) | Err(_) => false,
+    }
 }
