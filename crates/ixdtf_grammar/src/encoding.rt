@@ -3,7 +3,7 @@
 //! The readers are generic in the encoding. They see a code unit as the ASCII byte that it stands for. An encoding says
 //! which byte that is, or that there is none.
 
-ghost use Rattle.std.specs.Prelude.{◌≡◌, ℕ, ◌<◌, ◌≤◌, ◌↔◌, ◌^◌, List, map, length, All, IsTrue, IsSome, IfSome, slice_range, codes};
+ghost use Rattle.std.specs.Prelude.{◌≡◌, ℕ, ◌<◌, ◌≤◌, ◌↔◌, ◌^◌, map, length, All, IsTrue, IsSome, IfSome, slice_range, codes};
 ghost use Rattle.std.specs.Cmp.{unsigned_Decides};
 ghost use Rattle.ixdtf_grammar.specs.language.Letters.{Letter, Plain, byte_letter, wide_letter, byte_letter-faithful, wide_letter-faithful};
 ghost use Rattle.ixdtf_grammar.specs.Views.{Returns, ascii_at};

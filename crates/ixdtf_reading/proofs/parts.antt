@@ -8,4 +8,3 @@ pub mod Marks
 pub mod Openings
 pub mod Steps
 pub mod Years
-pub mod ZonesAlone

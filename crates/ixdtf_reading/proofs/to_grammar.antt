@@ -9,3 +9,4 @@ pub mod Pair
 pub mod Times
 pub mod Wholes
 pub mod ZoneNames
+pub mod ZonesAlone

@@ -4,7 +4,7 @@ use Rattle.ixdtf_grammar.specs.{declared.records.{TimeRecord.TimeRecord, UtcOffs
 use Rattle.ixdtf_grammar.specs.language.{Languages.{Derives.{as_shifted, as_identified}, Found.shifted}, Letters.{Text, sign, Letter.Plain}}
 use Rattle.ixdtf_grammar.specs.language.{Offsets.{IsOffset, minutes_of}, Readers.Reader.parse_offset, Times.{TimeShape, ClockOf, SecondText, Clock as clocks}}
 use Rattle.ixdtf_grammar.specs.{language.{Times.TimeShape.{seconds, fractions}, ZoneNames.IsZoneName}, table.Outcomes.Outcome.derived}
-use Rattle.ixdtf_reading.proofs.{parts.ZonesAlone.{lead_no_sign, first_letter}, theorems.OneOutcome.same_outcome}
+use Rattle.ixdtf_reading.proofs.{to_reading.ZonesAlone.{lead_no_sign, first_letter}, theorems.OneOutcome.same_outcome}
 use Rattle.ixdtf_grammar.proofs.parts.Texts.{signed_text}
 
 -- a name does not begin as an offset

@@ -15,7 +15,7 @@ use Rattle.ixdtf_reading.specs.reading.Zones.{offset_at, identifier_at, iana_ide
 use Rattle.ixdtf_reading.specs.reading.{Brackets.{Bracket, zoned, paired, zone_in, pairs_in, bracket_at}, Cores.{ClosedCore, core_at}}
 use Rattle.ixdtf_reading.specs.reading.Wholes.{bracketed_at, annotated_at, tail_at, bracketed_text_at, with_pairs, finding, read_at}
 use Rattle.ixdtf_reading.specs.reading.Chains.{AfterBrackets, FitsAfterBrackets}
-use Rattle.ixdtf_reading.proofs.parts.{Looks.OnRead, ZonesAlone.{offset_read, identifier_read, iana_identifier_read}}
+use Rattle.ixdtf_reading.proofs.{parts.Looks.OnRead, to_grammar.ZonesAlone.{offset_read, identifier_read, iana_identifier_read}}
 use Rattle.ixdtf_reading.proofs.to_grammar.{Cores.{CoreFront, ReadsCore, core_read}, FirstBracket.{InBracket, FitsAfterCore, IsBracket, bracket_read}}
 use Rattle.ixdtf_reading.proofs.{to_grammar.{MorePairs.{OnPairs, pairs_read}, Durations.duration_read}, to_reading.FirstBracket.bracket_takes}
 

@@ -13,8 +13,8 @@ use Rattle.ixdtf_reading.specs.reading.{Looks.{Read, ◌>>=◌, row_of}, Pairs.p
 use Rattle.ixdtf_reading.specs.reading.{Wholes.{bracketed_at, annotated_at, bracketed_text_at, read_at}, Chains.AfterBrackets}
 use Rattle.ixdtf_reading.proofs.to_reading.{Cores.{core_takes, core_line_rows, core_time_rows, core_offset_rows, core_zulu_row}, FirstBracket.bracket_takes}
 use Rattle.ixdtf_reading.proofs.to_reading.{FirstBracket.bracket_rows, MorePairs.{over_pairs, pairs_end, pairs_row}, Durations.{duration_takes, duration_rows}}
-use Rattle.ixdtf_reading.proofs.{to_grammar.FirstBracket.{InBracket, IsBracket}, parts.ZonesAlone.{offset_takes, offset_rows as offset_reader_rows}}
-use Rattle.ixdtf_reading.proofs.parts.{ZonesAlone.{identifier_takes, identifier_rows, iana_identifier_takes, iana_identifier_rows}, Looks.RowsWhere}
+use Rattle.ixdtf_reading.proofs.{to_grammar.FirstBracket.{InBracket, IsBracket}, to_reading.ZonesAlone.{offset_takes, offset_rows as offset_reader_rows}}
+use Rattle.ixdtf_reading.proofs.{to_reading.ZonesAlone.{identifier_takes, identifier_rows, iana_identifier_takes, iana_identifier_rows}, parts.Looks.RowsWhere}
 
 -- one bracket or more, as reading takes them: a first one, and pairs
 pub record Brackets (text : Text) (zone : Option ZoneNote) (pairs : List Pair) : Type 0 where
