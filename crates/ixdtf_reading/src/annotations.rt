@@ -154,11 +154,11 @@ fn parse_later_pair<'a, T: EncodingType>(
     ensures shorter { OnOk result (2 + length cursor.new.rest ≤ length cursor.old.rest) }
 {
     match cursor.look()? {
+        Some(byte) if is_a_key_leading_char(byte) => parse_pair(cursor, false),
         Some(byte) if is_critical_flag(byte) => {
             cursor.advance();
             parse_critical_pair(cursor)
         }
-        Some(byte) if is_a_key_leading_char(byte) => parse_pair(cursor, false),
         _ => Err(Stop::AnnotationKeyLeadingChar),
     }
 }
