@@ -18,6 +18,7 @@ use ixdtf_grammar::profile::Profile;
 use ixdtf_grammar::records::{Annotation, IxdtfParseRecord};
 use ixdtf_reading::cursor::Cursor;
 use ixdtf_reading::stop::Stop;
+use ixdtf_times::offsets::AfterCore;
 
 /// Reads a core of the kind under the profile, and the brackets after it to the end of the input, into an empty record.
 /// The handler is called with each annotation of a key and a value.
@@ -41,10 +42,10 @@ where
     let mut here = cursor.fork();
     let read = C::parse_core(&mut here, profile, found);
     *cursor = here;
-    if !read? {
-        return Ok(());
+    match read? {
+        AfterCore::End => Ok(()),
+        AfterCore::Bracket => parse_brackets(cursor, found, handler),
     }
-    parse_brackets(cursor, found, handler)
 }
 
 /// Reads the brackets after a core and the first `[`, to the end of the input: a first one, and the pairs after it.
