@@ -16,7 +16,7 @@ ghost use Rattle.ixdtf_reading.specs.reading.Cores.{ClosedCore, core_end_at, off
 
 use ixdtf_grammar::encoding::EncodingType;
 use ixdtf_grammar::profile::Profile;
-use ixdtf_grammar::records::{DateRecord, IxdtfParseRecord, TimeRecord, UtcOffsetRecordOrZ};
+use ixdtf_grammar::records::{IxdtfParseRecord, TimeRecord, UtcOffsetRecordOrZ};
 use ixdtf_reading::cursor::Cursor;
 use ixdtf_reading::grammar::{
     is_annotation_open, is_ascii_sign, is_date_time_separator, is_time_designator,
@@ -180,11 +180,7 @@ fn parse_date_time<'a, T: EncodingType>(
         }
         None => {
             let date = parse_date(cursor)?;
-            found.date = Some(DateRecord {
-                year: date.year,
-                month: date.month,
-                day: date.day,
-            });
+            found.date = Some(date);
             match cursor.look()? {
                 Some(byte) if is_date_time_separator(byte) => {
                     cursor.advance();

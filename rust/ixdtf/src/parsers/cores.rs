@@ -4,7 +4,7 @@
 
 use crate::encoding::EncodingType;
 use crate::parsers::profile::Profile;
-use crate::records::{DateRecord, IxdtfParseRecord, TimeRecord, UtcOffsetRecordOrZ};
+use crate::records::{IxdtfParseRecord, TimeRecord, UtcOffsetRecordOrZ};
 use crate::cursor::Cursor;
 use crate::grammar::{
     is_annotation_open, is_ascii_sign, is_date_time_separator, is_time_designator,
@@ -121,11 +121,7 @@ fn parse_date_time<'a, T: EncodingType>(
         }
         None => {
             let date = parse_date(cursor)?;
-            found.date = Some(DateRecord {
-                year: date.year,
-                month: date.month,
-                day: date.day,
-            });
+            found.date = Some(date);
             match cursor.look()? {
                 Some(byte) if is_date_time_separator(byte) => {
                     cursor.advance();
