@@ -7,9 +7,7 @@
 //! `docs/FAULTS.md`.
 
 ghost use Rattle.std.specs.Prelude.{◌≡◌, map};
-ghost use Rattle.ixdtf_grammar.specs.language.Readers.Reader.{bracketed};
-ghost use Rattle.ixdtf_grammar.specs.Views.{UnreadUnder, under, IsEmptyRecord, parsed_of};
-ghost use Rattle.ixdtf.specs.Readings.{ReadsInto};
+ghost use Rattle.ixdtf_grammar.specs.Views.{UnreadUnder, under};
 
 mod cores;
 mod handled;
@@ -24,16 +22,13 @@ pub use self::cores::{CoreReader, DateTimes, MonthDays, Times, YearMonths};
 // The library for C keeps the calendar of replies by the same rule.
 #[doc(hidden)]
 pub use self::replies::keep_first_calendar;
-use self::texts::parse_text;
 pub use self::time_zone_parser::TimeZoneParser;
 pub use ixdtf_durations::duration::IsoDurationParser;
 use ixdtf_grammar::encoding::{EncodingType, Utf8, Utf16};
 pub use ixdtf_grammar::profile::Profile;
-use ixdtf_grammar::records::{Annotation, IxdtfParseRecord};
 use ixdtf_reading::cursor::Cursor;
 #[doc(hidden)]
 pub use ixdtf_reading::stop::FromStop;
-use ixdtf_reading::stop::StopAt;
 use std::marker::Model;
 
 /// A reader of dates and times, with an offset, a time zone and annotations.
@@ -161,36 +156,6 @@ impl<'a, T: EncodingType> IxdtfParser<'a, T> {
         IxdtfParser {
             cursor: self.cursor,
             profile,
-        }
-    }
-
-    /// Reads all of the remaining input into an empty record. After an error the remaining input is unchanged.
-    ///
-    /// Each public reader of records calls this one, and returns in each arm. Where a reader returns the result of another
-    /// one, or its arms meet before it returns, the whole record is copied once more.
-    #[inline(always)]
-    fn read_into<C: CoreReader, F>(
-        &mut self,
-        handler: &mut F,
-        found: &mut IxdtfParseRecord<'a, T>,
-    ) -> Result<(), StopAt>
-    where
-        F: FnMut(Annotation<'a, T>) -> Option<Annotation<'a, T>>,
-        requires callable { F.IsAlwaysCallable handler.old }
-        requires empty { IsEmptyRecord found.old }
-        ensures reads { ReadsInto T.letter T.number F.step handler.old handler.new (parsed_of T.number found.new) (bracketed (C.kind self.old.profile)) self.old result self.new }
-    {
-        let mut here = self.cursor.fork();
-        match parse_text::<T, C, F>(&mut here, self.profile, handler, found) {
-            Ok(()) => {
-                self.cursor = here;
-                Ok(())
-            }
-            Err(stop) => {
-                let at = self.cursor.remaining().saturating_sub(here.remaining());
-                self.cursor.keep_looks(here);
-                Err(StopAt { stop, at })
-            }
         }
     }
 }

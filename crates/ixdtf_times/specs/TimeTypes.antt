@@ -1,11 +1,13 @@
--- What the code's own types of dates and times stand for.
+-- What the code's own types stand for.
+use Rattle.ixdtf_times.specs.declared.offsets.AfterCore.TheVariants as afters
 use Rattle.ixdtf_times.specs.declared.time.Clock.TheVariants as code_clocks
 use Rattle.ixdtf_times.specs.declared.time.TimeShape.TheVariants as code_shapes
-use Rattle.std.specs.Prelude.{Option, Some, None}
+use Rattle.std.specs.Prelude.{Bool, true, false, Option, Some, None}
 use Rattle.ixdtf_grammar.specs.{declared.records.{DateRecord.DateRecord, TimeRecord.TimeRecord}, language.Letters.Text}
 use Rattle.ixdtf_grammar.specs.{language.{Times.{Clock, TimeShape, Clock as clocks, TimeShape as shapes}, Cores.core_of}, table.LineNames.of_date}
 use Rattle.ixdtf_grammar.specs.table.LineNames.DateLine.{after_date}
 use Rattle.ixdtf_times.specs.declared.{time.{Clock.{Clock as CodeClock}, TimeShape.{TimeShape as CodeTimeShape}, WholeTime.WholeTime}, dates.DateDigits.DateDigits}
+use Rattle.ixdtf_times.specs.declared.{offsets.AfterCore.AfterCore}
 use Rattle.ixdtf_reading.specs.reading.{Looks.{Read, Placed, error_of}, Dates.date_of, Times.{OpenTime, time_of}, Cores.{ClosedCore, core_end_at, after_time_at}}
 
 abbrev pub clock_of : CodeClock → Clock
@@ -31,6 +33,11 @@ time_to_second time = time_of time.hour time.minute time.second None
 -- a time that was written, and how far
 abbrev pub open_time_of : TimeRecord → CodeTimeShape → OpenTime
 open_time_of time shape = (shape_of shape, time)
+
+-- whether a bracket stands behind a core
+abbrev pub opens_bracket : AfterCore → Bool
+opens_bracket afters.End = false
+opens_bracket afters.Bracket = true
 
 -- what is read behind a date, with a time behind it or without
 abbrev pub after_date_time_at : Option DateRecord → TimeRecord → Option CodeTimeShape → Text → Read Placed ClosedCore

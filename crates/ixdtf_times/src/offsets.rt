@@ -11,7 +11,7 @@ ghost use Rattle.ixdtf_grammar.specs.language.ZoneNames.{Zone};
 ghost use Rattle.ixdtf_grammar.specs.language.Offsets.{sign_of, minutes_of, offset_of};
 ghost use Rattle.ixdtf_grammar.specs.language.Times.{writes_seconds};
 ghost use Rattle.ixdtf_reading.specs.reading.Clauses.{Reads, Spends};
-ghost use Rattle.ixdtf_times.specs.TimeTypes.{shape_of};
+ghost use Rattle.ixdtf_times.specs.TimeTypes.{opens_bracket, shape_of};
 ghost use Rattle.ixdtf_reading.specs.reading.Looks.{error_of};
 ghost use Rattle.ixdtf_reading.specs.reading.FixedPlaces.{offset_place};
 ghost use Rattle.ixdtf_reading.specs.reading.Cores.{offset_core_at};
@@ -26,6 +26,15 @@ use ixdtf_grammar::records::{
 use ixdtf_reading::cursor::Cursor;
 use ixdtf_reading::grammar::{is_annotation_open, is_ascii_sign, is_hyphen};
 use ixdtf_reading::stop::Stop;
+
+/// What stands behind a core.
+#[derive(Clone, Copy)]
+pub enum AfterCore {
+    /// The end of the text.
+    End,
+    /// A `[`, which is taken off.
+    Bracket,
+}
 
 /// The sign of a `+` or a `-`.
 #[inline(always)]
@@ -78,17 +87,17 @@ fn fixed_offset<'a, T: EncodingType>(
 }
 
 /// Takes off an offset that stands behind its sign at the first five places, where the text ends there or a `[` follows,
-/// and that `[`, writes the offset and returns whether the `[` follows. It is `None`, with the rest unchanged, where one of
+/// and that `[`, writes the offset and returns which of the two it was. It is `None`, with the rest unchanged, where one of
 /// them does not fit.
 #[inline(always)]
 pub fn take_fixed_offset<'a, T: EncodingType>(
     cursor: &mut Cursor<'a, T>,
     sign: u8,
     found: &mut Option<UtcOffsetRecordOrZ>,
-) -> Option<bool>
-    ensures read { IfSome result (λ more. (date : Option DateRecord) (time : TimeRecord) →
+) -> Option<AfterCore>
+    ensures read { IfSome result (λ after. (date : Option DateRecord) (time : TimeRecord) →
         offset_core_at error_of date time sign (map T.letter cursor.old.rest) ≡
-        Ok ((core_of date (Some time) found.new, more), map T.letter cursor.new.rest)) }
+        Ok ((core_of date (Some time) found.new, opens_bracket after), map T.letter cursor.new.rest)) }
     ensures rest { result ≡ None → cursor.new.rest ≡ cursor.old.rest }
     ensures shorter { length cursor.new.rest ≤ length cursor.old.rest }
     ensures few { cursor.new.looks ≤ cursor.old.looks + 6 }
@@ -101,7 +110,7 @@ pub fn take_fixed_offset<'a, T: EncodingType>(
     if cursor.remaining() == 5 {
         cursor.advance_by(5);
         *found = Some(UtcOffsetRecordOrZ::Offset(UtcOffsetRecord::MinutePrecision(offset)));
-        return Some(false);
+        return Some(AfterCore::End);
     }
     let next = cursor.byte_at(5);
     if !is_annotation_open(next) {
@@ -109,7 +118,7 @@ pub fn take_fixed_offset<'a, T: EncodingType>(
     }
     cursor.advance_by(6);
     *found = Some(UtcOffsetRecordOrZ::Offset(UtcOffsetRecord::MinutePrecision(offset)));
-    Some(true)
+    Some(AfterCore::Bracket)
 }
 
 /// Takes off an offset that stands behind its sign at the last five places of a text. It is `None`, with the rest unchanged,

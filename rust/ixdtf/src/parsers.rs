@@ -32,16 +32,13 @@ pub use self::cores::{CoreReader, DateTimes, MonthDays, Times, YearMonths};
 // The library for C keeps the calendar of replies by the same rule.
 #[doc(hidden)]
 pub use self::replies::keep_first_calendar;
-use self::texts::parse_text;
 pub use self::time_zone_parser::TimeZoneParser;
 pub use self::duration::IsoDurationParser;
 use crate::encoding::{EncodingType, Utf8, Utf16};
 pub use self::profile::Profile;
-use crate::records::{Annotation, IxdtfParseRecord};
 use crate::cursor::Cursor;
 #[doc(hidden)]
 pub use crate::stop::FromStop;
-use crate::stop::StopAt;
 
 /// A reader of dates and times, with an offset, a time zone and annotations.
 ///
@@ -149,32 +146,6 @@ impl<'a, T: EncodingType> IxdtfParser<'a, T> {
         IxdtfParser {
             cursor: self.cursor,
             profile,
-        }
-    }
-
-    /// Reads all of the remaining input into an empty record. After an error the remaining input is unchanged.
-    ///
-    /// Each public reader of records calls this one, and returns in each arm. Where a reader returns the result of another
-    /// one, or its arms meet before it returns, the whole record is copied once more.
-    #[inline(always)]
-    fn read_into<C: CoreReader, F>(
-        &mut self,
-        handler: &mut F,
-        found: &mut IxdtfParseRecord<'a, T>,
-    ) -> Result<(), StopAt>
-    where
-        F: FnMut(Annotation<'a, T>) -> Option<Annotation<'a, T>>,
-    {
-        let mut here = self.cursor.fork();
-        match parse_text::<T, C, F>(&mut here, self.profile, handler, found) {
-            Ok(()) => {
-                self.cursor = here;
-                Ok(())
-            }
-            Err(stop) => {
-                let at = self.cursor.remaining().saturating_sub(here.remaining());
-                Err(StopAt { stop, at })
-            }
         }
     }
 }

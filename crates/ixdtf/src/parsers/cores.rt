@@ -10,13 +10,13 @@ ghost use Rattle.ixdtf_grammar.specs.language.Readers.{CoreKind};
 ghost use Rattle.ixdtf_grammar.specs.language.Readers.CoreKind.{date_time};
 ghost use Rattle.ixdtf_grammar.specs.table.LineNames.{LineName};
 ghost use Rattle.ixdtf_reading.specs.reading.Clauses.{GoesOn, Reads, Spends, SpendsOr, YieldsAt, core_in, KeepsBrackets, timed_core_at};
-ghost use Rattle.ixdtf_times.specs.TimeTypes.{after_date_time_at, open_time_of};
+ghost use Rattle.ixdtf_times.specs.TimeTypes.{after_date_time_at, open_time_of, opens_bracket};
 ghost use Rattle.ixdtf_reading.specs.reading.Looks.{error_of};
 ghost use Rattle.ixdtf_reading.specs.reading.Cores.{ClosedCore, core_end_at, offset_core_at, after_time_at, whole_time_core_at, after_date_at, unfronted, core_at};
 
 use ixdtf_grammar::encoding::EncodingType;
 use ixdtf_grammar::profile::Profile;
-use ixdtf_grammar::records::{DateRecord, IxdtfParseRecord, TimeRecord, UtcOffsetRecordOrZ};
+use ixdtf_grammar::records::{IxdtfParseRecord, TimeRecord, UtcOffsetRecordOrZ};
 use ixdtf_reading::cursor::Cursor;
 use ixdtf_reading::grammar::{
     is_annotation_open, is_ascii_sign, is_date_time_separator, is_time_designator,
@@ -28,7 +28,7 @@ use ixdtf_times::date_times::take_fixed_date_time;
 use ixdtf_times::months::{
     parse_month_day_date, parse_month_day_parts, parse_year_month_date, parse_year_month_parts,
 };
-use ixdtf_times::offsets::{offset_from, take_fixed_offset};
+use ixdtf_times::offsets::{AfterCore, offset_from, take_fixed_offset};
 use ixdtf_times::time::{Clock, TimeShape, parse_after_second, parse_clock};
 
 /// Reads cores of one kind. What reads whole texts is generic in it, so that no code tests the kind when it runs.
@@ -36,16 +36,16 @@ pub trait CoreReader {
     /// Their kind, under a profile.
     ghost kind: { Profile → CoreKind };
 
-    /// Reads a core into an empty record, and returns whether a bracket follows, whose `[` is taken.
+    /// Reads a core into an empty record, and returns what stands behind it.
     fn parse_core<'a, T: EncodingType>(
         cursor: &mut Cursor<'a, T>,
         profile: Profile,
         found: &mut IxdtfParseRecord<'a, T>,
-    ) -> Result<bool, Stop>
+    ) -> Result<AfterCore, Stop>
         requires no_date { found.old.date ≡ None }
         requires no_time { found.old.time ≡ None }
         requires no_offset { found.old.offset ≡ None }
-        ensures core { Reads T.letter (λ more. (core_in found.new, more)) cursor.old result
+        ensures core { Reads T.letter (λ after. (core_in found.new, opens_bracket after)) cursor.old result
             cursor.new (core_at error_of (kind profile)) }
         ensures kept { KeepsBrackets found.old found.new }
         ensures looks { Spends (length cursor.old.rest + 36) cursor.old cursor.new };
@@ -69,7 +69,7 @@ impl CoreReader for DateTimes {
         cursor: &mut Cursor<'a, T>,
         _profile: Profile,
         found: &mut IxdtfParseRecord<'a, T>,
-    ) -> Result<bool, Stop> {
+    ) -> Result<AfterCore, Stop> {
         let mut time = TimeRecord::default();
         match parse_date_time(cursor, &mut time, found)? {
             Some(_) => parse_after_time(cursor, time, found),
@@ -93,7 +93,7 @@ impl CoreReader for YearMonths {
         cursor: &mut Cursor<'a, T>,
         _profile: Profile,
         found: &mut IxdtfParseRecord<'a, T>,
-    ) -> Result<bool, Stop> {
+    ) -> Result<AfterCore, Stop> {
         let date = parse_year_month_date(cursor)?;
         found.date = Some(date);
         close_core(cursor)
@@ -115,7 +115,7 @@ impl CoreReader for MonthDays {
         cursor: &mut Cursor<'a, T>,
         profile: Profile,
         found: &mut IxdtfParseRecord<'a, T>,
-    ) -> Result<bool, Stop> {
+    ) -> Result<AfterCore, Stop> {
         let date = parse_month_day_date(cursor, profile)?;
         found.date = Some(date);
         close_core(cursor)
@@ -137,7 +137,7 @@ impl CoreReader for Times {
         cursor: &mut Cursor<'a, T>,
         profile: Profile,
         found: &mut IxdtfParseRecord<'a, T>,
-    ) -> Result<bool, Stop> {
+    ) -> Result<AfterCore, Stop> {
         let start = cursor.rest();
         match cursor.look()? {
             Some(byte) if is_time_designator(byte) => {
@@ -145,9 +145,9 @@ impl CoreReader for Times {
                 parse_timed(cursor, found)
             }
             _ => {
-                let more = parse_timed(cursor, found)?;
+                let after = parse_timed(cursor, found)?;
                 check_front(cursor, start, profile)?;
-                Ok(more)
+                Ok(after)
             }
         }
     }
@@ -180,11 +180,7 @@ fn parse_date_time<'a, T: EncodingType>(
         }
         None => {
             let date = parse_date(cursor)?;
-            found.date = Some(DateRecord {
-                year: date.year,
-                month: date.month,
-                day: date.day,
-            });
+            found.date = Some(date);
             match cursor.look()? {
                 Some(byte) if is_date_time_separator(byte) => {
                     cursor.advance();
@@ -205,10 +201,10 @@ fn parse_date_time<'a, T: EncodingType>(
 fn parse_timed<'a, T: EncodingType>(
     cursor: &mut Cursor<'a, T>,
     found: &mut IxdtfParseRecord<'a, T>,
-) -> Result<bool, Stop>
+) -> Result<AfterCore, Stop>
     requires no_time { found.old.time ≡ None }
     requires no_offset { found.old.offset ≡ None }
-    ensures core { Reads T.letter (λ more. (core_in found.new, more)) cursor.old result cursor.new
+    ensures core { Reads T.letter (λ after. (core_in found.new, opens_bracket after)) cursor.old result cursor.new
         (timed_core_at found.old.date) }
     ensures kept { KeepsBrackets found.old found.new }
     ensures looks { Spends 18 cursor.old cursor.new }
@@ -257,10 +253,10 @@ fn parse_after_time<'a, T: EncodingType>(
     cursor: &mut Cursor<'a, T>,
     time: TimeRecord,
     found: &mut IxdtfParseRecord<'a, T>,
-) -> Result<bool, Stop>
+) -> Result<AfterCore, Stop>
     requires no_offset { found.old.offset ≡ None }
     ensures core { (shape : _) →
-        Reads T.letter (λ more. (core_in found.new, more)) cursor.old result cursor.new
+        Reads T.letter (λ after. (core_in found.new, opens_bracket after)) cursor.old result cursor.new
         (after_time_at error_of found.old.date (shape, time)) }
     ensures kept { KeepsBrackets found.old found.new }
     ensures looks { Spends 13 cursor.old cursor.new }
@@ -287,15 +283,15 @@ fn parse_signed<'a, T: EncodingType>(
     cursor: &mut Cursor<'a, T>,
     sign: u8,
     found: &mut IxdtfParseRecord<'a, T>,
-) -> Result<bool, Stop>
+) -> Result<AfterCore, Stop>
     ensures core { (time : TimeRecord) → found.old.time ≡ Some time →
-        Reads T.letter (λ more. (core_in found.new, more)) cursor.old result cursor.new
+        Reads T.letter (λ after. (core_in found.new, opens_bracket after)) cursor.old result cursor.new
         (offset_core_at error_of found.old.date time sign) }
     ensures kept { KeepsBrackets found.old found.new }
     ensures looks { Spends 12 cursor.old cursor.new }
 {
-    if let Some(more) = take_fixed_offset(cursor, sign, &mut found.offset) {
-        return Ok(more);
+    if let Some(after) = take_fixed_offset(cursor, sign, &mut found.offset) {
+        return Ok(after);
     }
     let mut here = cursor.fork();
     let read = parse_offset_part_by_part(&mut here, sign, found);
@@ -310,9 +306,9 @@ fn parse_offset_part_by_part<'a, T: EncodingType>(
     cursor: &mut Cursor<'a, T>,
     sign: u8,
     found: &mut IxdtfParseRecord<'a, T>,
-) -> Result<bool, Stop>
+) -> Result<AfterCore, Stop>
     ensures core { (time : TimeRecord) → found.old.time ≡ Some time →
-        Reads T.letter (λ more. (core_in found.new, more)) cursor.old result cursor.new
+        Reads T.letter (λ after. (core_in found.new, opens_bracket after)) cursor.old result cursor.new
         (offset_core_at error_of found.old.date time sign) }
     ensures kept { KeepsBrackets found.old found.new }
     ensures looks { Spends 6 cursor.old cursor.new }
@@ -324,21 +320,21 @@ fn parse_offset_part_by_part<'a, T: EncodingType>(
     close_core(cursor)
 }
 
-/// Expects the end of the input or a `[` after a core, and returns whether it is the `[`, which is taken. Any other
-/// code unit is `InvalidEnd`.
+/// Expects the end of the input or a `[` after a core, and returns which of the two it is. Any other code unit is
+/// `InvalidEnd`.
 #[inline(always)]
 #[tactic(auto, unfolding(ixdtf_reading::specs::reading::Cores::core_end_at, ixdtf_reading::specs::reading::Looks::peek_by))]
-fn close_core<'a, T: EncodingType>(cursor: &mut Cursor<'a, T>) -> Result<bool, Stop>
+fn close_core<'a, T: EncodingType>(cursor: &mut Cursor<'a, T>) -> Result<AfterCore, Stop>
     ensures core { (name : LineName) (core : Core) →
-        Reads T.letter (λ more. (core, more)) cursor.old result cursor.new
+        Reads T.letter (λ after. (core, opens_bracket after)) cursor.old result cursor.new
         (core_end_at error_of name core) }
     ensures looks { Spends 1 cursor.old cursor.new }
 {
     match cursor.look()? {
-        None => Ok(false),
+        None => Ok(AfterCore::End),
         Some(byte) if is_annotation_open(byte) => {
             cursor.advance();
-            Ok(true)
+            Ok(AfterCore::Bracket)
         }
         Some(_) => Err(Stop::InvalidEnd),
     }

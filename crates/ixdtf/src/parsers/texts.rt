@@ -9,7 +9,9 @@ ghost use Rattle.ixdtf_reading.specs.reading.Brackets.{zone_in, pairs_in};
 ghost use Rattle.ixdtf_reading.specs.reading.Chains.{TextRead, TextReadAfter, first_pairs};
 ghost use Rattle.ixdtf_reading.specs.reading.Clauses.{Spends, HasNoBrackets, yielded_at, core_in};
 ghost use Rattle.ixdtf_brackets.specs.BracketTypes.{bracket_of};
+ghost use Rattle.ixdtf.specs.Readings.{ReadsInto};
 
+use crate::parsers::IxdtfParser;
 use crate::parsers::cores::CoreReader;
 use crate::parsers::replies::parse_annotations;
 use ixdtf_brackets::brackets::{Bracket, parse_first_bracket};
@@ -17,11 +19,45 @@ use ixdtf_grammar::encoding::EncodingType;
 use ixdtf_grammar::profile::Profile;
 use ixdtf_grammar::records::{Annotation, IxdtfParseRecord};
 use ixdtf_reading::cursor::Cursor;
-use ixdtf_reading::stop::Stop;
+use ixdtf_reading::stop::{Stop, StopAt};
+use ixdtf_times::offsets::AfterCore;
+
+impl<'a, T: EncodingType> IxdtfParser<'a, T> {
+    /// Reads all of the remaining input into an empty record. After an error the remaining input is unchanged.
+    ///
+    /// All public readers of records read by this one: those without a handler through `read_unhandled`, and those with one
+    /// through `read_as` or `read_lending_handler`. What makes the record returns it in an arm of its own. Where arms meet
+    /// before the return, and where a result is handed on, the whole record is copied once more.
+    #[inline(always)]
+    pub(crate) fn read_into<C: CoreReader, F>(
+        &mut self,
+        handler: &mut F,
+        found: &mut IxdtfParseRecord<'a, T>,
+    ) -> Result<(), StopAt>
+    where
+        F: FnMut(Annotation<'a, T>) -> Option<Annotation<'a, T>>,
+        requires callable { F.IsAlwaysCallable handler.old }
+        requires empty { IsEmptyRecord found.old }
+        ensures reads { ReadsInto T.letter T.number F.step handler.old handler.new (parsed_of T.number found.new) (bracketed (C.kind self.old.profile)) self.old result self.new }
+    {
+        let mut here = self.cursor.fork();
+        match parse_text::<T, C, F>(&mut here, self.profile, handler, found) {
+            Ok(()) => {
+                self.cursor = here;
+                Ok(())
+            }
+            Err(stop) => {
+                let at = self.cursor.remaining().saturating_sub(here.remaining());
+                self.cursor.keep_looks(here);
+                Err(StopAt { stop, at })
+            }
+        }
+    }
+}
 
 /// Reads a core of the kind under the profile, and the brackets after it to the end of the input, into an empty record.
 /// The handler is called with each annotation of a key and a value.
-pub fn parse_text<'a, T: EncodingType, C: CoreReader, F>(
+fn parse_text<'a, T: EncodingType, C: CoreReader, F>(
     cursor: &mut Cursor<'a, T>,
     profile: Profile,
     handler: &mut F,
@@ -41,10 +77,10 @@ where
     let mut here = cursor.fork();
     let read = C::parse_core(&mut here, profile, found);
     *cursor = here;
-    if !read? {
-        return Ok(());
+    match read? {
+        AfterCore::End => Ok(()),
+        AfterCore::Bracket => parse_brackets(cursor, found, handler),
     }
-    parse_brackets(cursor, found, handler)
 }
 
 /// Reads the brackets after a core and the first `[`, to the end of the input: a first one, and the pairs after it.

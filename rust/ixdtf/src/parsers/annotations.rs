@@ -115,11 +115,11 @@ fn parse_later_pair<'a, T: EncodingType>(
     cursor: &mut Cursor<'a, T>,
 ) -> Result<Annotation<'a, T>, Stop> {
     match cursor.look()? {
+        Some(byte) if is_a_key_leading_char(byte) => parse_pair(cursor, false),
         Some(byte) if is_critical_flag(byte) => {
             cursor.advance();
             parse_critical_pair(cursor)
         }
-        Some(byte) if is_a_key_leading_char(byte) => parse_pair(cursor, false),
         _ => Err(Stop::AnnotationKeyLeadingChar),
     }
 }

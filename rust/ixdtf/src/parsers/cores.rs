@@ -4,7 +4,7 @@
 
 use crate::encoding::EncodingType;
 use crate::parsers::profile::Profile;
-use crate::records::{DateRecord, IxdtfParseRecord, TimeRecord, UtcOffsetRecordOrZ};
+use crate::records::{IxdtfParseRecord, TimeRecord, UtcOffsetRecordOrZ};
 use crate::cursor::Cursor;
 use crate::grammar::{
     is_annotation_open, is_ascii_sign, is_date_time_separator, is_time_designator,
@@ -16,17 +16,17 @@ use crate::parsers::date_times::take_fixed_date_time;
 use crate::parsers::months::{
     parse_month_day_date, parse_month_day_parts, parse_year_month_date, parse_year_month_parts,
 };
-use crate::parsers::offsets::{offset_from, take_fixed_offset};
+use crate::parsers::offsets::{AfterCore, offset_from, take_fixed_offset};
 use crate::parsers::time::{Clock, TimeShape, parse_after_second, parse_clock};
 
 /// Reads cores of one kind. What reads whole texts is generic in it, so that no code tests the kind when it runs.
 pub trait CoreReader {
-    /// Reads a core into an empty record, and returns whether a bracket follows, whose `[` is taken.
+    /// Reads a core into an empty record, and returns what stands behind it.
     fn parse_core<'a, T: EncodingType>(
         cursor: &mut Cursor<'a, T>,
         profile: Profile,
         found: &mut IxdtfParseRecord<'a, T>,
-    ) -> Result<bool, Stop>;
+    ) -> Result<AfterCore, Stop>;
 }
 
 /// A date, and a time and an offset where there are any.
@@ -38,7 +38,7 @@ impl CoreReader for DateTimes {
         cursor: &mut Cursor<'a, T>,
         _profile: Profile,
         found: &mut IxdtfParseRecord<'a, T>,
-    ) -> Result<bool, Stop> {
+    ) -> Result<AfterCore, Stop> {
         let mut time = TimeRecord::default();
         match parse_date_time(cursor, &mut time, found)? {
             Some(_) => parse_after_time(cursor, time, found),
@@ -56,7 +56,7 @@ impl CoreReader for YearMonths {
         cursor: &mut Cursor<'a, T>,
         _profile: Profile,
         found: &mut IxdtfParseRecord<'a, T>,
-    ) -> Result<bool, Stop> {
+    ) -> Result<AfterCore, Stop> {
         let date = parse_year_month_date(cursor)?;
         found.date = Some(date);
         close_core(cursor)
@@ -72,7 +72,7 @@ impl CoreReader for MonthDays {
         cursor: &mut Cursor<'a, T>,
         profile: Profile,
         found: &mut IxdtfParseRecord<'a, T>,
-    ) -> Result<bool, Stop> {
+    ) -> Result<AfterCore, Stop> {
         let date = parse_month_day_date(cursor, profile)?;
         found.date = Some(date);
         close_core(cursor)
@@ -88,7 +88,7 @@ impl CoreReader for Times {
         cursor: &mut Cursor<'a, T>,
         profile: Profile,
         found: &mut IxdtfParseRecord<'a, T>,
-    ) -> Result<bool, Stop> {
+    ) -> Result<AfterCore, Stop> {
         let start = cursor.rest();
         match cursor.look()? {
             Some(byte) if is_time_designator(byte) => {
@@ -96,9 +96,9 @@ impl CoreReader for Times {
                 parse_timed(cursor, found)
             }
             _ => {
-                let more = parse_timed(cursor, found)?;
+                let after = parse_timed(cursor, found)?;
                 check_front(cursor, start, profile)?;
-                Ok(more)
+                Ok(after)
             }
         }
     }
@@ -121,11 +121,7 @@ fn parse_date_time<'a, T: EncodingType>(
         }
         None => {
             let date = parse_date(cursor)?;
-            found.date = Some(DateRecord {
-                year: date.year,
-                month: date.month,
-                day: date.day,
-            });
+            found.date = Some(date);
             match cursor.look()? {
                 Some(byte) if is_date_time_separator(byte) => {
                     cursor.advance();
@@ -145,7 +141,7 @@ fn parse_date_time<'a, T: EncodingType>(
 fn parse_timed<'a, T: EncodingType>(
     cursor: &mut Cursor<'a, T>,
     found: &mut IxdtfParseRecord<'a, T>,
-) -> Result<bool, Stop> {
+) -> Result<AfterCore, Stop> {
     let mut time = TimeRecord::default();
     parse_clock(cursor, Clock::Time, &mut time)?;
     parse_after_time(cursor, time, found)
@@ -181,7 +177,7 @@ fn parse_after_time<'a, T: EncodingType>(
     cursor: &mut Cursor<'a, T>,
     time: TimeRecord,
     found: &mut IxdtfParseRecord<'a, T>,
-) -> Result<bool, Stop> {
+) -> Result<AfterCore, Stop> {
     found.time = Some(time);
     match cursor.look()? {
         Some(byte) if is_ascii_sign(byte) => {
@@ -204,9 +200,9 @@ fn parse_signed<'a, T: EncodingType>(
     cursor: &mut Cursor<'a, T>,
     sign: u8,
     found: &mut IxdtfParseRecord<'a, T>,
-) -> Result<bool, Stop> {
-    if let Some(more) = take_fixed_offset(cursor, sign, &mut found.offset) {
-        return Ok(more);
+) -> Result<AfterCore, Stop> {
+    if let Some(after) = take_fixed_offset(cursor, sign, &mut found.offset) {
+        return Ok(after);
     }
     let mut here = cursor.fork();
     let read = parse_offset_part_by_part(&mut here, sign, found);
@@ -220,7 +216,7 @@ fn parse_offset_part_by_part<'a, T: EncodingType>(
     cursor: &mut Cursor<'a, T>,
     sign: u8,
     found: &mut IxdtfParseRecord<'a, T>,
-) -> Result<bool, Stop> {
+) -> Result<AfterCore, Stop> {
     let mut time = TimeRecord::default();
     let shape = parse_clock(cursor, Clock::Offset, &mut time)?;
     let offset = offset_from(sign, shape, time);
@@ -228,15 +224,15 @@ fn parse_offset_part_by_part<'a, T: EncodingType>(
     close_core(cursor)
 }
 
-/// Expects the end of the input or a `[` after a core, and returns whether it is the `[`, which is taken. Any other
-/// code unit is `InvalidEnd`.
+/// Expects the end of the input or a `[` after a core, and returns which of the two it is. Any other code unit is
+/// `InvalidEnd`.
 #[inline(always)]
-fn close_core<'a, T: EncodingType>(cursor: &mut Cursor<'a, T>) -> Result<bool, Stop> {
+fn close_core<'a, T: EncodingType>(cursor: &mut Cursor<'a, T>) -> Result<AfterCore, Stop> {
     match cursor.look()? {
-        None => Ok(false),
+        None => Ok(AfterCore::End),
         Some(byte) if is_annotation_open(byte) => {
             cursor.advance();
-            Ok(true)
+            Ok(AfterCore::Bracket)
         }
         Some(_) => Err(Stop::InvalidEnd),
     }

@@ -12,6 +12,15 @@ use crate::cursor::Cursor;
 use crate::grammar::{is_annotation_open, is_ascii_sign, is_hyphen};
 use crate::stop::Stop;
 
+/// What stands behind a core.
+#[derive(Clone, Copy)]
+pub enum AfterCore {
+    /// The end of the text.
+    End,
+    /// A `[`, which is taken off.
+    Bracket,
+}
+
 /// The sign of a `+` or a `-`.
 #[inline(always)]
 pub fn sign_from(byte: u8) -> Sign {
@@ -53,14 +62,14 @@ fn fixed_offset<'a, T: EncodingType>(
 }
 
 /// Takes off an offset that stands behind its sign at the first five places, where the text ends there or a `[` follows,
-/// and that `[`, writes the offset and returns whether the `[` follows. It is `None`, with the rest unchanged, where one of
+/// and that `[`, writes the offset and returns which of the two it was. It is `None`, with the rest unchanged, where one of
 /// them does not fit.
 #[inline(always)]
 pub fn take_fixed_offset<'a, T: EncodingType>(
     cursor: &mut Cursor<'a, T>,
     sign: u8,
     found: &mut Option<UtcOffsetRecordOrZ>,
-) -> Option<bool> {
+) -> Option<AfterCore> {
     if cursor.remaining() < 5 {
         return None;
     }
@@ -68,7 +77,7 @@ pub fn take_fixed_offset<'a, T: EncodingType>(
     if cursor.remaining() == 5 {
         cursor.advance_by(5);
         *found = Some(UtcOffsetRecordOrZ::Offset(UtcOffsetRecord::MinutePrecision(offset)));
-        return Some(false);
+        return Some(AfterCore::End);
     }
     let next = cursor.byte_at(5);
     if !is_annotation_open(next) {
@@ -76,7 +85,7 @@ pub fn take_fixed_offset<'a, T: EncodingType>(
     }
     cursor.advance_by(6);
     *found = Some(UtcOffsetRecordOrZ::Offset(UtcOffsetRecord::MinutePrecision(offset)));
-    Some(true)
+    Some(AfterCore::Bracket)
 }
 
 /// Takes off an offset that stands behind its sign at the last five places of a text. It is `None`, with the rest unchanged,

@@ -9,21 +9,21 @@ returns-in_err-read-clause-replied g c =
     rw (p.1, p.2) (core_refused _ _ _ (g.C.CoreReader.kind c.args.profile) _ _ (rw c.fork-here.ensures.same at c.in_err-read.ensures.core))
 
 -- a core, and the end
-pub returns-then-not-branch-clause-replied : goal.returns-then-not-branch-clause-replied
-returns-then-not-branch-clause-replied g c =
-    let read = rw (c.fork-here.ensures.same, c.if-not-branch.true) at c.in_ok-read.ensures.core in
+pub returns-in-End-clause-replied : goal.returns-in-End-clause-replied
+returns-in-End-clause-replied g c =
+    let read = rw (c.fork-here.ensures.same, c.in-End.is) at c.in_ok-read.ensures.core in
     let kept = c.in_ok-read.ensures.kept in
     let none = no_brackets g.T.EncodingType.number c.parse_core-read.new.found (kept.0 ∙ c.requires.empty.tz) (kept.1 ∙ c.requires.empty.calendar) in
     placed_alone _ _ _ _ _ _ none (g.C.CoreReader.kind c.args.profile) _ read
 
-pub returns-then-not-branch-clause-empty : goal.returns-then-not-branch-clause-empty
-returns-then-not-branch-clause-empty g c =
-    let read = rw (c.fork-here.ensures.same, c.if-not-branch.true) at c.in_ok-read.ensures.core in
+pub returns-in-End-clause-empty : goal.returns-in-End-clause-empty
+returns-in-End-clause-empty g c =
+    let read = rw (c.fork-here.ensures.same, c.in-End.is) at c.in_ok-read.ensures.core in
     no_units g.T.EncodingType.letter _ (core_ends_text (g.C.CoreReader.kind c.args.profile) _ _ _ read)
 
 -- the first bracket is looked through once more than it is read
-pub returns-clause-looks : goal.returns-clause-looks
-returns-clause-looks g c =
-    let read = rw (c.fork-here.ensures.same, c.if-not-branch.false) at c.in_ok-read.ensures.core in
+pub returns-in-Bracket-clause-looks : goal.returns-in-Bracket-clause-looks
+returns-in-Bracket-clause-looks g c =
+    let read = rw (c.fork-here.ensures.same, c.in-Bracket.is) at c.in_ok-read.ensures.core in
     let looks = rw c.fork-here.ensures.same at c.in_ok-read.ensures.looks in
     omega (arith, core_shortens (g.C.CoreReader.kind c.args.profile) g.T.EncodingType.letter _ _ _ read, looks, c.parse_brackets.ensures.looks)

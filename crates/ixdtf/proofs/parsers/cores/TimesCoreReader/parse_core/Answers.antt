@@ -19,15 +19,15 @@ returns-in-Some-clause-core g c =
     reads_as _ _ c.advance.new.self c.args.cursor.now _ c.parse_timed.result _ _ same c.parse_timed.ensures.core
 
 -- neither
-pub returns-in_err-more-in_default-clause-core : goal.returns-in_err-more-in_default-clause-core
-returns-in_err-more-in_default-clause-core g c =
-    let p = err_from_is_err_and c.from_residual-in_err-more-in_default.result c.from_residual-in_err-more-in_default.ensures.1 in
+pub returns-in_err-after-in_default-clause-core : goal.returns-in_err-after-in_default-clause-core
+returns-in_err-after-in_default-clause-core g c =
+    let p = err_from_is_err_and c.from_residual-in_err-after-in_default.result c.from_residual-in_err-after-in_default.ensures.1 in
     let other : next_is time_letter c.in_ok-byte.field-0 ≡ false = elim c.in_default.branch [
       | in_default-via-in-Some+else-is_time_designator w ↦ rw w.in-Some.is (sym w.if-is_time_designator.ensures)
       | in_default-via-in_default w ↦ rw w.in_default.is refl
     ] in
     rw (p.1, p.2) (unmarked_is _ _ _ c.in_ok-byte.ensures.letter other _ c.requires.no_date
-    ∙ rw (← c.look.ensures.rest, c.in_err-more-in_default.ensures.core) refl)
+    ∙ rw (← c.look.ensures.rest, c.in_err-after-in_default.ensures.core) refl)
 
 pub returns-in_err-check_front-in_default-clause-core : goal.returns-in_err-check_front-in_default-clause-core
 returns-in_err-check_front-in_default-clause-core g c =
@@ -38,7 +38,7 @@ returns-in_err-check_front-in_default-clause-core g c =
     ] in
     let front = c.in_err-check_front-in_default.ensures.front _ _ in
     rw (p.1, p.2) (unmarked_is _ _ _ c.in_ok-byte.ensures.letter other _ c.requires.no_date
-    ∙ rw (← c.look.ensures.rest, c.in_ok-more-in_default.ensures.core) (rw (c.look.ensures.rest, ← c.rest-start.ensures) front))
+    ∙ rw (← c.look.ensures.rest, c.in_ok-after-in_default.ensures.core) (rw (c.look.ensures.rest, ← c.rest-start.ensures) front))
 
 pub returns-in_ok-check_front-in_default-clause-core : goal.returns-in_ok-check_front-in_default-clause-core
 returns-in_ok-check_front-in_default-clause-core g c =
@@ -48,4 +48,4 @@ returns-in_ok-check_front-in_default-clause-core g c =
     ] in
     let front = c.in_ok-check_front-in_default.ensures.front _ _ in
     unmarked_is _ _ _ c.in_ok-byte.ensures.letter other _ c.requires.no_date
-    ∙ rw (← c.look.ensures.rest, c.in_ok-more-in_default.ensures.core) (rw (c.look.ensures.rest, ← c.rest-start.ensures, ← c.in_ok-check_front-in_default.ensures.rest) front)
+    ∙ rw (← c.look.ensures.rest, c.in_ok-after-in_default.ensures.core) (rw (c.look.ensures.rest, ← c.rest-start.ensures, ← c.in_ok-check_front-in_default.ensures.rest) front)
