@@ -203,6 +203,7 @@ impl<'a, T: EncodingType> TimeZoneParser<'a, T> {
         ensures reads { ReadsPart T.letter fault_of (λ units. map T.number units.now) named parse_iana_identifier self.old result self.new }
     {
         let mut here = self.cursor.fork();
+        // By hand, since rustc makes three instructions more of `settle` here.
         match parse_iana_identifier_text(&mut here) {
             Ok(name) => {
                 self.cursor = here;

@@ -179,6 +179,7 @@ impl<'a, T: EncodingType> TimeZoneParser<'a, T> {
     /// - `NonAsciiCodePoint` at a 16-bit code unit that is not from 1 to 126.
     pub fn parse_iana_identifier(&mut self) -> ParserResult<&'a [T::CodeUnit]> {
         let mut here = self.cursor.fork();
+        // By hand, since rustc makes three instructions more of `settle` here.
         match parse_iana_identifier_text(&mut here) {
             Ok(name) => {
                 self.cursor = here;
