@@ -7,8 +7,14 @@ ghost use Rattle.ixdtf_grammar.specs.language.Letters.Letter.{Plain};
 ghost use Rattle.ixdtf_grammar.specs.language.Digits.{decimal};
 ghost use Rattle.ixdtf_reading.specs.reading.FixedPlaces.{tens_value, ones_value};
 
-// The classes of each byte, one bit for each: 1 for the characters of a key, 2 for those of a zone name, 4 for those of
-// a value, 8 for what a key begins with, and 16 for what a zone name begins with.
+// The bits of classes: the characters of a key, of a zone name and of a value, and what a key and a zone name begin with.
+const KEY_CHAR: u8 = 1;
+const TZ_CHAR: u8 = 2;
+const VALUE_CHAR: u8 = 4;
+const KEY_LEAD: u8 = 8;
+const TZ_LEAD: u8 = 16;
+
+// The classes of each byte, one bit for each.
 #[rattlefmt::skip]
 static CLASSES: [u8; 256] = [
     0, 0, 0, 0, 0, 0, 0, 0, 0, 0, 0, 0, 0, 0, 0, 0,
@@ -185,7 +191,7 @@ pub fn is_tz_name_separator(byte: u8) -> bool
 pub fn is_tz_leading_char(byte: u8) -> bool
     ensures { result ≡ zone_lead byte }
 {
-    CLASSES[byte as usize] & 16 != 0
+    CLASSES[byte as usize] & TZ_LEAD != 0
 }
 
 /// What follows in a zone name: what begins one, a digit, `+` or `-`.
@@ -193,7 +199,7 @@ pub fn is_tz_leading_char(byte: u8) -> bool
 pub fn is_tz_char(byte: u8) -> bool
     ensures { result ≡ zone_char byte }
 {
-    CLASSES[byte as usize] & 2 != 0
+    CLASSES[byte as usize] & TZ_CHAR != 0
 }
 
 /// What a key begins with: a lowercase ASCII letter or `_`.
@@ -201,7 +207,7 @@ pub fn is_tz_char(byte: u8) -> bool
 pub fn is_a_key_leading_char(byte: u8) -> bool
     ensures { result ≡ key_lead byte }
 {
-    CLASSES[byte as usize] & 8 != 0
+    CLASSES[byte as usize] & KEY_LEAD != 0
 }
 
 /// What follows in a key: what begins one, a digit or `-`.
@@ -209,7 +215,7 @@ pub fn is_a_key_leading_char(byte: u8) -> bool
 pub fn is_a_key_char(byte: u8) -> bool
     ensures { result ≡ key_char byte }
 {
-    CLASSES[byte as usize] & 1 != 0
+    CLASSES[byte as usize] & KEY_CHAR != 0
 }
 
 /// What a component of a value has: ASCII letters and digits.
@@ -217,7 +223,7 @@ pub fn is_a_key_char(byte: u8) -> bool
 pub fn is_annotation_value_component(byte: u8) -> bool
     ensures { result ≡ value_char byte }
 {
-    CLASSES[byte as usize] & 4 != 0
+    CLASSES[byte as usize] & VALUE_CHAR != 0
 }
 
 /// The value of two digits.
