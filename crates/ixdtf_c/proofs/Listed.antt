@@ -8,7 +8,7 @@ use Rattle.ixdtf.specs.{language.Languages.Found.parsed, table.{Faults.Fault, Ou
 use Rattle.ixdtf.specs.{Laws.InNoOther, Places.{GivesFaultAt, HandledToAt}, Handlers.{Reply, first_calendar, calendar_value, with_calendar, RefusedBeside}}
 use Rattle.ixdtf.specs.Handlers.{NoneRefused, LastRefused, GivesRecord, GivesFault, pair_of, Calls, handed, replies_of, Step, IsChain}
 use Rattle.ixdtf_reading.proofs.theorems.{OneOutcome.place_once, OnlyOutcome.only_fault, Replies.{nones, first_calendar-nones, each_is_none}}
-use Rattle.ixdtf_c.specs.{Listing.{PassesOver, overwritten, Lists}, Located.{FaultAt, HasOutcome, returned_at}}
+use Rattle.ixdtf_c.specs.{Listing.{PassesOver, overwritten, Lists}, Located.{FaultAt, HasOutcome}}
 use Rattle.ixdtf_c.proofs.Crossed.{same_ok}
 
 -- ---- what is written

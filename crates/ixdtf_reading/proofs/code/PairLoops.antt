@@ -1,6 +1,6 @@
 -- The code units of a key and of a value, taken one by one.
-use Rattle.std.proofs.Common.{◌≡◌, ℕ, Bool, true, false, List, [], ◌∷◌, ◌++◌, map, drop, Option, Some, None, Ok, Err, refl, sym, ap, subst, ◌∙◌}
-use Rattle.std.proofs.{Common.{if◌then◌else◌, arith}, lemmas.Bool.Decides.nat_tests}
+use Rattle.std.proofs.Common.{◌≡◌, ℕ, true, false, List, [], ◌∷◌, ◌++◌, map, drop, Option, Some, None, Ok, Err, refl, sym, ap, subst, ◌∙◌}
+use Rattle.std.proofs.{Common.{arith}, lemmas.Bool.Decides.nat_tests}
 use Rattle.ixdtf_reading.specs.reading.Pairs.{ValueState, AtStart, Inside, BeginsKey}
 use Rattle.ixdtf_reading.specs.reading.Pairs.{AfterHyphen, GoesOn, Ends, Stops, key_run, component_look, value_run, value_mark, value_step, value_end}
 use Rattle.ixdtf_reading.specs.reading.{Pairs.value_other, Looks.{Placed, look_at, seen, next_by, mark_by, error_of}, Zones.with_letter}

@@ -1,11 +1,11 @@
 -- What reading a zone name returns is a name as far as it goes, or a row that fits.
-use Rattle.std.proofs.Common.{◌≡◌, ℕ, Bool, true, false, IsTrue, IsFalse, ◌⊎◌, List, [], ◌∷◌, ◌++◌, map, Ok, Err, refl, sym, ◌∙◌, subst, inl, inr}
-use Rattle.std.proofs.{Common.{append_assoc, append-nil, ◌&&◌}, lemmas.Bool.{and_parts, or_left, both_ways, true≢false}}
-use Rattle.ixdtf_grammar.specs.language.Letters.{Text, Class, ◌or◌, sign, zone_lead, zone_char, slash, Letter.{Plain, Bad}}
-use Rattle.ixdtf_grammar.specs.{language.{Shapes.{Shape, nothing, one, ◌then◌, Joined, many}, ZoneNames.{NameItem, ZoneName}}, table.Faults.Fault}
-use Rattle.ixdtf_grammar.specs.table.{Faults.Fault.{NonAsciiCodePoint, IanaCharPostSeparator}, LineNames.{ZoneLine, LineName.of_zone}}
-use Rattle.ixdtf_grammar.specs.table.{LineNames.ZoneLine.{identifier_start, zone_name_start, in_zone_name, after_zone_slash}, Lines.{line_of, Line.line}}
-use Rattle.ixdtf_grammar.specs.table.{Lines.Ending.error, Rows.{Row, Place, Stops, front_of, Place.{end, other, bad, anywhere}}}
+use Rattle.std.proofs.Common.{◌≡◌, ℕ, Bool, true, false, IsTrue, IsFalse, List, [], ◌∷◌, ◌++◌, map, Ok, Err, refl, sym, ◌∙◌, inl, inr}
+use Rattle.std.proofs.{Common.{append_assoc, append-nil, ◌&&◌}, lemmas.Bool.{and_parts, true≢false}}
+use Rattle.ixdtf_grammar.specs.language.Letters.{Text, zone_lead, zone_char, slash, Letter.{Plain, Bad}}
+use Rattle.ixdtf_grammar.specs.{language.{Shapes.{Shape, one, ◌then◌, Joined, many}, ZoneNames.{NameItem, ZoneName}}, table.Faults.Fault}
+use Rattle.ixdtf_grammar.specs.table.{Faults.Fault.{NonAsciiCodePoint, IanaCharPostSeparator}, LineNames.{LineName.of_zone}}
+use Rattle.ixdtf_grammar.specs.table.{LineNames.ZoneLine.{in_zone_name, after_zone_slash}, Lines.{line_of}}
+use Rattle.ixdtf_grammar.specs.table.{Rows.{Row, Place, Stops, Place.{end, other, bad}}}
 use Rattle.ixdtf_reading.specs.reading.{Looks.{Read, row_of}, Zones.{with_letter, name_stops, name_run}}
 use Rattle.ixdtf_reading.proofs.{parts.Looks.{OnRead, FitsIn, read_if, onto}, to_reading.ZoneNames.{NameEnds, lead_char}}
 use Rattle.std.proofs.Common.{arith}

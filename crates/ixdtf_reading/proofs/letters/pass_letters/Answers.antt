@@ -2,7 +2,7 @@ use Rattle.ixdtf_reading.proofs.letters.pass_letters.Goals as goal
 use Rattle.std.proofs.Common.{◌≡◌, ◌+◌, ℕ, List, map, length, drop, Option, Some, None, Result, Ok, Err, true, false, refl, arith, rules}
 use Rattle.std.specs.Prelude.{IfOk, IsSome}
 use Rattle.ixdtf_grammar.specs.{language.Letters.{Letter, Text, Class, Letter.Plain}, Views.Unread}
-use Rattle.ixdtf_reading.specs.{declared.stop.Stop.Stop, reading.{Clauses.{fault_of_stop, YieldsAt}, Looks.{Read, Placed, seen}, Runs.{PassesOver, found_in, within}}}
+use Rattle.ixdtf_reading.specs.{declared.stop.Stop.Stop, reading.{Clauses.{YieldsAt}, Looks.{Placed, seen}, Runs.{PassesOver, found_in, within}}}
 use Rattle.ixdtf_reading.proofs.code.{FractionLoop.one_taken, LetterLoops.{IsSoFar, begins, goes_on, ceases, fails}}
 
 -- a look that found a code unit of the class

@@ -1,9 +1,9 @@
 use Rattle.ixdtf_times.proofs.offsets.take_fixed_offset.Goals as goal
-use Rattle.std.proofs.{Common.{◌≡◌, List, ℕ, IsTrue, [], map, drop, length, Ok, true, false, sym, ap, ◌∙◌, subst, arith, refl}, lemmas.Bool.Decides.nat_tests}
-use Rattle.std.proofs.lemmas.List.{drop-map, drop_all}
-use Rattle.ixdtf_reading.specs.reading.{FixedPlaces.byte_place, Cores.with_offset}
+use Rattle.std.proofs.{Common.{◌≡◌, List, ℕ, map, length, true, sym, ap, ◌∙◌, arith, refl}, lemmas.Bool.Decides.nat_tests}
+use Rattle.std.proofs.lemmas.List.{drop-map}
+use Rattle.ixdtf_reading.specs.reading.{FixedPlaces.byte_place}
 use Rattle.ixdtf_reading.proofs.code.FixedPlaces.{byte_is_mark}
-use Rattle.ixdtf_grammar.specs.{language.Letters.opening, declared.records.UtcOffsetRecord.TheVariants.MinutePrecision}
+use Rattle.ixdtf_grammar.specs.{language.Letters.opening}
 use Rattle.ixdtf_times.proofs.code.FixedOffsets.{ends, goes_into_a_bracket}
 use Rattle.ixdtf_times.proofs.code.FixedOffsets.{nothing_left}
 

@@ -3,7 +3,7 @@ use Rattle.std.proofs.{Common.{◌≡◌, [], ◌∷◌, ◌∙◌, sym, map, So
 use Rattle.ixdtf_grammar.specs.language.Letters.{digit, Letter.Plain}
 use Rattle.ixdtf_reading.specs.reading.{Looks.seen, Clauses.more_digits_at}
 use Rattle.ixdtf_reading.proofs.{code.FractionLoop.{goes_on, hands_on, ends_at_other, ends_at_end, fails, one_taken}, parts.GrowingDigits.grown_by_digit}
-use Rattle.ixdtf_times.proofs.{code.LoneTimes.reads_as, time.parse_more_digits.Goals.{in_default-via-in-Some+else-is_ascii_digit, in_default-via-in_default}}
+use Rattle.ixdtf_times.proofs.{time.parse_more_digits.Goals.{in_default-via-in-Some+else-is_ascii_digit, in_default-via-in_default}}
 use Rattle.ixdtf_reading.proofs.code.FixedPlaces.{reads_on}
 
 pub loop-cursor-smaller : goal.loop-cursor-smaller
