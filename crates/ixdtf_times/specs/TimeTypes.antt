@@ -6,7 +6,8 @@ use Rattle.std.specs.Prelude.{Bool, true, false, Option, Some, None}
 use Rattle.ixdtf_grammar.specs.{declared.records.{DateRecord.DateRecord, TimeRecord.TimeRecord}, language.Letters.Text}
 use Rattle.ixdtf_grammar.specs.{language.{Times.{Clock, TimeShape, Clock as clocks, TimeShape as shapes}, Cores.core_of}, table.LineNames.of_date}
 use Rattle.ixdtf_grammar.specs.table.LineNames.DateLine.{after_date}
-use Rattle.ixdtf_times.specs.declared.{time.{Clock.{Clock as CodeClock}, TimeShape.{TimeShape as CodeTimeShape}}, fixed.WholeTime.WholeTime, offsets.AfterCore.AfterCore}
+use Rattle.ixdtf_times.specs.declared.{time.{Clock.{Clock as CodeClock}, TimeShape.{TimeShape as CodeTimeShape}}, fixed.WholeTime.WholeTime}
+use Rattle.ixdtf_times.specs.declared.offsets.AfterCore.{AfterCore}
 use Rattle.ixdtf_reading.specs.reading.{Looks.{Read, Placed, error_of}, Times.{OpenTime, time_of}, Cores.{ClosedCore, core_end_at, after_time_at}}
 
 abbrev pub clock_of : CodeClock → Clock
