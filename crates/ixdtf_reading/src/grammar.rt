@@ -9,9 +9,13 @@ ghost use Rattle.ixdtf_reading.specs.reading.FixedPlaces.{tens_value, ones_value
 
 // The bits of classes: the characters of a key, of a zone name and of a value, and what a key and a zone name begin with.
 const KEY_CHAR: u8 = 1;
+
 const TZ_CHAR: u8 = 2;
+
 const VALUE_CHAR: u8 = 4;
+
 const KEY_LEAD: u8 = 8;
+
 const TZ_LEAD: u8 = 16;
 
 // The classes of each byte, one bit for each.

@@ -23,8 +23,8 @@ use ixdtf_reading::grammar::{
     is_utc_designator,
 };
 use ixdtf_reading::stop::Stop;
-use ixdtf_times::dates::parse_date;
 use ixdtf_times::date_times::take_fixed_date_time;
+use ixdtf_times::dates::parse_date;
 use ixdtf_times::months::{
     parse_month_day_date, parse_month_day_parts, parse_year_month_date, parse_year_month_parts,
 };

@@ -11,8 +11,8 @@ use crate::grammar::{
     is_utc_designator,
 };
 use crate::stop::Stop;
-use crate::parsers::dates::parse_date;
 use crate::parsers::date_times::take_fixed_date_time;
+use crate::parsers::dates::parse_date;
 use crate::parsers::months::{
     parse_month_day_date, parse_month_day_parts, parse_year_month_date, parse_year_month_parts,
 };
