@@ -135,7 +135,7 @@ ADDED = {
 }
 OPEN = {name for (_, name), attribute in ADDED.items() if attribute == '#[non_exhaustive]'}
 INLINED = {'parsers', 'parsers/handled', 'parsers/unhandled', 'parsers/time_zone_parser', 'parsers/duration'}
-MARKED = INLINED | {'error', 'located', 'records'}
+MARKED = INLINED | {'error', 'located', 'records', 'canonical', 'length'}
 # What documents of a module link to in the module above.
 FARTHER = {'parsers/unhandled': ('Profile', 'TimeZoneParser')}
 RESULTS = {'Result', 'ParserResult'}
@@ -458,7 +458,8 @@ def of_layers(module, plain, roots):
     first = lines.index(block[0])
     block += [f'{"pub " if name in shown else ""}mod {name};\n' for name in names]
     lines = [line for line in lines if line not in block]
-    lines[first:first] = sorted(block, key=lambda line: line.split()[-1])
+    # A page shows the calls of a type in the order of its modules: those without a handler first.
+    lines[first:first] = sorted(block, key=lambda line: (line.split()[-1] != 'unhandled;', line.split()[-1]))
     items = ''.join(sorted((of_root(name, roots) for name in shown if name not in names), key=lambda item: (item.startswith('\n'), item)))
     return re.sub(r'(?:pub use crate::(?:\{[A-Za-z, _]+\}|[a-z_]+);\n)+', lambda m: items, ''.join(lines))
 

@@ -8,6 +8,7 @@
 //! error fits the input, or a reply is refused with it. The repository has both, as `docs/GRAMMAR.md` and
 //! `docs/FAULTS.md`.
 
+mod unhandled;
 mod annotations;
 mod brackets;
 mod cores;
@@ -23,7 +24,6 @@ mod replies;
 mod texts;
 mod time;
 mod time_zone_parser;
-mod unhandled;
 mod zone;
 
 // Only for crates of this repository; not part of the public interface: what `read_lending_handler` is generic in.

@@ -2,6 +2,9 @@
 
 use core::marker::PhantomData;
 
+#[cfg(not(target_pointer_width = "64"))]
+compile_error!("ixdtf_c is for 64-bit targets");
+
 /// A slice in a struct, which C has as a pointer and a length. Of one without units the pointer may be `NULL`.
 #[derive(Clone, Copy)]
 #[repr(C)]

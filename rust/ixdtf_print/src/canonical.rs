@@ -30,6 +30,7 @@ pub struct Canonical<'a> {
 
 impl<'a> Canonical<'a> {
     /// The record to display, or `None` where no text stands for it, as for one of `parse_time`, which has no date.
+    #[must_use]
     pub fn of(parsed: &'a IxdtfParseRecord<'a, Utf8>) -> Option<Canonical<'a>> {
         if !is_printable(parsed) {
             return None;

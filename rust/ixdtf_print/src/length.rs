@@ -84,11 +84,13 @@ fn calendar_length(calendar: Option<&[u8]>) -> u128 {
 }
 
 /// How many bytes the date, the time and the offset have.
+#[must_use]
 pub fn core_length(parsed: &IxdtfParseRecord<'_, Utf8>) -> u16 {
     date_length(parsed.date) + time_length(parsed.time) + offset_length(parsed.offset)
 }
 
 /// How many bytes the canonical text of the record has.
+#[must_use]
 pub fn length_of(parsed: &IxdtfParseRecord<'_, Utf8>) -> u128 {
     u128::from(core_length(parsed)) + bracket_length(&parsed.tz) + calendar_length(parsed.calendar)
 }
@@ -105,6 +107,7 @@ pub fn length_of(parsed: &IxdtfParseRecord<'_, Utf8>) -> u128 {
 /// let mut out = vec![0; length];
 /// assert_eq!(print(&record, &mut out), Ok(length));
 /// ```
+#[must_use]
 pub fn printed_length(parsed: &IxdtfParseRecord<'_, Utf8>) -> Option<usize> {
     if !is_printable(parsed) {
         return None;

@@ -60,7 +60,7 @@ fn moment_of<'a>(text: &'a str) -> Option<Moment<'a>> {
     let zone = match record.tz {
         Some(zone) => match zone.tz {
             TimeZoneRecord::Name(name) => std::str::from_utf8(name).ok(),
-            TimeZoneRecord::Offset(_) => None,
+            _ => None,
         },
         None => None,
     };
@@ -169,7 +169,7 @@ fn has_a_name(text: &str) -> ParserResult<bool> {
     let mut parser = TimeZoneParser::from_str(text);
     match parser.parse_identifier()? {
         TimeZoneRecord::Name(_) => Ok(true),
-        TimeZoneRecord::Offset(_) => Ok(false),
+        _ => Ok(false),
     }
 }
 
