@@ -1,7 +1,7 @@
 //! A cursor: the remaining code units of a source.
 //!
-//! A cursor has no index. It keeps the remaining code units as one slice, so it cannot point past the end. A reader
-//! that returns an error restores the slice that it began with.
+//! A cursor has no index. It keeps the remaining code units as one slice, so it cannot point past the end. A private
+//! reader leaves its cursor where it stopped, which is the place of the error; a public one puts it back (`settle`).
 
 #![tactic(auto, unfolding(crate::specs::reading::Looks::look_readings))]
 
@@ -92,7 +92,7 @@ impl<'a, T: EncodingType> Cursor<'a, T> {
         }
     }
 
-    /// Stays where it is, and takes over the count of a cursor that went on from here.
+    /// Stays where it is, and takes over the count of a second cursor.
     #[inline(always)]
     pub fn keep_looks(&mut self, here: Self)
         ensures rest { self.new.rest ≡ self.old.rest }
@@ -203,7 +203,7 @@ impl<'a, T: EncodingType> Cursor<'a, T> {
         }
     }
 
-    /// Takes two digits, and returns their number, with one test for the end, and one by the tables for both. The end of the
+    /// Takes two digits, and returns their number, with one test for the end, and one of what the tables say of both. The end of the
     /// input is `AbruptDigit`. Another code unit is this stop, and is not taken.
     #[inline(always)]
     pub fn two_digits(&mut self, other: Stop) -> Result<u8, Stop>
@@ -276,8 +276,8 @@ impl<'a, T: EncodingType> Cursor<'a, T> {
         }
     }
 
-    /// The number of the two digits at a fixed index of the remaining input and the next, or `None` where one of them is none.
-    /// Both are looked at.
+    /// The number of the two digits at a fixed index of the remaining input and the next, or `None` where one of them is no
+    /// digit. Both are looked at.
     #[inline(always)]
     #[tactic(auto, unfolding(crate::specs::reading::FixedPlaces::number_place))]
     pub fn fixed_number(&mut self, index: usize) -> Option<u8>

@@ -9,7 +9,7 @@ use crate::cursor::Cursor;
 use crate::stop::Stop;
 use ixdtf_grammar::encoding::EncodingType;
 
-/// A class of code units.
+/// A class of code units, such as those of a key.
 pub trait Letters {
     /// The class.
     ghost class: { Class };
@@ -19,7 +19,8 @@ pub trait Letters {
         ensures { result ≡ class byte };
 }
 
-/// Passes over the run of code units of a class, and returns the one that ends it, which is not taken.
+/// Passes over the run of code units of a class, and returns the one that ends it, which is not taken, or
+/// `None` at the end of the input.
 #[inline(always)]
 pub fn pass_letters<'a, T: EncodingType, S: Letters>(
     cursor: &mut Cursor<'a, T>,

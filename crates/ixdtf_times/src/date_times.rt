@@ -1,4 +1,4 @@
-//! Reading a date, a separator and a time at their first nineteen places, as most texts have them: `YYYY-MM-DDTHH:MM:SS`.
+//! Reading a date, a separator and a time at the first nineteen places of a text, as most have them: `YYYY-MM-DDTHH:MM:SS`.
 
 #![tactic(auto, unfolding(ixdtf_reading::specs::reading::FixedPlaces::fixed_readings))]
 
@@ -19,8 +19,8 @@ use ixdtf_reading::cursor::Cursor;
 use ixdtf_reading::grammar::is_date_time_separator;
 
 /// Takes off the date, the separator and the time that stand at the first nineteen places. It is `None`, with the rest
-/// unchanged, at the first place that does not fit, and where the numbers are no date or no time. Fewer units are not
-/// looked at.
+/// unchanged, at the first place that does not fit, and where the numbers are no date or no time. Of fewer
+/// than nineteen units none is looked at.
 #[inline(always)]
 #[tactic(auto, using(ixdtf_reading::proofs::code::FixedPlaces::date_time_at_place, ixdtf_reading::proofs::code::FixedPlaces::date_time_stands))]
 pub fn take_fixed_date_time<'a, T: EncodingType>(

@@ -42,7 +42,7 @@ pub struct DateDigits {
 }
 
 impl DateDigits {
-    /// The first day of a month.
+    /// The first day of a month, which is not checked.
     #[inline(always)]
     pub fn first_day(year: u16, month: u8) -> Self
         ensures { digits_date result ≡ date_of (pos year) month 1 }
@@ -66,7 +66,7 @@ impl DateDigits {
         }
     }
 
-    /// Whether the month is one and has the day.
+    /// Whether the month is from 1 to 12 and has the day.
     #[inline(always)]
     pub fn is_date(self) -> bool
         ensures { result ≡ date_in_range (digits_date self) }
@@ -93,7 +93,8 @@ pub fn fixed_date<'a, T: EncodingType>(cursor: &mut Cursor<'a, T>) -> Option<Dat
 }
 
 /// Reads the date that stands at the first ten places, or at the eight of one without hyphens. Where only its year does, what
-/// follows is read on part by part. It is `None`, with the rest unchanged, where its year does not fit.
+/// follows is read on part by part. It is `None`, with the rest unchanged, where its year does not fit, and for fewer than eight
+/// units.
 #[inline(always)]
 fn take_fixed_date<'a, T: EncodingType>(
     cursor: &mut Cursor<'a, T>,
@@ -119,8 +120,8 @@ fn take_fixed_date<'a, T: EncodingType>(
     Some(parse_days(cursor, year))
 }
 
-/// Takes a date off, whose month and whose day end behind so many units. Where its month is none, what stands behind the
-/// month stays.
+/// Takes a date off, whose month and whose day end behind so many units. Where its month is not from 1 to 12, what stands
+/// behind the month stays.
 #[inline(always)]
 fn take_date<'a, T: EncodingType>(
     cursor: &mut Cursor<'a, T>,
@@ -264,8 +265,8 @@ fn parse_four_digit_year<'a, T: EncodingType>(
         (four_digit_year_at error_of thousands) }
     ensures looks { SpendsInAll 1 3 cursor.old cursor.new }
 {
-    let ones = parse_three_digits(cursor, Stop::DateYear)?;
-    Ok((1000 * u32::from(thousands - b'0') + ones) as i32)
+    let below_thousand = parse_three_digits(cursor, Stop::DateYear)?;
+    Ok((1000 * u32::from(thousands - b'0') + below_thousand) as i32)
 }
 
 /// Reads the six digits of a year with a sign.
@@ -303,7 +304,7 @@ fn parse_six_digits<'a, T: EncodingType>(cursor: &mut Cursor<'a, T>) -> Result<u
     Ok(10_000 * u32::from(high) + 100 * u32::from(middle) + u32::from(low))
 }
 
-/// Reads three digits, and returns their number. Another code unit is this stop.
+/// Reads three digits, and returns their number. The end is `AbruptDigit`, and another code unit this stop.
 #[inline(always)]
 #[tactic(auto, unfolding(ixdtf_reading::specs::reading::Looks::digits_by))]
 fn parse_three_digits<'a, T: EncodingType>(
@@ -412,7 +413,7 @@ fn take_separator<'a, T: EncodingType>(
     }
 }
 
-/// The month, where it is one.
+/// The month, where it is from 1 to 12.
 #[inline(always)]
 pub fn check_month(month: u8) -> Result<u8, Stop>
     ensures { Checks (λ month. month) result month (nat_le 1 month && nat_le month 12)
@@ -424,7 +425,7 @@ pub fn check_month(month: u8) -> Result<u8, Stop>
     Ok(month)
 }
 
-/// The date, where its month has the day.
+/// The date, where its month, which is from 1 to 12, has the day.
 #[inline(always)]
 pub fn check_date(year: i32, month: u8, day: u8) -> Result<DateRecord, Stop>
     ensures { Checks (λ date. date) result (date_of year month day)

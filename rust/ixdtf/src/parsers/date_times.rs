@@ -1,6 +1,6 @@
 // Made by tools/to_rust.py of crates/ixdtf_times/src/date_times.rt. Do not edit.
 
-//! Reading a date, a separator and a time at their first nineteen places, as most texts have them: `YYYY-MM-DDTHH:MM:SS`.
+//! Reading a date, a separator and a time at the first nineteen places of a text, as most have them: `YYYY-MM-DDTHH:MM:SS`.
 
 use crate::parsers::dates::fixed_date;
 use crate::parsers::time::{WholeTime, fixed_time};
@@ -10,8 +10,8 @@ use crate::cursor::Cursor;
 use crate::grammar::is_date_time_separator;
 
 /// Takes off the date, the separator and the time that stand at the first nineteen places. It is `None`, with the rest
-/// unchanged, at the first place that does not fit, and where the numbers are no date or no time. Fewer units are not
-/// looked at.
+/// unchanged, at the first place that does not fit, and where the numbers are no date or no time. Of fewer
+/// than nineteen units none is looked at.
 #[inline(always)]
 pub fn take_fixed_date_time<'a, T: EncodingType>(
     cursor: &mut Cursor<'a, T>,

@@ -28,7 +28,7 @@ pub struct DateDigits {
 }
 
 impl DateDigits {
-    /// The first day of a month.
+    /// The first day of a month, which is not checked.
     #[inline(always)]
     pub fn first_day(year: u16, month: u8) -> Self {
         DateDigits {
@@ -48,7 +48,7 @@ impl DateDigits {
         }
     }
 
-    /// Whether the month is one and has the day.
+    /// Whether the month is from 1 to 12 and has the day.
     #[inline(always)]
     pub fn is_date(self) -> bool {
         self.month >= 1 && self.month <= 12 && has_day(self.year, self.month, self.day)
@@ -67,7 +67,8 @@ pub fn fixed_date<'a, T: EncodingType>(cursor: &mut Cursor<'a, T>) -> Option<Dat
 }
 
 /// Reads the date that stands at the first ten places, or at the eight of one without hyphens. Where only its year does, what
-/// follows is read on part by part. It is `None`, with the rest unchanged, where its year does not fit.
+/// follows is read on part by part. It is `None`, with the rest unchanged, where its year does not fit, and for fewer than eight
+/// units.
 #[inline(always)]
 fn take_fixed_date<'a, T: EncodingType>(
     cursor: &mut Cursor<'a, T>,
@@ -87,8 +88,8 @@ fn take_fixed_date<'a, T: EncodingType>(
     Some(parse_days(cursor, year))
 }
 
-/// Takes a date off, whose month and whose day end behind so many units. Where its month is none, what stands behind the
-/// month stays.
+/// Takes a date off, whose month and whose day end behind so many units. Where its month is not from 1 to 12, what stands
+/// behind the month stays.
 #[inline(always)]
 fn take_date<'a, T: EncodingType>(
     cursor: &mut Cursor<'a, T>,
@@ -189,8 +190,8 @@ fn parse_four_digit_year<'a, T: EncodingType>(
     cursor: &mut Cursor<'a, T>,
     thousands: u8,
 ) -> Result<i32, Stop> {
-    let ones = parse_three_digits(cursor, Stop::DateYear)?;
-    Ok((1000 * u32::from(thousands - b'0') + ones) as i32)
+    let below_thousand = parse_three_digits(cursor, Stop::DateYear)?;
+    Ok((1000 * u32::from(thousands - b'0') + below_thousand) as i32)
 }
 
 /// Reads the six digits of a year with a sign.
@@ -218,7 +219,7 @@ fn parse_six_digits<'a, T: EncodingType>(cursor: &mut Cursor<'a, T>) -> Result<u
     Ok(10_000 * u32::from(high) + 100 * u32::from(middle) + u32::from(low))
 }
 
-/// Reads three digits, and returns their number. Another code unit is this stop.
+/// Reads three digits, and returns their number. The end is `AbruptDigit`, and another code unit this stop.
 #[inline(always)]
 fn parse_three_digits<'a, T: EncodingType>(
     cursor: &mut Cursor<'a, T>,
@@ -302,7 +303,7 @@ fn take_separator<'a, T: EncodingType>(
     }
 }
 
-/// The month, where it is one.
+/// The month, where it is from 1 to 12.
 #[inline(always)]
 pub fn check_month(month: u8) -> Result<u8, Stop> {
     if month < 1 || month > 12 {
@@ -311,7 +312,7 @@ pub fn check_month(month: u8) -> Result<u8, Stop> {
     Ok(month)
 }
 
-/// The date, where its month has the day.
+/// The date, where its month, which is from 1 to 12, has the day.
 #[inline(always)]
 pub fn check_date(year: i32, month: u8, day: u8) -> Result<DateRecord, Stop> {
     if !has_day(year, month, day) {

@@ -6,13 +6,14 @@ use crate::cursor::Cursor;
 use crate::stop::Stop;
 use crate::encoding::EncodingType;
 
-/// A class of code units.
+/// A class of code units, such as those of a key.
 pub trait Letters {
     /// Whether the code unit is one of the class.
     fn has(byte: u8) -> bool;
 }
 
-/// Passes over the run of code units of a class, and returns the one that ends it, which is not taken.
+/// Passes over the run of code units of a class, and returns the one that ends it, which is not taken, or
+/// `None` at the end of the input.
 #[inline(always)]
 pub fn pass_letters<'a, T: EncodingType, S: Letters>(
     cursor: &mut Cursor<'a, T>,

@@ -25,7 +25,7 @@ pub fn parse_year_month_date<'a, T: EncodingType>(
     }
 }
 
-/// The year-month that begins with the day, where its month is one.
+/// The first day of a year-month, where its month is from 1 to 12.
 #[inline(always)]
 fn check_year_month(first: DateDigits) -> Result<DateRecord, Stop> {
     check_month(first.month)?;
@@ -95,7 +95,7 @@ pub fn parse_month_day_date<'a, T: EncodingType>(
 
 /// Reads the month-day that stands at its five places, or at the four of one without a hyphen, with two hyphens before it or
 /// none, as a date with year 0. Where only its month does, what follows is read on part by part. It is `None`, with the rest
-/// unchanged, where its month does not fit.
+/// unchanged, where its month does not fit, after one hyphen alone, and for fewer than four units.
 #[inline(always)]
 fn take_fixed_month_day<'a, T: EncodingType>(
     cursor: &mut Cursor<'a, T>,
@@ -172,7 +172,8 @@ fn parse_day_of_month<'a, T: EncodingType>(
     check_month_day(profile, month, day)
 }
 
-/// Takes two hyphens off, where the text does not begin with a digit.
+/// Takes two hyphens off, and returns whether they stand. A digit stays. The end is `AbruptMonthDay`, a code unit behind one
+/// hyphen `MonthDayHyphen`, and another `DateMonth`.
 #[inline(always)]
 fn take_marks<'a, T: EncodingType>(cursor: &mut Cursor<'a, T>) -> Result<bool, Stop> {
     if !take_hyphen(cursor, Stop::AbruptMonthDay, Stop::DateMonth)? {
@@ -201,8 +202,8 @@ pub fn check_month_day(profile: Profile, month: u8, day: u8) -> Result<DateRecor
     })
 }
 
-/// Whether the month has the day in some year, or the day is 0 and the profile is not the strict one. Each month has the
-/// first 28.
+/// Whether the month has the day in some year, such as the leap year 0, or the day is 0 and the profile is not the strict one.
+/// Each month has the first 28.
 #[inline(always)]
 fn has_month_day(profile: Profile, month: u8, day: u8) -> bool {
     day >= profile.least_day() && (day <= 28 || day <= days_in_month(0, month))
