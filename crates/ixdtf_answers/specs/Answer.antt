@@ -2,7 +2,9 @@
 use Rattle.std.specs.{Prelude.{◌≡◌, ℕ, ◌+◌, Bool, ◌==◌, ◌⊎◌, List, ◌++◌, map, length, take, drop, nat_lt, MatchOption, position, codes}, Bool.MatchBool}
 use Rattle.ixdtf.specs.{table.{ErrorTexts.message_of, Faults.Fault}, Widths.{HasUnhandledOutcome, UnhandledOutcome.{read_as, faulted}}}
 use Rattle.ixdtf.specs.language.{Languages.Found, Letters.{Text, byte_letter}, Readers.Reader}
-use Rattle.ixdtf_answers.specs.{Fields.{fields_of, canonical_field_of}, Word.{name_of, reader_of, IsNoWord}, declared.word.Word.{Word, TheVariants.Canonical}}
+use Rattle.ixdtf_answers.specs.{Fields.{fields_of, canonical_field_of}, Word.{name_of, reader_of, IsNoWord}, declared.word.Word.{Word, TheVariants.Parse}}
+use Rattle.ixdtf_answers.specs.declared.word.Word.TheVariants.{YearMonth, MonthDay, Time, Offset, Zone, Iana, Duration, StrictMonthDay, StrictTime}
+use Rattle.ixdtf_answers.specs.declared.word.Word.TheVariants.{StrictDuration, Canonical}
 
 -- the longest line that is read
 abbrev pub line_limit : ℕ
@@ -23,8 +25,18 @@ letters bytes = map byte_letter bytes
 
 -- what is shown of a value of a reader: its fields, and for `canonical` the canonical text
 abbrev pub shown_of : Word → Found → List ℕ
+shown_of Parse found = fields_of found
+shown_of YearMonth found = fields_of found
+shown_of MonthDay found = fields_of found
+shown_of Time found = fields_of found
+shown_of Offset found = fields_of found
+shown_of Zone found = fields_of found
+shown_of Iana found = fields_of found
+shown_of Duration found = fields_of found
+shown_of StrictMonthDay found = fields_of found
+shown_of StrictTime found = fields_of found
+shown_of StrictDuration found = fields_of found
 shown_of Canonical found = canonical_field_of found
-shown_of word found = fields_of found
 
 -- the answer to a text that is read
 abbrev pub ok_answer_of : Word → Found → List ℕ
