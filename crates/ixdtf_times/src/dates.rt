@@ -442,7 +442,7 @@ pub fn check_date(year: i32, month: u8, day: u8) -> Result<DateRecord, Stop>
 pub fn has_day(year: i32, month: u8, day: u8) -> bool
     ensures { result ≡ (nat_le 1 day && nat_le day (month_length year month)) }
 {
-    day >= 1 && (day <= 28 || day <= days_in_month(year, month))
+    (day >= 1 && day <= 28) || (day > 28 && day <= days_in_month(year, month))
 }
 
 /// The length of a month in the Gregorian calendar.

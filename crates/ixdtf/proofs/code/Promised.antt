@@ -49,6 +49,18 @@ unhandled letter number step handler last found kind old new (Err why) own read 
     }
 
 module _ {X : Type 0} (letter : ℕ → Letter) (view : X → Parsed) (reader : Reader) (old new : UnreadUnder) where
+  pub reads_ok : {E : Type 0} (fault : E → Fault) (given found : X) → given ≡ found → IsTextReader old.profile reader
+      → ReadsUnhandled letter (view found) reader old ended new → ReadsText letter fault view reader old (Ok given) new
+  reads_ok fault given found same is read = rw same (record {
+    ok = read.form.ok;
+    err = tt;
+    no_row = read.form.no_row;
+    no_other_reader = read.form.no_other_reader old.profile is;
+    only = tt;
+    leaves = leaves_ok fault found read.leaves;
+    profile = read.profile;
+  })
+
   pub reads_err : {E : Type 0} (fault : E → Fault) (found : Parsed) (e : E) (why : StopAt) → fault e ≡ fault_of_stop_at why
       → ReadsUnhandled letter found reader old (stopped why) new → ReadsText letter fault view reader old (Err e) new
   reads_err fault found e why same read = let gives = rw (← same) at read.form in record {

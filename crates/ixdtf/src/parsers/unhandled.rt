@@ -1,5 +1,6 @@
 //! The forms of [`IxdtfParser`] without a handler.
 
+ghost use Rattle.std.specs.Prelude.{◌≡◌, is_some, not};
 ghost use Rattle.ixdtf_grammar.specs.table.Faults.{fault_of};
 ghost use Rattle.ixdtf_grammar.specs.language.Readers.{parse as reader_parse, parse_year_month as reader_parse_year_month};
 ghost use Rattle.ixdtf_grammar.specs.language.Readers.{parse_month_day as reader_parse_month_day, parse_time as reader_parse_time};
@@ -149,6 +150,7 @@ impl<'a, T: EncodingType> IxdtfParser<'a, T> {
     {
         let mut found = IxdtfParseRecord::default();
         match self.read_unhandled::<YearMonths>(&mut found) {
+            Ok(()) if lacks_date(&mut found) => return Ok(found),
             Ok(()) => Ok(found),
             Err(why) => return Err(why.stop.error()),
         }
@@ -201,6 +203,7 @@ impl<'a, T: EncodingType> IxdtfParser<'a, T> {
     {
         let mut found = IxdtfParseRecord::default();
         match self.read_unhandled::<MonthDays>(&mut found) {
+            Ok(()) if lacks_date(&mut found) => return Ok(found),
             Ok(()) => Ok(found),
             Err(why) => return Err(why.stop.error()),
         }
@@ -422,4 +425,18 @@ impl<'a, T: EncodingType> IxdtfParser<'a, T> {
     {
         self.read_into::<C, _>(&mut |annotation| Some(annotation), found)
     }
+}
+
+/// Whether the record has no date. It stays as it is. A year and a month have one, and so have a month and a day: where their
+/// readers return once for each answer, a compiler knows of the record that it has a date, and so that it is no error.
+#[inline(always)]
+fn lacks_date<'a, T: EncodingType>(found: &mut IxdtfParseRecord<'a, T>) -> bool
+    ensures none { is_some found.old.date ≡ not result }
+    ensures same { found.new ≡ found.old }
+{
+    if found.date.is_none() {
+        found.date = None;
+        return true;
+    }
+    false
 }

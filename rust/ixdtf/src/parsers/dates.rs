@@ -324,7 +324,7 @@ pub fn check_date(year: i32, month: u8, day: u8) -> Result<DateRecord, Stop> {
 /// Whether the month of the year has the day. Each month has the first 28.
 #[inline(always)]
 pub fn has_day(year: i32, month: u8, day: u8) -> bool {
-    day >= 1 && (day <= 28 || day <= days_in_month(year, month))
+    (day >= 1 && day <= 28) || (day > 28 && day <= days_in_month(year, month))
 }
 
 /// The length of a month in the Gregorian calendar.

@@ -139,6 +139,7 @@ impl<'a, T: EncodingType> IxdtfParser<'a, T> {
     pub fn parse_year_month(&mut self) -> ParserResult<IxdtfParseRecord<'a, T>> {
         let mut found = IxdtfParseRecord::default();
         match self.read_unhandled::<YearMonths>(&mut found) {
+            Ok(()) if lacks_date(&mut found) => return Ok(found),
             Ok(()) => Ok(found),
             Err(why) => return Err(why.stop.error()),
         }
@@ -189,6 +190,7 @@ impl<'a, T: EncodingType> IxdtfParser<'a, T> {
     pub fn parse_month_day(&mut self) -> ParserResult<IxdtfParseRecord<'a, T>> {
         let mut found = IxdtfParseRecord::default();
         match self.read_unhandled::<MonthDays>(&mut found) {
+            Ok(()) if lacks_date(&mut found) => return Ok(found),
             Ok(()) => Ok(found),
             Err(why) => return Err(why.stop.error()),
         }
@@ -397,4 +399,15 @@ impl<'a, T: EncodingType> IxdtfParser<'a, T> {
     ) -> Result<(), StopAt> {
         self.read_into::<C, _>(&mut |annotation| Some(annotation), found)
     }
+}
+
+/// Whether the record has no date. It stays as it is. A year and a month have one, and so have a month and a day: where their
+/// readers return once for each answer, a compiler knows of the record that it has a date, and so that it is no error.
+#[inline(always)]
+fn lacks_date<'a, T: EncodingType>(found: &mut IxdtfParseRecord<'a, T>) -> bool {
+    if found.date.is_none() {
+        found.date = None;
+        return true;
+    }
+    false
 }
