@@ -13,7 +13,7 @@ ghost use Rattle.ixdtf_grammar.specs.language.Times.{writes_seconds};
 ghost use Rattle.ixdtf_reading.specs.reading.Clauses.{Reads, Spends};
 ghost use Rattle.ixdtf_times.specs.TimeTypes.{opens_bracket, shape_of};
 ghost use Rattle.ixdtf_reading.specs.reading.Looks.{error_of};
-ghost use Rattle.ixdtf_reading.specs.reading.FixedPlaces.{offset_place};
+ghost use Rattle.ixdtf_reading.specs.reading.FixedPlaces.{hour_place, minute_place};
 ghost use Rattle.ixdtf_reading.specs.reading.Cores.{offset_core_at};
 ghost use Rattle.ixdtf_reading.specs.reading.Zones.{offset_at, offset_alone_at, minute_offset_alone_at};
 
@@ -34,6 +34,19 @@ pub enum AfterCore {
     End,
     /// A `[`, which is taken off.
     Bracket,
+}
+
+impl AfterCore {
+    /// Whether it is a `[`.
+    #[inline(always)]
+    pub fn opens_bracket(self) -> bool
+        ensures { result ≡ opens_bracket self }
+    {
+        match self {
+            AfterCore::End => false,
+            AfterCore::Bracket => true,
+        }
+    }
 }
 
 /// The sign of a `+` or a `-`.
@@ -60,30 +73,38 @@ pub fn minute_offset(sign: u8, time: TimeRecord) -> MinutePrecisionOffset
     }
 }
 
-/// The offset of a sign, and of the hour and the minute at the first five places behind it, or `None` at the first place
-/// that does not fit, and where a number is too great.
+/// The hour of an offset at the first two places, or `None` where these do not fit, and where it is too great.
 #[inline(always)]
-#[tactic(auto, unfolding(ixdtf_reading::specs::reading::FixedPlaces::fixed_readings))]
-fn fixed_offset<'a, T: EncodingType>(
-    cursor: &mut Cursor<'a, T>,
-    sign: u8,
-) -> Option<MinutePrecisionOffset>
-    ensures there { result ≡ offset_place sign (map T.letter cursor.old.rest) }
+#[tactic(auto, unfolding(ixdtf_reading::specs::reading::FixedPlaces::hour_place))]
+fn fixed_hour<'a, T: EncodingType>(cursor: &mut Cursor<'a, T>) -> Option<u8>
+    ensures there { result ≡ hour_place (map T.letter cursor.old.rest) }
     ensures rest { cursor.new.rest ≡ cursor.old.rest }
-    ensures few { cursor.new.looks ≤ cursor.old.looks + 5 }
+    ensures few { cursor.new.looks ≤ cursor.old.looks + 2 }
     ensures counted { cursor.old.looks ≤ cursor.new.looks }
 {
     let hour = cursor.fixed_number(0)?;
-    cursor.fixed_letter(2, b':')?;
-    let minute = cursor.fixed_number(3)?;
-    if hour > 23 || minute > 59 {
+    if hour > 23 {
         return None;
     }
-    Some(MinutePrecisionOffset {
-        sign: sign_from(sign),
-        hour,
-        minute,
-    })
+    Some(hour)
+}
+
+/// The minute of an offset behind a colon at the third place, or `None` at the first place that does not fit, and where it is
+/// too great.
+#[inline(always)]
+#[tactic(auto, unfolding(ixdtf_reading::specs::reading::FixedPlaces::minute_place))]
+fn fixed_minute<'a, T: EncodingType>(cursor: &mut Cursor<'a, T>) -> Option<u8>
+    ensures there { result ≡ minute_place (map T.letter cursor.old.rest) }
+    ensures rest { cursor.new.rest ≡ cursor.old.rest }
+    ensures few { cursor.new.looks ≤ cursor.old.looks + 3 }
+    ensures counted { cursor.old.looks ≤ cursor.new.looks }
+{
+    cursor.fixed_letter(2, b':')?;
+    let minute = cursor.fixed_number(3)?;
+    if minute > 59 {
+        return None;
+    }
+    Some(minute)
 }
 
 /// Takes off an offset that stands behind its sign at the first five places, where the text ends there or a `[` follows,
@@ -106,7 +127,13 @@ pub fn take_fixed_offset<'a, T: EncodingType>(
     if cursor.remaining() < 5 {
         return None;
     }
-    let offset = fixed_offset(cursor, sign)?;
+    let hour = fixed_hour(cursor)?;
+    let minute = fixed_minute(cursor)?;
+    let offset = MinutePrecisionOffset {
+        sign: sign_from(sign),
+        hour,
+        minute,
+    };
     if cursor.remaining() == 5 {
         cursor.advance_by(5);
         *found = Some(UtcOffsetRecordOrZ::Offset(UtcOffsetRecord::MinutePrecision(offset)));
@@ -140,7 +167,13 @@ pub fn take_last_offset<'a, T: EncodingType>(
     if cursor.remaining() != 5 {
         return None;
     }
-    let offset = fixed_offset(cursor, sign)?;
+    let hour = fixed_hour(cursor)?;
+    let minute = fixed_minute(cursor)?;
+    let offset = MinutePrecisionOffset {
+        sign: sign_from(sign),
+        hour,
+        minute,
+    };
     cursor.advance_by(5);
     Some(offset)
 }

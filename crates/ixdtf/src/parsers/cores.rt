@@ -5,6 +5,7 @@ ghost use Rattle.ixdtf_grammar.specs.Laws.{IsKindUnder};
 ghost use Rattle.ixdtf_grammar.specs.declared.profile.Profile.{Profile};
 ghost use Rattle.ixdtf_grammar.specs.declared.records.TimeRecord.{TimeRecord};
 ghost use Rattle.ixdtf_grammar.specs.language.Letters.{Text};
+ghost use Rattle.ixdtf_grammar.specs.language.Times.Clock.{Time as of_day};
 ghost use Rattle.ixdtf_grammar.specs.language.Cores.{Core};
 ghost use Rattle.ixdtf_grammar.specs.language.Readers.{CoreKind};
 ghost use Rattle.ixdtf_grammar.specs.language.Readers.CoreKind.{date_time};
@@ -12,6 +13,7 @@ ghost use Rattle.ixdtf_grammar.specs.table.LineNames.{LineName};
 ghost use Rattle.ixdtf_reading.specs.reading.Clauses.{GoesOn, Reads, Spends, SpendsOr, YieldsAt, core_in, KeepsBrackets, timed_core_at};
 ghost use Rattle.ixdtf_times.specs.TimeTypes.{after_date_time_at, open_time_of, opens_bracket};
 ghost use Rattle.ixdtf_reading.specs.reading.Looks.{error_of};
+ghost use Rattle.ixdtf_reading.specs.reading.Times.{clock_at};
 ghost use Rattle.ixdtf_reading.specs.reading.Cores.{ClosedCore, core_end_at, offset_core_at, after_time_at, whole_time_core_at, after_date_at, unfronted, core_at};
 
 use ixdtf_grammar::encoding::EncodingType;
@@ -184,7 +186,7 @@ fn parse_date_time<'a, T: EncodingType>(
             match cursor.look()? {
                 Some(byte) if is_date_time_separator(byte) => {
                     cursor.advance();
-                    let shape = parse_clock(cursor, Clock::Time, time)?;
+                    let shape = parse_time_of_day(cursor, time)?;
                     Ok(Some(shape))
                 }
                 _ => Ok(None),
@@ -212,6 +214,22 @@ fn parse_timed<'a, T: EncodingType>(
     let mut time = TimeRecord::default();
     parse_clock(cursor, Clock::Time, &mut time)?;
     parse_after_time(cursor, time, found)
+}
+
+/// Reads a time as far as it goes, with a second cursor, so that this one stays a local value.
+#[inline(always)]
+fn parse_time_of_day<'a, T: EncodingType>(
+    cursor: &mut Cursor<'a, T>,
+    time: &mut TimeRecord,
+) -> Result<TimeShape, Stop>
+    ensures time { Reads T.letter (open_time_of time.new) cursor.old result cursor.new
+        (clock_at error_of of_day) }
+    ensures looks { Spends 5 cursor.old cursor.new }
+{
+    let mut here = cursor.fork();
+    let read = parse_clock(&mut here, Clock::Time, time);
+    *cursor = here;
+    read
 }
 
 /// Refuses a time whose text begins as a month-day or as a year-month does, with the cursor behind these. Otherwise the

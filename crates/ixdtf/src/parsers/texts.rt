@@ -20,7 +20,6 @@ use ixdtf_grammar::profile::Profile;
 use ixdtf_grammar::records::{Annotation, IxdtfParseRecord};
 use ixdtf_reading::cursor::Cursor;
 use ixdtf_reading::stop::{Stop, StopAt};
-use ixdtf_times::offsets::AfterCore;
 
 impl<'a, T: EncodingType> IxdtfParser<'a, T> {
     /// Reads all of the remaining input into an empty record. After an error the remaining input is unchanged.
@@ -77,10 +76,10 @@ where
     let mut here = cursor.fork();
     let read = C::parse_core(&mut here, profile, found);
     *cursor = here;
-    match read? {
-        AfterCore::End => Ok(()),
-        AfterCore::Bracket => parse_brackets(cursor, found, handler),
+    if read?.opens_bracket() {
+        return parse_brackets(cursor, found, handler);
     }
+    Ok(())
 }
 
 /// Reads the brackets after a core and the first `[`, to the end of the input: a first one, and the pairs after it.

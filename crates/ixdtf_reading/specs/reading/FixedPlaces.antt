@@ -1,8 +1,8 @@
 -- Reading at fixed places: each place is looked at in turn, and nothing is read where one does not fit.
 use Rattle.std.specs.Prelude.{ℕ, Bool, pos, [], ◌∷◌, ◌+◌, ◌*◌, drop, Option, Some, None, Result, Ok, Err, nat_le, ◌&&◌, if◌then◌else◌}
-use Rattle.ixdtf_grammar.specs.declared.{profile.Profile.Profile, records.{DateRecord.DateRecord, MinutePrecisionOffset.MinutePrecisionOffset}}
+use Rattle.ixdtf_grammar.specs.declared.{profile.Profile.Profile, records.DateRecord.DateRecord}
 use Rattle.ixdtf_grammar.specs.{declared.records.TimeRecord.TimeRecord, language.Letters.{Text, Class, digit, hyphen, colon, date_time_separator}}
-use Rattle.ixdtf_grammar.specs.language.{Letters.Letter.{Plain, Bad}, Digits.{digit_value, decimal}, Dates.month_length, Offsets.minutes_of}
+use Rattle.ixdtf_grammar.specs.language.{Letters.Letter.{Plain, Bad}, Digits.{digit_value, decimal}, Dates.month_length}
 use Rattle.ixdtf_grammar.specs.table.{Faults.Fault.InvalidMonthRange, LineNames.{of_month_day, MonthDayLine.month_day_month_digits}}
 use Rattle.ixdtf_reading.specs.reading.{Looks.{Read, Placed, ◌>>=◌, error_of, digits_at}, Dates.{date_of, day_in_range}}
 use Rattle.ixdtf_reading.specs.reading.{Months.{lone_month_in_range, lone_day_at}, Times.time_of}
@@ -97,11 +97,13 @@ date_time_place text =
     date_place text >>? λ date. letter_place date_time_separator 10 text >>? λ _. time_place text >>? λ time.
     if date_in_range date && time_in_range time then Some (date, time) else None
 
--- the offset of a sign, and of the hour and the minute at the first five places behind it, where these are in range
-unfoldable pub offset_place : ℕ → Text → Option MinutePrecisionOffset
-offset_place c text =
-    number_place 0 text >>? λ hour. letter_place colon 2 text >>? λ _. number_place 3 text >>? λ minute.
-    if nat_le hour 23 && nat_le minute 59 then Some (minutes_of c (time_of hour minute 0 None)) else None
+-- the hour of an offset at the first two places behind its sign, and the minute behind a colon at the next, where it is in range
+unfoldable pub hour_place : Text → Option ℕ
+hour_place text = number_place 0 text >>? λ hour. if nat_le hour 23 then Some hour else None
+
+unfoldable pub minute_place : Text → Option ℕ
+minute_place text =
+    letter_place colon 2 text >>? λ _. number_place 3 text >>? λ minute. if nat_le minute 59 then Some minute else None
 
 -- the first day of a year's month that stands at a place and the next, whatever it is
 unfoldable pub month_of_year_place : ℕ → ℕ → Text → Option DateRecord
@@ -125,5 +127,5 @@ unmarked_at profile text = do
 -- opening this opens the readings of parts at fixed places
 unfoldable pub fixed_readings : ℕ
 unfolding number_place year_place days_place basic_days_place date_place basic_date_place time_place date_time_place
-    offset_place month_of_year_place
+    hour_place minute_place month_of_year_place
 fixed_readings = 0

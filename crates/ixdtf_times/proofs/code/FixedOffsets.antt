@@ -5,7 +5,7 @@ use Rattle.ixdtf_grammar.specs.declared.records.{DateRecord.DateRecord, TimeReco
 use Rattle.ixdtf_grammar.specs.{declared.records.UtcOffsetRecord.TheVariants.MinutePrecision, language.Letters.{Text, Letter, colon, Letter.Plain}}
 use Rattle.ixdtf_grammar.specs.language.{Offsets.minutes_of, ZoneNames.Zone, Times.{ColonMinuteText, Clock, Clock.{Offset, MinuteOffset}}}
 use Rattle.ixdtf_grammar.specs.language.Times.TimeShape.{colon_minutes}
-use Rattle.ixdtf_reading.specs.reading.{Looks.{error_of, look_at, peek_by}, FixedPlaces.{letter_place, number_place, offset_place}}
+use Rattle.ixdtf_reading.specs.reading.{Looks.{error_of, look_at, peek_by}, FixedPlaces.{letter_place, number_place, hour_place, minute_place}}
 use Rattle.ixdtf_reading.specs.reading.{Times.{time_of, line_after, clock_at}, Zones.{signed_alone_at, offset_alone_at, minute_offset_alone_at}}
 use Rattle.ixdtf_reading.specs.reading.Cores.{with_offset, offset_core_at, core_end_at}
 use Rattle.ixdtf_reading.proofs.{parts.Looks.onto, code.FixedPlaces.{then_some, then_held, Number, number_at_place, mark_at_place, two, two_digits, over_two}}
@@ -15,67 +15,64 @@ use Rattle.ixdtf_reading.proofs.to_reading.{Times.{Closed, time_takes}, ClockRow
 pub nothing_left : (letter : ℕ → Letter) (units : List ℕ) → length units ≡ 5 → (drop 5 units ≡ []) × (drop 5 (map letter units) ≡ [])
 nothing_left letter units size = let none = drop_all 5 units (omega arith) in (none, drop-map letter 5 units ∙ ap (map letter) none)
 
--- the code units of an hour, a colon and a minute, the text after them, and the offset that they are
-record OffsetLetters (c : ℕ) (text : Text) (offset : MinutePrecisionOffset) : Type 0 where
+-- the code units of an hour, a colon and a minute, and the text after them
+record OffsetLetters (text : Text) (time : TimeRecord) : Type 0 where
   letters : Text
-  time : TimeRecord
   is : text ≡ letters ++ drop 5 text
   minutes : ColonMinuteText letters time
-  value : minutes_of c time ≡ offset
 
-ranges : (hour minute : ℕ) → IsTrue (nat_le hour 23 && nat_le minute 59) → (hour ≤ 23) × (minute ≤ 59)
-ranges hour minute h = (grind (arith, nat_tests), grind (arith, nat_tests))
-
-of_numbers : (c : ℕ) (text : Text) (offset : MinutePrecisionOffset) (hour minute : ℕ) → (h : Number 0 text hour) → drop 2 text ≡ Plain 58 ∷ drop 3 text
-    → (m : Number 3 text minute) → IsTrue (nat_le hour 23 && nat_le minute 59) × (minutes_of c (time_of hour minute 0 None) ≡ offset)
-    → OffsetLetters c text offset
-of_numbers c text offset hour minute h mark m held =
-    let most = ranges hour minute held.0 in
+of_numbers : (text : Text) (hour minute : ℕ) → (h : Number 0 text hour) → drop 2 text ≡ Plain 58 ∷ drop 3 text → (m : Number 3 text minute)
+    → hour ≤ 23 → minute ≤ 59 → OffsetLetters text (time_of hour minute 0 None)
+of_numbers text hour minute h mark m few short =
     let hours = two_digits h refl in
     let minutes = two_digits m refl in
     record {
       letters = two h ++ (Plain 58 ∷ two m);
-      time = time_of hour minute 0 None;
       is = over_two h (mark ∙ onto 58 (over_two m refl));
       minutes = record {
         hs = two h;
         ms = two m;
         is = refl;
-        hour = (hours.0, hours.1, most.0);
-        minute = (minutes.0, minutes.1, most.1);
+        hour = (hours.0, hours.1, few);
+        minute = (minutes.0, minutes.1, short);
         no_second = refl;
         no_fraction = refl;
       };
-      value = held.1;
     }
 
-offset_letters : (c : ℕ) (text : Text) (offset : MinutePrecisionOffset) → offset_place c text ≡ Some offset → OffsetLetters c text offset
-unfolding offset_place
-offset_letters c text offset e =
-    then_some (number_place 0 text) _ offset e λ hour f0 e0.
-    then_some (letter_place colon 2 text) _ offset e0 λ mark f1 e1.
-    then_some (number_place 3 text) _ offset e1 λ minute f2 e2.
-    of_numbers c text offset hour minute (number_at_place 0 text hour f0) (mark_at_place 58 2 text mark f1) (number_at_place 3 text minute f2)
-    (then_held _ _ offset e2)
+offset_letters : (text : Text) (hour minute : ℕ) → hour_place text ≡ Some hour → minute_place text ≡ Some minute
+    → OffsetLetters text (time_of hour minute 0 None)
+unfolding hour_place minute_place
+offset_letters text hour minute hours minutes =
+    then_some (number_place 0 text) _ hour hours λ h f0 e0.
+    then_some (letter_place colon 2 text) _ minute minutes λ mark f1 e1.
+    then_some (number_place 3 text) _ minute e1 λ m f2 e2.
+    let most = then_held (nat_le h 23) h hour e0 in
+    let least = then_held (nat_le m 59) m minute e2 in
+    of_numbers text hour minute (number_at_place 0 text hour (f0 ∙ ap Some most.1)) (mark_at_place 58 2 text mark f1)
+    (number_at_place 3 text minute (f2 ∙ ap Some least.1)) (grind (arith, nat_tests, most.0, most.1)) (grind (arith, nat_tests, least.0, least.1))
 
-module _ (c : ℕ) (text : Text) (offset : MinutePrecisionOffset) (found : offset_place c text ≡ Some offset) where
-  abbrev there : OffsetLetters c text offset
-  there = offset_letters c text offset found
+module _ (c : ℕ) (text : Text) (hour minute : ℕ) (hours : hour_place text ≡ Some hour) (minutes : minute_place text ≡ Some minute) where
+  abbrev there : OffsetLetters text (time_of hour minute 0 None)
+  there = offset_letters text hour minute hours minutes
+
+  abbrev offset : MinutePrecisionOffset
+  offset = minutes_of c (time_of hour minute 0 None)
 
   -- its code units are read as those of an hour and a minute, where nothing goes on behind them
-  is_read : (clock : Clock) → Closed clock colon_minutes (drop 5 text) → clock_at error_of clock text ≡ Ok ((colon_minutes, there.time), drop 5 text)
+  is_read : (clock : Clock) → Closed clock colon_minutes (drop 5 text) → clock_at error_of clock text ≡ Ok ((colon_minutes, time_of hour minute 0 None), drop 5 text)
   is_read clock closed =
-      ap (clock_at error_of clock) there.is ∙ time_takes error_of clock _ (clock_starts error_of clock) colon_minutes there.letters there.time
+      ap (clock_at error_of clock) there.is ∙ time_takes error_of clock _ (clock_starts error_of clock) colon_minutes there.letters _
       (drop 5 text) there.minutes closed
 
   module _ (is : drop 5 text ≡ []) where
     pub ends_the_text : offset_alone_at error_of c text ≡ Ok (MinutePrecision offset, [])
     unfolding signed_alone_at peek_by look_at
-    ends_the_text = rw (is_read Offset (rw is (tt, tt)), is) (ap (λ m. Ok (MinutePrecision m, [])) there.value)
+    ends_the_text = rw (is_read Offset (rw is (tt, tt)), is) refl
 
     pub ends_a_zone : minute_offset_alone_at error_of c text ≡ Ok (Zone.Offset offset, [])
     unfolding signed_alone_at peek_by look_at
-    ends_a_zone = rw (is_read MinuteOffset (rw is (tt, tt)), is) (ap (λ m. Ok (Zone.Offset m, [])) there.value)
+    ends_a_zone = rw (is_read MinuteOffset (rw is (tt, tt)), is) refl
 
   module _ (date : Option DateRecord) (time : TimeRecord) where
     -- what follows is looked at behind the five places
@@ -84,8 +81,7 @@ module _ (c : ℕ) (text : Text) (offset : MinutePrecisionOffset) (found : offse
         ≡ core_end_at error_of (line_after Offset colon_minutes) (with_offset date time (MinutePrecision offset)) (drop 5 text)
     unfolding offset_core_at
     goes_on closed =
-        rw (is_read Offset closed)
-        (ap (λ m. core_end_at error_of (line_after Offset colon_minutes) (with_offset date time (MinutePrecision m)) (drop 5 text)) there.value)
+        rw (is_read Offset closed) refl
 
     pub ends : drop 5 text ≡ [] → offset_core_at error_of date time c text ≡ Ok ((with_offset date time (MinutePrecision offset), false), [])
     unfolding core_end_at peek_by look_at

@@ -125,7 +125,7 @@ fn parse_date_time<'a, T: EncodingType>(
             match cursor.look()? {
                 Some(byte) if is_date_time_separator(byte) => {
                     cursor.advance();
-                    let shape = parse_clock(cursor, Clock::Time, time)?;
+                    let shape = parse_time_of_day(cursor, time)?;
                     Ok(Some(shape))
                 }
                 _ => Ok(None),
@@ -145,6 +145,18 @@ fn parse_timed<'a, T: EncodingType>(
     let mut time = TimeRecord::default();
     parse_clock(cursor, Clock::Time, &mut time)?;
     parse_after_time(cursor, time, found)
+}
+
+/// Reads a time as far as it goes, with a second cursor, so that this one stays a local value.
+#[inline(always)]
+fn parse_time_of_day<'a, T: EncodingType>(
+    cursor: &mut Cursor<'a, T>,
+    time: &mut TimeRecord,
+) -> Result<TimeShape, Stop> {
+    let mut here = cursor.fork();
+    let read = parse_clock(&mut here, Clock::Time, time);
+    *cursor = here;
+    read
 }
 
 /// Refuses a time whose text begins as a month-day or as a year-month does, with the cursor behind these. Otherwise the

@@ -21,6 +21,17 @@ pub enum AfterCore {
     Bracket,
 }
 
+impl AfterCore {
+    /// Whether it is a `[`.
+    #[inline(always)]
+    pub fn opens_bracket(self) -> bool {
+        match self {
+            AfterCore::End => false,
+            AfterCore::Bracket => true,
+        }
+    }
+}
+
 /// The sign of a `+` or a `-`.
 #[inline(always)]
 pub fn sign_from(byte: u8) -> Sign {
@@ -41,24 +52,26 @@ pub fn minute_offset(sign: u8, time: TimeRecord) -> MinutePrecisionOffset {
     }
 }
 
-/// The offset of a sign, and of the hour and the minute at the first five places behind it, or `None` at the first place
-/// that does not fit, and where a number is too great.
+/// The hour of an offset at the first two places, or `None` where these do not fit, and where it is too great.
 #[inline(always)]
-fn fixed_offset<'a, T: EncodingType>(
-    cursor: &mut Cursor<'a, T>,
-    sign: u8,
-) -> Option<MinutePrecisionOffset> {
+fn fixed_hour<'a, T: EncodingType>(cursor: &mut Cursor<'a, T>) -> Option<u8> {
     let hour = cursor.fixed_number(0)?;
-    cursor.fixed_letter(2, b':')?;
-    let minute = cursor.fixed_number(3)?;
-    if hour > 23 || minute > 59 {
+    if hour > 23 {
         return None;
     }
-    Some(MinutePrecisionOffset {
-        sign: sign_from(sign),
-        hour,
-        minute,
-    })
+    Some(hour)
+}
+
+/// The minute of an offset behind a colon at the third place, or `None` at the first place that does not fit, and where it is
+/// too great.
+#[inline(always)]
+fn fixed_minute<'a, T: EncodingType>(cursor: &mut Cursor<'a, T>) -> Option<u8> {
+    cursor.fixed_letter(2, b':')?;
+    let minute = cursor.fixed_number(3)?;
+    if minute > 59 {
+        return None;
+    }
+    Some(minute)
 }
 
 /// Takes off an offset that stands behind its sign at the first five places, where the text ends there or a `[` follows,
@@ -73,7 +86,13 @@ pub fn take_fixed_offset<'a, T: EncodingType>(
     if cursor.remaining() < 5 {
         return None;
     }
-    let offset = fixed_offset(cursor, sign)?;
+    let hour = fixed_hour(cursor)?;
+    let minute = fixed_minute(cursor)?;
+    let offset = MinutePrecisionOffset {
+        sign: sign_from(sign),
+        hour,
+        minute,
+    };
     if cursor.remaining() == 5 {
         cursor.advance_by(5);
         *found = Some(UtcOffsetRecordOrZ::Offset(UtcOffsetRecord::MinutePrecision(offset)));
@@ -98,7 +117,13 @@ pub fn take_last_offset<'a, T: EncodingType>(
     if cursor.remaining() != 5 {
         return None;
     }
-    let offset = fixed_offset(cursor, sign)?;
+    let hour = fixed_hour(cursor)?;
+    let minute = fixed_minute(cursor)?;
+    let offset = MinutePrecisionOffset {
+        sign: sign_from(sign),
+        hour,
+        minute,
+    };
     cursor.advance_by(5);
     Some(offset)
 }

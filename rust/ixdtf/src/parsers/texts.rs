@@ -11,7 +11,6 @@ use crate::parsers::profile::Profile;
 use crate::records::{Annotation, IxdtfParseRecord};
 use crate::cursor::Cursor;
 use crate::stop::{Stop, StopAt};
-use crate::parsers::offsets::AfterCore;
 
 impl<'a, T: EncodingType> IxdtfParser<'a, T> {
     /// Reads all of the remaining input into an empty record. After an error the remaining input is unchanged.
@@ -56,10 +55,10 @@ where
     let mut here = cursor.fork();
     let read = C::parse_core(&mut here, profile, found);
     *cursor = here;
-    match read? {
-        AfterCore::End => Ok(()),
-        AfterCore::Bracket => parse_brackets(cursor, found, handler),
+    if read?.opens_bracket() {
+        return parse_brackets(cursor, found, handler);
     }
+    Ok(())
 }
 
 /// Reads the brackets after a core and the first `[`, to the end of the input: a first one, and the pairs after it.

@@ -1,5 +1,5 @@
 use Rattle.ixdtf.proofs.parsers.texts.parse_text.Goals as goal
-use Rattle.std.proofs.{Common.{◌∙◌, arith}, lemmas.Result.err_from_is_err_and}
+use Rattle.std.proofs.{Common.{◌∙◌, sym, arith}, lemmas.Result.err_from_is_err_and}
 use Rattle.ixdtf_reading.proofs.code.Units.{no_units}
 use Rattle.ixdtf.proofs.code.{Tail.{core_shortens, core_ends_text, core_refused}, Placed.{no_brackets, placed_alone}}
 
@@ -9,21 +9,28 @@ returns-in_err-read-clause-replied g c =
     rw (p.1, p.2) (core_refused _ _ _ (g.C.CoreReader.kind c.args.profile) _ _ (rw c.fork-here.ensures.same at c.in_err-read.ensures.core))
 
 -- a core, and the end
-pub returns-in-End-clause-replied : goal.returns-in-End-clause-replied
-returns-in-End-clause-replied g c =
-    let read = rw (c.fork-here.ensures.same, c.in-End.is) at c.in_ok-read.ensures.core in
+pub returns-clause-replied : goal.returns-clause-replied
+returns-clause-replied g c =
+    let ends = sym c.opens_bracket.ensures ∙ c.if-opens_bracket.false in
+    let read = rw (c.fork-here.ensures.same, ends) at c.in_ok-read.ensures.core in
     let kept = c.in_ok-read.ensures.kept in
     let none = no_brackets g.T.EncodingType.number c.parse_core-read.new.found (kept.0 ∙ c.requires.empty.tz) (kept.1 ∙ c.requires.empty.calendar) in
     placed_alone _ _ _ _ _ _ none (g.C.CoreReader.kind c.args.profile) _ read
 
-pub returns-in-End-clause-empty : goal.returns-in-End-clause-empty
-returns-in-End-clause-empty g c =
-    let read = rw (c.fork-here.ensures.same, c.in-End.is) at c.in_ok-read.ensures.core in
+pub returns-clause-empty : goal.returns-clause-empty
+returns-clause-empty g c =
+    let ends = sym c.opens_bracket.ensures ∙ c.if-opens_bracket.false in
+    let read = rw (c.fork-here.ensures.same, ends) at c.in_ok-read.ensures.core in
     no_units g.T.EncodingType.letter _ (core_ends_text (g.C.CoreReader.kind c.args.profile) _ _ _ read)
 
 -- the first bracket is looked through once more than it is read
-pub returns-in-Bracket-clause-looks : goal.returns-in-Bracket-clause-looks
-returns-in-Bracket-clause-looks g c =
-    let read = rw (c.fork-here.ensures.same, c.in-Bracket.is) at c.in_ok-read.ensures.core in
+pub returns-then-opens_bracket-clause-replied : goal.returns-then-opens_bracket-clause-replied
+returns-then-opens_bracket-clause-replied g c =
+    let opens = sym c.opens_bracket.ensures ∙ c.if-opens_bracket.true in
+    c.parse_brackets.ensures.replied (g.C.CoreReader.kind c.args.profile) _ (rw (c.fork-here.ensures.same, opens) at c.in_ok-read.ensures.core)
+
+pub returns-then-opens_bracket-clause-looks : goal.returns-then-opens_bracket-clause-looks
+returns-then-opens_bracket-clause-looks g c =
+    let read = rw c.fork-here.ensures.same at c.in_ok-read.ensures.core in
     let looks = rw c.fork-here.ensures.same at c.in_ok-read.ensures.looks in
     omega (arith, core_shortens (g.C.CoreReader.kind c.args.profile) g.T.EncodingType.letter _ _ _ read, looks, c.parse_brackets.ensures.looks)
