@@ -143,7 +143,7 @@ RESULTS = {'Result', 'ParserResult'}
 DERIVED = {('error', 'ParseError'): {'place', 'location'}, ('located', 'LocatedError'): set()}
 UNSEEN = [phrase.split() for phrase in ['use crate :: looks :: Looks ;', 'looks : Looks ,', 'looks : Looks :: none ( ) ,', 'self . looks . tick ( ) ;',
                                         'looks : std :: mem :: replace ( & mut self . looks , Looks :: none ( ) ) ,',
-                                        'self . keep_looks ( here ) ;', 'self . cursor . keep_looks ( here ) ;', 'cursor . keep_looks ( again ) ;',
+                                        'self . keep_looks ( here ) ;', 'self . cursor . keep_looks ( here ) ;', 'cursor . keep_looks ( again ) ;', 'cursor . keep_looks ( front ) ;',
                                         'use ixdtf_print :: canonical_fits ;', 'canonical_fits ( ) ;']]
 COUNT = '# [ inline ( always ) ] pub fn keep_looks ('.split()
 WRITER, FORMATTER = '< W : fmt :: Write >'.split(), 'fmt :: Formatter < W >'.split()

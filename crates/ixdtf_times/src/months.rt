@@ -124,76 +124,53 @@ pub fn parse_month_day_date<'a, T: EncodingType>(
 ) -> Result<DateRecord, Stop>
     ensures date { Reads T.letter (λ date. date) cursor.old result cursor.new
         (month_day_at error_of profile) }
-    ensures looks { Spends 14 cursor.old cursor.new }
-{
-    match take_fixed_month_day(cursor, profile) {
-        Some(read) => read,
-        None => parse_month_day_parts(cursor, profile),
-    }
-}
-
-/// Reads the month-day that stands at its five places, or at the four of one without a hyphen, with two hyphens before it or
-/// none, as a date with year 0. Where only its month does, what follows is read on part by part. It is `None`, with the rest
-/// unchanged, where its month does not fit, after one hyphen alone, and for fewer than four units.
-#[inline(always)]
-fn take_fixed_month_day<'a, T: EncodingType>(
-    cursor: &mut Cursor<'a, T>,
-    profile: Profile,
-) -> Option<Result<DateRecord, Stop>>
-    ensures read { IfSome result (λ read. Reads T.letter (λ date. date) cursor.old read cursor.new
-        (month_day_at error_of profile)) }
-    ensures rest { result ≡ None → cursor.new.rest ≡ cursor.old.rest }
-    ensures few { result ≡ None → cursor.new.looks ≤ cursor.old.looks + 4 }
     ensures looks { Spends 10 cursor.old cursor.new }
 {
     if cursor.remaining() < 4 {
-        return None;
+        return parse_month_day_parts(cursor, profile);
     }
-    if is_hyphen(cursor.byte_at(0)) {
-        if !is_hyphen(cursor.byte_at(1)) {
-            return None;
-        }
-        return take_month_day_at(cursor, profile, 2);
+    if !is_hyphen(cursor.byte_at(0)) {
+        return parse_month_day_at(cursor, profile, 0);
     }
-    take_month_day_at(cursor, profile, 0)
+    if is_hyphen(cursor.byte_at(1)) {
+        return parse_month_day_at(cursor, profile, 2);
+    }
+    parse_month_day_parts(cursor, profile)
 }
 
-/// Reads the month-day whose month stands at a place and the next, and takes off what stands before it too. It is `None`, with
-/// the rest unchanged, where its month does not fit.
+/// Reads the month-day whose month stands at a place and the next: at its places where these fit, and else part by part from
+/// there.
 #[inline(always)]
-#[tactic(auto, using(crate::proofs::code::FixedMonths::first_digit))]
-fn take_month_day_at<'a, T: EncodingType>(
+fn parse_month_day_at<'a, T: EncodingType>(
     cursor: &mut Cursor<'a, T>,
     profile: Profile,
     start: usize,
-) -> Option<Result<DateRecord, Stop>>
+) -> Result<DateRecord, Stop>
     requires early { start ≤ 2 }
     requires long { start + 2 ≤ length cursor.old.rest }
-    ensures read { IfSome result (λ read. YieldsAt (λ date. (date, map T.letter cursor.new.rest))
-        read (map T.letter cursor.new.rest)
-        (unmarked_at profile (drop start (map T.letter cursor.old.rest)))) }
-    ensures digit { IfSome result (λ _.
-        IsTrue (digit (byte_place start (map T.letter cursor.old.rest)))) }
-    ensures rest { result ≡ None → cursor.new.rest ≡ cursor.old.rest }
-    ensures few { result ≡ None → cursor.new.looks ≤ cursor.old.looks + 2 }
+    ensures date { YieldsAt (λ date. (date, map T.letter cursor.new.rest)) result (map T.letter cursor.new.rest)
+        (unmarked_at profile (drop start (map T.letter cursor.old.rest))) }
     ensures looks { Spends 8 cursor.old cursor.new }
 {
-    let month = cursor.fixed_number(start)?;
+    let Some(month) = cursor.fixed_number(start) else {
+        cursor.advance_by(start);
+        return parse_unmarked(cursor, profile);
+    };
     if let Err(stop) = check_month(month) {
         cursor.advance_by(start + 2);
-        return Some(Err(stop));
+        return Err(stop);
     }
     if is_hyphen(cursor.byte_at(start + 2)) {
         if let Some(day) = fixed_day(cursor, start + 3) {
             cursor.advance_by(start + 5);
-            return Some(check_month_day(profile, month, day));
+            return check_month_day(profile, month, day);
         }
     } else if let Some(day) = fixed_day(cursor, start + 2) {
         cursor.advance_by(start + 4);
-        return Some(check_month_day(profile, month, day));
+        return check_month_day(profile, month, day);
     }
     cursor.advance_by(start + 2);
-    Some(parse_day_of_month(cursor, profile, month))
+    parse_day_of_month(cursor, profile, month)
 }
 
 /// The number of the two digits of a day at a place and the next, or `None`. It is not checked.
@@ -223,6 +200,18 @@ pub fn parse_month_day_parts<'a, T: EncodingType>(
     ensures looks { SpendsInAll 7 7 cursor.old cursor.new }
 {
     take_marks(cursor)?;
+    parse_unmarked(cursor, profile)
+}
+
+/// Reads the parts of a month-day without the hyphens that may stand before its month.
+#[inline(always)]
+fn parse_unmarked<'a, T: EncodingType>(
+    cursor: &mut Cursor<'a, T>,
+    profile: Profile,
+) -> Result<DateRecord, Stop>
+    ensures date { Reads T.letter (λ date. date) cursor.old result cursor.new (unmarked_at profile) }
+    ensures looks { SpendsInAll 5 5 cursor.old cursor.new }
+{
     let month = cursor.two_digits(Stop::DateMonth)?;
     check_month(month)?;
     parse_day_of_month(cursor, profile, month)

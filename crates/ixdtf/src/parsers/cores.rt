@@ -22,7 +22,7 @@ use ixdtf_grammar::records::{IxdtfParseRecord, TimeRecord, UtcOffsetRecordOrZ};
 use ixdtf_reading::cursor::Cursor;
 use ixdtf_reading::grammar::{
     is_annotation_open, is_ascii_sign, is_date_time_separator, is_time_designator,
-    is_utc_designator,
+    is_time_separator, is_utc_designator,
 };
 use ixdtf_reading::stop::Stop;
 use ixdtf_times::date_times::take_fixed_date_time;
@@ -50,7 +50,7 @@ pub trait CoreReader {
         ensures core { Reads T.letter (λ after. (core_in found.new, opens_bracket after)) cursor.old result
             cursor.new (core_at error_of (kind profile)) }
         ensures kept { KeepsBrackets found.old found.new }
-        ensures looks { Spends (length cursor.old.rest + 36) cursor.old cursor.new };
+        ensures looks { Spends (length cursor.old.rest + 37) cursor.old cursor.new };
 
     /// The kind is one of the profile.
     ghost is_under: { (profile : Profile) → IsKindUnder profile (kind profile) };
@@ -233,7 +233,7 @@ fn parse_time_of_day<'a, T: EncodingType>(
 }
 
 /// Refuses a time whose text begins as a month-day or as a year-month does, with the cursor behind these. Otherwise the
-/// cursor does not move.
+/// cursor does not move. No such text has a colon at its third place, where most times have one.
 #[inline(always)]
 fn check_front<'a, T: EncodingType>(
     cursor: &mut Cursor<'a, T>,
@@ -244,18 +244,19 @@ fn check_front<'a, T: EncodingType>(
         YieldsAt (λ _. (core, rest)) result (map T.letter cursor.new.rest)
         (unfronted error_of profile (map T.letter (map T.number start.now)) (Ok (core, rest))) }
     ensures rest { OnOk result (cursor.new.rest ≡ cursor.old.rest) }
-    ensures looks { SpendsOr (length start.now + 17) 17 cursor.old result cursor.new }
+    ensures looks { SpendsOr (length start.now + 18) 18 cursor.old result cursor.new }
 {
     let mut front = cursor.fork_at(start);
-    let month_day = parse_month_day_parts(&mut front, profile).is_ok();
-    let behind_month_day = front.rest();
-    let mut again = front.fork_at(start);
-    let year_month = parse_year_month_parts(&mut again).is_ok();
-    if month_day {
-        *cursor = again.fork_at(behind_month_day);
+    if is_time_separator(front.byte_at(2)) {
+        cursor.keep_looks(front);
+        return Ok(());
+    }
+    if parse_month_day_parts(&mut front, profile).is_ok() {
+        *cursor = front;
         return Err(Stop::AmbiguousTimeMonthDay);
     }
-    if year_month {
+    let mut again = front.fork_at(start);
+    if parse_year_month_parts(&mut again).is_ok() {
         *cursor = again;
         return Err(Stop::AmbiguousTimeYearMonth);
     }

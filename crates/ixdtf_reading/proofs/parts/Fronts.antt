@@ -1,12 +1,13 @@
 -- The test of a time's front: reading a month-day, or a year-month, from the start of a text succeeds exactly where one
 -- stands in front, and where a core stands before the end or a bracket, it is one in front of the core.
-use Rattle.std.proofs.{Common.{◌≡◌, Bool, false, IsTrue, IsFalse, ◌++◌, Ok, Err, refl, ap, ◌∙◌, append_assoc}, lemmas.Bool.{both_ways, false_from_ne_true}}
-use Rattle.ixdtf_grammar.specs.{declared.{profile.Profile.Profile, records.DateRecord.DateRecord}, language.{Letters.Text, Shapes.{Shape, some}}}
-use Rattle.ixdtf_grammar.specs.language.{Months.{IsYearMonth, IsMonthDay}, Cores.{BeginsWith, HasNoDateFront}}
+use Rattle.std.proofs.Common.{◌≡◌, ℕ, Bool, false, IsTrue, IsFalse, ◌++◌, Ok, Err, inl, inr, refl, ap, ◌∙◌, append_assoc, arith}
+use Rattle.std.proofs.lemmas.Bool.{both_ways, false_from_ne_true, Decides.nat_tests}
+use Rattle.ixdtf_grammar.specs.{declared.{profile.Profile.Profile, records.DateRecord.DateRecord}, language.{Letters.{Text, digit, hyphen, colon}, Shapes.{Shape, some}}}
+use Rattle.ixdtf_grammar.specs.language.{Months.{IsYearMonth, IsMonthDay, MonthDayText}, Cores.{BeginsWith, HasNoDateFront}}
 use Rattle.ixdtf_grammar.specs.table.{Faults.Fault.{AmbiguousTimeMonthDay, AmbiguousTimeYearMonth}, LineNames.of_time}
 use Rattle.ixdtf_grammar.specs.table.{LineNames.TimeLine.{time_reads_as_month_day, time_reads_as_year_month}, Rows.{Row, Place.anywhere}}
 use Rattle.ixdtf_grammar.proofs.parts.CoreLetters.{AllInside, CoreEnds, in_core, in_month_day, in_year_month}
-use Rattle.ixdtf_reading.specs.reading.Looks.{Read, Placed, row_of, error_of}
+use Rattle.ixdtf_reading.specs.reading.{Looks.{Read, Placed, row_of, error_of}, FixedPlaces.byte_place}
 use Rattle.ixdtf_reading.specs.reading.{Months.{year_month_at, month_day_at, left_by, is_read, month_day_begins, year_month_begins}, Cores.unfronted}
 use Rattle.ixdtf_reading.proofs.{parts.Looks.{OnRead, read_if}, to_reading.Months.{year_month_takes, month_day_takes}}
 use Rattle.ixdtf_reading.proofs.to_grammar.Months.{FrontIs, year_month_read, month_day_read}
@@ -75,6 +76,41 @@ month_day_front_stays profile cores rest other_rest ends h =
 pub no_front_of : (profile : Profile) (cores rest : Text) → HasNoDateFront profile (cores ++ rest) → HasNoDateFront profile cores
 no_front_of profile cores rest none =
     ((λ h. none.0 (longer_front (some (IsMonthDay profile)) cores rest h)), λ h. none.1 (longer_front (some IsYearMonth) cores rest h))
+
+-- ---- a colon at the third place
+
+digit_no_colon : (c : ℕ) → IsTrue (digit c) → IsFalse (colon c)
+digit_no_colon c h = grind (arith, nat_tests, h)
+
+hyphen_no_colon : (c : ℕ) → IsTrue (hyphen c) → IsFalse (colon c)
+hyphen_no_colon c h = grind (arith, nat_tests, h)
+
+third_of_month_day : (text left front : Text) (date : DateRecord) → text ≡ front ++ left → MonthDayText front date → IsFalse (colon (byte_place 2 text))
+third_of_month_day text left front date split h =
+    let tens = h.month.0.0 in
+    let ones = tens.4 in
+    elim h.mark [
+      | inl none ↦ elim h.hyphen [
+        | inl no_hyphen ↦ rw (split, h.is, none, tens.2, ones.2, ones.4, no_hyphen, h.day.0.2) (digit_no_colon h.day.0.0 h.day.0.3)
+        | inr mark ↦ rw (split, h.is, none, tens.2, ones.2, ones.4, mark.1) (hyphen_no_colon mark.0 mark.2)
+      ]
+      | inr two ↦ rw (split, h.is, two.2, two.3.1, two.4.1, tens.2) (digit_no_colon tens.0 tens.3)
+    ]
+
+third_of_year_month : (text left front : Text) (date : DateRecord) → text ≡ front ++ left → IsYearMonth front date → IsFalse (colon (byte_place 2 text))
+third_of_year_month text left front date split h = elim h.year [
+  | inl year ↦
+      let second = year.0.4 in
+      rw (split, h.is, year.0.2, second.2, second.4.2) (digit_no_colon second.4.0 second.4.3)
+  | inr year ↦ rw (split, h.is, year.is, year.digits.2, year.digits.4.2) (digit_no_colon year.digits.4.0 year.digits.4.3)
+]
+
+-- no month-day and no year-month stands in front
+pub no_front_at_colon : (profile : Profile) (text : Text) → IsTrue (colon (byte_place 2 text)) → HasNoDateFront profile text
+no_front_at_colon profile text is = (
+  (λ h. both_ways _ (third_of_month_day text h.1 h.0 h.3.0 h.2 h.3.1.0) is),
+  λ h. both_ways _ (third_of_year_month text h.1 h.0 h.3.0 h.2 h.3.1) is,
+)
 
 -- ---- the test
 

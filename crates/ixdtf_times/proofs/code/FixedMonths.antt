@@ -1,16 +1,16 @@
 -- A year-month, and a month-day, at fixed places: what is found there is read so.
-use Rattle.std.proofs.Common.{subst, ◌≡◌, ℕ, suc, ◌+◌, Bool, true, false, IsTrue, [], ◌∷◌, drop, map, Option, Some, None, Ok, refl, sym, ap, ◌∙◌, pos}
-use Rattle.std.proofs.{Common.{arith, ◌++◌, append_assoc, inl, inr}, lemmas.Bool.and_parts}
-use Rattle.std.specs.Prelude.{IfSome, Result, Err, nat_le, ◌&&◌, IsFalse}
+use Rattle.std.proofs.Common.{◌≡◌, ℕ, suc, ◌+◌, Bool, true, false, IsTrue, [], ◌∷◌, drop, map, Some, Ok, refl, sym, ap, ◌∙◌, pos}
+use Rattle.std.proofs.{Common.{◌≤◌, arith, ◌++◌, append_assoc, inl, inr, length}, lemmas.Bool.{and_parts, cases_Bool}}
+use Rattle.std.specs.Prelude.{Result, Err, nat_le, ◌&&◌, IsFalse}
 use Rattle.ixdtf_grammar.specs.{declared.{profile.Profile.Profile, records.DateRecord.DateRecord}, language.Letters.{Letter, Text, digit, hyphen}, Views.Unread}
 use Rattle.ixdtf_grammar.specs.{language.Letters.Letter.{Plain, Bad}, table.Faults.Fault.{InvalidMonthRange, InvalidMonthDay}, language.Months.{greatest_day, least_day}, table.LineNames.{of_year_month, of_month_day, YearMonthLine.after_year_in_year_month}}
 use Rattle.ixdtf_grammar.specs.table.LineNames.MonthDayLine.{month_day_month_digits}
 use Rattle.ixdtf_reading.specs.{declared.stop.Stop.Stop, reading.{Clauses.{Checks, Reads, YieldsAt}, Dates.{date_of, month_at}}}
 use Rattle.ixdtf_reading.specs.reading.Looks.{Read, Placed, error_of, look_at, next_by, mark_by, digits_by, ◌>>=◌}
-use Rattle.ixdtf_reading.specs.reading.{Months.{year_month_at, marks_at, month_day_at, lone_month_in_range, lone_day_in_range, lone_day_at}, FixedPlaces.first_byte}
+use Rattle.ixdtf_reading.specs.reading.{Months.{year_month_at, marks_at, month_day_at, lone_month_in_range, lone_day_in_range, lone_day_at}}
 use Rattle.ixdtf_reading.specs.reading.FixedPlaces.{byte_place, number_place, year_place, month_of_year_place, ranged_month}
 use Rattle.ixdtf_reading.specs.reading.FixedPlaces.{marks_place, unmarked_at}
-use Rattle.ixdtf_reading.proofs.{parts.{Looks.{onto, digits_go}, Marks.hyphens_of, Years.year_takes}, code.DigitClasses.digit_no_hyphen}
+use Rattle.ixdtf_reading.proofs.{parts.{Looks.{onto, digits_go}, Marks.hyphens_of, Years.year_takes}}
 use Rattle.ixdtf_reading.proofs.code.FixedPlaces.{then_some, Number, number_at_place, over_two, two_digits, two}
 use Rattle.ixdtf_reading.proofs.{code.FixedPlaces.year_at_place, to_reading.Dates.{month_is, month_is_none, month_or_none, month_takes, month_out}}
 use Rattle.ixdtf_reading.proofs.{to_reading.Months.over_lone_day, code.FixedPlaces.byte_is_mark}
@@ -129,24 +129,10 @@ marked_is_read profile text marks =
     let second = byte_is_mark 45 1 text refl both.1 in
     ap (month_day_at error_of profile) (first ∙ onto 45 second)
 
--- a text that begins with a digit has none
-pub unmarked_is_read : (profile : Profile) (text : Text) → IsTrue (digit (byte_place 0 text)) → month_day_at error_of profile text ≡ unmarked_at profile text
+-- what begins with no hyphen has none
+pub unmarked_is_read : (profile : Profile) (text : Text) → IsFalse (hyphen (byte_place 0 text)) → 1 ≤ length text
+    → month_day_at error_of profile text ≡ unmarked_at profile text
 unfolding month_day_at marks_at mark_by digits_by next_by look_at
-unmarked_is_read profile [] is = absurd cc
-unmarked_is_read profile (Bad ∷ rest) is = absurd cc
-unmarked_is_read profile (Plain c ∷ rest) is = rw (is, digit_no_hyphen c is, digit_no_hyphen c is, is) refl
-
--- what is known of what was found
-pub on_found : {A : Type 0} (found : Option A) {P Q : A → Type 0} → ((x : A) → P x → Q x) → IfSome found P → IfSome found Q
-on_found None go is = is
-on_found (Some x) go is = go x is
-
--- the first digit of a month
-pub first_digit : (text : Text) (start month : ℕ) → number_place start text ≡ Some month → IsTrue (digit (byte_place start text))
-first_digit text start month e =
-    let m = number_at_place start text month e in
-    subst (λ t. IsTrue (digit (first_byte t))) (sym m.is) m.is_a
-
-pub on_both : {A : Type 0} (found : Option A) {P R Q : A → Type 0} → ((x : A) → P x → R x → Q x) → IfSome found P → IfSome found R → IfSome found Q
-on_both None go is also = is
-on_both (Some x) go is also = go x is also
+unmarked_is_read profile [] is some = absurd (omega arith)
+unmarked_is_read profile (Bad ∷ rest) is some = refl
+unmarked_is_read profile (Plain c ∷ rest) is some = elim (cases_Bool (digit c)) [ inl h ↦ rw (h, is, is, h) refl | inr h ↦ rw (h, is) refl ]

@@ -1,5 +1,5 @@
 -- An offset that stands at its places behind its sign, where the core ends with it, is read so.
-use Rattle.std.proofs.Common.{◌≡◌, ℕ, ◌≤◌, IsTrue, List, ◌∷◌, [], ◌++◌, map, length, drop, Option, Some, None, Ok, true, false, nat_le, ◌&&◌, refl, ap, ◌∙◌, arith}
+use Rattle.std.proofs.Common.{◌≡◌, ℕ, ◌≤◌, List, ◌∷◌, [], ◌++◌, map, length, drop, Option, Some, None, Ok, true, false, nat_le, refl, ap, ◌∙◌, arith}
 use Rattle.std.proofs.lemmas.{Bool.Decides.nat_tests, List.{drop-map, drop_all}}
 use Rattle.ixdtf_grammar.specs.declared.records.{DateRecord.DateRecord, TimeRecord.TimeRecord, MinutePrecisionOffset.MinutePrecisionOffset}
 use Rattle.ixdtf_grammar.specs.{declared.records.UtcOffsetRecord.TheVariants.MinutePrecision, language.Letters.{Text, Letter, colon, Letter.Plain}}

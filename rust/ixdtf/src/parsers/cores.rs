@@ -8,7 +8,7 @@ use crate::records::{IxdtfParseRecord, TimeRecord, UtcOffsetRecordOrZ};
 use crate::cursor::Cursor;
 use crate::grammar::{
     is_annotation_open, is_ascii_sign, is_date_time_separator, is_time_designator,
-    is_utc_designator,
+    is_time_separator, is_utc_designator,
 };
 use crate::stop::Stop;
 use crate::parsers::date_times::take_fixed_date_time;
@@ -160,7 +160,7 @@ fn parse_time_of_day<'a, T: EncodingType>(
 }
 
 /// Refuses a time whose text begins as a month-day or as a year-month does, with the cursor behind these. Otherwise the
-/// cursor does not move.
+/// cursor does not move. No such text has a colon at its third place, where most times have one.
 #[inline(always)]
 fn check_front<'a, T: EncodingType>(
     cursor: &mut Cursor<'a, T>,
@@ -168,15 +168,15 @@ fn check_front<'a, T: EncodingType>(
     profile: Profile,
 ) -> Result<(), Stop> {
     let mut front = cursor.fork_at(start);
-    let month_day = parse_month_day_parts(&mut front, profile).is_ok();
-    let behind_month_day = front.rest();
-    let mut again = front.fork_at(start);
-    let year_month = parse_year_month_parts(&mut again).is_ok();
-    if month_day {
-        *cursor = again.fork_at(behind_month_day);
+    if is_time_separator(front.byte_at(2)) {
+        return Ok(());
+    }
+    if parse_month_day_parts(&mut front, profile).is_ok() {
+        *cursor = front;
         return Err(Stop::AmbiguousTimeMonthDay);
     }
-    if year_month {
+    let mut again = front.fork_at(start);
+    if parse_year_month_parts(&mut again).is_ok() {
         *cursor = again;
         return Err(Stop::AmbiguousTimeYearMonth);
     }
