@@ -1,5 +1,6 @@
 -- What the functions of the code use.
 pub mod FixedMonths
 pub mod FixedOffsets
+pub mod HourDigits
 pub mod LoneTimes
 pub mod YearDigits

@@ -17,7 +17,7 @@ ghost use Rattle.ixdtf_reading.specs.reading.Times.{time_of, second_start, clock
 use ixdtf_grammar::encoding::EncodingType;
 use ixdtf_grammar::records::{Fraction, TimeRecord};
 use ixdtf_reading::cursor::Cursor;
-use ixdtf_reading::grammar::{digits_value, is_decimal_separator, is_time_separator};
+use ixdtf_reading::grammar::{is_decimal_separator, is_time_separator};
 use ixdtf_reading::stop::Stop;
 
 /// What is written as a time is.
@@ -173,6 +173,7 @@ fn next_number<'a, T: EncodingType>(
 
 /// Reads a time, as far as it goes.
 #[inline(always)]
+#[tactic(auto, using(crate::proofs::code::HourDigits::hour_is_number))]
 pub fn parse_clock<'a, T: EncodingType>(
     cursor: &mut Cursor<'a, T>,
     clock: Clock,
@@ -182,9 +183,7 @@ pub fn parse_clock<'a, T: EncodingType>(
         (clock_at error_of (clock_of clock)) }
     ensures looks { Spends 5 cursor.old cursor.new }
 {
-    let tens = cursor.next_digit(Stop::TimeHour)?;
-    let ones = cursor.next_digit(Stop::TimeHour)?;
-    let hour = check_most(digits_value(tens, ones), 23, Stop::TimeHour)?;
+    let hour = next_number(cursor, 23, Stop::TimeHour)?;
     match cursor.look()? {
         Some(byte) if is_time_separator(byte) => {
             cursor.advance();

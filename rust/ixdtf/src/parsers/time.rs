@@ -5,7 +5,7 @@
 use crate::encoding::EncodingType;
 use crate::records::{Fraction, TimeRecord};
 use crate::cursor::Cursor;
-use crate::grammar::{digits_value, is_decimal_separator, is_time_separator};
+use crate::grammar::{is_decimal_separator, is_time_separator};
 use crate::stop::Stop;
 
 /// What is written as a time is.
@@ -142,9 +142,7 @@ pub fn parse_clock<'a, T: EncodingType>(
     clock: Clock,
     time: &mut TimeRecord,
 ) -> Result<TimeShape, Stop> {
-    let tens = cursor.next_digit(Stop::TimeHour)?;
-    let ones = cursor.next_digit(Stop::TimeHour)?;
-    let hour = check_most(digits_value(tens, ones), 23, Stop::TimeHour)?;
+    let hour = next_number(cursor, 23, Stop::TimeHour)?;
     match cursor.look()? {
         Some(byte) if is_time_separator(byte) => {
             cursor.advance();
