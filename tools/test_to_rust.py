@@ -105,7 +105,7 @@ def phrase(text):
 REMOVED = [phrase(t) for t in ['#![tactic(auto)]', '#[rattlefmt::skip]', 'use std::marker::Model;', '#[derive(Drop)]', 'pub mod laws;', 'mod laws;',
                                '#[cfg(test)] mod tests;', '#[cfg(test)]', 'pub mod turns;', 'pub use laws::{canonical_fits, canonical_is_read_back};', 'use ixdtf_print::canonical_fits;', 'canonical_fits();', 'use crate::looks::Looks;', 'looks: Looks,', 'looks: Looks::none(),', 'self.looks.tick();',
                                'looks: std::mem::replace(&mut self.looks, Looks::none()),', 'self.keep_looks(here);', 'self.cursor.keep_looks(here);',
-                               'cursor.keep_looks(again);', '#[inline(always)] pub fn keep_looks(&mut self, here: Self) { self.looks = here.looks; }',
+                               'cursor.keep_looks(again);', 'cursor.keep_looks(front);', '#[inline(always)] pub fn keep_looks(&mut self, here: Self) { self.looks = here.looks; }',
                                'impl PartialEq for LocatedError { fn eq(&self, other: &LocatedError) -> bool { self.at == other.at && self.error == other.error } }',
                                'impl PartialEq for ParseError { fn eq(&self, other: &ParseError) -> bool'
                                ' { self.place() == other.place() && self.location() == other.location() } }',
