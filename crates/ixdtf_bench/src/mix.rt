@@ -1,0 +1,144 @@
+//! Texts of many shapes, mixed.
+ghost use Rattle.std.specs.Prelude.{◌≤◌, length};
+
+use crate::kept::Kept;
+use crate::random::Random;
+use std::alloc::{AllocError, Global};
+use std::io;
+use std::io::Read;
+
+/// Of how many parts a mix is made.
+const PARTS: usize = 1024;
+
+/// Texts of several shapes, each of them kept and moved on when it comes again.
+#[derive(Drop)]
+pub struct Mix {
+    alloc: Global,
+    shapes: Vec<Kept>,
+    /// The shape of each part.
+    parts: Vec<usize>,
+    random: Random,
+    chosen: usize,
+}
+
+impl Mix {
+    /// No text, by this seed.
+    pub fn new(alloc: Global, seed: u64) -> Mix {
+        Mix {
+            alloc,
+            shapes: Vec::new(alloc),
+            parts: Vec::new(alloc),
+            random: Random::new(seed),
+            chosen: 0,
+        }
+    }
+
+    /// Adds a text that comes in so many of 1,024 parts, and whose bytes move as the mask says.
+    pub fn add(&mut self, parts: usize, text: &[u8], mask: &[u8]) -> Result<(), AllocError> {
+        let kept = Kept::new(self.alloc, text, mask, &mut self.random)?;
+        self.add_kept(parts, kept)
+    }
+
+    /// Adds a text that is made of a front, whose bytes move as the mask says, so many pieces, and an end.
+    pub fn add_long(
+        &mut self,
+        parts: usize,
+        front: &[u8],
+        mask: &[u8],
+        pieces: (usize, &[u8]),
+        end: &[u8],
+    ) -> Result<(), AllocError> {
+        let mut kept = Kept::new(self.alloc, front, mask, &mut self.random)?;
+        for _ in 0..pieces.0 {
+            kept.push(pieces.1)?;
+        }
+        kept.push(end)?;
+        self.add_kept(parts, kept)
+    }
+
+    fn add_kept(&mut self, parts: usize, kept: Kept) -> Result<(), AllocError> {
+        let shape = self.shapes.len();
+        self.shapes.push(kept)?;
+        for _ in 0..parts {
+            self.parts.push(shape)?;
+        }
+        Ok(())
+    }
+
+    /// Moves one of the texts on, and returns the number of its shape.
+    pub fn choose(&mut self) -> usize {
+        let number = (self.random.next() >> 20) as usize % PARTS;
+        if let Some(shape) = self.parts.get(number) {
+            self.chosen = *shape;
+        }
+        if let Some(kept) = self.shapes.get_mut(self.chosen) {
+            kept.turn();
+        }
+        self.chosen
+    }
+
+    /// The text that was moved on last.
+    pub fn text(&self) -> &[u8] {
+        match self.shapes.get(self.chosen) {
+            Some(kept) => kept.as_slice(),
+            None => b"".as_slice(),
+        }
+    }
+}
+
+/// A reader of so many texts of a mix.
+#[derive(Drop)]
+pub struct Feed<'m> {
+    mix: &'m mut Mix,
+    left: u64,
+    /// How much of the text was read.
+    at: usize,
+}
+
+impl<'m> Feed<'m> {
+    /// A reader of this many texts.
+    pub fn new(mix: &'m mut Mix, count: u64) -> Feed<'m> {
+        Feed {
+            mix,
+            left: count,
+            at: usize::MAX,
+        }
+    }
+
+    /// Moves bytes of one text into the room, and returns how many. It is 0 at the end, or where there is no room.
+    fn move_some(&mut self, room: &mut [u8]) -> usize
+        ensures { result ≤ length room.old }
+    {
+        if self.at >= self.mix.text().len() {
+            if self.left == 0 {
+                return 0;
+            }
+            self.left -= 1;
+            let _ = self.mix.choose();
+            self.at = 0;
+        }
+        let text = self.mix.text();
+        if self.at > text.len() {
+            return 0;
+        }
+        let rest = &text[self.at..];
+        let count = rest.len().min(room.len());
+        room[..count].copy_from_slice(&rest[..count]);
+        self.at += count;
+        count
+    }
+}
+
+impl Read for Feed<'_> {
+    fn read(&mut self, buf: &mut [u8]) -> io::Result<usize> {
+        let mut count = 0;
+        'texts: for _ in 0..buf.len() {
+            let moved = self.move_some(&mut buf[count..]);
+            if moved == 0 {
+                return Ok(count);
+            }
+            count += moved;
+        }
+        Ok(count)
+    }
+}

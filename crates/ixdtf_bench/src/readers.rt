@@ -1,0 +1,331 @@
+//! The job of the readers: texts of all kinds are read, in both widths, with and without a handler, located and not.
+
+use crate::digest::Digest;
+use crate::mix::Mix;
+use crate::records::{
+    add_duration, add_error, add_found, add_located_verdict, add_offset, add_record, add_units,
+    add_verdict, add_wide_record, add_zone,
+};
+use ixdtf::encoding::Utf8;
+use ixdtf::parsers::{IsoDurationParser, IxdtfParser, TimeZoneParser};
+use std::alloc::{AllocError, Global};
+
+/// At least as long as the longest text.
+const TEXT_SIZE: usize = 96;
+
+/// The calls of the readers.
+#[derive(Clone, Copy)]
+enum Call {
+    Parse,
+    ParseWide,
+    ParseLocated,
+    ParseHandled,
+    Verdict,
+    LocatedVerdict,
+    YearMonth,
+    MonthDay,
+    Time,
+    Offset,
+    Identifier,
+    Name,
+    Duration,
+}
+
+/// Texts, and how each of them is read.
+#[derive(Drop)]
+struct Texts {
+    mix: Mix,
+    calls: Vec<Call>,
+}
+
+impl Texts {
+    fn add(
+        &mut self,
+        parts: usize,
+        call: Call,
+        text: &[u8],
+        mask: &[u8],
+    ) -> Result<(), AllocError> {
+        self.calls.push(call)?;
+        self.mix.add(parts, text, mask)
+    }
+
+    fn next_call(&mut self) -> Call {
+        let shape = self.mix.choose();
+        match self.calls.get(shape) {
+            Some(call) => *call,
+            None => Call::Verdict,
+        }
+    }
+}
+
+/// Reads so many texts, and returns a digest of the records and errors.
+pub fn readers(alloc: Global, seed: u64, count: u64) -> Result<u64, AllocError> {
+    let mut texts = Texts {
+        mix: Mix::new(alloc, seed),
+        calls: Vec::new(alloc),
+    };
+    add_date_times(&mut texts)?;
+    add_wide_texts(&mut texts)?;
+    add_other_texts(&mut texts)?;
+    add_durations(&mut texts)?;
+    add_short_texts(&mut texts)?;
+    let mut digest = Digest::new();
+    let mut wide = [0; TEXT_SIZE];
+    for _ in 0..count {
+        let call = texts.next_call();
+        call_reader(&mut digest, call, texts.mix.text(), &mut wide);
+    }
+    Ok(digest.value())
+}
+
+/// Reads the text by the call. Each call stands in a function of its own that is not inlined, as in a caller's program: the
+/// records of all calls in one frame would be cleared at each call.
+fn call_reader(digest: &mut Digest, call: Call, text: &[u8], wide: &mut [u16; TEXT_SIZE]) {
+    match call {
+        Call::Parse => parse(digest, text),
+        Call::ParseWide => parse_wide(digest, widened(text, wide)),
+        Call::ParseLocated => parse_located(digest, text),
+        Call::ParseHandled => parse_handled(digest, text),
+        Call::Verdict => judge(digest, text),
+        Call::LocatedVerdict => judge_located(digest, text),
+        Call::YearMonth => parse_year_month(digest, text),
+        Call::MonthDay => parse_month_day(digest, text),
+        Call::Time => parse_time(digest, text),
+        Call::Offset => parse_offset(digest, text),
+        Call::Identifier => parse_identifier(digest, text),
+        Call::Name => parse_name(digest, text),
+        Call::Duration => parse_duration(digest, text),
+    }
+}
+
+#[inline(never)]
+fn parse(digest: &mut Digest, text: &[u8]) {
+    add_record(digest, &IxdtfParser::from_utf8(text).parse());
+}
+
+#[inline(never)]
+fn parse_wide(digest: &mut Digest, units: &[u16]) {
+    add_wide_record(digest, &IxdtfParser::from_utf16(units).parse());
+}
+
+#[inline(never)]
+fn parse_located(digest: &mut Digest, text: &[u8]) {
+    match IxdtfParser::from_utf8(text).parse_located() {
+        Ok(record) => add_found(digest, &record),
+        Err(error) => add_error(digest, error.error, error.at),
+    }
+}
+
+#[inline(never)]
+fn parse_handled(digest: &mut Digest, text: &[u8]) {
+    let mut keys = 0u64;
+    let result = IxdtfParser::from_utf8(text).parse_with_annotation_handler(|annotation| {
+        keys = keys.wrapping_add(annotation.key.len() as u64);
+        Some(annotation)
+    });
+    add_record(digest, &result);
+    digest.add(keys);
+}
+
+#[inline(never)]
+fn judge(digest: &mut Digest, text: &[u8]) {
+    add_verdict(digest, &IxdtfParser::from_utf8(text).parse());
+}
+
+#[inline(never)]
+fn judge_located(digest: &mut Digest, text: &[u8]) {
+    add_located_verdict(digest, &IxdtfParser::from_utf8(text).parse_located());
+}
+
+#[inline(never)]
+fn parse_year_month(digest: &mut Digest, text: &[u8]) {
+    add_record(digest, &IxdtfParser::from_utf8(text).parse_year_month());
+}
+
+#[inline(never)]
+fn parse_month_day(digest: &mut Digest, text: &[u8]) {
+    add_record(digest, &IxdtfParser::from_utf8(text).parse_month_day());
+}
+
+#[inline(never)]
+fn parse_time(digest: &mut Digest, text: &[u8]) {
+    add_record(digest, &IxdtfParser::from_utf8(text).parse_time());
+}
+
+#[inline(never)]
+fn parse_offset(digest: &mut Digest, text: &[u8]) {
+    match TimeZoneParser::from_utf8(text).parse_offset() {
+        Ok(offset) => add_offset(digest, offset),
+        Err(error) => add_error(digest, error, 0),
+    }
+}
+
+#[inline(never)]
+fn parse_identifier(digest: &mut Digest, text: &[u8]) {
+    match TimeZoneParser::from_utf8(text).parse_identifier() {
+        Ok(zone) => add_zone(digest, &zone),
+        Err(error) => add_error(digest, error, 0),
+    }
+}
+
+#[inline(never)]
+fn parse_name(digest: &mut Digest, text: &[u8]) {
+    match TimeZoneParser::from_utf8(text).parse_iana_identifier() {
+        Ok(name) => add_units(digest, name),
+        Err(error) => add_error(digest, error, 0),
+    }
+}
+
+#[inline(never)]
+fn parse_duration(digest: &mut Digest, text: &[u8]) {
+    add_duration(digest, &IsoDurationParser::<Utf8>::from_utf8(text).parse());
+}
+
+/// The text in 16-bit units, in the room.
+pub fn widened<'w, const N: usize>(text: &[u8], room: &'w mut [u16; N]) -> &'w [u16] {
+    let count = text.len().min(N);
+    for at in 0..count {
+        room[at] = u16::from(text[at]);
+    }
+    &room[..count]
+}
+
+fn add_date_times(texts: &mut Texts) -> Result<(), AllocError> {
+    texts.add(
+        100,
+        Call::Parse,
+        b"2024-03-02T08:48:00-05:00[America/New_York][u-ca=hebrew]",
+        b"dddd-.n-qe.bd:md:md",
+    )?;
+    texts.add(
+        60,
+        Call::ParseLocated,
+        b"2024-03-02T08:48:00-05:00[America/New_York]",
+        b"dddd-.n-qe.bd:md:md",
+    )?;
+    texts.add(
+        60,
+        Call::ParseHandled,
+        b"2024-03-02T08:48:00.25Z[Europe/Berlin][u-ca=gregory][x-source=import]",
+        b"dddd-.n-qe.bd:md:md.dd",
+    )?;
+    texts.add(120, Call::Parse, b"2024-03-02", b"dddd-.n-qe")?;
+    texts.add(30, Call::Parse, b"+002024-03-02", b"...dddd-.n-qe")?;
+    texts.add(
+        100,
+        Call::Parse,
+        b"2024-03-02T08:48:00Z",
+        b"dddd-.n-qe.bd:md:md",
+    )?;
+    texts.add(
+        60,
+        Call::Parse,
+        b"2024-03-02T08:48:00.123456Z",
+        b"dddd-.n-qe.bd:md:md.dddddd",
+    )?;
+    texts.add(
+        40,
+        Call::ParseLocated,
+        b"20240302T084800+0100",
+        b"dddd.nqe.bdmdmd",
+    )
+}
+
+fn add_wide_texts(texts: &mut Texts) -> Result<(), AllocError> {
+    texts.add(
+        60,
+        Call::ParseWide,
+        b"2024-03-02T08:48:00-05:00[America/New_York][u-ca=hebrew]",
+        b"dddd-.n-qe.bd:md:md",
+    )?;
+    texts.add(40, Call::ParseWide, b"2024-03-02", b"dddd-.n-qe")?;
+    texts.add(
+        40,
+        Call::ParseWide,
+        b"2024-03-02T08:48:00.123Z",
+        b"dddd-.n-qe.bd:md:md.ddd",
+    )
+}
+
+fn add_other_texts(texts: &mut Texts) -> Result<(), AllocError> {
+    texts.add(30, Call::YearMonth, b"+002020-01", b".dddddd-.n")?;
+    texts.add(6, Call::YearMonth, b"2020-01", b"dddd-.n")?;
+    texts.add(
+        20,
+        Call::MonthDay,
+        b"01-07[u-ca=gregory]",
+        b".n-qe......lllll",
+    )?;
+    texts.add(30, Call::Time, b"T15:23:30.123", b".bd:md:md.ddd")?;
+    texts.add(10, Call::Time, b"15:23:30-05:00", b"bd:md:md-.n:md")?;
+    texts.add(10, Call::Offset, b"-05:30:15.5", b".bd:md:md.d")?;
+    texts.add(16, Call::Offset, b"+05:30:15.123", b".bd:md:md.ddd")?;
+    texts.add(30, Call::Identifier, b"Europe/Berlin", b"........lllll")?;
+    texts.add(
+        20,
+        Call::Name,
+        b"America/Argentina/Buenos_Aires",
+        b".............llll.......lll",
+    )
+}
+
+fn add_durations(texts: &mut Texts) -> Result<(), AllocError> {
+    texts.add(20, Call::Duration, b"P1234567D", b".ndddddd")?;
+    texts.add(20, Call::Duration, b"PT12H30M15S", b"..nd.md.md")?;
+    texts.add(
+        32,
+        Call::Duration,
+        b"P1Y2M3DT4H5M6.25S",
+        b".n.n.n..n.n.n.dd",
+    )?;
+    texts.add(10, Call::Duration, b"-P12W3DT4H15M", b"..dd.d..d.md")
+}
+
+fn add_short_texts(texts: &mut Texts) -> Result<(), AllocError> {
+    texts.add(20, Call::Verdict, b"2024-03-02T08:48", b"dddd-.n-qe.bd:md")?;
+    texts.add(
+        20,
+        Call::LocatedVerdict,
+        b"20240302T084800Z",
+        b"dddd.nqe.bdmdmd",
+    )?;
+    texts.add(2, Call::Verdict, b"2024-13-02T08:48", b"dddd....qe.bd:md")?;
+    texts.add(2, Call::Verdict, b"2024-03-0xT08:48", b"dddd-.n....bd:md")?;
+    texts.add(
+        2,
+        Call::Verdict,
+        b"2024-3-02T08:48:00Z",
+        b"dddd-n-qe.bd:md:md",
+    )?;
+    texts.add(
+        2,
+        Call::LocatedVerdict,
+        b"2024-03-02T08:61:00Z",
+        b"dddd-.n-qe.bd....md",
+    )?;
+    texts.add(
+        2,
+        Call::LocatedVerdict,
+        b"2024-03-02T08:48:0",
+        b"dddd-.n-qe.bd:md:d",
+    )?;
+    texts.add(
+        2,
+        Call::LocatedVerdict,
+        b"2024-03-02T08:48:00+5:00",
+        b"dddd-.n-qe.bd:md:md",
+    )?;
+    texts.add(
+        4,
+        Call::Verdict,
+        b"2024-03-02T08:48:00Z[Europe/]",
+        b"dddd-.n-qe.bd:md:md",
+    )?;
+    texts.add(
+        4,
+        Call::LocatedVerdict,
+        b"2024-03-02T08:48:00Z[u-ca=]",
+        b"dddd-.n-qe.bd:md:md",
+    )
+}
