@@ -4,11 +4,11 @@
 
 ghost use Rattle.std.specs.Prelude.{◌≡◌, ◌+◌, ◌*◌, map, length};
 ghost use Rattle.ixdtf_grammar.specs.language.Brackets.{skipped};
-ghost use Rattle.ixdtf_grammar.specs.language.Letters.{equals, closing};
+ghost use Rattle.ixdtf_grammar.specs.language.Letters.{equals, closing, exclamation};
 ghost use Rattle.ixdtf_reading.specs.reading.Clauses.{Reads, Spends, SpendsOr, fault_of_stop};
 ghost use Rattle.ixdtf_brackets.specs.BracketTypes.{bracket_of};
 ghost use Rattle.ixdtf_reading.specs.reading.Looks.{error_of};
-ghost use Rattle.ixdtf_reading.specs.reading.Brackets.{refusal, name_fault, next_is, sight_at, name_or_pair_at, inside_at, critical_bracket_at, bracket_at};
+ghost use Rattle.ixdtf_reading.specs.reading.Brackets.{refusal, name_fault, next_is, sight_at, name_or_pair_at, inside_at, bracket_at};
 
 use crate::zone::{NameState, parse_name_in_bracket, parse_offset_in_bracket, pass_name};
 use ixdtf_grammar::encoding::EncodingType;
@@ -38,35 +38,29 @@ pub fn parse_first_bracket<'a, T: EncodingType>(
         (bracket_at error_of) }
     ensures looks { SpendsOr (2 * length cursor.old.rest + 16) 16 cursor.old result cursor.new }
 {
-    match cursor.look()? {
+    let mut critical = false;
+    let mut lead = cursor.look()?;
+    if is_flag(lead) {
+        critical = true;
+        cursor.advance();
+        lead = cursor.look()?;
+    }
+    // One call, since what stands in a bracket is much code: at two the compiler keeps it apart.
+    match lead {
         None => Err(Stop::AbruptBracket),
-        Some(byte) if is_critical_flag(byte) => {
-            cursor.advance();
-            parse_critical_bracket(cursor)
-        }
         Some(byte) if is_ascii_sign(byte) || is_tz_leading_char(byte) => {
-            parse_inside(cursor, false, byte)
+            parse_inside(cursor, critical, byte)
         }
         Some(_) => Err(Stop::TzLeadingChar),
     }
 }
 
-/// Reads a first bracket after its `[` and `!`.
+/// Whether the code unit is the `!` of a critical bracket.
 #[inline(always)]
-fn parse_critical_bracket<'a, T: EncodingType>(
-    cursor: &mut Cursor<'a, T>,
-) -> Result<Bracket<'a, T>, Stop>
-    ensures bracket { Reads T.letter (bracket_of T.number) cursor.old result cursor.new
-        (critical_bracket_at error_of) }
-    ensures looks { SpendsOr (2 * length cursor.old.rest + 15) 15 cursor.old result cursor.new }
+fn is_flag(next: Option<u8>) -> bool
+    ensures { result ≡ next_is exclamation next }
 {
-    match cursor.look()? {
-        None => Err(Stop::AbruptBracket),
-        Some(byte) if is_ascii_sign(byte) || is_tz_leading_char(byte) => {
-            parse_inside(cursor, true, byte)
-        }
-        Some(_) => Err(Stop::TzLeadingChar),
-    }
+    matches!(next, Some(byte) if is_critical_flag(byte))
 }
 
 /// Reads what stands in a first bracket, and its `]`. Its first code unit has been seen.

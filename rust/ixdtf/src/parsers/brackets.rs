@@ -25,31 +25,27 @@ pub enum Bracket<'a, T: EncodingType> {
 pub fn parse_first_bracket<'a, T: EncodingType>(
     cursor: &mut Cursor<'a, T>,
 ) -> Result<Bracket<'a, T>, Stop> {
-    match cursor.look()? {
+    let mut critical = false;
+    let mut lead = cursor.look()?;
+    if is_flag(lead) {
+        critical = true;
+        cursor.advance();
+        lead = cursor.look()?;
+    }
+    // One call, since what stands in a bracket is much code: at two the compiler keeps it apart.
+    match lead {
         None => Err(Stop::AbruptBracket),
-        Some(byte) if is_critical_flag(byte) => {
-            cursor.advance();
-            parse_critical_bracket(cursor)
-        }
         Some(byte) if is_ascii_sign(byte) || is_tz_leading_char(byte) => {
-            parse_inside(cursor, false, byte)
+            parse_inside(cursor, critical, byte)
         }
         Some(_) => Err(Stop::TzLeadingChar),
     }
 }
 
-/// Reads a first bracket after its `[` and `!`.
+/// Whether the code unit is the `!` of a critical bracket.
 #[inline(always)]
-fn parse_critical_bracket<'a, T: EncodingType>(
-    cursor: &mut Cursor<'a, T>,
-) -> Result<Bracket<'a, T>, Stop> {
-    match cursor.look()? {
-        None => Err(Stop::AbruptBracket),
-        Some(byte) if is_ascii_sign(byte) || is_tz_leading_char(byte) => {
-            parse_inside(cursor, true, byte)
-        }
-        Some(_) => Err(Stop::TzLeadingChar),
-    }
+fn is_flag(next: Option<u8>) -> bool {
+    matches!(next, Some(byte) if is_critical_flag(byte))
 }
 
 /// Reads what stands in a first bracket, and its `]`. Its first code unit has been seen.
