@@ -19,10 +19,34 @@ pub fn pass_letters<'a, T: EncodingType, S: Letters>(
     cursor: &mut Cursor<'a, T>,
 ) -> Result<Option<u8>, Stop> {
     let mut here = cursor.fork();
+    // Four steps in a row: one test of the length serves for four looks, and the cursor moves once.
     let found = loop {
-        let found = here.look();
-        if !goes_on::<S>(found) {
-            break found;
+        if here.remaining() >= 4 {
+            let first = here.look();
+            if !goes_on::<S>(first) {
+                break first;
+            }
+            here.advance();
+            let second = here.look();
+            if !goes_on::<S>(second) {
+                break second;
+            }
+            here.advance();
+            let third = here.look();
+            if !goes_on::<S>(third) {
+                break third;
+            }
+            here.advance();
+            let fourth = here.look();
+            if !goes_on::<S>(fourth) {
+                break fourth;
+            }
+            here.advance();
+            continue;
+        }
+        let last = here.look();
+        if !goes_on::<S>(last) {
+            break last;
         }
         here.advance();
     };

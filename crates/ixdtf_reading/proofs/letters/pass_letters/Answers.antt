@@ -1,5 +1,5 @@
 use Rattle.ixdtf_reading.proofs.letters.pass_letters.Goals as goal
-use Rattle.std.proofs.Common.{◌≡◌, ◌+◌, ℕ, List, map, length, drop, Option, Some, None, Result, Ok, Err, true, false, refl, arith, rules}
+use Rattle.std.proofs.Common.{◌≡◌, ◌+◌, ℕ, List, map, length, drop, Option, Some, None, Result, Ok, Err, true, false, refl, sym, arith}
 use Rattle.std.specs.Prelude.{IfOk, IsSome}
 use Rattle.ixdtf_grammar.specs.{language.Letters.{Letter, Text, Class, Letter.Plain}, Views.Unread}
 use Rattle.ixdtf_reading.specs.{declared.stop.Stop.Stop, reading.{Clauses.{YieldsAt}, Looks.{Placed, seen}, Runs.{PassesOver, found_in, within}}}
@@ -11,6 +11,20 @@ one_found : (class : Class) (found : Result (Option ℕ) Stop) (text : Text) (se
 one_found class (Ok (Some c)) text sees is has = (c, is, has)
 one_found class (Ok None) text sees is has = absurd cc
 one_found class (Err stop) text sees is has = absurd cc
+
+-- a code unit that a step took: the run goes on behind it
+record Step (letter : ℕ → Letter) (class : Class) (whole before after : List ℕ) : Type 0 where
+  far : IsSoFar (within class) letter tt whole after tt
+  taken : length after + 1 ≡ length before
+
+step : (letter : ℕ → Letter) (faithful : (unit n : ℕ) → letter unit ≡ Plain n → n ≡ unit) (class : Class) (whole before looked after : List ℕ)
+    (found : Result (Option ℕ) Stop) → IsSoFar (within class) letter tt whole before tt → YieldsAt (λ x. x) found (map letter before) (seen (map letter before))
+    → true ≡ found_in class found → looked ≡ before → after ≡ drop 1 looked → Step letter class whole before after
+step letter faithful class whole before looked after found far is goes same moved =
+    let (byte, sees, has) = one_found class found _ _ is (sym goes) in
+    let off = one_taken {letter = letter} sees refl same moved in
+    let next : within class tt byte ≡ Some tt = rw has refl in
+    record { far = goes_on _ letter faithful _ _ _ _ far _ _ _ off.found next off.moved; taken = off.shorter }
 
 -- the run ends at any other: at the end, at a code unit of another class, or where the look failed
 run_ends : (letter : ℕ → Letter) (faithful : (unit n : ℕ) → letter unit ≡ Plain n → n ≡ unit) (class : Class) (old here : Unread)
@@ -29,39 +43,67 @@ stays letter rest (Ok (Some c)) is = λ some. (one_taken {letter = letter} {rest
 stays letter rest (Ok None) is = λ some. absurd cc
 stays letter rest (Err stop) is = tt
 
-pub loop-found-init : goal.loop-found-init
-loop-found-init g c = rw c.fork-here.ensures.same record {
-  far = begins _ _ _ _;
-  looks = omega arith;
-  counted = omega arith;
-  shorter = omega arith;
-}
-
-pub loop-found-smaller : goal.loop-found-smaller
-loop-found-smaller g c =
-    let (byte, sees, has) = one_found g.S.Letters.class c.look-found.result _ _ c.look-found.ensures.letter (search rules) in
-    let off = one_taken {letter = g.T.EncodingType.letter} sees refl c.look-found.ensures.rest c.advance.ensures.rest in
+pub loop-here-smaller : goal.loop-here-smaller
+loop-here-smaller g c =
+    let one = step g.T.EncodingType.letter g.met.T.EncodingType.faithful g.S.Letters.class _ _ _ _ _ c.loop-here.invariant.far
+    c.look-last.ensures.letter c.if-not-goes_on-5.ensures c.look-last.ensures.rest c.advance-in-loop-here.ensures.rest in
     omega arith
 
-pub loop-found-preserved : goal.loop-found-preserved
-loop-found-preserved g c =
-    let (byte, sees, has) = one_found g.S.Letters.class c.look-found.result _ _ c.look-found.ensures.letter (search rules) in
-    let off = one_taken {letter = g.T.EncodingType.letter} sees refl c.look-found.ensures.rest c.advance.ensures.rest in
-    let next : within g.S.Letters.class tt byte ≡ Some tt = rw has refl in
-    let invariant = c.loop-found.invariant in
-    record {
-      far = goes_on _ g.T.EncodingType.letter g.met.T.EncodingType.faithful _ _ _ _ invariant.far _ _ _ off.found next off.moved;
-      looks = omega arith;
-      counted = omega arith;
-      shorter = omega arith;
-    }
+pub loop-here-preserved : goal.loop-here-preserved
+loop-here-preserved g c =
+    let one = step g.T.EncodingType.letter g.met.T.EncodingType.faithful g.S.Letters.class _ _ _ _ _ c.loop-here.invariant.far
+    c.look-last.ensures.letter c.if-not-goes_on-5.ensures c.look-last.ensures.rest c.advance-in-loop-here.ensures.rest in
+    record { far = one.far; looks = omega arith; counted = omega arith; shorter = omega arith }
 
-pub returns-clause-letters : goal.returns-clause-letters
-returns-clause-letters g c =
-    let other : found_in g.S.Letters.class c.look-found.result ≡ false = search rules in
-    run_ends g.T.EncodingType.letter g.met.T.EncodingType.faithful g.S.Letters.class c.args.cursor.now c.look-found.new.self c.look-found.result
-    (rw c.look-found.ensures.rest c.loop-found.invariant.far) (rw c.look-found.ensures.rest c.look-found.ensures.letter) other
+pub loop-here-preserved-then-remaining-ge4 : goal.loop-here-preserved-then-remaining-ge4
+loop-here-preserved-then-remaining-ge4 g c =
+    let first = step g.T.EncodingType.letter g.met.T.EncodingType.faithful g.S.Letters.class _ _ _ _ _ c.loop-here.invariant.far
+    c.look-first.ensures.letter c.if-not-goes_on.ensures c.look-first.ensures.rest c.advance.ensures.rest in
+    let second = step g.T.EncodingType.letter g.met.T.EncodingType.faithful g.S.Letters.class _ _ _ _ _ first.far
+    c.look-second.ensures.letter c.if-not-goes_on-2.ensures c.look-second.ensures.rest c.advance-then-remaining-ge4.ensures.rest in
+    let third = step g.T.EncodingType.letter g.met.T.EncodingType.faithful g.S.Letters.class _ _ _ _ _ second.far
+    c.look-third.ensures.letter c.if-not-goes_on-3.ensures c.look-third.ensures.rest c.advance-then-remaining-ge4-2.ensures.rest in
+    let fourth = step g.T.EncodingType.letter g.met.T.EncodingType.faithful g.S.Letters.class _ _ _ _ _ third.far
+    c.look-fourth.ensures.letter c.if-not-goes_on-4.ensures c.look-fourth.ensures.rest c.advance-then-remaining-ge4-3.ensures.rest in
+    record { far = fourth.far; looks = omega arith; counted = omega arith; shorter = omega arith }
 
-pub returns-clause-stays : goal.returns-clause-stays
-returns-clause-stays g c =
-    stays g.T.EncodingType.letter c.look-found.new.self.rest c.look-found.result (rw c.look-found.ensures.rest c.look-found.ensures.letter)
+pub returns-then-not-goes_on-clause-letters : goal.returns-then-not-goes_on-clause-letters
+returns-then-not-goes_on-clause-letters g c =
+    run_ends g.T.EncodingType.letter g.met.T.EncodingType.faithful g.S.Letters.class c.args.cursor.now c.look-first.new.self c.look-first.result
+    (rw c.look-first.ensures.rest c.loop-here.invariant.far) (rw c.look-first.ensures.rest c.look-first.ensures.letter) (sym c.if-not-goes_on.ensures)
+
+pub returns-then-not-goes_on-2-clause-letters : goal.returns-then-not-goes_on-2-clause-letters
+returns-then-not-goes_on-2-clause-letters g c =
+    let first = step g.T.EncodingType.letter g.met.T.EncodingType.faithful g.S.Letters.class _ _ _ _ _ c.loop-here.invariant.far
+    c.look-first.ensures.letter c.if-not-goes_on.ensures c.look-first.ensures.rest c.advance.ensures.rest in
+    run_ends g.T.EncodingType.letter g.met.T.EncodingType.faithful g.S.Letters.class c.args.cursor.now c.look-second.new.self c.look-second.result
+    (rw c.look-second.ensures.rest first.far) (rw c.look-second.ensures.rest c.look-second.ensures.letter) (sym c.if-not-goes_on-2.ensures)
+
+pub returns-then-not-goes_on-3-clause-letters : goal.returns-then-not-goes_on-3-clause-letters
+returns-then-not-goes_on-3-clause-letters g c =
+    let first = step g.T.EncodingType.letter g.met.T.EncodingType.faithful g.S.Letters.class _ _ _ _ _ c.loop-here.invariant.far
+    c.look-first.ensures.letter c.if-not-goes_on.ensures c.look-first.ensures.rest c.advance.ensures.rest in
+    let second = step g.T.EncodingType.letter g.met.T.EncodingType.faithful g.S.Letters.class _ _ _ _ _ first.far
+    c.look-second.ensures.letter c.if-not-goes_on-2.ensures c.look-second.ensures.rest c.advance-then-remaining-ge4.ensures.rest in
+    run_ends g.T.EncodingType.letter g.met.T.EncodingType.faithful g.S.Letters.class c.args.cursor.now c.look-third.new.self c.look-third.result
+    (rw c.look-third.ensures.rest second.far) (rw c.look-third.ensures.rest c.look-third.ensures.letter) (sym c.if-not-goes_on-3.ensures)
+
+pub returns-then-not-goes_on-4-clause-letters : goal.returns-then-not-goes_on-4-clause-letters
+returns-then-not-goes_on-4-clause-letters g c =
+    let first = step g.T.EncodingType.letter g.met.T.EncodingType.faithful g.S.Letters.class _ _ _ _ _ c.loop-here.invariant.far
+    c.look-first.ensures.letter c.if-not-goes_on.ensures c.look-first.ensures.rest c.advance.ensures.rest in
+    let second = step g.T.EncodingType.letter g.met.T.EncodingType.faithful g.S.Letters.class _ _ _ _ _ first.far
+    c.look-second.ensures.letter c.if-not-goes_on-2.ensures c.look-second.ensures.rest c.advance-then-remaining-ge4.ensures.rest in
+    let third = step g.T.EncodingType.letter g.met.T.EncodingType.faithful g.S.Letters.class _ _ _ _ _ second.far
+    c.look-third.ensures.letter c.if-not-goes_on-3.ensures c.look-third.ensures.rest c.advance-then-remaining-ge4-2.ensures.rest in
+    run_ends g.T.EncodingType.letter g.met.T.EncodingType.faithful g.S.Letters.class c.args.cursor.now c.look-fourth.new.self c.look-fourth.result
+    (rw c.look-fourth.ensures.rest third.far) (rw c.look-fourth.ensures.rest c.look-fourth.ensures.letter) (sym c.if-not-goes_on-4.ensures)
+
+pub returns-then-not-goes_on-5-clause-letters : goal.returns-then-not-goes_on-5-clause-letters
+returns-then-not-goes_on-5-clause-letters g c =
+    run_ends g.T.EncodingType.letter g.met.T.EncodingType.faithful g.S.Letters.class c.args.cursor.now c.look-last.new.self c.look-last.result
+    (rw c.look-last.ensures.rest c.loop-here.invariant.far) (rw c.look-last.ensures.rest c.look-last.ensures.letter) (sym c.if-not-goes_on-5.ensures)
+
+pub returns-then-not-goes_on-5-clause-stays : goal.returns-then-not-goes_on-5-clause-stays
+returns-then-not-goes_on-5-clause-stays g c =
+    stays g.T.EncodingType.letter c.look-last.new.self.rest c.look-last.result (rw c.look-last.ensures.rest c.look-last.ensures.letter)

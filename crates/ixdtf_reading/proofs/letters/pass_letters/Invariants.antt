@@ -3,13 +3,13 @@ use Rattle.std.proofs.Common.{◌+◌, ◌≤◌, length}
 use Rattle.ixdtf_reading.specs.reading.Runs.{within}
 use Rattle.ixdtf_reading.proofs.code.LetterLoops.{IsSoFar}
 
-abbrev pub invariant-loop-found : goal.invariant-loop-found
-invariant-loop-found g l = record {
+abbrev pub invariant-loop-here : goal.invariant-loop-here
+invariant-loop-here g l = record {
   far : IsSoFar (within g.S.Letters.class) g.T.EncodingType.letter tt l.fn.cursor.rest l.here.rest tt;
   looks : l.here.looks + length l.here.rest ≤ l.fn.cursor.looks + length l.fn.cursor.rest;
   counted : l.fn.cursor.looks ≤ l.here.looks;
   shorter : length l.here.rest ≤ length l.fn.cursor.rest;
 }
 
-abbrev pub decreases-loop-found : goal.decreases-loop-found
-decreases-loop-found g l = length l.here.rest
+abbrev pub decreases-loop-here : goal.decreases-loop-here
+decreases-loop-here g l = length l.here.rest
