@@ -10,15 +10,15 @@ ghost use Rattle.ixdtf_grammar.specs.language.Cores.{Core};
 ghost use Rattle.ixdtf_grammar.specs.language.Readers.{CoreKind};
 ghost use Rattle.ixdtf_grammar.specs.language.Readers.CoreKind.{date_time};
 ghost use Rattle.ixdtf_grammar.specs.table.LineNames.{LineName};
-ghost use Rattle.ixdtf_reading.specs.reading.Clauses.{GoesOn, Reads, Spends, SpendsOr, YieldsAt, core_in, KeepsBrackets, timed_core_at};
-ghost use Rattle.ixdtf_times.specs.TimeTypes.{after_date_time_at, open_time_of, opens_bracket};
+ghost use Rattle.ixdtf_reading.specs.reading.Clauses.{Reads, Spends, SpendsOr, YieldsAt, core_in, KeepsBrackets, timed_core_at};
+ghost use Rattle.ixdtf_times.specs.TimeTypes.{open_time_of, opens_bracket};
 ghost use Rattle.ixdtf_reading.specs.reading.Looks.{error_of};
 ghost use Rattle.ixdtf_reading.specs.reading.Times.{clock_at};
 ghost use Rattle.ixdtf_reading.specs.reading.Cores.{ClosedCore, core_end_at, offset_core_at, after_time_at, whole_time_core_at, after_date_at, unfronted, core_at};
 
 use ixdtf_grammar::encoding::EncodingType;
 use ixdtf_grammar::profile::Profile;
-use ixdtf_grammar::records::{IxdtfParseRecord, TimeRecord, UtcOffsetRecordOrZ};
+use ixdtf_grammar::records::{DateRecord, IxdtfParseRecord, TimeRecord, UtcOffsetRecordOrZ};
 use ixdtf_reading::cursor::Cursor;
 use ixdtf_reading::grammar::{
     is_annotation_open, is_ascii_sign, is_date_time_separator, is_time_designator,
@@ -31,7 +31,7 @@ use ixdtf_times::months::{
     parse_month_day_date, parse_month_day_parts, parse_year_month_date, parse_year_month_parts,
 };
 use ixdtf_times::offsets::{AfterCore, offset_from, take_fixed_offset};
-use ixdtf_times::time::{Clock, TimeShape, parse_after_second, parse_clock};
+use ixdtf_times::time::{Clock, TimeShape, WholeTime, parse_after_second, parse_clock};
 
 /// Reads cores of one kind. What reads whole texts is generic in it, so that no code tests the kind when it runs.
 pub trait CoreReader {
@@ -72,11 +72,7 @@ impl CoreReader for DateTimes {
         _profile: Profile,
         found: &mut IxdtfParseRecord<'a, T>,
     ) -> Result<AfterCore, Stop> {
-        let mut time = TimeRecord::default();
-        match parse_date_time(cursor, &mut time, found)? {
-            Some(_) => parse_after_time(cursor, time, found),
-            None => close_core(cursor),
-        }
+        parse_date_time(cursor, found)
     }
 }
 
@@ -157,41 +153,71 @@ impl CoreReader for Times {
 
 // ==== Dates and times ====
 
-/// Reads a date into the record, and a time where a separator follows, and returns how far the time was written.
+/// Reads a date, and a time and an offset where they stand, into the record.
 #[inline(always)]
-#[tactic(auto, unfolding(ixdtf_reading::specs::reading::Cores::date_time_readings))]
 fn parse_date_time<'a, T: EncodingType>(
     cursor: &mut Cursor<'a, T>,
-    time: &mut TimeRecord,
     found: &mut IxdtfParseRecord<'a, T>,
-) -> Result<Option<TimeShape>, Stop>
+) -> Result<AfterCore, Stop>
     requires no_time { found.old.time ≡ None }
     requires no_offset { found.old.offset ≡ None }
-    ensures date_time { GoesOn T.letter cursor.old result cursor.new
-        (core_at error_of date_time) (after_date_time_at found.new.date time.new) }
-    ensures time { found.new.time ≡ None }
-    ensures offset { found.new.offset ≡ None }
+    ensures core { Reads T.letter (λ after. (core_in found.new, opens_bracket after)) cursor.old result cursor.new
+        (core_at error_of date_time) }
     ensures kept { KeepsBrackets found.old found.new }
-    ensures looks { Spends (length cursor.old.rest + 22) cursor.old cursor.new }
+    ensures looks { Spends (length cursor.old.rest + 37) cursor.old cursor.new }
 {
     match take_fixed_date_time(cursor) {
-        Some((date, whole)) => {
-            found.date = Some(date);
-            let shape = parse_after_second(cursor, whole.hour, whole.minute, whole.second, time)?;
-            Ok(Some(shape))
+        Some((date, whole)) => parse_after_fixed(cursor, date, whole, found),
+        None => parse_date_by_parts(cursor, found),
+    }
+}
+
+/// Reads what follows a date and a time at their fixed places, which are in the record then.
+///
+/// Its time is a value of its own, and not that of other readers: what a call writes stands in memory, and a copy of bytes
+/// that were just written one by one waits for them.
+#[inline(always)]
+#[tactic(auto, unfolding(ixdtf_reading::specs::reading::Cores::whole_time_core_at))]
+fn parse_after_fixed<'a, T: EncodingType>(
+    cursor: &mut Cursor<'a, T>,
+    date: DateRecord,
+    whole: WholeTime,
+    found: &mut IxdtfParseRecord<'a, T>,
+) -> Result<AfterCore, Stop>
+    requires no_offset { found.old.offset ≡ None }
+    ensures core { Reads T.letter (λ after. (core_in found.new, opens_bracket after)) cursor.old result cursor.new
+        (whole_time_core_at error_of date whole.hour whole.minute whole.second) }
+    ensures kept { KeepsBrackets found.old found.new }
+    ensures looks { Spends 16 cursor.old cursor.new }
+{
+    found.date = Some(date);
+    let mut time = TimeRecord::default();
+    parse_after_second(cursor, whole.hour, whole.minute, whole.second, &mut time)?;
+    parse_after_time(cursor, time, found)
+}
+
+/// Reads a date part by part, and a time and an offset where a separator follows, into the record.
+#[inline(always)]
+#[tactic(auto, unfolding(ixdtf_reading::specs::reading::Cores::date_time_readings, ixdtf_reading::specs::reading::Clauses::timed_core_at))]
+fn parse_date_by_parts<'a, T: EncodingType>(
+    cursor: &mut Cursor<'a, T>,
+    found: &mut IxdtfParseRecord<'a, T>,
+) -> Result<AfterCore, Stop>
+    requires no_time { found.old.time ≡ None }
+    requires no_offset { found.old.offset ≡ None }
+    ensures core { Reads T.letter (λ after. (core_in found.new, opens_bracket after)) cursor.old result cursor.new
+        (core_at error_of date_time) }
+    ensures kept { KeepsBrackets found.old found.new }
+    ensures looks { Spends 37 cursor.old cursor.new }
+{
+    let date = parse_date(cursor)?;
+    found.date = Some(date);
+    match cursor.look()? {
+        Some(byte) if is_date_time_separator(byte) => {
+            cursor.advance();
+            parse_timed(cursor, found)
         }
-        None => {
-            let date = parse_date(cursor)?;
-            found.date = Some(date);
-            match cursor.look()? {
-                Some(byte) if is_date_time_separator(byte) => {
-                    cursor.advance();
-                    let shape = parse_time_of_day(cursor, time)?;
-                    Ok(Some(shape))
-                }
-                _ => Ok(None),
-            }
-        }
+        _ => close_core(cursor),
     }
 }
 
@@ -212,7 +238,7 @@ fn parse_timed<'a, T: EncodingType>(
     ensures looks { Spends 18 cursor.old cursor.new }
 {
     let mut time = TimeRecord::default();
-    parse_clock(cursor, Clock::Time, &mut time)?;
+    parse_time_of_day(cursor, &mut time)?;
     parse_after_time(cursor, time, found)
 }
 

@@ -4,7 +4,7 @@
 
 use crate::encoding::EncodingType;
 use crate::parsers::profile::Profile;
-use crate::records::{IxdtfParseRecord, TimeRecord, UtcOffsetRecordOrZ};
+use crate::records::{DateRecord, IxdtfParseRecord, TimeRecord, UtcOffsetRecordOrZ};
 use crate::cursor::Cursor;
 use crate::grammar::{
     is_annotation_open, is_ascii_sign, is_date_time_separator, is_time_designator,
@@ -17,7 +17,7 @@ use crate::parsers::months::{
     parse_month_day_date, parse_month_day_parts, parse_year_month_date, parse_year_month_parts,
 };
 use crate::parsers::offsets::{AfterCore, offset_from, take_fixed_offset};
-use crate::parsers::time::{Clock, TimeShape, parse_after_second, parse_clock};
+use crate::parsers::time::{Clock, TimeShape, WholeTime, parse_after_second, parse_clock};
 
 /// Reads cores of one kind. What reads whole texts is generic in it, so that no code tests the kind when it runs.
 pub trait CoreReader {
@@ -39,11 +39,7 @@ impl CoreReader for DateTimes {
         _profile: Profile,
         found: &mut IxdtfParseRecord<'a, T>,
     ) -> Result<AfterCore, Stop> {
-        let mut time = TimeRecord::default();
-        match parse_date_time(cursor, &mut time, found)? {
-            Some(_) => parse_after_time(cursor, time, found),
-            None => close_core(cursor),
-        }
+        parse_date_time(cursor, found)
     }
 }
 
@@ -106,31 +102,49 @@ impl CoreReader for Times {
 
 // ==== Dates and times ====
 
-/// Reads a date into the record, and a time where a separator follows, and returns how far the time was written.
+/// Reads a date, and a time and an offset where they stand, into the record.
 #[inline(always)]
 fn parse_date_time<'a, T: EncodingType>(
     cursor: &mut Cursor<'a, T>,
-    time: &mut TimeRecord,
     found: &mut IxdtfParseRecord<'a, T>,
-) -> Result<Option<TimeShape>, Stop> {
+) -> Result<AfterCore, Stop> {
     match take_fixed_date_time(cursor) {
-        Some((date, whole)) => {
-            found.date = Some(date);
-            let shape = parse_after_second(cursor, whole.hour, whole.minute, whole.second, time)?;
-            Ok(Some(shape))
+        Some((date, whole)) => parse_after_fixed(cursor, date, whole, found),
+        None => parse_date_by_parts(cursor, found),
+    }
+}
+
+/// Reads what follows a date and a time at their fixed places, which are in the record then.
+///
+/// Its time is a value of its own, and not that of other readers: what a call writes stands in memory, and a copy of bytes
+/// that were just written one by one waits for them.
+#[inline(always)]
+fn parse_after_fixed<'a, T: EncodingType>(
+    cursor: &mut Cursor<'a, T>,
+    date: DateRecord,
+    whole: WholeTime,
+    found: &mut IxdtfParseRecord<'a, T>,
+) -> Result<AfterCore, Stop> {
+    found.date = Some(date);
+    let mut time = TimeRecord::default();
+    parse_after_second(cursor, whole.hour, whole.minute, whole.second, &mut time)?;
+    parse_after_time(cursor, time, found)
+}
+
+/// Reads a date part by part, and a time and an offset where a separator follows, into the record.
+#[inline(always)]
+fn parse_date_by_parts<'a, T: EncodingType>(
+    cursor: &mut Cursor<'a, T>,
+    found: &mut IxdtfParseRecord<'a, T>,
+) -> Result<AfterCore, Stop> {
+    let date = parse_date(cursor)?;
+    found.date = Some(date);
+    match cursor.look()? {
+        Some(byte) if is_date_time_separator(byte) => {
+            cursor.advance();
+            parse_timed(cursor, found)
         }
-        None => {
-            let date = parse_date(cursor)?;
-            found.date = Some(date);
-            match cursor.look()? {
-                Some(byte) if is_date_time_separator(byte) => {
-                    cursor.advance();
-                    let shape = parse_time_of_day(cursor, time)?;
-                    Ok(Some(shape))
-                }
-                _ => Ok(None),
-            }
-        }
+        _ => close_core(cursor),
     }
 }
 
@@ -143,7 +157,7 @@ fn parse_timed<'a, T: EncodingType>(
     found: &mut IxdtfParseRecord<'a, T>,
 ) -> Result<AfterCore, Stop> {
     let mut time = TimeRecord::default();
-    parse_clock(cursor, Clock::Time, &mut time)?;
+    parse_time_of_day(cursor, &mut time)?;
     parse_after_time(cursor, time, found)
 }
 

@@ -1,14 +1,13 @@
 use Rattle.ixdtf.proofs.parsers.cores.parse_date_time.Goals as goal
-use Rattle.std.proofs.{Common.{◌∙◌, refl}, lemmas.Result.err_from_is_err_and}
-use Rattle.ixdtf_reading.specs.reading.Cores.{whole_time_core_at}
+use Rattle.ixdtf_reading.specs.reading.{Clauses.core_in, Looks.error_of, Cores.{date_time_core_at, whole_time_core_at}}
+use Rattle.ixdtf_times.specs.TimeTypes.{opens_bracket}
+use Rattle.ixdtf_reading.proofs.code.FixedPlaces.{reads_on}
 use Rattle.ixdtf.proofs.code.FixedCores.{fixed_core}
 
-pub returns-in_err-shape-in-Some-clause-date_time : goal.returns-in_err-shape-in-Some-clause-date_time
-unfolding whole_time_core_at
-returns-in_err-shape-in-Some-clause-date_time g c =
-    let p = err_from_is_err_and c.from_residual.result c.from_residual.ensures.1 in
-    rw (p.1, p.2) (fixed_core _ _ _ _ c.in-Some.ensures.at_place ∙ rw c.in_err-shape-in-Some.ensures.time refl)
-
-pub returns-in_ok-shape-in-Some-clause-date_time : goal.returns-in_ok-shape-in-Some-clause-date_time
-unfolding whole_time_core_at
-returns-in_ok-shape-in-Some-clause-date_time g c = fixed_core _ _ _ _ c.in-Some.ensures.at_place ∙ rw c.in_ok-shape-in-Some.ensures.time refl
+-- what follows the nineteen places is read as the whole is
+pub returns-in-Some-clause-core : goal.returns-in-Some-clause-core
+returns-in-Some-clause-core g c =
+    reads_on g.T.EncodingType.letter (λ after. (core_in c.parse_after_fixed.new.found, opens_bracket after)) c.args.cursor.now c.take_fixed_date_time.new.cursor
+    c.parse_after_fixed.new.cursor c.parse_after_fixed.result (date_time_core_at error_of)
+    (whole_time_core_at error_of c.in-Some.date c.in-Some.whole.hour c.in-Some.whole.minute c.in-Some.whole.second)
+    (fixed_core _ _ _ _ c.in-Some.ensures.at_place) c.parse_after_fixed.ensures.core
