@@ -1,6 +1,6 @@
 -- One text put after another.
-use Rattle.std.proofs.Common.{ℕ, suc, ◌+◌, ◌<◌, ◌≤◌, ◌≡◌, List, [], ◌∷◌, ◌++◌, map, length, take, drop, set, get_or, refl, sym, ◌∙◌, ap, arith, add-one}
-use Rattle.std.proofs.{Common.append_assoc, Math.Seq.{take-append_seam, take-suc}, lemmas.List.{length-append, length-map, map-append, length-take-le}}
+use Rattle.std.proofs.Common.{ℕ, suc, ◌+◌, ◌≤◌, ◌≡◌, List, [], ◌∷◌, ◌++◌, map, length, take, drop, set, refl, sym, ◌∙◌, ap, arith, add-one}
+use Rattle.std.proofs.{Common.append_assoc, Math.Seq.{take-append_seam}, lemmas.List.{length-append, length-map, map-append, length-take-le}}
 use Rattle.std.proofs.lemmas.List.{drop_at, set_split, take-append-drop, take-append-le, take-take, length-drop, drop-drop}
 use Rattle.ixdtf.specs.language.Letters.{Letter, Text, Letter.Plain}
 use Rattle.ixdtf_print.specs.Puts.{HasRoom, Puts}
@@ -78,28 +78,56 @@ puts_nothing out at = record {
   ends = omega arith;
 }
 
--- ---- one byte behind what was put
+-- ---- bytes put in pieces
 
-pub puts_one_more : {old mid new : List ℕ} {from between to : ℕ} (bytes : List ℕ) (i d : ℕ) → HasRoom old from (map Plain bytes) → i < length bytes
-    → Puts old mid from between (map Plain (take i bytes)) → Puts mid new between to (Plain (get_or bytes i d) ∷ [])
-    → Puts old new from to (map Plain (take (i + 1) bytes))
-puts_one_more {old = old} {mid = mid} {new = new} {from = from} {between = between} {to = to} bytes i d room more p q =
+letters_split : (bytes front back : List ℕ) → bytes ≡ front ++ back → map Plain bytes ≡ map Plain front ++ map Plain back
+letters_split bytes front back e =
     let spell : ℕ → Letter = λ n. Plain n in
-    let so_far : List ℕ = take i bytes in
-    let longer : map spell (take (i + 1) bytes) ≡ map spell so_far ++ (Plain (get_or bytes i d) ∷ []) =
-    rw (add-one, take-suc bytes i d more) (map-append spell so_far (get_or bytes i d ∷ [])) in
-    let inside : HasRoom old from (map spell so_far ++ (Plain (get_or bytes i d) ∷ [])) = record {
-      room = omega (
-        arith,
-        room.room,
-        more,
-        length-map bytes spell,
-        length-map so_far spell,
-        length-take-le i bytes (omega (arith, more)),
-        length-append (map spell so_far) (Plain (get_or bytes i d) ∷ []),
-      );
-    } in
-    rw longer (puts_then inside p q)
+    ap (map spell) e ∙ map-append spell front back
+
+pieces : (n : ℕ) (bytes front back : List ℕ) → front ≡ take n bytes → back ≡ drop n bytes → bytes ≡ front ++ back
+pieces n bytes front back f b = sym (take-append-drop n bytes) ∙ rw (f, b) refl
+
+-- the first bytes were put, and then the others
+pub puts_pieces : {old mid new : List ℕ} {from between to : ℕ} (n : ℕ) (bytes front back : List ℕ) → front ≡ take n bytes → back ≡ drop n bytes
+    → HasRoom old from (map Plain bytes) → Puts old mid from between (map Plain front) → Puts mid new between to (map Plain back)
+    → Puts old new from to (map Plain bytes)
+puts_pieces n bytes front back f b room p q =
+    let e = letters_split bytes front back (pieces n bytes front back f b) in
+    rw e (puts_then (rw e at room) p q)
+
+-- all of the bytes were put but the last ones
+pub record PutSoFar (old new : List ℕ) (from to : ℕ) (bytes rest : List ℕ) : Type 0 where
+  pub done : List ℕ
+  pub whole : bytes ≡ done ++ rest
+  pub puts : Puts old new from to (map Plain done)
+
+pub none_so_far : (out bytes : List ℕ) (at : ℕ) → PutSoFar out out at at bytes bytes
+none_so_far out bytes at = record { done = []; whole = refl; puts = puts_nothing out at }
+
+module _ {old mid : List ℕ} {from between : ℕ} {bytes rest : List ℕ} where
+  pub room_so_far : HasRoom old from (map Plain bytes) → PutSoFar old mid from between bytes rest → HasRoom mid between (map Plain rest)
+  room_so_far room s = room_then s.puts (rw (letters_split bytes s.done rest s.whole) at room)
+
+module _ {old mid new : List ℕ} {from between to : ℕ} {bytes rest : List ℕ} where
+  pub further : (n : ℕ) (front back : List ℕ) → front ≡ take n rest → back ≡ drop n rest → HasRoom old from (map Plain bytes)
+      → PutSoFar old mid from between bytes rest → Puts mid new between to (map Plain front) → PutSoFar old new from to bytes back
+  further n front back f b room s p =
+      let spell : ℕ → Letter = λ n. Plain n in
+      let whole : bytes ≡ (s.done ++ front) ++ back = s.whole ∙ ap (λ l. s.done ++ l) (pieces n rest front back f b) ∙ sym (append_assoc s.done front back) in
+      let both = map-append spell s.done front in
+      let enough : HasRoom old from (map spell (s.done ++ front)) = room_first _ (rw (letters_split bytes (s.done ++ front) back whole) at room) in
+      record {
+        done = s.done ++ front;
+        whole = whole;
+        puts = rw both (puts_then (rw both at enough) s.puts p);
+      }
+
+  pub then_rest : HasRoom old from (map Plain bytes) → PutSoFar old mid from between bytes rest → Puts mid new between to (map Plain rest)
+      → Puts old new from to (map Plain bytes)
+  then_rest room s p =
+      let e = letters_split bytes s.done rest s.whole in
+      rw e (puts_then (rw e at room) s.puts p)
 
 -- ---- one byte in front of what was put
 

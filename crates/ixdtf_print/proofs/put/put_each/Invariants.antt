@@ -1,8 +1,10 @@
 use Rattle.ixdtf_print.proofs.put.put_each.Given as goal
-use Rattle.std.proofs.Common.{map, take}
-use Rattle.ixdtf.specs.language.Letters.Letter.{Plain}
-use Rattle.ixdtf_print.specs.Puts.{Puts}
+use Rattle.std.proofs.Common.{length}
+use Rattle.ixdtf_print.proofs.code.PutBytes.{PutSoFar}
 
--- those so far were put
-abbrev pub invariant-loop-byte : goal.invariant-loop-byte
-invariant-loop-byte l = Puts l.fn.out l.out l.at l.place (map Plain (take l.byte-index l.bytes))
+-- those before the rest were put
+abbrev pub invariant-loop-front : goal.invariant-loop-front
+invariant-loop-front l = PutSoFar l.fn.out l.out l.at l.place l.bytes l.rest
+
+abbrev pub decreases-loop-front : goal.decreases-loop-front
+decreases-loop-front l = length l.rest
