@@ -1,10 +1,94 @@
 //! Digits put into a slice.
+ghost use Rattle.std.specs.Prelude.{◌≡◌, ◌+◌, ◌/◌, ◌%◌, ◌≤◌};
 ghost use Rattle.ixdtf.specs.language.Digits.{padded_digits};
 ghost use Rattle.ixdtf_print.specs.Canonical.{fraction_text};
 ghost use Rattle.ixdtf_print.specs.Puts.{HasRoom, Puts};
 
-use crate::put::{put_byte, set_byte};
+use crate::put::{put, put_byte, set_byte};
 use ixdtf::records::Fraction;
+
+// Of each byte the digit of its tens and that of its ones, as they are written. It is one table, so that one address is enough
+// for both: a look-up takes fewer instructions than the divisions.
+struct WrittenDigits {
+    tens: [u8; 256],
+    ones: [u8; 256],
+}
+
+#[rattlefmt::skip]
+static WRITTEN_DIGITS: WrittenDigits = WrittenDigits {
+    tens: [
+        48, 48, 48, 48, 48, 48, 48, 48, 48, 48, 49, 49, 49, 49, 49, 49,
+        49, 49, 49, 49, 50, 50, 50, 50, 50, 50, 50, 50, 50, 50, 51, 51,
+        51, 51, 51, 51, 51, 51, 51, 51, 52, 52, 52, 52, 52, 52, 52, 52,
+        52, 52, 53, 53, 53, 53, 53, 53, 53, 53, 53, 53, 54, 54, 54, 54,
+        54, 54, 54, 54, 54, 54, 55, 55, 55, 55, 55, 55, 55, 55, 55, 55,
+        56, 56, 56, 56, 56, 56, 56, 56, 56, 56, 57, 57, 57, 57, 57, 57,
+        57, 57, 57, 57, 48, 48, 48, 48, 48, 48, 48, 48, 48, 48, 49, 49,
+        49, 49, 49, 49, 49, 49, 49, 49, 50, 50, 50, 50, 50, 50, 50, 50,
+        50, 50, 51, 51, 51, 51, 51, 51, 51, 51, 51, 51, 52, 52, 52, 52,
+        52, 52, 52, 52, 52, 52, 53, 53, 53, 53, 53, 53, 53, 53, 53, 53,
+        54, 54, 54, 54, 54, 54, 54, 54, 54, 54, 55, 55, 55, 55, 55, 55,
+        55, 55, 55, 55, 56, 56, 56, 56, 56, 56, 56, 56, 56, 56, 57, 57,
+        57, 57, 57, 57, 57, 57, 57, 57, 48, 48, 48, 48, 48, 48, 48, 48,
+        48, 48, 49, 49, 49, 49, 49, 49, 49, 49, 49, 49, 50, 50, 50, 50,
+        50, 50, 50, 50, 50, 50, 51, 51, 51, 51, 51, 51, 51, 51, 51, 51,
+        52, 52, 52, 52, 52, 52, 52, 52, 52, 52, 53, 53, 53, 53, 53, 53,
+    ],
+    ones: [
+        48, 49, 50, 51, 52, 53, 54, 55, 56, 57, 48, 49, 50, 51, 52, 53,
+        54, 55, 56, 57, 48, 49, 50, 51, 52, 53, 54, 55, 56, 57, 48, 49,
+        50, 51, 52, 53, 54, 55, 56, 57, 48, 49, 50, 51, 52, 53, 54, 55,
+        56, 57, 48, 49, 50, 51, 52, 53, 54, 55, 56, 57, 48, 49, 50, 51,
+        52, 53, 54, 55, 56, 57, 48, 49, 50, 51, 52, 53, 54, 55, 56, 57,
+        48, 49, 50, 51, 52, 53, 54, 55, 56, 57, 48, 49, 50, 51, 52, 53,
+        54, 55, 56, 57, 48, 49, 50, 51, 52, 53, 54, 55, 56, 57, 48, 49,
+        50, 51, 52, 53, 54, 55, 56, 57, 48, 49, 50, 51, 52, 53, 54, 55,
+        56, 57, 48, 49, 50, 51, 52, 53, 54, 55, 56, 57, 48, 49, 50, 51,
+        52, 53, 54, 55, 56, 57, 48, 49, 50, 51, 52, 53, 54, 55, 56, 57,
+        48, 49, 50, 51, 52, 53, 54, 55, 56, 57, 48, 49, 50, 51, 52, 53,
+        54, 55, 56, 57, 48, 49, 50, 51, 52, 53, 54, 55, 56, 57, 48, 49,
+        50, 51, 52, 53, 54, 55, 56, 57, 48, 49, 50, 51, 52, 53, 54, 55,
+        56, 57, 48, 49, 50, 51, 52, 53, 54, 55, 56, 57, 48, 49, 50, 51,
+        52, 53, 54, 55, 56, 57, 48, 49, 50, 51, 52, 53, 54, 55, 56, 57,
+        48, 49, 50, 51, 52, 53, 54, 55, 56, 57, 48, 49, 50, 51, 52, 53,
+    ],
+};
+
+/// The digit of the tens.
+#[inline(always)]
+pub fn tens_of(number: u8) -> u8
+    ensures { result ≡ 48 + number / 10 % 10 }
+{
+    WRITTEN_DIGITS.tens[number as usize]
+}
+
+/// The digit of the ones.
+#[inline(always)]
+pub fn ones_of(number: u8) -> u8
+    ensures { result ≡ 48 + number % 10 }
+{
+    WRITTEN_DIGITS.ones[number as usize]
+}
+
+/// Puts a number of four digits at the place, and returns the place behind them.
+pub fn put_four(out: &mut [u8], at: usize, number: u64) -> usize
+    requires room { HasRoom out.old at (padded_digits 4 number) }
+    requires small { number ≤ 9999 }
+    ensures { Puts out.old out.new at result (padded_digits 4 number) }
+{
+    let hundreds = (number / 100) as u8;
+    let rest = (number % 100) as u8;
+    put(
+        out,
+        at,
+        &[
+            tens_of(hundreds),
+            ones_of(hundreds),
+            tens_of(rest),
+            ones_of(rest),
+        ],
+    )
+}
 
 /// Puts so many digits of the number at the place, with leading zeros, and returns the place behind them.
 ///

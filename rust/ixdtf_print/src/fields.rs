@@ -2,8 +2,8 @@
 
 //! The fields of a record put into a slice.
 
-use crate::digits::{put_digits, put_fraction};
-use crate::put::{put, put_byte, put_each, put_marked};
+use crate::digits::{ones_of, put_digits, put_four, put_fraction, tens_of};
+use crate::put::{put, put_byte, put_each};
 use ixdtf::encoding::Utf8;
 use ixdtf::records::{
     DateRecord, Fraction, IxdtfParseRecord, MinutePrecisionOffset, Sign, TimeRecord,
@@ -23,7 +23,7 @@ fn put_year(out: &mut [u8], at: usize, date: DateRecord) -> usize {
         return put_digits(out, digits, 6, distance);
     }
     if distance <= 9999 {
-        return put_digits(out, at, 4, distance);
+        return put_four(out, at, distance);
     }
     let digits = put_byte(out, at, b'+');
     put_digits(out, digits, 6, distance)
@@ -32,8 +32,23 @@ fn put_year(out: &mut [u8], at: usize, date: DateRecord) -> usize {
 /// Puts the date at the place, and returns the place behind it.
 fn put_date(out: &mut [u8], at: usize, date: DateRecord) -> usize {
     let after_year = put_year(out, at, date);
-    let after_month = put_marked(out, after_year, b'-', date.month);
-    put_marked(out, after_month, b'-', date.day)
+    put_days(out, after_year, date.month, date.day)
+}
+
+/// Puts a month and a day at the place, each behind its mark, and returns the place behind them.
+fn put_days(out: &mut [u8], at: usize, month: u8, day: u8) -> usize {
+    put(
+        out,
+        at,
+        &[
+            b'-',
+            tens_of(month),
+            ones_of(month),
+            b'-',
+            tens_of(day),
+            ones_of(day),
+        ],
+    )
 }
 
 /// Puts the date at the place, where there is one, and returns the place behind it.
@@ -46,8 +61,37 @@ fn put_optional_date(out: &mut [u8], at: usize, date: Option<DateRecord>) -> usi
 
 /// Puts a mark, an hour and a minute at the place, and returns the place behind them.
 fn put_minutes(out: &mut [u8], at: usize, mark: u8, hour: u8, minute: u8) -> usize {
-    let colon = put_marked(out, at, mark, hour);
-    put_marked(out, colon, b':', minute)
+    put(
+        out,
+        at,
+        &[
+            mark,
+            tens_of(hour),
+            ones_of(hour),
+            b':',
+            tens_of(minute),
+            ones_of(minute),
+        ],
+    )
+}
+
+/// Puts a mark, an hour, a minute and a second at the place, and returns the place behind them.
+fn put_seconds(out: &mut [u8], at: usize, mark: u8, hour: u8, minute: u8, second: u8) -> usize {
+    put(
+        out,
+        at,
+        &[
+            mark,
+            tens_of(hour),
+            ones_of(hour),
+            b':',
+            tens_of(minute),
+            ones_of(minute),
+            b':',
+            tens_of(second),
+            ones_of(second),
+        ],
+    )
 }
 
 /// Puts a mark and a clock at the place, and returns the place behind them.
@@ -60,8 +104,7 @@ fn put_clock(
     second: u8,
     fraction: Option<Fraction>,
 ) -> usize {
-    let colon = put_minutes(out, at, mark, hour, minute);
-    let point = put_marked(out, colon, b':', second);
+    let point = put_seconds(out, at, mark, hour, minute, second);
     put_fraction(out, point, fraction)
 }
 

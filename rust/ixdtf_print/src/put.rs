@@ -89,12 +89,3 @@ pub fn set_byte(out: &mut [u8], at: usize, byte: u8) {
         out[at] = byte;
     }
 }
-
-/// Puts a mark and a number of two digits at the place, and returns the place behind them.
-pub fn put_marked(out: &mut [u8], at: usize, mark: u8, number: u8) -> usize {
-    put(
-        out,
-        at,
-        &[mark, b'0' + number / 10 % 10, b'0' + number % 10],
-    )
-}

@@ -1,9 +1,9 @@
 -- Digits of a number.
-use Rattle.std.proofs.Common.{ℕ, zero, suc, ◌+◌, ◌%◌, ◌/◌, ◌^◌, ◌<◌, ◌≤◌, ◌≡◌, IsTrue, [], ◌∷◌, ◌++◌, replicate, min, ◌-◌, Option, Some, append_assoc, refl}
+use Rattle.std.proofs.Common.{ℕ, zero, suc, ◌+◌, ◌%◌, ◌/◌, ◌^◌, ◌<◌, ◌≤◌, ◌≡◌, IsTrue, [], ◌∷◌, ◌++◌, replicate, min, ◌-◌, Some, refl}
 use Rattle.std.proofs.{Common.{sym, arith}, lemmas.Bool.Decides.nat_tests, Math.Nat.{div-one, zero-div}}
 use Rattle.ixdtf.specs.language.{Letters.{Text, digit, Letter.Plain}, Shapes.digits, Digits.{padded_digits, TwoDigits, UpTo}, Fractions.FractionParts}
 use Rattle.ixdtf_grammar.proofs.PaddedDigits.{decimal-whole}
-use Rattle.ixdtf_print.specs.Canonical.{two_digits, minutes_text, seconds_text, clock_text, fraction_digits, fraction_text}
+use Rattle.ixdtf_print.specs.Canonical.{two_digits, fraction_digits, fraction_text}
 
 is_digit : (n : ℕ) → IsTrue (digit (48 + n % 10))
 is_digit n = grind (arith, nat_tests)
@@ -39,13 +39,12 @@ padded_zero (suc count) = rw (zero-div, padded_zero count) refl
 
 -- ---- two digits, as they are written
 
-pub two_is : (number : ℕ) → two_digits number ≡ Plain (48 + number / 10 % 10) ∷ (Plain (48 + number % 10) ∷ [])
+two_is : (number : ℕ) → two_digits number ≡ Plain (48 + number / 10 % 10) ∷ (Plain (48 + number % 10) ∷ [])
 unfolding two_digits
 two_is number = rw div-one refl
 
-pub clock_split : (h m s : ℕ) (part : Option FractionParts) → clock_text h m s part ≡ minutes_text h m ++ ((Plain 58 ∷ two_digits s) ++ fraction_text part)
-unfolding clock_text seconds_text minutes_text
-clock_split h m s part = simp append_assoc
+pub two_written : (number tens ones : ℕ) → tens ≡ 48 + number / 10 % 10 → ones ≡ 48 + number % 10 → two_digits number ≡ Plain tens ∷ (Plain ones ∷ [])
+two_written number tens ones t o = rw (t, o) (two_is number)
 
 pub fraction_is : (fraction : FractionParts) → fraction_text (Some fraction)
     ≡ (Plain 46 ∷ []) ++ (padded_digits (min fraction.count 18) fraction.value ++ padded_digits (fraction.count - 18) 0)
