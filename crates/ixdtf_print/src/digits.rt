@@ -90,7 +90,8 @@ pub fn put_four(out: &mut [u8], at: usize, number: u64) -> usize
     )
 }
 
-/// Puts so many digits of the number at the place, with leading zeros, and returns the place behind them.
+/// Puts so many digits of the number at the place, with leading zeros, and returns the place behind them: two at a time, the
+/// last ones first.
 ///
 /// It is a call of its own, since of a loop that puts zeros alone a compiler would make a call of `memset`, and the library
 /// for C calls nothing.
@@ -103,11 +104,17 @@ pub fn put_digits(out: &mut [u8], at: usize, count: usize, number: u64) -> usize
     let end = at + count;
     let mut place = end;
     let mut left = number;
-    while place > at {
-        place -= 1;
-        set_byte(out, place, b'0' + (left % 10) as u8);
-        left /= 10;
+    while place - at >= 2 {
+        let pair = (left % 100) as u8;
+        set_byte(out, place - 1, ones_of(pair));
+        set_byte(out, place - 2, tens_of(pair));
+        place -= 2;
+        left /= 100;
     }
+    if place == at {
+        return end;
+    }
+    set_byte(out, at, b'0' + (left % 10) as u8);
     end
 }
 

@@ -70,4 +70,23 @@ module _ {old new : List ℕ} {from place to left count number : ℕ} where
       let none : place - from ≡ 0 = omega arith in
       subst (Puts old new from to) (ap (λ k. padded_digits k left ++ d.done) (sym none) ∙ d.whole) (subst (λ k. Puts old new k to d.done) here d.puts)
 
-pub ruleset digit_steps = (length-padded, next_digit)
+-- two digits at once
+pub next_pair : {old new : List ℕ} {from place to left count number : ℕ} (pair here rest tens ones : ℕ) → HasRoom old from (padded_digits count number)
+    → 2 ≤ place - from → pair ≡ left % 100 → tens ≡ 48 + pair / 10 % 10 → ones ≡ 48 + pair % 10 → here ≡ place - 2 → rest ≡ left / 100
+    → LastDigits old new from place to left count number → LastDigits old (set (set new (place - 1) ones) here tens) from here to rest count number
+next_pair {place = place} {left = left} pair here rest tens ones room more p t o h r d =
+    let last : ones ≡ 48 + left % 10 = omega arith in
+    let first : tens ≡ 48 + left / 10 % 10 = omega arith in
+    let before : here ≡ place - 1 - 1 = omega arith in
+    let hundredth : rest ≡ left / 10 / 10 = omega arith in
+    rw (last, first, before, hundredth) (next_digit room (omega arith) (next_digit room (omega arith) d))
+
+-- the first digit, where their number is odd
+pub first_digit : {old new : List ℕ} {from place to left count number : ℕ} → HasRoom old from (padded_digits count number) → place ≡ from + 1
+    → LastDigits old new from place to left count number → Puts old (set new from (48 + left % 10)) from to (padded_digits count number)
+first_digit {old = old} {new = new} {from = from} {place = place} {to = to} {left = left} {count = count} {number = number} room e d =
+    let before : place - 1 ≡ from = omega arith in
+    let all : LastDigits old (set new (place - 1) (48 + left % 10)) from (place - 1) to (left / 10) count number = next_digit room (omega arith) d in
+    subst (λ k. Puts old (set new k (48 + left % 10)) from to (padded_digits count number)) before (all_digits (omega arith) all)
+
+pub ruleset digit_steps = (length-padded, inside_room)
