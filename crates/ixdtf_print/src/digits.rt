@@ -129,5 +129,9 @@ pub fn put_fraction(out: &mut [u8], at: usize, fraction: Option<Fraction>) -> us
     let count = usize::from(fraction.digit_count());
     let value = put_byte(out, at, b'.');
     let zeros = put_digits(out, value, count.min(18), fraction.leading_value());
+    // Mostly no zeros follow.
+    if count <= 18 {
+        return zeros;
+    }
     put_digits(out, zeros, count.saturating_sub(18), 0)
 }

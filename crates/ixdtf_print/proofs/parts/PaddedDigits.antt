@@ -1,6 +1,6 @@
 -- Digits of a number.
 use Rattle.std.proofs.Common.{ℕ, zero, suc, ◌+◌, ◌%◌, ◌/◌, ◌^◌, ◌<◌, ◌≤◌, ◌≡◌, IsTrue, [], ◌∷◌, ◌++◌, replicate, min, ◌-◌, Some, refl}
-use Rattle.std.proofs.{Common.{sym, arith}, lemmas.Bool.Decides.nat_tests, Math.Nat.{div-one, zero-div}}
+use Rattle.std.proofs.{Common.{sym, arith, append-nil, ◌∙◌}, lemmas.Bool.Decides.nat_tests, Math.Nat.{div-one, zero-div}}
 use Rattle.ixdtf.specs.language.{Letters.{Text, digit, Letter.Plain}, Shapes.digits, Digits.{padded_digits, TwoDigits, UpTo}, Fractions.FractionParts}
 use Rattle.ixdtf_grammar.proofs.PaddedDigits.{decimal-whole}
 use Rattle.ixdtf_print.specs.Canonical.{two_digits, fraction_digits, fraction_text}
@@ -50,3 +50,10 @@ pub fraction_is : (fraction : FractionParts) → fraction_text (Some fraction)
     ≡ (Plain 46 ∷ []) ++ (padded_digits (min fraction.count 18) fraction.value ++ padded_digits (fraction.count - 18) 0)
 unfolding fraction_digits
 fraction_is fraction = rw (padded_zero (fraction.count - 18)) refl
+
+-- of at most 18 digits none follow the value
+pub few_digits_are : (fraction : FractionParts) → fraction.count ≤ 18 → fraction_text (Some fraction)
+    ≡ (Plain 46 ∷ []) ++ padded_digits (min fraction.count 18) fraction.value
+few_digits_are fraction few =
+    let none : fraction.count - 18 ≡ 0 = omega arith in
+    fraction_is fraction ∙ rw (none, append-nil (padded_digits (min fraction.count 18) fraction.value)) refl
