@@ -1,7 +1,6 @@
 -- One byte more of a value.
 use Rattle.std.proofs.Common.{ℕ, ◌+◌, ◌<◌, ◌≤◌, ◌≡◌, ◌≢◌, ◌↔◌, ◌⊎◌, inl, inr, IsTrue, IsFalse, Bool, true, false, cond, ◌&&◌, List, [], ◌∷◌, map, drop}
-use Rattle.std.proofs.{Common.{get_or, length, refl, sym, ◌∙◌, ap, arith, add-one, subst}, Math.Seq.drop-cons, lemmas.{List.drop_all, Bool.Decides.nat_tests}}
-use Rattle.std.specs.Char.{is_ascii_alphanumeric}
+use Rattle.std.proofs.{Common.{get_or, length, refl, ◌∙◌, ap, arith, add-one, subst}, Math.Seq.drop-cons, lemmas.{List.drop_all, Bool.Decides.nat_tests}}
 use Rattle.ixdtf.specs.language.{Letters.{Text, hyphen, value_char, Letter.Plain}, Brackets.Value}
 use Rattle.ixdtf_print.proofs.code.ValueTest.{goes_as_value, value_test}
 
@@ -20,18 +19,15 @@ here in_run bytes i h =
     let e : drop i bytes ≡ get_or bytes i 0 ∷ drop (i + 1) bytes = rw add-one (drop-cons bytes i 0 h) in
     ap (λ t. goes_as_value in_run (map Plain t)) e ∙ opened in_run (get_or bytes i 0) (map Plain (drop (i + 1) bytes))
 
-same_class : (c : ℕ) → is_ascii_alphanumeric c ≡ value_char c
-same_class c = grind (arith, nat_tests)
-
-pub over_alphanumeric : (in_run : Bool) (bytes : List ℕ) (i : ℕ) → i < length bytes → is_ascii_alphanumeric (get_or bytes i 0) ≡ true
+pub over_value_byte : (in_run : Bool) (bytes : List ℕ) (i : ℕ) → i < length bytes → value_char (get_or bytes i 0) ≡ true
     → from_place in_run bytes i ≡ from_place true bytes (i + 1)
-over_alphanumeric in_run bytes i h t = here in_run bytes i h ∙ rw (sym (same_class (get_or bytes i 0)) ∙ t) refl
+over_value_byte in_run bytes i h t = here in_run bytes i h ∙ rw t refl
 
-pub over_mark : (in_run : Bool) (bytes : List ℕ) (i : ℕ) → i < length bytes → is_ascii_alphanumeric (get_or bytes i 0) ≡ false → get_or bytes i 0 ≡ 45
+pub over_mark : (in_run : Bool) (bytes : List ℕ) (i : ℕ) → i < length bytes → value_char (get_or bytes i 0) ≡ false → get_or bytes i 0 ≡ 45
     → in_run ≡ true → from_place in_run bytes i ≡ from_place false bytes (i + 1)
 over_mark in_run bytes i h t e r =
     let mark : hyphen (get_or bytes i 0) ≡ true = rw e refl in
-    here in_run bytes i h ∙ rw (sym (same_class (get_or bytes i 0)) ∙ t, mark, r) refl
+    here in_run bytes i h ∙ rw (t, mark, r) refl
 
 not_both : (a b : Bool) → ((IsFalse a) ⊎ (b ≡ false)) → (a && b) ≡ false
 not_both true b (inl h) = absurd cc
@@ -39,12 +35,12 @@ not_both true b (inr h) = h
 not_both false b h = refl
 
 pub value_refused : (in_run : Bool) (bytes : List ℕ) (i : ℕ) → from_place false bytes 0 ≡ from_place in_run bytes i → i < length bytes
-    → is_ascii_alphanumeric (get_or bytes i 0) ≡ false
+    → value_char (get_or bytes i 0) ≡ false
     → ((get_or bytes i 0 ≢ 45) ⊎ (in_run ≡ false)) → IsTrue false ↔ Value (map Plain bytes)
 value_refused in_run bytes i all h t other =
     let neither : (IsFalse (hyphen (get_or bytes i 0))) ⊎ (in_run ≡ false) = elim other [ inl ne ↦ inl (grind (arith, nat_tests, ne)) | inr r ↦ inr r ] in
     let none : (hyphen (get_or bytes i 0) && in_run) ≡ false = not_both (hyphen (get_or bytes i 0)) in_run neither in
-    let refused : goes_as_value false (map Plain bytes) ≡ false = all ∙ here in_run bytes i h ∙ rw (sym (same_class (get_or bytes i 0)) ∙ t, none) refl in
+    let refused : goes_as_value false (map Plain bytes) ≡ false = all ∙ here in_run bytes i h ∙ rw (t, none) refl in
     subst (λ b. IsTrue b ↔ Value (map Plain bytes)) refused (value_test (map Plain bytes))
 
 at_end : (in_run : Bool) → goes_as_value in_run [] ≡ in_run
