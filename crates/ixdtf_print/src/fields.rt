@@ -215,6 +215,17 @@ pub fn opening_of(critical: bool) -> &'static [u8]
     }
 }
 
+/// Puts what stands before a zone at the place, and returns the place behind it: one byte or two, at once.
+fn put_opening(out: &mut [u8], at: usize, critical: bool) -> usize
+    requires { HasRoom out.old at (opening_text critical) }
+    ensures { Puts out.old out.new at result (opening_text critical) }
+{
+    if critical {
+        return put(out, at, b"[!");
+    }
+    put(out, at, b"[")
+}
+
 /// Puts the zone at the place, and returns the place behind it.
 fn put_zone(out: &mut [u8], at: usize, zone: &TimeZoneRecord<'_, Utf8>) -> usize
     requires { HasRoom out.old at (zone_text (zone_of (λ byte. byte) zone.now)) }
@@ -236,7 +247,7 @@ fn put_bracket(out: &mut [u8], at: usize, note: &Option<TimeZoneAnnotation<'_, U
     match note {
         None => at,
         Some(note) => {
-            let inside = put_each(out, at, opening_of(note.critical));
+            let inside = put_opening(out, at, note.critical);
             let end = put_zone(out, inside, &note.tz);
             put_byte(out, end, b']')
         }
