@@ -1,7 +1,7 @@
 //! How long the text of a record is.
 #![tactic(auto, using(crate::proofs::code::CanonicalLengths::lengths))]
 
-ghost use Rattle.std.specs.Prelude.{◌≡◌, ◌↔◌, ◌<◌, ◌≤◌, ◌^◌, length, map, option_map, IfSome, OnSome, None};
+ghost use Rattle.std.specs.Prelude.{◌≡◌, ◌↔◌, ◌+◌, ◌<◌, ◌≤◌, ◌^◌, IsTrue, length, map, option_map, IfSome, OnSome, None};
 ghost use Rattle.ixdtf.specs.Views.{note_of, zone_of};
 ghost use Rattle.ixdtf_print.specs.Printable.{IsPrintable, record_of};
 ghost use Rattle.ixdtf_print.specs.Canonical.{fraction_text, time_text, offset_text, zone_text, bracket_text, calendar_text};
@@ -121,6 +121,56 @@ pub fn length_of(parsed: &IxdtfParseRecord<'_, Utf8>) -> u128
     ensures { result ≡ length (canonical_text (record_of parsed.now)) }
 {
     u128::from(core_length(parsed)) + bracket_length(&parsed.tz) + calendar_length(parsed.calendar)
+}
+
+/// Whether so many bytes are plenty for the canonical text, as they are where they are more than 560 and each name takes less
+/// than half of the others. It is true only where the text fits, and saves a count of each part.
+#[inline(always)]
+pub fn has_plenty(parsed: &IxdtfParseRecord<'_, Utf8>, room: usize) -> bool
+    ensures { IsTrue result → length (canonical_text (record_of parsed.now)) ≤ room }
+{
+    // Its bound alone is used: a compiler leaves the count out.
+    let _core = core_length(parsed);
+    if room < 560 {
+        return false;
+    }
+    let half = (room - 560) / 2;
+    is_short_bracket(&parsed.tz, half) && is_short_calendar(parsed.calendar, half)
+}
+
+/// Whether a bracket of a zone takes at most nine bytes besides so many.
+#[inline(always)]
+fn is_short_bracket(note: &Option<TimeZoneAnnotation<'_, Utf8>>, most: usize) -> bool
+    ensures { IsTrue result →
+        length (bracket_text (option_map (note_of (λ byte. byte)) note.now)) ≤ most + 9 }
+{
+    match note {
+        None => true,
+        Some(note) => is_short_zone(&note.tz, most),
+    }
+}
+
+/// Whether a zone takes at most six bytes besides so many.
+#[inline(always)]
+fn is_short_zone(zone: &TimeZoneRecord<'_, Utf8>, most: usize) -> bool
+    ensures { IsTrue result → length (zone_text (zone_of (λ byte. byte) zone.now)) ≤ most + 6 }
+{
+    match zone {
+        TimeZoneRecord::Name(name) => name.len() <= most,
+        TimeZoneRecord::Offset(_) => true,
+    }
+}
+
+/// Whether a bracket of a calendar takes at most seven bytes besides so many.
+#[inline(always)]
+fn is_short_calendar(calendar: Option<&[u8]>, most: usize) -> bool
+    ensures { IsTrue result → length
+        (calendar_text (option_map (λ units. map (λ byte. byte) units.now) calendar.entry)) ≤ most + 7 }
+{
+    match calendar {
+        None => true,
+        Some(value) => value.len() <= most,
+    }
 }
 
 /// How many bytes the canonical text of the record has: a slice of so many is long enough for [`print`](crate::print). It is

@@ -95,6 +95,48 @@ pub fn length_of(parsed: &IxdtfParseRecord<'_, Utf8>) -> u128 {
     u128::from(core_length(parsed)) + bracket_length(&parsed.tz) + calendar_length(parsed.calendar)
 }
 
+/// Whether so many bytes are plenty for the canonical text, as they are where they are more than 560 and each name takes less
+/// than half of the others. It is true only where the text fits, and saves a count of each part.
+#[inline(always)]
+#[must_use]
+pub fn has_plenty(parsed: &IxdtfParseRecord<'_, Utf8>, room: usize) -> bool {
+    // Its bound alone is used: a compiler leaves the count out.
+    let _core = core_length(parsed);
+    if room < 560 {
+        return false;
+    }
+    let half = (room - 560) / 2;
+    is_short_bracket(&parsed.tz, half) && is_short_calendar(parsed.calendar, half)
+}
+
+/// Whether a bracket of a zone takes at most nine bytes besides so many.
+#[inline(always)]
+fn is_short_bracket(note: &Option<TimeZoneAnnotation<'_, Utf8>>, most: usize) -> bool {
+    match note {
+        None => true,
+        Some(note) => is_short_zone(&note.tz, most),
+    }
+}
+
+/// Whether a zone takes at most six bytes besides so many.
+#[inline(always)]
+fn is_short_zone(zone: &TimeZoneRecord<'_, Utf8>, most: usize) -> bool {
+    match zone {
+        TimeZoneRecord::Name(name) => name.len() <= most,
+        TimeZoneRecord::Offset(_) => true,
+        _ => unreachable!(),
+    }
+}
+
+/// Whether a bracket of a calendar takes at most seven bytes besides so many.
+#[inline(always)]
+fn is_short_calendar(calendar: Option<&[u8]>, most: usize) -> bool {
+    match calendar {
+        None => true,
+        Some(value) => value.len() <= most,
+    }
+}
+
 /// How many bytes the canonical text of the record has: a slice of so many is long enough for [`print`](crate::print). It is
 /// `None` where no text stands for the record, and where its text is longer than any slice.
 ///

@@ -18,6 +18,7 @@ pub use error::PrintError;
 use fields::put_record;
 use ixdtf::encoding::Utf8;
 use ixdtf::records::IxdtfParseRecord;
+use length::has_plenty;
 // For crates of this repository, and no part of the interface.
 #[doc(hidden)]
 pub use length::length_of;
@@ -60,7 +61,7 @@ pub fn print(parsed: &IxdtfParseRecord<'_, Utf8>, out: &mut [u8]) -> Result<usiz
     if !is_printable(parsed) {
         return Err(PrintError::NotPrintable);
     }
-    if (out.len() as u128) < length_of(parsed) {
+    if !has_plenty(parsed, out.len()) && (out.len() as u128) < length_of(parsed) {
         return Err(PrintError::TooShort);
     }
     Ok(put_record(out, parsed))
