@@ -110,13 +110,13 @@ CRATES = [
     Crate('crates/ixdtf_callers/src', 'rust/ixdtf/src', ['lib'], root='callers', tests=True),
     Crate('crates/ixdtf_tests/src', 'rust/ixdtf/src', ['lib', 'tests/laws', 'tests/printing'], root='tests', tests=True),
     Crate('crates/ixdtf_print/src', 'rust/ixdtf_print/src', ['laws'], ends=PRINTER, above=True),
-    Crate('crates/ixdtf_buffers/src', 'rust/ixdtf_buffers/src', ends=PROGRAM, above=True),
+    Crate('crates/ixdtf_buffers/src', 'rust/ixdtf_buffers/src', ['place'], ends=PROGRAM, above=True),
     Crate('crates/ixdtf_answers/src', 'rust/ixdtf_lines/src', ['lib'], ends=PROGRAM, above=True),
     Crate('crates/ixdtf_checks/src', 'rust/ixdtf_check/src', ['lib'], ends=PROGRAM, above=True),
     Crate('crates/ixdtf_c/src', 'rust/ixdtf_c/src', ['laws', 'turns', 'tests', 'slices'], ends=FOR_C, above=True, exports=True),
 ]
 WRITTEN_BY_HAND = {'rust/ixdtf/src/runtime.rs', 'rust/ixdtf/src/tests/printing.rs', 'rust/ixdtf_lines/src/main.rs', 'rust/ixdtf_check/src/main.rs',
-                   'rust/ixdtf_c/src/abort.rs', 'rust/ixdtf_c/src/slices.rs'}
+                   'rust/ixdtf_c/src/abort.rs', 'rust/ixdtf_c/src/slices.rs', 'rust/ixdtf_buffers/src/place.rs'}
 # what is copied as it stands, since a package has no file from outside its folder
 COPIES = {'rust/ixdtf/tests/places.tsv': 'tools/places.tsv'}
 DERIVES = {'Clone', 'Copy', 'Debug', 'Default', 'PartialEq'}
@@ -158,8 +158,8 @@ REFUSED = set('unsafe extern dyn async await macro_rules union yield move box ra
               ' requires ensures ghost Model tactic derive_where invariant decreases alloc Global'.split())
 TEST_REFUSED = REFUSED - {'alloc', 'Global'}
 KEYWORDS = set('pub if match while for in return let else'.split())
-# the handler of a reader, and what stands in src/slices.rs of the library for C
-CALLED = {'handler', 'to_c', 'from_c'}
+# the handler of a reader, what stands in src/slices.rs of the library for C, and in src/place.rs of the buffers
+CALLED = {'handler', 'to_c', 'from_c', 'place_of'}
 STD_PATHS = {'std::str::from_utf8', 'std::fmt', 'std::error::Error', 'std::marker::PhantomData', 'std::mem::replace', 'std::fmt::Debug', 'std::io::{Read,Write}',
              'std::io::Write', 'std::io::Read', 'std::fmt::Write', 'std::str'}
 STD_METHODS = set('get len is_ascii_digit is_ascii_alphabetic is_ascii_lowercase write_str as_bytes then_some pow is_ok'

@@ -1,3 +1,4 @@
 pub mod DecimalLemmas
 pub mod LinesLemmas
 pub mod OutputLemmas
+pub mod PlaceLemmas

@@ -1,6 +1,4 @@
-// Made by tools/to_rust.py of crates/ixdtf_buffers/src/place.rt. Do not edit.
-
-//! Looking for a byte.
+//! Looking for a byte. The proved crate looks at sixteen bytes at once by `std::simd`, which stable Rust does not have.
 
 /// The index of the first byte that is this one.
 pub fn place_of(wanted: u8, bytes: &[u8]) -> Option<usize> {
