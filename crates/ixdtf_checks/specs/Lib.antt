@@ -1,6 +1,7 @@
 pub mod Checks
 pub mod Kinds
 pub mod Parts
+pub mod Plain
 pub mod Printed
 pub mod Progress
 pub mod Refusals
