@@ -1,6 +1,6 @@
 -- The answer to a line with a space.
-use Rattle.std.proofs.{Common.{◌≡◌, ℕ, ◌+◌, ◌-◌, ◌≤◌, List, length, take, drop, Some, position, arith}, lemmas.{Bool.le-ltb, List.{take_all, length-drop}}}
-use Rattle.ixdtf_answers.specs.Answer.{line_limit, is_space, IsAnswer, IsReaderAnswer}
+use Rattle.std.proofs.{Common.{◌≡◌, ℕ, ◌+◌, ◌-◌, ◌<◌, ◌≤◌, List, length, take, drop, Some, None, position, refl, arith}, lemmas.{Bool.{le-ltb, lt-ltb}, List.{take_all, length-drop}}}
+use Rattle.ixdtf_answers.specs.Answer.{line_limit, is_space, too_long, unknown_reader, IsAnswer, IsReaderAnswer}
 
 pub IsAnswer-word : (line answer : List ℕ) (place : ℕ) → length line ≤ line_limit → Some place ≡ position is_space line
     → IsReaderAnswer (take place line) (take (length line - (place + 1)) (drop (place + 1) line)) answer → IsAnswer line answer
@@ -8,3 +8,11 @@ IsAnswer-word line answer place short at is =
     let text = drop (place + 1) line in
     let all : take (length line - (place + 1)) text ≡ text = take_all _ text (omega (arith, length-drop (place + 1) line)) in
     rw (le-ltb line_limit (length line) short, ← at) (rw all at is)
+
+-- a line that is too long
+pub IsAnswer-long : (line : List ℕ) → line_limit < length line → IsAnswer line too_long
+IsAnswer-long line long = rw (lt-ltb line_limit (length line) long) refl
+
+-- a line without a space
+pub IsAnswer-none : (line : List ℕ) → length line ≤ line_limit → None ≡ position is_space line → IsAnswer line unknown_reader
+IsAnswer-none line short none = rw (le-ltb line_limit (length line) short, ← none) refl

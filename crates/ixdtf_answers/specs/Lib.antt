@@ -1,7 +1,7 @@
+pub mod Adding
 pub mod Answer
-pub mod AnswerText
 pub mod Fields
-pub mod Found
+pub mod Parts
 pub mod Printed
 pub mod Progress
 pub mod Run

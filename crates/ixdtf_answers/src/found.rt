@@ -1,106 +1,179 @@
-//! What the readers find.
-ghost use Rattle.std.specs.Prelude.{◌≡◌, ◌≤◌, length, IfOk, IfErr};
-ghost use Rattle.ixdtf.specs.language.Readers.{parse};
-ghost use Rattle.ixdtf.specs.table.Faults.{fault_of};
-ghost use Rattle.ixdtf_answers.specs.Answer.{letters, shown_of, Gives, Refuses};
-ghost use Rattle.ixdtf_answers.specs.Found.{found_of, shown_in};
-ghost use Rattle.ixdtf_answers.specs.Word.{reader_of};
+//! The answers of the readers, one function for each word.
+//!
+//! Each reads the text and puts its answer. None is inlined: what a reader finds stays in the frame of its own word, and no
+//! other word's is cleared for a line.
+ghost use Rattle.std.specs.Prelude.{◌≡◌, ◌≤◌, length};
+ghost use Rattle.ixdtf_answers.specs.Parts.{PutsOutcome};
 
-use crate::printed::PrintedRecord;
+use crate::outcome::{put_canonical, put_duration, put_error, put_offset, put_record, put_zone};
 use crate::word::Word;
-use ixdtf::ParserResult;
 use ixdtf::encoding::Utf8;
 use ixdtf::parsers::{IsoDurationParser, IxdtfParser, Profile, TimeZoneParser};
-use ixdtf::records::{DurationParseRecord, IxdtfParseRecord, TimeZoneRecord, UtcOffsetRecord};
+use ixdtf::records::TimeZoneRecord;
+use ixdtf_buffers::error::RunError;
+use ixdtf_buffers::output::Output;
 use ixdtf_print::canonical_fits;
+use std::io::Write;
 
-/// What a reader found in a text.
-#[derive(Drop)]
-pub enum Found<'a> {
-    /// The parts of a text with brackets.
-    Record(IxdtfParseRecord<'a, Utf8>),
-    /// An offset from UTC.
-    Offset(UtcOffsetRecord),
-    /// A time zone, by name or by offset.
-    Zone(TimeZoneRecord<'a, Utf8>),
-    /// The bytes of a time zone's name.
-    Name(&'a [u8]),
-    /// A duration.
-    Duration(DurationParseRecord),
-    /// The parts of a text that are printed as their canonical text.
-    Canonical(PrintedRecord<'a>),
-}
-
-/// What the reader that the word names finds in the text.
-pub fn read(word: Word, text: &[u8]) -> ParserResult<Found<'_>>
+/// Puts the answer to the text by the reader that the word names.
+pub fn answer_text<W: Write>(
+    output: &mut Output<'_, W>,
+    word: Word,
+    text: &[u8],
+) -> Result<(), RunError>
     requires { length text.now ≤ 4096 }
-    ensures ok { IfOk result (λ found.
-        Gives (reader_of word) (letters text.now) (found_of found)) }
-    ensures shown { IfOk result (λ found. shown_in found ≡ shown_of word (found_of found)) }
-    ensures err { IfErr result (λ error.
-        Refuses (reader_of word) (letters text.now) (fault_of error)) }
+    ensures { PutsOutcome W.contents output.old output.new result word text.now }
 {
     match word {
-        Word::Parse => match IxdtfParser::from_utf8(text).parse() {
-            Ok(parts) => Ok(Found::Record(parts)),
-            Err(error) => Err(error),
-        },
-        Word::YearMonth => match IxdtfParser::from_utf8(text).parse_year_month() {
-            Ok(parts) => Ok(Found::Record(parts)),
-            Err(error) => Err(error),
-        },
-        Word::MonthDay => match IxdtfParser::from_utf8(text).parse_month_day() {
-            Ok(parts) => Ok(Found::Record(parts)),
-            Err(error) => Err(error),
-        },
-        Word::Time => match IxdtfParser::from_utf8(text).parse_time() {
-            Ok(parts) => Ok(Found::Record(parts)),
-            Err(error) => Err(error),
-        },
-        Word::Offset => match TimeZoneParser::from_utf8(text).parse_offset() {
-            Ok(offset) => Ok(Found::Offset(offset)),
-            Err(error) => Err(error),
-        },
-        Word::Zone => match TimeZoneParser::from_utf8(text).parse_identifier() {
-            Ok(zone) => Ok(Found::Zone(zone)),
-            Err(error) => Err(error),
-        },
-        Word::Iana => match TimeZoneParser::from_utf8(text).parse_iana_identifier() {
-            Ok(name) => Ok(Found::Name(name)),
-            Err(error) => Err(error),
-        },
-        Word::Duration => match IsoDurationParser::<Utf8>::from_utf8(text).parse() {
-            Ok(duration) => Ok(Found::Duration(duration)),
-            Err(error) => Err(error),
-        },
-        Word::StrictMonthDay => match strict(text).parse_month_day() {
-            Ok(parts) => Ok(Found::Record(parts)),
-            Err(error) => Err(error),
-        },
-        Word::StrictTime => match strict(text).parse_time() {
-            Ok(parts) => Ok(Found::Record(parts)),
-            Err(error) => Err(error),
-        },
-        Word::StrictDuration => match strict_duration(text).parse() {
-            Ok(duration) => Ok(Found::Duration(duration)),
-            Err(error) => Err(error),
-        },
-        Word::Canonical => read_to_print(text),
+        Word::Parse => answer_parse(output, text),
+        Word::YearMonth => answer_year_month(output, text),
+        Word::MonthDay => answer_month_day(output, text),
+        Word::Time => answer_time(output, text),
+        Word::Offset => answer_offset(output, text),
+        Word::Zone => answer_zone(output, text),
+        Word::Iana => answer_iana(output, text),
+        Word::Duration => answer_duration(output, text),
+        Word::StrictMonthDay => answer_strict_month_day(output, text),
+        Word::StrictTime => answer_strict_time(output, text),
+        Word::StrictDuration => answer_strict_duration(output, text),
+        Word::Canonical => answer_canonical(output, text),
     }
 }
 
-/// What `parse` finds in the text, to be printed.
-fn read_to_print(text: &[u8]) -> ParserResult<Found<'_>>
+/// Puts the answer of `parse`.
+#[inline(never)]
+fn answer_parse<W: Write>(output: &mut Output<'_, W>, text: &[u8]) -> Result<(), RunError>
+    ensures { PutsOutcome W.contents output.old output.new result Word.Parse text.now }
+{
+    match IxdtfParser::from_utf8(text).parse() {
+        Ok(parts) => put_record(output, &parts),
+        Err(error) => put_error(output, error),
+    }
+}
+
+/// Puts the answer of `year-month`.
+#[inline(never)]
+fn answer_year_month<W: Write>(output: &mut Output<'_, W>, text: &[u8]) -> Result<(), RunError>
+    ensures { PutsOutcome W.contents output.old output.new result Word.YearMonth text.now }
+{
+    match IxdtfParser::from_utf8(text).parse_year_month() {
+        Ok(parts) => put_record(output, &parts),
+        Err(error) => put_error(output, error),
+    }
+}
+
+/// Puts the answer of `month-day`.
+#[inline(never)]
+fn answer_month_day<W: Write>(output: &mut Output<'_, W>, text: &[u8]) -> Result<(), RunError>
+    ensures { PutsOutcome W.contents output.old output.new result Word.MonthDay text.now }
+{
+    match IxdtfParser::from_utf8(text).parse_month_day() {
+        Ok(parts) => put_record(output, &parts),
+        Err(error) => put_error(output, error),
+    }
+}
+
+/// Puts the answer of `time`.
+#[inline(never)]
+fn answer_time<W: Write>(output: &mut Output<'_, W>, text: &[u8]) -> Result<(), RunError>
+    ensures { PutsOutcome W.contents output.old output.new result Word.Time text.now }
+{
+    match IxdtfParser::from_utf8(text).parse_time() {
+        Ok(parts) => put_record(output, &parts),
+        Err(error) => put_error(output, error),
+    }
+}
+
+/// Puts the answer of `offset`.
+#[inline(never)]
+fn answer_offset<W: Write>(output: &mut Output<'_, W>, text: &[u8]) -> Result<(), RunError>
+    ensures { PutsOutcome W.contents output.old output.new result Word.Offset text.now }
+{
+    match TimeZoneParser::from_utf8(text).parse_offset() {
+        Ok(offset) => put_offset(output, offset),
+        Err(error) => put_error(output, error),
+    }
+}
+
+/// Puts the answer of `zone`.
+#[inline(never)]
+fn answer_zone<W: Write>(output: &mut Output<'_, W>, text: &[u8]) -> Result<(), RunError>
+    ensures { PutsOutcome W.contents output.old output.new result Word.Zone text.now }
+{
+    match TimeZoneParser::from_utf8(text).parse_identifier() {
+        Ok(zone) => put_zone(output, &zone),
+        Err(error) => put_error(output, error),
+    }
+}
+
+/// Puts the answer of `iana`.
+#[inline(never)]
+fn answer_iana<W: Write>(output: &mut Output<'_, W>, text: &[u8]) -> Result<(), RunError>
+    ensures { PutsOutcome W.contents output.old output.new result Word.Iana text.now }
+{
+    match TimeZoneParser::from_utf8(text).parse_iana_identifier() {
+        Ok(name) => put_zone(output, &TimeZoneRecord::Name(name)),
+        Err(error) => put_error(output, error),
+    }
+}
+
+/// Puts the answer of `duration`.
+#[inline(never)]
+fn answer_duration<W: Write>(output: &mut Output<'_, W>, text: &[u8]) -> Result<(), RunError>
+    ensures { PutsOutcome W.contents output.old output.new result Word.Duration text.now }
+{
+    match IsoDurationParser::<Utf8>::from_utf8(text).parse() {
+        Ok(duration) => put_duration(output, duration),
+        Err(error) => put_error(output, error),
+    }
+}
+
+/// Puts the answer of `strict-month-day`.
+#[inline(never)]
+fn answer_strict_month_day<W: Write>(
+    output: &mut Output<'_, W>,
+    text: &[u8],
+) -> Result<(), RunError>
+    ensures { PutsOutcome W.contents output.old output.new result Word.StrictMonthDay text.now }
+{
+    match strict(text).parse_month_day() {
+        Ok(parts) => put_record(output, &parts),
+        Err(error) => put_error(output, error),
+    }
+}
+
+/// Puts the answer of `strict-time`.
+#[inline(never)]
+fn answer_strict_time<W: Write>(output: &mut Output<'_, W>, text: &[u8]) -> Result<(), RunError>
+    ensures { PutsOutcome W.contents output.old output.new result Word.StrictTime text.now }
+{
+    match strict(text).parse_time() {
+        Ok(parts) => put_record(output, &parts),
+        Err(error) => put_error(output, error),
+    }
+}
+
+/// Puts the answer of `strict-duration`.
+#[inline(never)]
+fn answer_strict_duration<W: Write>(output: &mut Output<'_, W>, text: &[u8]) -> Result<(), RunError>
+    ensures { PutsOutcome W.contents output.old output.new result Word.StrictDuration text.now }
+{
+    match strict_duration(text).parse() {
+        Ok(duration) => put_duration(output, duration),
+        Err(error) => put_error(output, error),
+    }
+}
+
+/// Puts the answer of `canonical`.
+#[inline(never)]
+fn answer_canonical<W: Write>(output: &mut Output<'_, W>, text: &[u8]) -> Result<(), RunError>
     requires { length text.now ≤ 4096 }
-    ensures ok { IfOk result (λ found. Gives parse (letters text.now) (found_of found)) }
-    ensures shown { IfOk result (λ found.
-        shown_in found ≡ shown_of Word.Canonical (found_of found)) }
-    ensures err { IfErr result (λ error. Refuses parse (letters text.now) (fault_of error)) }
+    ensures { PutsOutcome W.contents output.old output.new result Word.Canonical text.now }
 {
     canonical_fits();
     match IxdtfParser::from_utf8(text).parse() {
-        Ok(parts) => Ok(Found::Canonical(PrintedRecord { parts })),
-        Err(error) => Err(error),
+        Ok(parts) => put_canonical(output, &parts),
+        Err(error) => put_error(output, error),
     }
 }
 

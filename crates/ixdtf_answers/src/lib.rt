@@ -4,11 +4,12 @@
 //! standard input and standard output.
 #![tactic(auto)]
 
+mod adding;
 mod answer;
 pub mod arguments;
 mod fields;
 mod found;
 pub mod number;
-mod printed;
+mod outcome;
 pub mod runner;
 mod word;

@@ -1,304 +1,212 @@
 // Made by tools/to_rust.py of crates/ixdtf_answers/src/fields.rt. Do not edit.
 
-//! The fields of what a reader found.
+//! The fields of what a reader found, added to the text of an answer.
 
-use crate::found::Found;
+use crate::adding::{ROOM, add_byte, add_bytes, add_number, add_small, add_year};
 use crate::number::nine_digits;
-use crate::printed::PrintedRecord;
 use ixdtf::encoding::Utf8;
 use ixdtf::records::{
     DateDurationRecord, DateRecord, DurationParseRecord, Fraction, FullPrecisionOffset,
-    IxdtfParseRecord, MinutePrecisionOffset, Sign, TimeDurationRecord, TimeRecord,
-    TimeZoneAnnotation, TimeZoneRecord, UtcOffsetRecord, UtcOffsetRecordOrZ,
+    MinutePrecisionOffset, Sign, TimeDurationRecord, TimeRecord, TimeZoneAnnotation,
+    TimeZoneRecord, UtcOffsetRecord, UtcOffsetRecordOrZ,
 };
-use ixdtf_buffers::decimal::{Decimal, sign_of};
-use ixdtf_buffers::error::RunError;
-use ixdtf_buffers::output::Output;
-use ixdtf_print::print;
-use std::io::Write;
 
-/// At least as many bytes as the canonical text of a record that was read from a line has.
-const MOST_BYTES: usize = 4352;
+/// Adds a comma and a number below 256.
+fn add_small_behind_comma(room: &mut [u8; ROOM], at: usize, number: u8) -> usize {
+    let digits = add_byte(room, at, b',');
+    add_small(room, digits, number)
+}
 
-/// Puts each field of what a reader found, after a space.
-pub fn put_fields<W: Write>(output: &mut Output<'_, W>, found: &Found<'_>) -> Result<(), RunError> {
-    match found {
-        Found::Record(parts) => put_record(output, parts),
-        Found::Offset(offset) => put_offset(output, *offset),
-        Found::Zone(zone) => put_zone(output, false, zone),
-        Found::Name(name) => put_zone(output, false, &TimeZoneRecord::Name(name)),
-        Found::Duration(duration) => put_duration(output, *duration),
-        Found::Canonical(printed) => put_canonical(output, printed),
+/// Adds a comma and a number.
+fn add_number_behind_comma(room: &mut [u8; ROOM], at: usize, number: u64) -> usize {
+    let digits = add_byte(room, at, b',');
+    add_number(room, digits, number)
+}
+
+/// Adds the year, month and day, where there is a date.
+pub fn add_date_field(room: &mut [u8; ROOM], at: usize, date: Option<DateRecord>) -> usize {
+    match date {
+        None => at,
+        Some(date) => add_date(room, at, date),
     }
 }
 
-/// Puts a space and the canonical text of the record.
-fn put_canonical<W: Write>(
-    output: &mut Output<'_, W>,
-    printed: &PrintedRecord<'_>,
-) -> Result<(), RunError> {
-    let mut text = [0; MOST_BYTES];
-    match print(&printed.parts, &mut text) {
-        Ok(count) => output.put_all(&[b" ".as_slice(), &text[..count]]),
-        Err(_) => unreachable!(),
-    }
+/// Adds the year, month and day.
+fn add_date(room: &mut [u8; ROOM], at: usize, date: DateRecord) -> usize {
+    let year = add_bytes(room, at, b" date=");
+    let month = add_year(room, year, date.year);
+    let day = add_small_behind_comma(room, month, date.month);
+    add_small_behind_comma(room, day, date.day)
 }
 
-/// Puts each field that the record has.
-fn put_record<W: Write>(
-    output: &mut Output<'_, W>,
-    parts: &IxdtfParseRecord<'_, Utf8>,
-) -> Result<(), RunError> {
-    put_date_field(output, parts.date)?;
-    put_time_field(output, parts.time)?;
-    put_offset_field(output, parts.offset)?;
-    put_zone_field(output, &parts.tz)?;
-    put_calendar_field(output, parts.calendar)
-}
-
-/// Puts the year, month and day, where there is a date.
-fn put_date_field<W: Write>(
-    output: &mut Output<'_, W>,
-    date: Option<DateRecord>,
-) -> Result<(), RunError> {
-    let Some(date) = date else {
-        return Ok(());
-    };
-    let year = Decimal::new(u64::from(date.year.unsigned_abs()));
-    let month = Decimal::new(u64::from(date.month));
-    let day = Decimal::new(u64::from(date.day));
-    output.put_all(&[
-        b" date=".as_slice(),
-        sign_of(date.year),
-        year.as_slice(),
-        b",".as_slice(),
-        month.as_slice(),
-        b",".as_slice(),
-        day.as_slice(),
-    ])
-}
-
-/// Puts the time and its fraction, where there is a time.
-fn put_time_field<W: Write>(
-    output: &mut Output<'_, W>,
-    time: Option<TimeRecord>,
-) -> Result<(), RunError> {
+/// Adds the time and its fraction, where there is a time.
+pub fn add_time_field(room: &mut [u8; ROOM], at: usize, time: Option<TimeRecord>) -> usize {
     let Some(time) = time else {
-        return Ok(());
+        return at;
     };
     let fraction = time.fraction;
-    put_clock(output, time)?;
-    put_fraction(output, fraction)
+    let point = add_clock(room, at, time);
+    add_fraction(room, point, fraction)
 }
 
-/// Puts the hour, minute and second.
-fn put_clock<W: Write>(output: &mut Output<'_, W>, time: TimeRecord) -> Result<(), RunError> {
-    let hour = Decimal::new(u64::from(time.hour));
-    let minute = Decimal::new(u64::from(time.minute));
-    let second = Decimal::new(u64::from(time.second));
-    output.put_all(&[
-        b" time=".as_slice(),
-        hour.as_slice(),
-        b",".as_slice(),
-        minute.as_slice(),
-        b",".as_slice(),
-        second.as_slice(),
-    ])
+/// Adds the hour, minute and second.
+fn add_clock(room: &mut [u8; ROOM], at: usize, time: TimeRecord) -> usize {
+    let hour = add_bytes(room, at, b" time=");
+    let minute = add_small(room, hour, time.hour);
+    let second = add_small_behind_comma(room, minute, time.minute);
+    add_small_behind_comma(room, second, time.second)
 }
 
-/// Puts the fraction, where there is one, after the last number.
-fn put_fraction<W: Write>(
-    output: &mut Output<'_, W>,
-    fraction: Option<Fraction>,
-) -> Result<(), RunError> {
-    let Some(fraction) = fraction else {
-        return Ok(());
-    };
-    let digits = nine_digits(fraction.to_truncated_nanoseconds());
-    output.put_all(&[b".".as_slice(), digits.as_slice()])
-}
-
-/// Puts the offset, or `Z`, where there is one.
-fn put_offset_field<W: Write>(
-    output: &mut Output<'_, W>,
-    offset: Option<UtcOffsetRecordOrZ>,
-) -> Result<(), RunError> {
-    match offset {
-        None => Ok(()),
-        Some(UtcOffsetRecordOrZ::Offset(offset)) => put_offset(output, offset),
-        Some(UtcOffsetRecordOrZ::Z) => output.put(b" offset=Z"),
+/// Adds the fraction, where there is one, after the last number.
+fn add_fraction(room: &mut [u8; ROOM], at: usize, fraction: Option<Fraction>) -> usize {
+    match fraction {
+        None => at,
+        Some(fraction) => {
+            let digits = add_byte(room, at, b'.');
+            let nine = nine_digits(fraction.to_truncated_nanoseconds());
+            add_bytes(room, digits, nine.as_slice())
+        }
     }
 }
 
-/// Puts the field of an offset in numbers.
-fn put_offset<W: Write>(output: &mut Output<'_, W>, offset: UtcOffsetRecord) -> Result<(), RunError> {
-    output.put(b" offset=")?;
+/// Adds the offset, or `Z`, where there is one.
+pub fn add_offset_field(
+    room: &mut [u8; ROOM],
+    at: usize,
+    offset: Option<UtcOffsetRecordOrZ>,
+) -> usize {
     match offset {
-        UtcOffsetRecord::MinutePrecision(offset) => put_minute_offset(output, offset),
-        UtcOffsetRecord::FullPrecisionOffset(offset) => put_full_offset(output, offset),
+        None => at,
+        Some(UtcOffsetRecordOrZ::Offset(offset)) => add_offset(room, at, offset),
+        Some(UtcOffsetRecordOrZ::Z) => add_bytes(room, at, b" offset=Z"),
+    }
+}
+
+/// Adds the field of an offset in numbers.
+pub fn add_offset(room: &mut [u8; ROOM], at: usize, offset: UtcOffsetRecord) -> usize {
+    let sign = add_bytes(room, at, b" offset=");
+    match offset {
+        UtcOffsetRecord::MinutePrecision(offset) => add_minute_offset(room, sign, offset),
+        UtcOffsetRecord::FullPrecisionOffset(offset) => add_full_offset(room, sign, offset),
         _ => unreachable!(),
     }
 }
 
-/// Puts the sign, hours and minutes.
-fn put_minute_offset<W: Write>(
-    output: &mut Output<'_, W>,
-    offset: MinutePrecisionOffset,
-) -> Result<(), RunError> {
-    let hour = Decimal::new(u64::from(offset.hour));
-    let minute = Decimal::new(u64::from(offset.minute));
-    output.put_all(&[
-        mark_of(offset.sign),
-        hour.as_slice(),
-        b",".as_slice(),
-        minute.as_slice(),
-    ])
+/// Adds the sign, hours and minutes.
+fn add_minute_offset(room: &mut [u8; ROOM], at: usize, offset: MinutePrecisionOffset) -> usize {
+    let hour = add_byte(room, at, mark_of(offset.sign));
+    let minute = add_small(room, hour, offset.hour);
+    add_small_behind_comma(room, minute, offset.minute)
 }
 
-/// Puts the sign, hours, minutes and seconds, with the fraction.
-fn put_full_offset<W: Write>(
-    output: &mut Output<'_, W>,
-    offset: FullPrecisionOffset,
-) -> Result<(), RunError> {
+/// Adds the sign, hours, minutes and seconds, with the fraction.
+fn add_full_offset(room: &mut [u8; ROOM], at: usize, offset: FullPrecisionOffset) -> usize {
     let second = offset.second;
     let fraction = offset.fraction;
-    put_minute_offset(output, offset.minute_precision_offset)?;
-    put_second(output, second)?;
-    put_fraction(output, fraction)
+    let comma = add_minute_offset(room, at, offset.minute_precision_offset);
+    let point = add_small_behind_comma(room, comma, second);
+    add_fraction(room, point, fraction)
 }
 
-/// Puts the seconds of an offset.
-fn put_second<W: Write>(output: &mut Output<'_, W>, second: u8) -> Result<(), RunError> {
-    let second = Decimal::new(u64::from(second));
-    output.put_all(&[b",".as_slice(), second.as_slice()])
-}
-
-/// Puts the zone, where there is one.
-fn put_zone_field<W: Write>(
-    output: &mut Output<'_, W>,
+/// Adds what stands before the name of the zone, where there is one: all of a zone without a name.
+pub fn add_zone_field_front(
+    room: &mut [u8; ROOM],
+    at: usize,
     note: &Option<TimeZoneAnnotation<'_, Utf8>>,
-) -> Result<(), RunError> {
+) -> usize {
     match note {
-        None => Ok(()),
-        Some(note) => put_zone(output, note.critical, &note.tz),
+        None => at,
+        Some(note) => add_zone_front(room, at, note.critical, &note.tz),
     }
 }
 
-/// Puts the field of a zone, which may be critical.
-fn put_zone<W: Write>(
-    output: &mut Output<'_, W>,
+/// Adds what stands before the name of a zone, which may be critical.
+pub fn add_zone_front(
+    room: &mut [u8; ROOM],
+    at: usize,
     critical: bool,
     zone: &TimeZoneRecord<'_, Utf8>,
-) -> Result<(), RunError> {
-    put_zone_label(output, critical)?;
+) -> usize {
+    let label = add_zone_label(room, at, critical);
     match zone {
-        TimeZoneRecord::Name(name) => output.put(name),
-        TimeZoneRecord::Offset(offset) => put_minute_offset(output, *offset),
+        TimeZoneRecord::Name(_) => label,
+        TimeZoneRecord::Offset(offset) => add_minute_offset(room, label, *offset),
         _ => unreachable!(),
     }
 }
 
-/// Puts what stands before a zone.
-fn put_zone_label<W: Write>(output: &mut Output<'_, W>, critical: bool) -> Result<(), RunError> {
+/// Adds what stands before any zone.
+fn add_zone_label(room: &mut [u8; ROOM], at: usize, critical: bool) -> usize {
     if critical {
-        output.put(b" tz=!")
+        add_bytes(room, at, b" tz=!")
     } else {
-        output.put(b" tz=")
+        add_bytes(room, at, b" tz=")
     }
 }
 
-/// Puts the calendar, where there is one.
-fn put_calendar_field<W: Write>(
-    output: &mut Output<'_, W>,
-    calendar: Option<&[u8]>,
-) -> Result<(), RunError> {
-    match calendar {
-        None => Ok(()),
-        Some(bytes) => output.put_all(&[b" calendar=".as_slice(), bytes]),
-    }
-}
-
-/// Puts the sign of a duration, and its date and its time, where it has them.
-fn put_duration<W: Write>(
-    output: &mut Output<'_, W>,
-    duration: DurationParseRecord,
-) -> Result<(), RunError> {
+/// Adds the sign of a duration, and its date and its time, where it has them.
+pub fn add_duration(room: &mut [u8; ROOM], at: usize, duration: DurationParseRecord) -> usize {
     let date = duration.date;
     let time = duration.time;
-    put_sign_field(output, duration.sign)?;
-    put_date_duration_field(output, date)?;
-    put_time_duration_field(output, time)
+    let after_sign = add_sign_field(room, at, duration.sign);
+    let after_date = add_date_duration_field(room, after_sign, date);
+    add_time_duration_field(room, after_date, time)
 }
 
-/// Puts the sign of a duration.
-fn put_sign_field<W: Write>(output: &mut Output<'_, W>, sign: Sign) -> Result<(), RunError> {
-    output.put_all(&[b" sign=".as_slice(), mark_of(sign)])
+/// Adds the sign of a duration.
+fn add_sign_field(room: &mut [u8; ROOM], at: usize, sign: Sign) -> usize {
+    let mark = add_bytes(room, at, b" sign=");
+    add_byte(room, mark, mark_of(sign))
 }
 
-/// Puts the years, months, weeks and days of a duration, where it has a date.
-fn put_date_duration_field<W: Write>(
-    output: &mut Output<'_, W>,
+/// Adds the years, months, weeks and days of a duration, where it has a date.
+fn add_date_duration_field(
+    room: &mut [u8; ROOM],
+    at: usize,
     date: Option<DateDurationRecord>,
-) -> Result<(), RunError> {
-    let Some(date) = date else {
-        return Ok(());
-    };
-    let years = Decimal::new(u64::from(date.years));
-    let months = Decimal::new(u64::from(date.months));
-    let weeks = Decimal::new(u64::from(date.weeks));
-    let days = Decimal::new(date.days);
-    output.put_all(&[
-        b" date=".as_slice(),
-        years.as_slice(),
-        b",".as_slice(),
-        months.as_slice(),
-        b",".as_slice(),
-        weeks.as_slice(),
-        b",".as_slice(),
-        days.as_slice(),
-    ])
-}
-
-/// Puts the time of a duration, where it has one.
-fn put_time_duration_field<W: Write>(
-    output: &mut Output<'_, W>,
-    time: Option<TimeDurationRecord>,
-) -> Result<(), RunError> {
-    match time {
-        None => Ok(()),
-        Some(time) => put_time_duration(output, time),
+) -> usize {
+    match date {
+        None => at,
+        Some(date) => add_date_duration(room, at, date),
     }
 }
 
-/// Puts the time of a duration, with the fraction after its last number.
-fn put_time_duration<W: Write>(
-    output: &mut Output<'_, W>,
-    time: TimeDurationRecord,
-) -> Result<(), RunError> {
-    let fraction = last_fraction(&time);
-    put_time_numbers(output, &time)?;
-    put_fraction(output, fraction)
+/// Adds the years, months, weeks and days of a duration.
+fn add_date_duration(room: &mut [u8; ROOM], at: usize, date: DateDurationRecord) -> usize {
+    let years = add_bytes(room, at, b" date=");
+    let months = add_number(room, years, u64::from(date.years));
+    let weeks = add_number_behind_comma(room, months, u64::from(date.months));
+    let days = add_number_behind_comma(room, weeks, u64::from(date.weeks));
+    add_number_behind_comma(room, days, date.days)
 }
 
-/// Puts the hours of a duration, and the minutes and seconds that it has.
-fn put_time_numbers<W: Write>(
-    output: &mut Output<'_, W>,
-    time: &TimeDurationRecord,
-) -> Result<(), RunError> {
+/// Adds the time of a duration, where it has one.
+fn add_time_duration_field(
+    room: &mut [u8; ROOM],
+    at: usize,
+    time: Option<TimeDurationRecord>,
+) -> usize {
     match time {
-        TimeDurationRecord::Hours { hours, .. } => {
-            let hours = Decimal::new(*hours);
-            output.put_all(&[b" time=".as_slice(), hours.as_slice()])
-        }
+        None => at,
+        Some(time) => add_time_duration(room, at, time),
+    }
+}
+
+/// Adds the time of a duration, with the fraction after its last number.
+fn add_time_duration(room: &mut [u8; ROOM], at: usize, time: TimeDurationRecord) -> usize {
+    let fraction = last_fraction(&time);
+    let point = add_time_numbers(room, at, &time);
+    add_fraction(room, point, fraction)
+}
+
+/// Adds the hours of a duration, and the minutes and seconds that it has.
+fn add_time_numbers(room: &mut [u8; ROOM], at: usize, time: &TimeDurationRecord) -> usize {
+    let first = add_bytes(room, at, b" time=");
+    match time {
+        TimeDurationRecord::Hours { hours, .. } => add_number(room, first, *hours),
         TimeDurationRecord::Minutes { hours, minutes, .. } => {
-            let hours = Decimal::new(*hours);
-            let minutes = Decimal::new(*minutes);
-            output.put_all(&[
-                b" time=".as_slice(),
-                hours.as_slice(),
-                b",".as_slice(),
-                minutes.as_slice(),
-            ])
+            let second = add_number(room, first, *hours);
+            add_number_behind_comma(room, second, *minutes)
         }
         TimeDurationRecord::Seconds {
             hours,
@@ -306,17 +214,9 @@ fn put_time_numbers<W: Write>(
             seconds,
             ..
         } => {
-            let hours = Decimal::new(*hours);
-            let minutes = Decimal::new(*minutes);
-            let seconds = Decimal::new(*seconds);
-            output.put_all(&[
-                b" time=".as_slice(),
-                hours.as_slice(),
-                b",".as_slice(),
-                minutes.as_slice(),
-                b",".as_slice(),
-                seconds.as_slice(),
-            ])
+            let second = add_number(room, first, *hours);
+            let third = add_number_behind_comma(room, second, *minutes);
+            add_number_behind_comma(room, third, *seconds)
         }
     }
 }
@@ -331,9 +231,9 @@ fn last_fraction(time: &TimeDurationRecord) -> Option<Fraction> {
 }
 
 /// The sign as it is written.
-fn mark_of(sign: Sign) -> &'static [u8] {
+fn mark_of(sign: Sign) -> u8 {
     match sign {
-        Sign::Negative => b"-".as_slice(),
-        Sign::Positive => b"+".as_slice(),
+        Sign::Negative => b'-',
+        Sign::Positive => b'+',
     }
 }

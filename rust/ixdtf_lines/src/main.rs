@@ -1,12 +1,13 @@
 //! Answers each line of standard input by a line on standard output.
 #![forbid(unsafe_code)]
 
+mod adding;
 mod answer;
 mod arguments;
 mod fields;
 mod found;
 mod number;
-mod printed;
+mod outcome;
 mod runner;
 mod word;
 

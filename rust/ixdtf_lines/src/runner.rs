@@ -2,7 +2,7 @@
 
 //! The run over all lines.
 
-use crate::answer::{LINE_LIMIT, answer_to, put_answer};
+use crate::answer::{LINE_LIMIT, answer_line};
 use ixdtf_buffers::error::RunError;
 use ixdtf_buffers::input::read_some;
 use ixdtf_buffers::line::Line;
@@ -50,16 +50,13 @@ fn answer_bytes<W: Write>(
 }
 
 /// Takes the last bytes of a line, answers it, and begins the next one.
-///
-/// It is not inlined, since it clears the room for an answer on entry.
-#[inline(never)]
 fn end_line<W: Write>(
     output: &mut Output<'_, W>,
     line: &mut Line<LINE_LIMIT>,
     bytes: &[u8],
 ) -> Result<(), RunError> {
     line.push_all(bytes);
-    put_answer(output, &answer_to(line))?;
+    answer_line(output, line)?;
     line.clear();
     Ok(())
 }
@@ -69,6 +66,6 @@ fn finish<W: Write>(output: &mut Output<'_, W>, line: &Line<LINE_LIMIT>) -> Resu
     if line.is_empty() {
         return output.finish();
     }
-    put_answer(output, &answer_to(line))?;
+    answer_line(output, line)?;
     output.finish()
 }

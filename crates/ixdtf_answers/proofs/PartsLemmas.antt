@@ -1,0 +1,47 @@
+-- What answering puts.
+use Rattle.std.proofs.Common.{◌≡◌, ◌≤◌, ◌+◌, ℕ, Bool, List, [], ◌∷◌, ◌++◌, length, take, drop, Option, Some, None, Result, position, codes, inl, inr, refl, ap, append_assoc}
+use Rattle.std.proofs.lemmas.List.{append-nil}
+use Rattle.ixdtf.specs.{table.Faults.Fault, language.{Languages.{Parsed, Found}, Brackets.ZoneNote, ZoneNames.{Zone, Zone.{Name, Offset}}}}
+use Rattle.ixdtf_buffers.specs.declared.{error.RunError.RunError, output.Output.Output}
+use Rattle.ixdtf_buffers.specs.{Lines.newline, Output.Puts}
+use Rattle.ixdtf_answers.specs.{Answer.{IsAnswer, IsOutcome, Gives, Refuses, letters, ok_answer_of, error_answer_of, is_space, line_limit, unknown_reader}}
+use Rattle.ixdtf_answers.specs.{Word.{reader_of, name_of}, declared.word.Word.Word, Parts.{PutsOutcome, PutsAnswer, zone_front_of, zone_name_of, zone_field_front_of, zone_field_name_of}}
+use Rattle.ixdtf_answers.specs.Fields.{zone_text_of, zone_field_of, date_field_of, time_field_of, offset_field_of, calendar_field_of, record_fields_of}
+
+module _ {W : Type 0} {contents : W → Option (List ℕ)} {x y : Output W} {r : Result (Unit {0}) RunError} where
+  -- the answer to a text that is read
+  pub puts_found : (word : Word) (text : List ℕ) (found : Found) → Gives (reader_of word) (letters text) found
+      → Puts contents x y r (ok_answer_of word found ++ newline ∷ []) → PutsOutcome contents x y r word text
+  puts_found word text found given puts = record { answer = ok_answer_of word found; is = inl (found, given, refl); puts = puts }
+
+  -- the answer to a text that is refused
+  pub puts_refused : (word : Word) (text : List ℕ) (fault : Fault) → Refuses (reader_of word) (letters text) fault
+      → Puts contents x y r (error_answer_of fault ++ newline ∷ []) → PutsOutcome contents x y r word text
+  puts_refused word text fault refused puts = record { answer = error_answer_of fault; is = inr (fault, refused, refl); puts = puts }
+
+module _ {W : Type 0} {contents : W → Option (List ℕ)} {x y : Output W} {r : Result (Unit {0}) RunError} where
+  -- the same bytes were put
+  pub puts_same : {xs ys : List ℕ} → xs ≡ ys → Puts contents x y r xs → Puts contents x y r ys
+  puts_same e puts = rw (← e) puts
+
+-- a zone is what stands before its name, and its name
+pub zone_whole : (critical : Bool) (zone : Zone) → zone_front_of critical zone ++ zone_name_of zone ≡ zone_text_of critical zone
+zone_whole critical (Name name) = refl
+zone_whole critical (Offset offset) = append-nil _
+
+pub zone_field_whole : (note : Option ZoneNote) → zone_field_front_of note ++ zone_field_name_of note ≡ zone_field_of note
+zone_field_whole None = refl
+zone_field_whole (Some note) = zone_whole note.critical note.zone
+
+regroup : (a b c d e z f t : List ℕ) → d ++ e ≡ z → (a ++ (b ++ (c ++ d))) ++ (e ++ (f ++ t)) ≡ (a ++ (b ++ (c ++ (z ++ f)))) ++ t
+regroup a b c d e z f t is = rw (← is) (simp append_assoc)
+
+-- the fields of a record up to the name of its zone, that name, and the rest
+pub record_whole : (p : Parsed) (calendar : Option (List ℕ)) (front name tail : List ℕ) → p.calendar ≡ calendar
+    → front ≡ codes "ok" ++ (date_field_of p.date ++ (time_field_of p.time ++ (offset_field_of p.offset ++ zone_field_front_of p.zone)))
+    → name ≡ zone_field_name_of p.zone
+    → front ++ (name ++ (calendar_field_of calendar ++ tail)) ≡ codes "ok" ++ (record_fields_of p ++ tail)
+record_whole p calendar front name tail is_calendar is_front is_name =
+    rw (is_front, is_name, ← is_calendar) (ap (λ (t : List ℕ). codes "ok" ++ t)
+    (regroup (date_field_of p.date) (time_field_of p.time) (offset_field_of p.offset) (zone_field_front_of p.zone) (zone_field_name_of p.zone) (zone_field_of p.zone)
+    (calendar_field_of p.calendar) tail (zone_field_whole p.zone)))

@@ -1,0 +1,16 @@
+-- The exits of putting a name and a calendar.
+use Rattle.ixdtf_answers.proofs.outcome.put_name_and_calendar.Goals as goal
+use Rattle.ixdtf_buffers.proofs.OutputLemmas.{Puts-after, Puts-exit}
+
+pub returns-in_err-put : goal.returns-in_err-put
+returns-in_err-put g c = Puts-exit _ c.in_err-put.ensures c.from_residual.ensures.1
+
+pub returns-in_err-put-2 : goal.returns-in_err-put-2
+returns-in_err-put-2 g c = Puts-after c.in_ok-put.ensures (Puts-exit _ c.in_err-put-2.ensures c.from_residual-in_err-put-2.ensures.1)
+
+pub returns-in_err-put-3 : goal.returns-in_err-put-3
+returns-in_err-put-3 g c =
+    Puts-after c.in_ok-put.ensures (Puts-after c.in_ok-put-2.ensures (Puts-exit _ c.in_err-put-3.ensures c.from_residual-in_err-put-3.ensures.1))
+
+pub returns : goal.returns
+returns g c = Puts-after c.in_ok-put.ensures (Puts-after c.in_ok-put-2.ensures (Puts-after c.in_ok-put-3.ensures c.put-4.ensures))

@@ -1,0 +1,6 @@
+-- Texts that are added at a place of an array. No clause of `run` cites this module.
+use Rattle.std.specs.Prelude.{◌≡◌, ℕ, List, ◌++◌, take}
+
+-- what stands before the second place is what stood before the first one, and the text
+pub record Adds (old new : List ℕ) (at end : ℕ) (text : List ℕ) : Type 0 where
+  pub is : take end new ≡ take at old ++ text

@@ -1,0 +1,38 @@
+-- What answering puts, step by step. No clause of `run` cites this module.
+use Rattle.std.specs.Prelude.{ℕ, Bool, List, [], ◌∷◌, ◌++◌, Option, Some, None, Result}
+use Rattle.ixdtf_buffers.specs.declared.{error.RunError.RunError, output.Output.Output}
+use Rattle.ixdtf_buffers.specs.{Lines.newline, Output.Puts}
+use Rattle.ixdtf.specs.language.{Brackets.ZoneNote, ZoneNames.{Zone, Zone.{Name, Offset}}}
+use Rattle.ixdtf_answers.specs.{Answer.{IsAnswer, IsOutcome}, Fields.{minute_offset_text_of, zone_label_of}, declared.word.Word.Word}
+
+-- the answer of the word's reader to the text, and a newline, were put
+pub record PutsOutcome {W : Type 0} (contents : W → Option (List ℕ)) (before after : Output W) (result : Result (Unit {0}) RunError) (word : Word) (text : List ℕ) : Type 0 where
+  pub answer : List ℕ
+  pub is : IsOutcome word text answer
+  pub puts : Puts contents before after result (answer ++ newline ∷ [])
+
+-- the answer to the line, and a newline, were put
+pub record PutsAnswer {W : Type 0} (contents : W → Option (List ℕ)) (before after : Output W) (result : Result (Unit {0}) RunError) (line : List ℕ) : Type 0 where
+  pub answer : List ℕ
+  pub is : IsAnswer line answer
+  pub puts : Puts contents before after result (answer ++ newline ∷ [])
+
+-- what stands before the name of a zone: of a zone without a name all of it
+abbrev pub zone_front_of : Bool → Zone → List ℕ
+zone_front_of critical (Name name) = zone_label_of critical
+zone_front_of critical (Offset offset) = zone_label_of critical ++ minute_offset_text_of offset
+
+-- the same where there may be no zone
+abbrev pub zone_field_front_of : Option ZoneNote → List ℕ
+zone_field_front_of None = []
+zone_field_front_of (Some note) = zone_front_of note.critical note.zone
+
+-- the name of a zone, where it has one
+abbrev pub zone_name_of : Zone → List ℕ
+zone_name_of (Name name) = name
+zone_name_of (Offset offset) = []
+
+-- the same where there may be no zone
+abbrev pub zone_field_name_of : Option ZoneNote → List ℕ
+zone_field_name_of None = []
+zone_field_name_of (Some note) = zone_name_of note.zone

@@ -1,0 +1,149 @@
+//! Bytes and numbers that are added to a short text, at a place of an array.
+//!
+//! The text of an answer is made there, and put at once. A place goes from call to call in a register, where a count in
+//! memory would be read and written for each byte.
+ghost use Rattle.std.specs.Prelude.{◌≡◌, ◌+◌, ◌<◌, ◌≤◌, [], ◌∷◌, length};
+ghost use Rattle.std.specs.Fmt.{decimal, signed_decimal};
+ghost use Rattle.ixdtf_answers.specs.Adding.{Adds};
+
+use ixdtf_buffers::decimal::Decimal;
+
+/// At least as many bytes as an answer without names has.
+pub const ROOM: usize = 192;
+
+/// Adds the byte at the place, and returns the place behind it.
+#[inline(always)]
+pub fn add_byte(room: &mut [u8; ROOM], at: usize, byte: u8) -> usize
+    requires { at < 192 }
+    ensures place { result ≡ at + 1 }
+    ensures text { Adds room.old room.new at result (byte ∷ []) }
+{
+    room[at] = byte;
+    at + 1
+}
+
+/// Adds the bytes at the place, and returns the place behind them.
+#[inline(always)]
+pub fn add_bytes(room: &mut [u8; ROOM], at: usize, bytes: &[u8]) -> usize
+    requires { at + length bytes.now ≤ 192 }
+    ensures place { result ≡ at + length bytes.now }
+    ensures text { Adds room.old room.new at result bytes.now }
+{
+    let end = at + bytes.len();
+    room[at..end].copy_from_slice(bytes);
+    end
+}
+
+/// Adds a number below 256 at the place, and returns the place behind it.
+#[inline(always)]
+pub fn add_small(room: &mut [u8; ROOM], at: usize, number: u8) -> usize
+    requires { at + 3 ≤ 192 }
+    ensures place { result ≤ at + 3 }
+    ensures text { Adds room.old room.new at result (decimal number) }
+{
+    if number < 100 {
+        add_below_100(room, at, number)
+    } else {
+        add_long(room, at, u64::from(number))
+    }
+}
+
+/// Adds the number at the place, and returns the place behind it.
+#[inline(always)]
+pub fn add_number(room: &mut [u8; ROOM], at: usize, number: u64) -> usize
+    requires { at + 20 ≤ 192 }
+    ensures place { result ≤ at + 20 }
+    ensures text { Adds room.old room.new at result (decimal number) }
+{
+    if number < 100 {
+        add_below_100(room, at, number as u8)
+    } else {
+        add_long(room, at, number)
+    }
+}
+
+/// Adds the year at the place, and returns the place behind it.
+#[inline(always)]
+pub fn add_year(room: &mut [u8; ROOM], at: usize, year: i32) -> usize
+    requires { at + 11 ≤ 192 }
+    ensures place { result ≤ at + 11 }
+    ensures text { Adds room.old room.new at result (signed_decimal year) }
+{
+    if year >= 1000 && year <= 9999 {
+        add_four_digits(room, at, year as u16)
+    } else {
+        add_other_year(room, at, year)
+    }
+}
+
+/// Adds a year that has not four digits.
+#[cold]
+#[inline(never)]
+fn add_other_year(room: &mut [u8; ROOM], at: usize, year: i32) -> usize
+    requires { at + 11 ≤ 192 }
+    ensures place { result ≤ at + 11 }
+    ensures text { Adds room.old room.new at result (signed_decimal year) }
+{
+    if year < 0 {
+        let digits = add_byte(room, at, b'-');
+        add_long(room, digits, u64::from(year.unsigned_abs()))
+    } else {
+        add_long(room, at, u64::from(year.unsigned_abs()))
+    }
+}
+
+/// Adds a number below 100 at the place, and returns the place behind it.
+///
+/// The digit of the tens is written in any case, and that of the ones over it where the number is below 10: no branch hangs
+/// on the number.
+#[inline(always)]
+fn add_below_100(room: &mut [u8; ROOM], at: usize, number: u8) -> usize
+    requires small { number < 100 }
+    requires room { at + 2 ≤ 192 }
+    ensures place { result ≤ at + 2 }
+    ensures text { Adds room.old room.new at result (decimal number) }
+{
+    let last = last_place(at, number);
+    room[at] = b'0' + number / 10;
+    room[last] = b'0' + number % 10;
+    last + 1
+}
+
+/// The place of the last digit of a number below 100.
+#[inline(always)]
+fn last_place(at: usize, number: u8) -> usize
+    requires { at + 2 ≤ 192 }
+    ensures one { number < 10 → result ≡ at }
+    ensures two { 10 ≤ number → result ≡ at + 1 }
+{
+    if number < 10 { at } else { at + 1 }
+}
+
+/// Adds a number of four digits at the place, and returns the place behind it.
+#[inline(always)]
+fn add_four_digits(room: &mut [u8; ROOM], at: usize, number: u16) -> usize
+    requires four { (1000 ≤ number) × (number < 10000) }
+    requires room { at + 4 ≤ 192 }
+    ensures place { result ≡ at + 4 }
+    ensures text { Adds room.old room.new at result (decimal number) }
+{
+    let front = number / 100;
+    let back = number % 100;
+    room[at] = b'0' + (front / 10) as u8;
+    room[at + 1] = b'0' + (front % 10) as u8;
+    room[at + 2] = b'0' + (back / 10) as u8;
+    room[at + 3] = b'0' + (back % 10) as u8;
+    at + 4
+}
+
+/// Adds any number at the place, and returns the place behind it.
+#[cold]
+#[inline(never)]
+fn add_long(room: &mut [u8; ROOM], at: usize, number: u64) -> usize
+    requires { at + length (decimal number) ≤ 192 }
+    ensures place { result ≡ at + length (decimal number) }
+    ensures text { Adds room.old room.new at result (decimal number) }
+{
+    let digits = Decimal::new(number);
+    add_bytes(room, at, digits.as_slice())
+}

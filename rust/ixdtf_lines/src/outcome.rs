@@ -1,0 +1,178 @@
+// Made by tools/to_rust.py of crates/ixdtf_answers/src/outcome.rt. Do not edit.
+
+//! What is put for what a reader found, or for why it refuses a text.
+
+use crate::adding::{ROOM, add_byte, add_bytes};
+use crate::fields::{
+    add_date_field, add_duration, add_offset, add_offset_field, add_time_field,
+    add_zone_field_front, add_zone_front,
+};
+use ixdtf::ParseError;
+use ixdtf::encoding::Utf8;
+use ixdtf::records::{
+    DurationParseRecord, IxdtfParseRecord, TimeZoneAnnotation, TimeZoneRecord, UtcOffsetRecord,
+};
+use ixdtf_buffers::error::RunError;
+use ixdtf_buffers::output::Output;
+use ixdtf_print::print;
+use std::io::Write;
+
+/// At least as many bytes as the canonical text of a record that was read from a line has.
+const MOST_BYTES: usize = 4352;
+
+/// As many bytes as the canonical text of a record without a long name has.
+const USUAL_BYTES: usize = 256;
+
+/// Puts each field that the record has.
+pub fn put_record<W: Write>(
+    output: &mut Output<'_, W>,
+    parts: &IxdtfParseRecord<'_, Utf8>,
+) -> Result<(), RunError> {
+    let mut room = [0; ROOM];
+    let front = add_record_front(&mut room, parts);
+    let name = zone_field_name(&parts.tz);
+    match parts.calendar {
+        None => put_front_and_name(output, &mut room, front, name),
+        Some(calendar) => {
+            output.put(&room[..front])?;
+            put_name_and_calendar(output, name, calendar)
+        }
+    }
+}
+
+/// Adds the fields of a record up to the name of its zone.
+fn add_record_front(room: &mut [u8; ROOM], parts: &IxdtfParseRecord<'_, Utf8>) -> usize {
+    let date = add_bytes(room, 0, b"ok");
+    let time = add_date_field(room, date, parts.date);
+    let offset = add_time_field(room, time, parts.time);
+    let zone = add_offset_field(room, offset, parts.offset);
+    add_zone_field_front(room, zone, &parts.tz)
+}
+
+/// Puts what was added to the front of an answer, a name that goes behind it, and a newline.
+fn put_front_and_name<W: Write>(
+    output: &mut Output<'_, W>,
+    room: &mut [u8; ROOM],
+    front: usize,
+    name: &[u8],
+) -> Result<(), RunError> {
+    if name.is_empty() {
+        let end = add_byte(room, front, b'\n');
+        return output.put(&room[..end]);
+    }
+    output.put(&room[..front])?;
+    output.put(name)?;
+    output.put(b"\n")
+}
+
+/// Puts a name, where there is one, a calendar behind it, and a newline.
+fn put_name_and_calendar<W: Write>(
+    output: &mut Output<'_, W>,
+    name: &[u8],
+    calendar: &[u8],
+) -> Result<(), RunError> {
+    output.put(name)?;
+    output.put(b" calendar=")?;
+    output.put(calendar)?;
+    output.put(b"\n")
+}
+
+/// The name of the zone, or no byte where it has none.
+fn zone_field_name<'a>(note: &Option<TimeZoneAnnotation<'a, Utf8>>) -> &'a [u8] {
+    match note {
+        None => b"".as_slice(),
+        Some(note) => zone_name(&note.tz),
+    }
+}
+
+/// The name of the zone, or no byte where it has none.
+fn zone_name<'a>(zone: &TimeZoneRecord<'a, Utf8>) -> &'a [u8] {
+    match zone {
+        TimeZoneRecord::Name(name) => name,
+        TimeZoneRecord::Offset(_) => b"".as_slice(),
+        _ => unreachable!(),
+    }
+}
+
+/// Puts an offset.
+pub fn put_offset<W: Write>(
+    output: &mut Output<'_, W>,
+    offset: UtcOffsetRecord,
+) -> Result<(), RunError> {
+    let mut room = [0; ROOM];
+    let field = add_bytes(&mut room, 0, b"ok");
+    let front = add_offset(&mut room, field, offset);
+    let end = add_byte(&mut room, front, b'\n');
+    output.put(&room[..end])
+}
+
+/// Puts a zone, which is not critical.
+pub fn put_zone<W: Write>(
+    output: &mut Output<'_, W>,
+    zone: &TimeZoneRecord<'_, Utf8>,
+) -> Result<(), RunError> {
+    let mut room = [0; ROOM];
+    let field = add_bytes(&mut room, 0, b"ok");
+    let front = add_zone_front(&mut room, field, false, zone);
+    put_front_and_name(output, &mut room, front, zone_name(zone))
+}
+
+/// Puts a duration.
+pub fn put_duration<W: Write>(
+    output: &mut Output<'_, W>,
+    duration: DurationParseRecord,
+) -> Result<(), RunError> {
+    let mut room = [0; ROOM];
+    let field = add_bytes(&mut room, 0, b"ok");
+    let front = add_duration(&mut room, field, duration);
+    let end = add_byte(&mut room, front, b'\n');
+    output.put(&room[..end])
+}
+
+/// Puts the canonical text of the record.
+///
+/// Nearly all texts are short. A short array is tried first, since each array is cleared before it is written.
+pub fn put_canonical<W: Write>(
+    output: &mut Output<'_, W>,
+    parts: &IxdtfParseRecord<'_, Utf8>,
+) -> Result<(), RunError> {
+    let mut text = [0; USUAL_BYTES];
+    match print(parts, &mut text) {
+        Ok(count) => output.put_all(&[b"ok ".as_slice(), &text[..count], b"\n".as_slice()]),
+        Err(_) => put_long_canonical(output, parts),
+    }
+}
+
+/// Puts the canonical text of a record with a long name.
+#[cold]
+#[inline(never)]
+fn put_long_canonical<W: Write>(
+    output: &mut Output<'_, W>,
+    parts: &IxdtfParseRecord<'_, Utf8>,
+) -> Result<(), RunError> {
+    let mut text = [0; MOST_BYTES];
+    match print(parts, &mut text) {
+        Ok(count) => output.put_all(&[b"ok ".as_slice(), &text[..count], b"\n".as_slice()]),
+        Err(_) => unreachable!(),
+    }
+}
+
+/// Puts the answer to a text that is refused, and a newline.
+#[inline(never)]
+pub fn put_error<W: Write>(output: &mut Output<'_, W>, error: ParseError) -> Result<(), RunError> {
+    let (text, location) = error_parts(error);
+    output.put_all(&[
+        b"error ".as_slice(),
+        text.as_bytes(),
+        location.as_bytes(),
+        b"\n".as_slice(),
+    ])
+}
+
+/// The two parts of what Display writes.
+fn error_parts(error: ParseError) -> (&'static str, &'static str) {
+    match error {
+        ParseError::AbruptEnd { location } => ("Parsing ended abruptly while parsing ", location),
+        _ => (error.to_static_string(), ""),
+    }
+}
