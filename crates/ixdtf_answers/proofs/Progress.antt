@@ -24,6 +24,11 @@ pub WritesFront-line : {start now : Option (List ℕ)} (read more : List ℕ) (p
     → WritesFront start now (ended_lines_of read ++ (unended_of read ++ take place more) ∷ []) → WritesFront start now (ended_lines_of (read ++ more))
 WritesFront-line read more place is front = let (others, whole) = ended_lines_of-line read more place is in rw whole (WritesFront-append _ others front)
 
+-- what holds holds after a call that went well
+pub on_ok : {P : Type 0} (r : Result (Unit {0}) RunError) → P → OnOk r P
+on_ok (Ok t) p = p
+on_ok (Err e) p = tt
+
 module _ {W : Type 0} {contents : W → Option (List ℕ)} {start : Option (List ℕ)} where
   -- the answers to more lines were put behind those to others, or that failed
   put_behind : {x y : Output W} {r : Result (Unit {0}) RunError} {lines : List (List ℕ)} (more : List (List ℕ)) {bytes : List ℕ} → AreAnswers more bytes

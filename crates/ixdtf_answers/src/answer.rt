@@ -32,6 +32,16 @@ pub fn answer_line<W: Write>(
     }
 }
 
+/// Puts the answer to a line that lies whole in what was read, and a newline.
+pub fn answer_whole_line<W: Write>(output: &mut Output<'_, W>, line: &[u8]) -> Result<(), RunError>
+    ensures { PutsAnswer W.contents output.old output.new result line.now }
+{
+    if line.len() > LINE_LIMIT {
+        return put_too_long(output);
+    }
+    answer_short(output, line)
+}
+
 /// Puts the answer to a line that is not too long.
 fn answer_short<W: Write>(output: &mut Output<'_, W>, line: &[u8]) -> Result<(), RunError>
     requires { length line.now ≤ 4096 }

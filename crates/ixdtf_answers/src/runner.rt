@@ -7,7 +7,7 @@ ghost use Rattle.ixdtf_buffers.specs.Output.{written};
 ghost use Rattle.ixdtf_answers.specs.Progress.{TakesAnswers, Rests, Fails, Runs};
 ghost use Rattle.ixdtf_answers.specs.Run.{WritesAnswers, WritesFront};
 
-use crate::answer::{LINE_LIMIT, answer_line};
+use crate::answer::{LINE_LIMIT, answer_line, answer_whole_line};
 use ixdtf_buffers::error::RunError;
 use ixdtf_buffers::input::read_some;
 use ixdtf_buffers::line::Line;
@@ -86,7 +86,7 @@ fn end_line<W: Write>(
     bytes: &[u8],
 ) -> Result<(), RunError>
     ensures same { output.new.writer.ghost_name ≡ output.old.writer.ghost_name }
-    ensures empty { OnOk result (Holds line.new []) }
+    ensures empty { (text : List ℕ) → Holds line.old text → OnOk result (Holds line.new []) }
     ensures answers { (start : Option (List ℕ)) (lines : List (List ℕ)) (text : List ℕ)
         → Holds line.old text
         → TakesAnswers start (written W.contents output.old) output.old.waiting lines
@@ -95,6 +95,10 @@ fn end_line<W: Write>(
         (lines ++ (text ++ bytes.now) ∷ []))
         (Fails start (written W.contents output.new) (lines ++ (text ++ bytes.now) ∷ [])) }
 {
+    // A line that lies whole in what was read is answered there, and is not copied.
+    if line.is_empty() {
+        return answer_whole_line(output, bytes);
+    }
     line.push_all(bytes);
     answer_line(output, line)?;
     line.clear();

@@ -2,7 +2,7 @@
 
 //! The run over all lines.
 
-use crate::answer::{LINE_LIMIT, answer_line};
+use crate::answer::{LINE_LIMIT, answer_line, answer_whole_line};
 use ixdtf_buffers::error::RunError;
 use ixdtf_buffers::input::read_some;
 use ixdtf_buffers::line::Line;
@@ -55,6 +55,10 @@ fn end_line<W: Write>(
     line: &mut Line<LINE_LIMIT>,
     bytes: &[u8],
 ) -> Result<(), RunError> {
+    // A line that lies whole in what was read is answered there, and is not copied.
+    if line.is_empty() {
+        return answer_whole_line(output, bytes);
+    }
     line.push_all(bytes);
     answer_line(output, line)?;
     line.clear();
