@@ -1,7 +1,7 @@
 //! The answers of the readers, one function for each word.
 //!
 //! Each reads the text and puts its answer. None is inlined: what a reader finds stays in the frame of its own word, and no
-//! other word's is cleared for a line.
+//! other word's is cleared for a line. A record is looked at where its reader returned it, and is not moved.
 ghost use Rattle.std.specs.Prelude.{◌≡◌, ◌≤◌, length};
 ghost use Rattle.ixdtf_answers.specs.Parts.{PutsOutcome};
 
@@ -45,9 +45,10 @@ pub fn answer_text<W: Write>(
 fn answer_parse<W: Write>(output: &mut Output<'_, W>, text: &[u8]) -> Result<(), RunError>
     ensures { PutsOutcome W.contents output.old output.new result Word.Parse text.now }
 {
-    match IxdtfParser::from_utf8(text).parse() {
-        Ok(parts) => put_record(output, &parts),
-        Err(error) => put_error(output, error),
+    let outcome = IxdtfParser::from_utf8(text).parse();
+    match &outcome {
+        Ok(parts) => put_record(output, parts),
+        Err(error) => put_error(output, *error),
     }
 }
 
@@ -56,9 +57,10 @@ fn answer_parse<W: Write>(output: &mut Output<'_, W>, text: &[u8]) -> Result<(),
 fn answer_year_month<W: Write>(output: &mut Output<'_, W>, text: &[u8]) -> Result<(), RunError>
     ensures { PutsOutcome W.contents output.old output.new result Word.YearMonth text.now }
 {
-    match IxdtfParser::from_utf8(text).parse_year_month() {
-        Ok(parts) => put_record(output, &parts),
-        Err(error) => put_error(output, error),
+    let outcome = IxdtfParser::from_utf8(text).parse_year_month();
+    match &outcome {
+        Ok(parts) => put_record(output, parts),
+        Err(error) => put_error(output, *error),
     }
 }
 
@@ -67,9 +69,10 @@ fn answer_year_month<W: Write>(output: &mut Output<'_, W>, text: &[u8]) -> Resul
 fn answer_month_day<W: Write>(output: &mut Output<'_, W>, text: &[u8]) -> Result<(), RunError>
     ensures { PutsOutcome W.contents output.old output.new result Word.MonthDay text.now }
 {
-    match IxdtfParser::from_utf8(text).parse_month_day() {
-        Ok(parts) => put_record(output, &parts),
-        Err(error) => put_error(output, error),
+    let outcome = IxdtfParser::from_utf8(text).parse_month_day();
+    match &outcome {
+        Ok(parts) => put_record(output, parts),
+        Err(error) => put_error(output, *error),
     }
 }
 
@@ -78,9 +81,10 @@ fn answer_month_day<W: Write>(output: &mut Output<'_, W>, text: &[u8]) -> Result
 fn answer_time<W: Write>(output: &mut Output<'_, W>, text: &[u8]) -> Result<(), RunError>
     ensures { PutsOutcome W.contents output.old output.new result Word.Time text.now }
 {
-    match IxdtfParser::from_utf8(text).parse_time() {
-        Ok(parts) => put_record(output, &parts),
-        Err(error) => put_error(output, error),
+    let outcome = IxdtfParser::from_utf8(text).parse_time();
+    match &outcome {
+        Ok(parts) => put_record(output, parts),
+        Err(error) => put_error(output, *error),
     }
 }
 
@@ -100,9 +104,10 @@ fn answer_offset<W: Write>(output: &mut Output<'_, W>, text: &[u8]) -> Result<()
 fn answer_zone<W: Write>(output: &mut Output<'_, W>, text: &[u8]) -> Result<(), RunError>
     ensures { PutsOutcome W.contents output.old output.new result Word.Zone text.now }
 {
-    match TimeZoneParser::from_utf8(text).parse_identifier() {
-        Ok(zone) => put_zone(output, &zone),
-        Err(error) => put_error(output, error),
+    let outcome = TimeZoneParser::from_utf8(text).parse_identifier();
+    match &outcome {
+        Ok(zone) => put_zone(output, zone),
+        Err(error) => put_error(output, *error),
     }
 }
 
@@ -136,9 +141,10 @@ fn answer_strict_month_day<W: Write>(
 ) -> Result<(), RunError>
     ensures { PutsOutcome W.contents output.old output.new result Word.StrictMonthDay text.now }
 {
-    match strict(text).parse_month_day() {
-        Ok(parts) => put_record(output, &parts),
-        Err(error) => put_error(output, error),
+    let outcome = strict(text).parse_month_day();
+    match &outcome {
+        Ok(parts) => put_record(output, parts),
+        Err(error) => put_error(output, *error),
     }
 }
 
@@ -147,9 +153,10 @@ fn answer_strict_month_day<W: Write>(
 fn answer_strict_time<W: Write>(output: &mut Output<'_, W>, text: &[u8]) -> Result<(), RunError>
     ensures { PutsOutcome W.contents output.old output.new result Word.StrictTime text.now }
 {
-    match strict(text).parse_time() {
-        Ok(parts) => put_record(output, &parts),
-        Err(error) => put_error(output, error),
+    let outcome = strict(text).parse_time();
+    match &outcome {
+        Ok(parts) => put_record(output, parts),
+        Err(error) => put_error(output, *error),
     }
 }
 
@@ -171,9 +178,10 @@ fn answer_canonical<W: Write>(output: &mut Output<'_, W>, text: &[u8]) -> Result
     ensures { PutsOutcome W.contents output.old output.new result Word.Canonical text.now }
 {
     canonical_fits();
-    match IxdtfParser::from_utf8(text).parse() {
-        Ok(parts) => put_canonical(output, &parts),
-        Err(error) => put_error(output, error),
+    let outcome = IxdtfParser::from_utf8(text).parse();
+    match &outcome {
+        Ok(parts) => put_canonical(output, parts),
+        Err(error) => put_error(output, *error),
     }
 }
 

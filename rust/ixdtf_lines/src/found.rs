@@ -3,7 +3,7 @@
 //! The answers of the readers, one function for each word.
 //!
 //! Each reads the text and puts its answer. None is inlined: what a reader finds stays in the frame of its own word, and no
-//! other word's is cleared for a line.
+//! other word's is cleared for a line. A record is looked at where its reader returned it, and is not moved.
 
 use crate::outcome::{put_canonical, put_duration, put_error, put_offset, put_record, put_zone};
 use crate::word::Word;
@@ -39,36 +39,40 @@ pub fn answer_text<W: Write>(
 /// Puts the answer of `parse`.
 #[inline(never)]
 fn answer_parse<W: Write>(output: &mut Output<'_, W>, text: &[u8]) -> Result<(), RunError> {
-    match IxdtfParser::from_utf8(text).parse() {
-        Ok(parts) => put_record(output, &parts),
-        Err(error) => put_error(output, error),
+    let outcome = IxdtfParser::from_utf8(text).parse();
+    match &outcome {
+        Ok(parts) => put_record(output, parts),
+        Err(error) => put_error(output, *error),
     }
 }
 
 /// Puts the answer of `year-month`.
 #[inline(never)]
 fn answer_year_month<W: Write>(output: &mut Output<'_, W>, text: &[u8]) -> Result<(), RunError> {
-    match IxdtfParser::from_utf8(text).parse_year_month() {
-        Ok(parts) => put_record(output, &parts),
-        Err(error) => put_error(output, error),
+    let outcome = IxdtfParser::from_utf8(text).parse_year_month();
+    match &outcome {
+        Ok(parts) => put_record(output, parts),
+        Err(error) => put_error(output, *error),
     }
 }
 
 /// Puts the answer of `month-day`.
 #[inline(never)]
 fn answer_month_day<W: Write>(output: &mut Output<'_, W>, text: &[u8]) -> Result<(), RunError> {
-    match IxdtfParser::from_utf8(text).parse_month_day() {
-        Ok(parts) => put_record(output, &parts),
-        Err(error) => put_error(output, error),
+    let outcome = IxdtfParser::from_utf8(text).parse_month_day();
+    match &outcome {
+        Ok(parts) => put_record(output, parts),
+        Err(error) => put_error(output, *error),
     }
 }
 
 /// Puts the answer of `time`.
 #[inline(never)]
 fn answer_time<W: Write>(output: &mut Output<'_, W>, text: &[u8]) -> Result<(), RunError> {
-    match IxdtfParser::from_utf8(text).parse_time() {
-        Ok(parts) => put_record(output, &parts),
-        Err(error) => put_error(output, error),
+    let outcome = IxdtfParser::from_utf8(text).parse_time();
+    match &outcome {
+        Ok(parts) => put_record(output, parts),
+        Err(error) => put_error(output, *error),
     }
 }
 
@@ -84,9 +88,10 @@ fn answer_offset<W: Write>(output: &mut Output<'_, W>, text: &[u8]) -> Result<()
 /// Puts the answer of `zone`.
 #[inline(never)]
 fn answer_zone<W: Write>(output: &mut Output<'_, W>, text: &[u8]) -> Result<(), RunError> {
-    match TimeZoneParser::from_utf8(text).parse_identifier() {
-        Ok(zone) => put_zone(output, &zone),
-        Err(error) => put_error(output, error),
+    let outcome = TimeZoneParser::from_utf8(text).parse_identifier();
+    match &outcome {
+        Ok(zone) => put_zone(output, zone),
+        Err(error) => put_error(output, *error),
     }
 }
 
@@ -114,18 +119,20 @@ fn answer_strict_month_day<W: Write>(
     output: &mut Output<'_, W>,
     text: &[u8],
 ) -> Result<(), RunError> {
-    match strict(text).parse_month_day() {
-        Ok(parts) => put_record(output, &parts),
-        Err(error) => put_error(output, error),
+    let outcome = strict(text).parse_month_day();
+    match &outcome {
+        Ok(parts) => put_record(output, parts),
+        Err(error) => put_error(output, *error),
     }
 }
 
 /// Puts the answer of `strict-time`.
 #[inline(never)]
 fn answer_strict_time<W: Write>(output: &mut Output<'_, W>, text: &[u8]) -> Result<(), RunError> {
-    match strict(text).parse_time() {
-        Ok(parts) => put_record(output, &parts),
-        Err(error) => put_error(output, error),
+    let outcome = strict(text).parse_time();
+    match &outcome {
+        Ok(parts) => put_record(output, parts),
+        Err(error) => put_error(output, *error),
     }
 }
 
@@ -141,9 +148,10 @@ fn answer_strict_duration<W: Write>(output: &mut Output<'_, W>, text: &[u8]) -> 
 /// Puts the answer of `canonical`.
 #[inline(never)]
 fn answer_canonical<W: Write>(output: &mut Output<'_, W>, text: &[u8]) -> Result<(), RunError> {
-    match IxdtfParser::from_utf8(text).parse() {
-        Ok(parts) => put_canonical(output, &parts),
-        Err(error) => put_error(output, error),
+    let outcome = IxdtfParser::from_utf8(text).parse();
+    match &outcome {
+        Ok(parts) => put_canonical(output, parts),
+        Err(error) => put_error(output, *error),
     }
 }
 

@@ -7,8 +7,8 @@ use Rattle.ixdtf_answers.proofs.PartsLemmas.{puts_found, puts_refused}
 pub returns-in-Ok : goal.returns-in-Ok
 returns-in-Ok g c =
     let found = parsed_of (λ byte. byte) c.in-Ok.parts in
-    puts_found _ c.args.text.now (parsed found) (rw (c.from_utf8.ensures.profile, c.from_utf8.ensures.rest) at ((c.in-Ok.ensures.reads.ok found).0 refl)) c.put_record.ensures
+    puts_found _ c.args.text.now (parsed found) (rw (c.from_utf8.ensures.profile, c.from_utf8.ensures.rest) at ((c.parse_time-outcome.ensures.reads.ok found).0 (rw c.in-Ok.is refl))) c.put_record.ensures
 
 pub returns-in-Err : goal.returns-in-Err
 returns-in-Err g c =
-    puts_refused _ c.args.text.now (fault_of c.in-Err.error) (rw (c.from_utf8.ensures.profile, c.from_utf8.ensures.rest) at c.in-Err.ensures.reads.err) c.put_error.ensures
+    puts_refused _ c.args.text.now (fault_of c.in-Err.error) (rw (c.from_utf8.ensures.profile, c.from_utf8.ensures.rest) at (rw c.in-Err.is at c.parse_time-outcome.ensures.reads.err)) c.put_error.ensures
