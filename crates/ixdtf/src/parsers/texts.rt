@@ -25,8 +25,8 @@ impl<'a, T: EncodingType> IxdtfParser<'a, T> {
     /// Reads all of the remaining input into an empty record. After an error the remaining input is unchanged.
     ///
     /// All public readers of records read by this one: those without a handler through `read_unhandled`, and those with one
-    /// through `read_as` or `read_lending_handler`. What makes the record returns it in an arm of its own. Where arms meet
-    /// before the return, and where a result is handed on, the whole record is copied once more.
+    /// through `read_as` or `read_lending_handler`. What makes the record apart returns it in an arm of its own. Where arms
+    /// meet before the return, and where a result is handed on, the whole record is copied once more.
     #[inline(always)]
     pub(crate) fn read_into<C: CoreReader, F>(
         &mut self,

@@ -100,11 +100,14 @@ impl<'a, T: EncodingType> IxdtfParser<'a, T> {
     pub fn parse(&mut self) -> ParserResult<IxdtfParseRecord<'a, T>>
         ensures reads { ReadsText T.letter fault_of (parsed_of T.number) reader_parse self.old result self.new }
     {
-        let mut found = IxdtfParseRecord::default();
-        match self.read_unhandled::<DateTimes>(&mut found) {
-            Ok(()) => Ok(found),
-            Err(why) => return Err(why.stop.error()),
+        // The record is made in the result, which is moved once less than a record is that is handed on.
+        let mut outcome = Ok(IxdtfParseRecord::default());
+        if let Ok(found) = &mut outcome {
+            if let Err(why) = self.read_unhandled::<DateTimes>(found) {
+                outcome = Err(why.stop.error());
+            }
         }
+        outcome
     }
 
     /// Reads the remaining input as a year and a month (ISO 8601; `DateSpecYearMonth` of the Temporal grammar), and then,
@@ -261,11 +264,14 @@ impl<'a, T: EncodingType> IxdtfParser<'a, T> {
     pub fn parse_time(&mut self) -> ParserResult<IxdtfParseRecord<'a, T>>
         ensures reads { ReadsText T.letter fault_of (parsed_of T.number) (reader_parse_time self.old.profile) self.old result self.new }
     {
-        let mut found = IxdtfParseRecord::default();
-        match self.read_unhandled::<Times>(&mut found) {
-            Ok(()) => Ok(found),
-            Err(why) => return Err(why.stop.error()),
+        // The record is made in the result, which is moved once less than a record is that is handed on.
+        let mut outcome = Ok(IxdtfParseRecord::default());
+        if let Ok(found) = &mut outcome {
+            if let Err(why) = self.read_unhandled::<Times>(found) {
+                outcome = Err(why.stop.error());
+            }
         }
+        outcome
     }
 
     /// Reads as [`parse`](Self::parse) does, and returns an error with its place: the number of code units before it in the

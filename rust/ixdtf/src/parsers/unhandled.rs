@@ -91,11 +91,14 @@ impl<'a, T: EncodingType> IxdtfParser<'a, T> {
     /// - `NonAsciiCodePoint` at a 16-bit code unit that is not from 1 to 126.
     #[inline(always)]
     pub fn parse(&mut self) -> ParserResult<IxdtfParseRecord<'a, T>> {
-        let mut found = IxdtfParseRecord::default();
-        match self.read_unhandled::<DateTimes>(&mut found) {
-            Ok(()) => Ok(found),
-            Err(why) => return Err(why.stop.error()),
+        // The record is made in the result, which is moved once less than a record is that is handed on.
+        let mut outcome = Ok(IxdtfParseRecord::default());
+        if let Ok(found) = &mut outcome {
+            if let Err(why) = self.read_unhandled::<DateTimes>(found) {
+                outcome = Err(why.stop.error());
+            }
         }
+        outcome
     }
 
     /// Reads the remaining input as a year and a month (ISO 8601; `DateSpecYearMonth` of the Temporal grammar), and then,
@@ -246,11 +249,14 @@ impl<'a, T: EncodingType> IxdtfParser<'a, T> {
     ///   the input ends after the time and its offset, or `[` follows, and before anything in a bracket is looked at.
     #[inline(always)]
     pub fn parse_time(&mut self) -> ParserResult<IxdtfParseRecord<'a, T>> {
-        let mut found = IxdtfParseRecord::default();
-        match self.read_unhandled::<Times>(&mut found) {
-            Ok(()) => Ok(found),
-            Err(why) => return Err(why.stop.error()),
+        // The record is made in the result, which is moved once less than a record is that is handed on.
+        let mut outcome = Ok(IxdtfParseRecord::default());
+        if let Ok(found) = &mut outcome {
+            if let Err(why) = self.read_unhandled::<Times>(found) {
+                outcome = Err(why.stop.error());
+            }
         }
+        outcome
     }
 
     /// Reads as [`parse`](Self::parse) does, and returns an error with its place: the number of code units before it in the
