@@ -1,5 +1,5 @@
 //! The check of all lines.
-ghost use Rattle.std.specs.Prelude.{◌≡◌, ℕ, List, ◌∷◌, [], ◌++◌, length, Option, Err, OnOk, IfSome, MatchResult};
+ghost use Rattle.std.specs.Prelude.{◌≡◌, ℕ, List, ◌∷◌, [], ◌++◌, ◌≤◌, length, Option, Err, OnOk, IfSome, MatchResult};
 ghost use Rattle.std.specs.Io.KnownBytes.{Consumes};
 ghost use Rattle.ixdtf_buffers.specs.Line.{Holds};
 ghost use Rattle.ixdtf_buffers.specs.Lines.{lines_of, ended_lines_of};
@@ -8,11 +8,13 @@ ghost use Rattle.ixdtf_checks.specs.Checks.{Reports, ReportsFront};
 ghost use Rattle.ixdtf_checks.specs.Progress.{Stands, Takes, Fails, Runs, GrowsBy};
 ghost use Rattle.ixdtf_checks.specs.Rooms.{HasRoom};
 
-use crate::judge::verdict_on;
+use crate::judge::{verdict_on, verdict_on_short};
 use crate::kept::Kept;
+use crate::printed::PrintedText;
 use crate::report::put_report;
 use crate::request::Request;
 use crate::tally::Tally;
+use crate::verdict::LINE_LIMIT;
 use ixdtf_buffers::error::RunError;
 use ixdtf_buffers::input::read_some;
 use ixdtf_buffers::output::Output;
@@ -122,9 +124,39 @@ fn check_bytes<W: Write>(
 
 /// Takes the last bytes of a line, reports it, and begins the next one.
 ///
-/// It is not inlined, since it clears the room for a report on entry.
-#[inline(never)]
+/// A line that lies whole in what was read is judged where it lies.
+#[inline(always)]
 fn end_line<W: Write>(
+    output: &mut Output<'_, W>,
+    kept: &mut Kept,
+    request: &Request<'_>,
+    bytes: &[u8],
+) -> Result<(), RunError>
+    requires { HasRoom kept.old.tally 1 }
+    ensures same { output.new.writer.ghost_name ≡ output.old.writer.ghost_name }
+    ensures bytes { kept.new.tally.bytes ≡ kept.old.tally.bytes }
+    ensures few { GrowsBy kept.old.tally kept.new.tally 1 }
+    ensures empty { (text : List ℕ) → Holds kept.old.line text
+        → OnOk result (Holds kept.new.line []) }
+    ensures reports { (start : Option (List ℕ)) (lines : List (List ℕ)) (text : List ℕ)
+        → Holds kept.old.line text
+        → Takes start (written W.contents output.old) output.old.waiting request.now kept.old.tally lines
+        → MatchResult result
+        (λ _. Takes start (written W.contents output.new) output.new.waiting request.now kept.new.tally
+        (lines ++ (text ++ bytes.now) ∷ []))
+        (Fails start (written W.contents output.new) request.now (lines ++ (text ++ bytes.now) ∷ [])) }
+{
+    if kept.line.is_empty() && bytes.len() <= LINE_LIMIT {
+        return report_text(output, &mut kept.tally, &mut kept.printed, request, bytes);
+    }
+    end_kept_line(output, kept, request, bytes)
+}
+
+/// The same of a line of which a part is kept, or that is too long.
+///
+/// It is not inlined, since there is at most one in most reads.
+#[inline(never)]
+fn end_kept_line<W: Write>(
     output: &mut Output<'_, W>,
     kept: &mut Kept,
     request: &Request<'_>,
@@ -147,6 +179,32 @@ fn end_line<W: Write>(
     report_line(output, kept, request)?;
     kept.line.clear();
     Ok(())
+}
+
+/// Reports a line that is not too long, and counts it.
+fn report_text<W: Write>(
+    output: &mut Output<'_, W>,
+    tally: &mut Tally,
+    printed: &mut PrintedText,
+    request: &Request<'_>,
+    line: &[u8],
+) -> Result<(), RunError>
+    requires room { HasRoom tally.old 1 }
+    requires short { length line.now ≤ 65536 }
+    ensures same { output.new.writer.ghost_name ≡ output.old.writer.ghost_name }
+    ensures bytes { tally.new.bytes ≡ tally.old.bytes }
+    ensures few { GrowsBy tally.old tally.new 1 }
+    ensures reports { (start : Option (List ℕ)) (lines : List (List ℕ))
+        → Takes start (written W.contents output.old) output.old.waiting request.now tally.old lines
+        → MatchResult result
+        (λ _. Takes start (written W.contents output.new) output.new.waiting request.now tally.new
+        (lines ++ line.now ∷ []))
+        (Fails start (written W.contents output.new) request.now (lines ++ line.now ∷ [])) }
+{
+    let number = tally.lines + 1;
+    let verdict = verdict_on_short(request, line, printed);
+    tally.add_line(verdict.is_refused());
+    put_report(output, request, number, printed, &verdict)
 }
 
 /// Reports the line and counts it.

@@ -33,8 +33,20 @@ pub fn verdict_on<'a>(
             column: LINE_LIMIT + 1,
             reason: Reason::TooLong,
         },
-        Some(bytes) => verdict_on_line(request, without_return(bytes), printed),
+        Some(bytes) => verdict_on_short(request, bytes, printed),
     }
+}
+
+/// The verdict on a line that is not too long.
+pub fn verdict_on_short<'a>(
+    request: &Request<'_>,
+    line: &'a [u8],
+    printed: &mut PrintedText,
+) -> Verdict<'a>
+    requires { length line.now ≤ 65536 }
+    ensures { IsVerdict request.now line.now (seen printed.new result) }
+{
+    verdict_on_line(request, without_return(line), printed)
 }
 
 /// The verdict on a line that is not too long, without its carriage return.

@@ -2,11 +2,13 @@
 
 //! The check of all lines.
 
-use crate::judge::verdict_on;
+use crate::judge::{verdict_on, verdict_on_short};
 use crate::kept::Kept;
+use crate::printed::PrintedText;
 use crate::report::put_report;
 use crate::request::Request;
 use crate::tally::Tally;
+use crate::verdict::LINE_LIMIT;
 use ixdtf_buffers::error::RunError;
 use ixdtf_buffers::input::read_some;
 use ixdtf_buffers::output::Output;
@@ -77,9 +79,25 @@ fn check_bytes<W: Write>(
 
 /// Takes the last bytes of a line, reports it, and begins the next one.
 ///
-/// It is not inlined, since it clears the room for a report on entry.
-#[inline(never)]
+/// A line that lies whole in what was read is judged where it lies.
+#[inline(always)]
 fn end_line<W: Write>(
+    output: &mut Output<'_, W>,
+    kept: &mut Kept,
+    request: &Request<'_>,
+    bytes: &[u8],
+) -> Result<(), RunError> {
+    if kept.line.is_empty() && bytes.len() <= LINE_LIMIT {
+        return report_text(output, &mut kept.tally, &mut kept.printed, request, bytes);
+    }
+    end_kept_line(output, kept, request, bytes)
+}
+
+/// The same of a line of which a part is kept, or that is too long.
+///
+/// It is not inlined, since there is at most one in most reads.
+#[inline(never)]
+fn end_kept_line<W: Write>(
     output: &mut Output<'_, W>,
     kept: &mut Kept,
     request: &Request<'_>,
@@ -89,6 +107,20 @@ fn end_line<W: Write>(
     report_line(output, kept, request)?;
     kept.line.clear();
     Ok(())
+}
+
+/// Reports a line that is not too long, and counts it.
+fn report_text<W: Write>(
+    output: &mut Output<'_, W>,
+    tally: &mut Tally,
+    printed: &mut PrintedText,
+    request: &Request<'_>,
+    line: &[u8],
+) -> Result<(), RunError> {
+    let number = tally.lines + 1;
+    let verdict = verdict_on_short(request, line, printed);
+    tally.add_line(verdict.is_refused());
+    put_report(output, request, number, printed, &verdict)
 }
 
 /// Reports the line and counts it.

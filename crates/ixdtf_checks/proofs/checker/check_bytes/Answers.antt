@@ -34,7 +34,8 @@ lines-preserved g c =
           let stood = stands start read before in
           let done = c.in_ok-end_line.ensures.reports start (ended_lines_of (read ++ front)) (unended_of (read ++ front)) stood.pending stood.taken in
           rw (← append_assoc read front (take next rest))
-          (Stands-line (read ++ front) rest c.in-Some.place c.in-Some.ensures.place done c.in_ok-end_line.ensures.empty),
+          (Stands-line (read ++ front) rest c.in-Some.place c.in-Some.ensures.place done
+          (c.in_ok-end_line.ensures.empty (unended_of (read ++ front)) stood.pending)),
     )
 
 pub returns-clause-reports : goal.returns-clause-reports
