@@ -20,6 +20,9 @@ use std::io::Write;
 /// At least as many bytes as the canonical text of a record that was read from a line has.
 const MOST_BYTES: usize = 4352;
 
+/// At least as many bytes as each part of the text of an error has.
+const MOST_OF_A_PART: usize = 80;
+
 /// As many bytes as the canonical text of a record without a long name has.
 const USUAL_BYTES: usize = 256;
 
@@ -158,9 +161,30 @@ fn put_long_canonical<W: Write>(
 }
 
 /// Puts the answer to a text that is refused, and a newline.
+///
+/// Each text of an error is short, so that the answer is made in an array and put at once.
 #[inline(never)]
 pub fn put_error<W: Write>(output: &mut Output<'_, W>, error: ParseError) -> Result<(), RunError> {
     let (text, location) = error_parts(error);
+    if text.len() > MOST_OF_A_PART || location.len() > MOST_OF_A_PART {
+        return put_long_error(output, text, location);
+    }
+    let mut room = [0; ROOM];
+    let first = add_bytes(&mut room, 0, b"error ");
+    let second = add_bytes(&mut room, first, text.as_bytes());
+    let newline = add_bytes(&mut room, second, location.as_bytes());
+    let end = add_byte(&mut room, newline, b'\n');
+    output.put(&room[..end])
+}
+
+/// Puts the answer of an error with a long text.
+#[cold]
+#[inline(never)]
+fn put_long_error<W: Write>(
+    output: &mut Output<'_, W>,
+    text: &'static str,
+    location: &'static str,
+) -> Result<(), RunError> {
     output.put_all(&[
         b"error ".as_slice(),
         text.as_bytes(),
