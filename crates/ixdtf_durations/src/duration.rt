@@ -22,7 +22,7 @@ ghost use Rattle.ixdtf_reading.specs.reading.Clauses.{Spends, Checks, Yields, fa
 ghost use Rattle.ixdtf_reading.specs.reading.Durations.State.{started, signed, between, in_number, at_mark};
 ghost use Rattle.ixdtf_durations.specs.reading.DurationClauses.{run_from, ReadsOn, SettlesFrom, ReadsNumber, AreDates, HasSmallDates};
 ghost use Rattle.ixdtf_durations.specs.reading.DurationClauses.{IsDateRecord, IsTimeRecord, rank_seen, date_rank_from, time_rank_from};
-ghost use Rattle.ixdtf_durations.specs.reading.DurationClauses.{after_time_group, begins_group, behind_unit, dated};
+ghost use Rattle.ixdtf_durations.specs.reading.DurationClauses.{after_time_group, behind_unit, dated};
 
 use ixdtf_grammar::encoding::{EncodingType, Utf8, Utf16};
 use ixdtf_grammar::profile::Profile;
@@ -570,14 +570,6 @@ fn time_record(values: [u64; 4], rank: u8, fraction: Option<Fraction>) -> TimeDu
     }
 }
 
-/// Whether the code unit begins one more group: a digit does, where the group before has no fraction.
-#[inline(always)]
-fn begins_time_group(byte: u8, fraction: Option<Fraction>) -> bool
-    ensures { result ≡ begins_group fraction byte }
-{
-    byte.is_ascii_digit() && fraction.is_none()
-}
-
 /// Reads the digits of a fraction after its decimal mark, and returns them with the code unit after them, which is not
 /// taken.
 #[inline(always)]
@@ -603,33 +595,8 @@ fn parse_fraction_group<'a, T: EncodingType>(
     }
 }
 
-/// Reads a time group after its first digit, up to the letter of its unit, which is neither tested nor taken.
-#[inline(always)]
-fn parse_time_group<'a, T: EncodingType>(
-    cursor: &mut Cursor<'a, T>,
-    first: u8,
-) -> Result<TimeGroup, Stop>
-    requires digit { IsTrue (digit first) }
-    ensures group { (profile : Profile) (s : Sign) (dates times : List Group) →
-        ReadsOn T.letter profile (in_number (in_times s dates times) (Plain first ∷ []))
-        cursor.old result cursor.new (after_time_group profile s dates times) }
-    ensures more { OnOk result (1 ≤ length cursor.new.rest) }
-    ensures looks { Spends 3 cursor.old cursor.new }
-    ensures paid { IfOk result (λ g. g.fraction ≡ None → Spends 1 cursor.old cursor.new) }
-{
-    let number = parse_number(cursor, first, Stop::AbruptTimeDesignator)?;
-    if is_decimal_separator(number.next) {
-        cursor.advance_by(1);
-        return parse_fraction_group(cursor, number.value);
-    }
-    Ok(TimeGroup {
-        value: number.value,
-        fraction: None,
-        letter: number.next,
-    })
-}
-
-/// Reads time groups after their first digit, and expects the end of the input.
+/// Reads time groups after their first digit, and expects the end of the input. Behind a fraction nothing else may stand, so
+/// only its group has one: the others are numbers, and none of them is copied with a place for a fraction.
 #[inline(always)]
 fn parse_time_groups<'a, T: EncodingType>(
     cursor: &mut Cursor<'a, T>,
@@ -647,13 +614,23 @@ fn parse_time_groups<'a, T: EncodingType>(
     let mut least = 1;
     let mut digit = first;
     loop {
-        let group = parse_time_group(cursor, digit)?;
-        let rank = take_time_unit(cursor, group.letter, least)?;
-        keep_number(&mut values, rank, group.value);
+        let whole = parse_number(cursor, digit, Stop::AbruptTimeDesignator)?;
+        if is_decimal_separator(whole.next) {
+            cursor.advance_by(1);
+            let group = parse_fraction_group(cursor, whole.value)?;
+            let rank = take_time_unit(cursor, group.letter, least)?;
+            keep_number(&mut values, rank, group.value);
+            match cursor.look()? {
+                None => return Ok(time_record(values, rank, group.fraction)),
+                Some(_after_fraction) => return Err(Stop::InvalidEnd),
+            }
+        }
+        let rank = take_time_unit(cursor, whole.next, least)?;
+        keep_number(&mut values, rank, whole.value);
         least = rank + profile.least_step();
         match cursor.look()? {
-            None => return Ok(time_record(values, rank, group.fraction)),
-            Some(byte) if begins_time_group(byte, group.fraction) => {
+            None => return Ok(time_record(values, rank, None)),
+            Some(byte) if byte.is_ascii_digit() => {
                 cursor.advance();
                 digit = byte;
             }

@@ -3,8 +3,8 @@ use Rattle.std.proofs.Common.{◌+◌, ◌≤◌, IsTrue, length, map}
 use Rattle.ixdtf_grammar.specs.language.Letters.{digit}
 use Rattle.ixdtf_durations.proofs.code.DurationLoops.{TimesSoFar}
 
-abbrev pub invariant-loop-group : goal.invariant-loop-group
-invariant-loop-group g l = record {
+abbrev pub invariant-loop-whole : goal.invariant-loop-whole
+invariant-loop-whole g l = record {
   far : TimesSoFar l.profile l.first (map g.T.EncodingType.letter l.initial.cursor.rest) (map g.T.EncodingType.letter l.cursor.rest) l.values l.least l.digit;
   first : 1 ≤ l.least;
   is_digit : IsTrue (digit l.digit);
@@ -12,5 +12,5 @@ invariant-loop-group g l = record {
   counted : l.initial.cursor.looks ≤ l.cursor.looks;
 }
 
-abbrev pub decreases-loop-group : goal.decreases-loop-group
-decreases-loop-group g l = length l.cursor.rest
+abbrev pub decreases-loop-whole : goal.decreases-loop-whole
+decreases-loop-whole g l = length l.cursor.rest
