@@ -1,6 +1,6 @@
 -- What calls, one after the other, do to what is written and to what waits.
 use Rattle.std.proofs.Common.{◌≡◌, ℕ, ◌+◌, ◌-◌, ◌<◌, List, [], ◌++◌, length, take, drop, get_or, Option, Some, None, Result, Ok, Err, OnOk, IfSome}
-use Rattle.std.proofs.{Common.{IsErrAnd, Bor, refl, sym, ap, ◌∙◌, append_assoc}, lemmas.Fmt.contents_after_writes}
+use Rattle.std.proofs.{Common.{IsErrAnd, Bor, refl, sym, ap, subst, ◌∙◌, append_assoc}, lemmas.Fmt.contents_after_writes}
 use Rattle.std.proofs.{lemmas.{Grind.flat_map-append, List.{append-nil, take_more, take-append-drop}}, KnownBytes.Appends-trans}
 use Rattle.std.specs.{Fmt.WritesText, Io.KnownBytes.Appends}
 use Rattle.ixdtf_buffers.proofs.LinesLemmas.{taken_on}
@@ -66,6 +66,22 @@ module _ {W : Type 0} {contents : W → Option (List ℕ)} where
     ok = tt;
     err = (same ∙ failed.err.0, rw (← append_assoc) (AppendsFront-more ys failed.err.1));
   }
+
+filled : (front back bytes : List ℕ) → front ++ back ≡ bytes → (front ++ []) ++ back ≡ bytes
+filled front back bytes whole = ap (λ (text : List ℕ). text ++ back) (append-nil front) ∙ whole
+
+module _ {W : Type 0} {contents : W → Option (List ℕ)} where
+  -- the first bytes were put, what waited was written, and the others were put
+  pub Puts-filled : {x y z w : Output W} (front back bytes : List ℕ) → front ++ back ≡ bytes → Puts contents x y (Ok tt) front → Puts contents y z (Ok tt) []
+      → Puts contents z w (Ok tt) back → Puts contents x w (Ok tt) bytes
+  Puts-filled {x = x} {w = w} front back bytes whole first written others =
+      subst (λ (text : List ℕ). Puts contents x w (Ok tt) text) (filled front back bytes whole) (Puts-after (Puts-after first written) others)
+
+  -- the exit of a `?`: the first bytes were put, and writing what waited failed
+  pub Puts-filled-exit : {x y z : Output W} {r : Result (Unit {0}) RunError} {e : RunError} (front back bytes : List ℕ) → front ++ back ≡ bytes
+      → Puts contents x y (Ok tt) front → Puts contents y z (Err e) [] → IsErrAnd r (λ y. y ≡ e) → Puts contents x z r bytes
+  Puts-filled-exit {x = x} {z = z} {r = r} front back bytes whole first failed same =
+      subst (λ (text : List ℕ). Puts contents x z r text) (filled front back bytes whole) (Puts-exit back (Puts-after first failed) same)
 
 joined-parts : (pieces : List (Bor (List ℕ))) (n : ℕ) → joined (take n pieces) ++ joined (drop n pieces) ≡ joined pieces
 joined-parts pieces n = sym (flat_map-append _ (take n pieces) (drop n pieces)) ∙ ap joined (take-append-drop n pieces)

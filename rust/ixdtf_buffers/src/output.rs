@@ -27,18 +27,29 @@ impl<'w, W: Write> Output<'w, W> {
         if bytes.len() > self.waiting.room() {
             return self.put_after(bytes);
         }
-        self.waiting.push_all(bytes);
+        self.push(bytes);
         Ok(())
     }
 
-    /// Writes the waiting bytes, and then puts the bytes.
+    /// Fills what waits with the first of the bytes, writes it, and puts the others behind it.
+    ///
+    /// What waits goes out full, so that no write takes out less than it would of the same bytes in smaller pieces.
     fn put_after(&mut self, bytes: &[u8]) -> Result<(), RunError> {
-        self.hand_on()?;
         if bytes.len() > WAITING_LIMIT {
+            self.hand_on()?;
             return write_whole(self.writer, bytes);
         }
-        self.waiting.push_all(bytes);
+        let room = self.waiting.room();
+        let (front, back) = bytes.split_at(room);
+        self.push(front);
+        self.hand_on()?;
+        self.push(back);
         Ok(())
+    }
+
+    /// Puts bytes that fit behind those that wait.
+    fn push(&mut self, bytes: &[u8]) {
+        self.waiting.push_all(bytes);
     }
 
     /// Puts the pieces in turn.
