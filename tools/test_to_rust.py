@@ -23,7 +23,7 @@ PAIRS += [(f'crates/ixdtf_{layer}/src', 'rust/ixdtf/src') for layer in LAYERS]
 # crates whose root file is made
 WITH_ROOTS = {'crates/ixdtf/src', 'crates/ixdtf_print/src', 'crates/ixdtf_buffers/src', 'crates/ixdtf_c/src'}
 # files of the made crates that are written by hand, by their modules
-BY_HAND = {'main', 'tests/printing', 'abort', 'slices'}
+BY_HAND = {'main', 'tests/printing', 'abort', 'slices', 'place'}
 
 
 def tokens_of(text):
