@@ -87,3 +87,17 @@ pub fn print(parsed: &IxdtfParseRecord<'_, Utf8>, out: &mut [u8]) -> Result<usiz
     }
     Ok(put_record(out, parsed))
 }
+
+/// Writes the canonical text of the record into the front of a slice that has room for it, and returns how many bytes these
+/// are, as [`print`] does. It tests neither the record nor the room: a caller that has just read the record from a text knows
+/// both.
+// For crates of this repository, and no part of the interface.
+#[doc(hidden)]
+pub fn print_with_room(parsed: &IxdtfParseRecord<'_, Utf8>, room: &mut [u8]) -> usize
+    requires { length (canonical_text (record_of parsed.now)) ≤ length room.old }
+    ensures count { result ≡ length (canonical_text (record_of parsed.now)) }
+    ensures text { map byte_letter (take result room.new) ≡ canonical_text (record_of parsed.now) }
+    ensures rest { drop result room.new ≡ drop result room.old }
+{
+    put_record(room, parsed)
+}

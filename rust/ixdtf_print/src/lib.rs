@@ -66,3 +66,12 @@ pub fn print(parsed: &IxdtfParseRecord<'_, Utf8>, out: &mut [u8]) -> Result<usiz
     }
     Ok(put_record(out, parsed))
 }
+
+/// Writes the canonical text of the record into the front of a slice that has room for it, and returns how many bytes these
+/// are, as [`print`] does. It tests neither the record nor the room: a caller that has just read the record from a text knows
+/// both.
+// For crates of this repository, and no part of the interface.
+#[doc(hidden)]
+pub fn print_with_room(parsed: &IxdtfParseRecord<'_, Utf8>, room: &mut [u8]) -> usize {
+    put_record(room, parsed)
+}

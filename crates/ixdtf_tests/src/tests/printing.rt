@@ -15,7 +15,7 @@ use ixdtf::parsers::{IxdtfParser, Profile};
 use ixdtf::records::{
     IxdtfParseRecord, Sign, TimeZoneAnnotation, TimeZoneRecord, UtcOffsetRecordOrZ,
 };
-use ixdtf_print::{Canonical, PrintError, print, printed_length};
+use ixdtf_print::{Canonical, PrintError, print, print_with_room, printed_length};
 use std::alloc::Global;
 use std::process::Abort;
 use std::test::Fail;
@@ -57,6 +57,20 @@ fn is_canonical(text: &str, out: &mut [u8], canonical: &str) -> bool {
     canonical_of(text, out) == Some(canonical.as_bytes())
 }
 
+// Whether the canonical text of a text is this, put where there is room for it.
+fn is_put_with_room(text: &str, out: &mut [u8], canonical: &str) -> bool {
+    let Ok(parsed) = IxdtfParser::from_str(text).parse() else {
+        return false;
+    };
+    match printed_length(&parsed) {
+        Some(length) if length <= out.len() => {
+            let count = print_with_room(&parsed, out);
+            &out[..count] == canonical.as_bytes()
+        }
+        _ => false,
+    }
+}
+
 // Whether there is no canonical text of a text, or no room for it.
 fn prints_nothing(text: &str, out: &mut [u8]) -> bool {
     canonical_of(text, out) == None
@@ -70,6 +84,16 @@ fn prints_for_callers(rt: HostRuntime) {
     check(&rt, text, is_canonical(text, &mut out, canonical));
     let mut short = [0; 32];
     check(&rt, "too few bytes", prints_nothing(text, &mut short));
+    check(
+        &rt,
+        "with room",
+        is_put_with_room(text, &mut out, canonical),
+    );
+    check(
+        &rt,
+        "no room",
+        !is_put_with_room(text, &mut short, canonical),
+    );
     check(&rt, "month 13", prints_nothing("2024-13-02", &mut out));
     check(&rt, "read back", is_read_back(text.as_bytes(), &mut out));
 }
