@@ -1,11 +1,11 @@
 -- What answering puts.
-use Rattle.std.proofs.Common.{◌≡◌, ◌≤◌, ◌+◌, ℕ, Bool, List, [], ◌∷◌, ◌++◌, length, take, drop, Option, Some, None, Result, position, codes, inl, inr, refl, ap, append_assoc}
+use Rattle.std.proofs.Common.{◌≡◌, ℕ, Bool, List, [], ◌∷◌, ◌++◌, Option, Some, None, Result, codes, inl, inr, refl, ap, append_assoc}
 use Rattle.std.proofs.lemmas.List.{append-nil}
 use Rattle.ixdtf.specs.{table.Faults.Fault, language.{Languages.{Parsed, Found}, Brackets.ZoneNote, ZoneNames.{Zone, Zone.{Name, Offset}}}}
 use Rattle.ixdtf_buffers.specs.declared.{error.RunError.RunError, output.Output.Output}
 use Rattle.ixdtf_buffers.specs.{Lines.newline, Output.Puts}
-use Rattle.ixdtf_answers.specs.{Answer.{IsAnswer, IsOutcome, Gives, Refuses, letters, ok_answer_of, error_answer_of, is_space, line_limit, unknown_reader}}
-use Rattle.ixdtf_answers.specs.{Word.{reader_of, name_of}, declared.word.Word.Word, Parts.{PutsOutcome, PutsAnswer, zone_front_of, zone_name_of, zone_field_front_of, zone_field_name_of}}
+use Rattle.ixdtf_answers.specs.{Answer.{Gives, Refuses, letters, ok_answer_of, error_answer_of}}
+use Rattle.ixdtf_answers.specs.{Word.{reader_of}, declared.word.Word.Word, Parts.{PutsOutcome, zone_front_of, zone_name_of, zone_field_front_of, zone_field_name_of}}
 use Rattle.ixdtf_answers.specs.Fields.{zone_text_of, zone_field_of, date_field_of, time_field_of, offset_field_of, calendar_field_of, record_fields_of}
 
 module _ {W : Type 0} {contents : W → Option (List ℕ)} {x y : Output W} {r : Result (Unit {0}) RunError} where

@@ -1,4 +1,3 @@
-pub mod Adding
 pub mod Answer
 pub mod Fields
 pub mod Parts

@@ -1,7 +1,7 @@
 //! The fields of what a reader found, added to the text of an answer.
 ghost use Rattle.std.specs.Prelude.{◌≡◌, ◌+◌, ◌≤◌, [], ◌∷◌, codes, option_map};
 ghost use Rattle.ixdtf.specs.Views.{note_of, zone_of};
-ghost use Rattle.ixdtf_answers.specs.Adding.{Adds};
+ghost use Rattle.ixdtf_buffers.specs.Adding.{Adds};
 ghost use Rattle.ixdtf_answers.specs.Fields.{comma, date_field_of, date_text_of, time_field_of, clock_text_of};
 ghost use Rattle.ixdtf_answers.specs.Fields.{fraction_text_of, sign_text_of, minute_offset_text_of, second_text_of};
 ghost use Rattle.ixdtf_answers.specs.Fields.{full_offset_text_of, offset_text_of, offset_field_of};
@@ -11,7 +11,6 @@ ghost use Rattle.ixdtf_answers.specs.Fields.{last_fraction_of, time_duration_tex
 ghost use Rattle.ixdtf_answers.specs.Parts.{zone_front_of, zone_field_front_of};
 ghost use Rattle.std.specs.Fmt.{decimal};
 
-use crate::adding::{ROOM, add_byte, add_bytes, add_number, add_small, add_year};
 use crate::number::nine_digits;
 use ixdtf::encoding::Utf8;
 use ixdtf::records::{
@@ -19,6 +18,7 @@ use ixdtf::records::{
     MinutePrecisionOffset, Sign, TimeDurationRecord, TimeRecord, TimeZoneAnnotation,
     TimeZoneRecord, UtcOffsetRecord, UtcOffsetRecordOrZ,
 };
+use ixdtf_buffers::adding::{ROOM, add_byte, add_bytes, add_number, add_small, add_year};
 
 /// Adds a comma and a number below 256.
 fn add_small_behind_comma(room: &mut [u8; ROOM], at: usize, number: u8) -> usize

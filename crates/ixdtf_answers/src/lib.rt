@@ -4,7 +4,6 @@
 //! standard input and standard output.
 #![tactic(auto)]
 
-mod adding;
 mod answer;
 pub mod arguments;
 mod fields;

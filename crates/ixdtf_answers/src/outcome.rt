@@ -5,7 +5,7 @@ ghost use Rattle.ixdtf.specs.language.Languages.Found.{parsed};
 ghost use Rattle.ixdtf.specs.table.ErrorTexts.{message_of};
 ghost use Rattle.ixdtf.specs.table.Faults.{fault_of};
 ghost use Rattle.ixdtf_print.specs.Printable.{record_of};
-ghost use Rattle.ixdtf_answers.specs.Adding.{Adds};
+ghost use Rattle.ixdtf_buffers.specs.Adding.{Adds};
 ghost use Rattle.ixdtf_answers.specs.Answer.{error_answer_of};
 ghost use Rattle.ixdtf_answers.specs.Fields.{canonical_field_of, record_fields_of, date_field_of, time_field_of};
 ghost use Rattle.ixdtf_answers.specs.Fields.{offset_field_of, offset_text_of, zone_text_of, calendar_text_of, duration_text_of};
@@ -14,7 +14,6 @@ ghost use Rattle.ixdtf_answers.specs.Printed.{FitsArray};
 ghost use Rattle.ixdtf_buffers.specs.Lines.{newline};
 ghost use Rattle.ixdtf_buffers.specs.Output.{Puts};
 
-use crate::adding::{ROOM, add_byte, add_bytes};
 use crate::fields::{
     add_date_field, add_duration, add_offset, add_offset_field, add_time_field,
     add_zone_field_front, add_zone_front,
@@ -24,6 +23,7 @@ use ixdtf::encoding::Utf8;
 use ixdtf::records::{
     DurationParseRecord, IxdtfParseRecord, TimeZoneAnnotation, TimeZoneRecord, UtcOffsetRecord,
 };
+use ixdtf_buffers::adding::{ROOM, add_byte, add_bytes};
 use ixdtf_buffers::error::RunError;
 use ixdtf_buffers::output::Output;
 use ixdtf_print::print;

@@ -1,3 +1,4 @@
+pub mod AddingLemmas
 pub mod DecimalLemmas
 pub mod LinesLemmas
 pub mod OutputLemmas

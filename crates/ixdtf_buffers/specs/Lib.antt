@@ -1,3 +1,4 @@
+pub mod Adding
 pub mod Line
 pub mod Lines
 pub mod Output

@@ -3,6 +3,7 @@
 //! Nothing here allocates: each buffer is an array of fixed size. The crate uses the standard library alone.
 #![tactic(auto)]
 
+pub mod adding;
 pub mod decimal;
 pub mod error;
 pub mod input;

@@ -6,6 +6,7 @@
 
 #![forbid(unsafe_code)]
 
+pub mod adding;
 pub mod decimal;
 pub mod error;
 pub mod input;

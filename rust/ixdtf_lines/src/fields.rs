@@ -2,7 +2,6 @@
 
 //! The fields of what a reader found, added to the text of an answer.
 
-use crate::adding::{ROOM, add_byte, add_bytes, add_number, add_small, add_year};
 use crate::number::nine_digits;
 use ixdtf::encoding::Utf8;
 use ixdtf::records::{
@@ -10,6 +9,7 @@ use ixdtf::records::{
     MinutePrecisionOffset, Sign, TimeDurationRecord, TimeRecord, TimeZoneAnnotation,
     TimeZoneRecord, UtcOffsetRecord, UtcOffsetRecordOrZ,
 };
+use ixdtf_buffers::adding::{ROOM, add_byte, add_bytes, add_number, add_small, add_year};
 
 /// Adds a comma and a number below 256.
 fn add_small_behind_comma(room: &mut [u8; ROOM], at: usize, number: u8) -> usize {

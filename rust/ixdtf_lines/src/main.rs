@@ -1,7 +1,6 @@
 //! Answers each line of standard input by a line on standard output.
 #![forbid(unsafe_code)]
 
-mod adding;
 mod answer;
 mod arguments;
 mod fields;

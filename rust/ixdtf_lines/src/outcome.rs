@@ -2,7 +2,6 @@
 
 //! What is put for what a reader found, or for why it refuses a text.
 
-use crate::adding::{ROOM, add_byte, add_bytes};
 use crate::fields::{
     add_date_field, add_duration, add_offset, add_offset_field, add_time_field,
     add_zone_field_front, add_zone_front,
@@ -12,6 +11,7 @@ use ixdtf::encoding::Utf8;
 use ixdtf::records::{
     DurationParseRecord, IxdtfParseRecord, TimeZoneAnnotation, TimeZoneRecord, UtcOffsetRecord,
 };
+use ixdtf_buffers::adding::{ROOM, add_byte, add_bytes};
 use ixdtf_buffers::error::RunError;
 use ixdtf_buffers::output::Output;
 use ixdtf_print::print;

@@ -1,5 +1,5 @@
 -- A number of three digits.
-use Rattle.ixdtf_answers.proofs.adding.add_small.Goals as goal
+use Rattle.ixdtf_buffers.proofs.adding.add_small.Goals as goal
 use Rattle.std.proofs.{Common.arith, lemmas.Fmt.length-decimal-le}
 
 pub add_long-requires : goal.add_long-requires

@@ -1,5 +1,5 @@
 -- A year with a sign, and one of other than four digits.
-use Rattle.ixdtf_answers.proofs.adding.add_other_year.Goals as goal
+use Rattle.ixdtf_buffers.proofs.adding.add_other_year.Goals as goal
 use Rattle.std.proofs.{Common.arith, lemmas.Fmt.length-decimal-le}
 
 pub add_long-requires : goal.add_long-requires

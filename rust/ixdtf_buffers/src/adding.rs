@@ -1,13 +1,13 @@
-// Made by tools/to_rust.py of crates/ixdtf_answers/src/adding.rt. Do not edit.
+// Made by tools/to_rust.py of crates/ixdtf_buffers/src/adding.rt. Do not edit.
 
 //! Bytes and numbers that are added to a short text, at a place of an array.
 //!
-//! The text of an answer is made there, and put at once. A place goes from call to call in a register, where a count in
+//! The text of an answer or of a report is made there, and put at once. A place goes from call to call in a register, where a count in
 //! memory would be read and written for each byte.
 
-use ixdtf_buffers::decimal::Decimal;
+use crate::decimal::Decimal;
 
-/// At least as many bytes as an answer without names has.
+/// At least as many bytes as an answer without names has, and as a report has before the lines that show the place.
 pub const ROOM: usize = 192;
 
 /// Adds the byte at the place, and returns the place behind it.
@@ -40,9 +40,40 @@ pub fn add_small(room: &mut [u8; ROOM], at: usize, number: u8) -> usize {
 pub fn add_number(room: &mut [u8; ROOM], at: usize, number: u64) -> usize {
     if number < 100 {
         add_below_100(room, at, number as u8)
+    } else if number < 100_000_000 {
+        add_below_100_000_000(room, at, number as u32)
     } else {
         add_long(room, at, number)
     }
+}
+
+/// Adds a number below 100,000,000 at the place, and returns the place behind it.
+#[inline(never)]
+fn add_below_100_000_000(room: &mut [u8; ROOM], at: usize, number: u32) -> usize {
+    if number < 10_000 {
+        return add_below_10_000(room, at, number);
+    }
+    let third = add_below_10_000(room, at, number / 10_000);
+    let last = add_two_digits(room, third, (number / 100 % 100) as u8);
+    add_two_digits(room, last, (number % 100) as u8)
+}
+
+/// Adds a number below 10,000 at the place, and returns the place behind it.
+#[inline(always)]
+fn add_below_10_000(room: &mut [u8; ROOM], at: usize, number: u32) -> usize {
+    if number < 100 {
+        return add_below_100(room, at, number as u8);
+    }
+    let last = add_below_100(room, at, (number / 100) as u8);
+    add_two_digits(room, last, (number % 100) as u8)
+}
+
+/// Adds two digits at the place, and returns the place behind them.
+#[inline(always)]
+fn add_two_digits(room: &mut [u8; ROOM], at: usize, number: u8) -> usize {
+    room[at] = b'0' + number / 10;
+    room[at + 1] = b'0' + number % 10;
+    at + 2
 }
 
 /// Adds the year at the place, and returns the place behind it.

@@ -1,7 +1,7 @@
 -- One digit, or two.
-use Rattle.ixdtf_answers.proofs.adding.add_below_100.Goals as goal
+use Rattle.ixdtf_buffers.proofs.adding.add_below_100.Goals as goal
 use Rattle.std.proofs.Common.{arith}
-use Rattle.ixdtf_answers.proofs.AddingLemmas.{below_100}
+use Rattle.ixdtf_buffers.proofs.AddingLemmas.{below_100}
 
 pub returns-clause-text : goal.returns-clause-text
 returns-clause-text c =

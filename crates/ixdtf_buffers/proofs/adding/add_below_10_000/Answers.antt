@@ -1,0 +1,8 @@
+-- The hundreds, and two more digits.
+use Rattle.ixdtf_buffers.proofs.adding.add_below_10_000.Goals as goal
+use Rattle.std.proofs.Common.{arith}
+use Rattle.ixdtf_buffers.proofs.AddingLemmas.{adds_then, decimal_hundreds}
+
+pub returns-clause-text : goal.returns-clause-text
+returns-clause-text c =
+    rw (decimal_hundreds c.args.number (omega arith) (omega arith)) (adds_then c.add_below_100-last.ensures.text c.add_two_digits.ensures.text)
