@@ -159,7 +159,7 @@ REFUSED = set('unsafe extern dyn async await macro_rules union yield move box ra
 TEST_REFUSED = REFUSED - {'alloc', 'Global'}
 KEYWORDS = set('pub if match while for in return let else'.split())
 # the handler of a reader, what stands in src/slices.rs of the library for C, and in src/place.rs of the buffers
-CALLED = {'handler', 'to_c', 'from_c', 'place_of'}
+CALLED = {'handler', 'to_c', 'from_c', 'place_of', 'pass_many'}
 STD_PATHS = {'std::str::from_utf8', 'std::fmt', 'std::error::Error', 'std::marker::PhantomData', 'std::mem::replace', 'std::fmt::Debug', 'std::io::{Read,Write}',
              'std::io::Write', 'std::io::Read', 'std::fmt::Write', 'std::str'}
 STD_METHODS = set('get len split_at is_ascii_digit is_ascii_alphabetic is_ascii_lowercase write_str as_bytes then_some pow is_ok'

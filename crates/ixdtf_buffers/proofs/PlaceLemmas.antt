@@ -1,7 +1,11 @@
 -- The first place of a byte, after looks in order.
-use Rattle.std.proofs.Common.{◌≡◌, ℕ, ◌+◌, ◌<◌, ◌≤◌, Bool, false, true, List, length, get_or, Option, Some, None, cond, ltb, sym, refl, ap, ◌∙◌, arith, ⊎_elim}
+use Rattle.std.proofs.Common.{◌≡◌, ℕ, ◌+◌, ◌*◌, ◌<◌, ◌≤◌, Bool, false, true, not, List, [], ◌∷◌, ◌++◌, length, map, take, get_or, Some, None, cond, sym, refl, ap, ◌∙◌, arith, ⊎_elim}
 use Rattle.std.proofs.lemmas.{Bool.{cases_lt, lt-ltb, le-ltb}, List.Sums.position_or_len_is}
-use Rattle.std.specs.List.{position, position_or_len}
+use Rattle.std.proofs.lemmas.List.{Sums.sum_by-append, take-take, drop-take, take-append-drop}
+use Rattle.std.proofs.lemmas.Simd.{length-chunk, none_from_empty_mask, ones-mask_l, run_in_chunk_fails, run_in_chunk_stops, trailing_mask_l}
+use Rattle.std.specs.List.{count_by, position, prefix_len}
+use Rattle.std.specs.Simd.Lanes.{chunk, mask_l}
+use lib.Count.{count_trailing_zeros, ones}
 
 -- none before, and one there
 pub first_there : (test : ℕ → Bool) (bytes : List ℕ) (place : ℕ) → place < length bytes → ((k : ℕ) → k < place → test (get_or bytes k 0) ≡ false)
@@ -21,3 +25,52 @@ pub none_so_far : (test : ℕ → Bool) (bytes : List ℕ) (start from end : ℕ
     → ((k : ℕ) → from ≤ k → k < end → test (get_or bytes k 0) ≡ false) → (k : ℕ) → k < end → test (get_or bytes k 0) ≡ false
 none_so_far test bytes start from end met before here k below =
     ⊎_elim (λ early. before k early) (λ late. here k (omega (arith, late, met)) below) (cases_lt k start)
+
+-- where a lane is marked, some lane is the first
+marked_below : (test : ℕ → Bool) (lanes : List ℕ) → 0 < mask_l (map test lanes) → prefix_len (λ x. not (test x)) lanes < length lanes
+marked_below test [] some = absurd (omega (arith, some))
+marked_below test (x ∷ lanes) some = step (test x) some (marked_below test lanes)
+  where
+    step : (marked : Bool) → 0 < cond marked 1 0 + 2 * mask_l (map test lanes)
+        → (0 < mask_l (map test lanes) → prefix_len (λ x. not (test x)) lanes < length lanes)
+        → cond (not marked) (1 + prefix_len (λ x. not (test x)) lanes) 0 < length (x ∷ lanes)
+    step true some next = omega arith
+    step false some next = omega (arith, next (omega (arith, some)))
+
+-- the first byte that is marked in a look at sixteen: it passes, and none before it in this look
+pub record FirstMarked (test : ℕ → Bool) (bytes : List ℕ) (start count : ℕ) : Type 0 where
+  pub below : count < 16
+  pub before : (k : ℕ) → start ≤ k → k < start + count → test (get_or bytes k 0) ≡ false
+  pub there : test (get_or bytes (start + count) 0) ≡ true
+
+pub first_marked : (test : ℕ → Bool) (bytes : List ℕ) (start marks : ℕ) → start + 16 ≤ length bytes → marks ≡ mask_l (map test (chunk start 16 bytes))
+    → 0 < marks → FirstMarked test bytes start (count_trailing_zeros 64 marks)
+first_marked test bytes start marks room same some =
+    let lanes = chunk start 16 bytes in
+    let long = length-chunk start 16 bytes room in
+    let marked : 0 < mask_l (map test lanes) = omega (arith, same, some) in
+    let counted : count_trailing_zeros 64 marks ≡ prefix_len (λ x. not (test x)) lanes =
+    ap (count_trailing_zeros 64) same ∙ trailing_mask_l test 64 lanes (omega (arith, long)) marked in
+    let below : count_trailing_zeros 64 marks < 16 = omega (arith, counted, long, marked_below test lanes marked) in
+    record {
+      below = below;
+      before = run_in_chunk_fails test bytes start 16 (count_trailing_zeros 64 marks) 0 room counted;
+      there = run_in_chunk_stops test bytes start 16 (count_trailing_zeros 64 marks) 0 room counted below;
+    }
+
+-- where none is marked, none of the sixteen passes
+pub none_marked : (test : ℕ → Bool) (bytes : List ℕ) (start marks : ℕ) → start + 16 ≤ length bytes → marks ≡ mask_l (map test (chunk start 16 bytes))
+    → marks ≡ 0 → (k : ℕ) → start ≤ k → k < start + 16 → test (get_or bytes k 0) ≡ false
+none_marked test bytes start marks room same none = none_from_empty_mask test bytes start 16 0 room (sym same ∙ none)
+
+-- as many are marked as pass
+pub marks_counted : (test : ℕ → Bool) (lanes : List ℕ) (marks : ℕ) → marks ≡ mask_l (map test lanes) → ones marks ≡ count_by test lanes
+marks_counted test lanes marks same = ap ones same ∙ ones-mask_l test lanes
+
+-- those up to a place, and those of the next bytes
+pub counted_on : (test : ℕ → Bool) (bytes : List ℕ) (place n : ℕ)
+    → count_by test (take (place + n) bytes) ≡ count_by test (take place bytes) + count_by test (chunk place n bytes)
+counted_on test bytes place n =
+    let whole : take place bytes ++ chunk place n bytes ≡ take (place + n) bytes =
+    rw (take-take place (place + n) bytes (omega arith), drop-take place n bytes) at (take-append-drop place (take (place + n) bytes)) in
+    ap (count_by test) (sym whole) ∙ sum_by-append (λ x. cond (test x) 1 0) (take place bytes) (chunk place n bytes)

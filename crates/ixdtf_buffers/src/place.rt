@@ -1,5 +1,7 @@
 //! Looking for a byte.
-ghost use Rattle.std.specs.Prelude.{◌≡◌, ℕ, ◌+◌, ◌<◌, ◌≤◌, length, position, slice_index, false, true, IfSome};
+ghost use Rattle.std.specs.Prelude.{◌≡◌, ◌+◌, ◌<◌, ◌≤◌, length, map, take, position, IfSome};
+ghost use Rattle.std.specs.List.{count_by};
+ghost use Rattle.std.specs.Simd.Lanes.{chunk, mask_l};
 ghost use Rattle.ixdtf_buffers.specs.Lines.{is_byte};
 
 use std::simd::prelude::*;
@@ -8,14 +10,19 @@ use std::simd::prelude::*;
 const LANES: usize = 16;
 
 /// The index of the first byte that is this one.
+///
+/// A byte at the front is looked at first: where many fields or lines are empty, the look at many bytes at once would wait
+/// each time for what the look before it found.
 pub fn place_of(wanted: u8, bytes: &[u8]) -> Option<usize>
     ensures place { result ≡ position (is_byte wanted) bytes.now }
     ensures within { IfSome result (λ place. place < length bytes.now) }
 {
-    if bytes.len() < LANES {
-        return place_in_few(wanted, bytes);
+    match bytes {
+        [] => None,
+        [first, ..] if *first == wanted => Some(0),
+        _ if bytes.len() < LANES => place_in_few(wanted, bytes),
+        _ => place_in_many(wanted, bytes),
     }
-    place_in_many(wanted, bytes)
 }
 
 /// The same of fewer bytes than are looked at at once.
@@ -39,33 +46,56 @@ fn place_in_many(wanted: u8, bytes: &[u8]) -> Option<usize>
     let last = bytes.len() - LANES;
     let mut start = 0;
     while start < last {
-        let count = count_before(wanted, bytes, start);
-        if count < LANES {
-            return Some(start + count);
+        let marks = marks_from(wanted, bytes, start);
+        if marks != 0 {
+            return Some(start + marks.trailing_zeros() as usize);
         }
         start += LANES;
     }
-    let count = count_before(wanted, bytes, last);
-    if count < LANES {
-        Some(last + count)
+    let marks = marks_from(wanted, bytes, last);
+    if marks != 0 {
+        Some(last + marks.trailing_zeros() as usize)
     } else {
         None
     }
 }
 
-/// How many of the bytes from there on, as many as are looked at at once, stand before the first that is this one.
+/// Which of the bytes from there on, as many as are looked at at once, are this one: a bit for each, the lowest for the first.
 #[inline(always)]
-fn count_before(wanted: u8, bytes: &[u8], start: usize) -> usize
+fn marks_from(wanted: u8, bytes: &[u8], start: usize) -> u64
     requires { start + 16 ≤ length bytes.now }
-    ensures before { (place : ℕ) → start ≤ place → place < start + result
-        → is_byte wanted (slice_index bytes.now place) ≡ false }
-    ensures there { result < 16 → is_byte wanted (slice_index bytes.now (start + result)) ≡ true }
+    ensures { result ≡ mask_l (map (is_byte wanted) (chunk start 16 bytes.now)) }
 {
     let here = u8x16::from_slice(&bytes[start..]);
-    let marks = here.simd_eq(u8x16::splat(wanted)).to_bitmask();
-    if marks == 0 {
-        LANES
-    } else {
-        marks.trailing_zeros() as usize
+    here.simd_eq(u8x16::splat(wanted)).to_bitmask()
+}
+
+/// Where so many bytes that are this one were passed over, but for some that are left.
+#[derive(Clone, Copy)]
+pub struct Passed {
+    /// How many bytes were passed over.
+    pub place: usize,
+    /// How many of those that are this one are left.
+    pub left: usize,
+}
+
+/// Passes over bytes, as many at once as are looked at at once, as long as fewer of them are this one than are left.
+pub fn pass_many(wanted: u8, count: usize, bytes: &[u8]) -> Passed
+    ensures within { result.place ≤ length bytes.now }
+    ensures passed { result.left + count_by (is_byte wanted) (take result.place bytes.now) ≡ count }
+    ensures left { 0 < count → 0 < result.left }
+    ensures far { result.place + 16 ≤ length bytes.now →
+        result.left ≤ count_by (is_byte wanted) (chunk result.place 16 bytes.now) }
+{
+    let mut place = 0;
+    let mut left = count;
+    while bytes.len() - place >= LANES {
+        let here = marks_from(wanted, bytes, place).count_ones() as usize;
+        if here >= left {
+            return Passed { place, left };
+        }
+        left -= here;
+        place += LANES;
     }
+    Passed { place, left }
 }

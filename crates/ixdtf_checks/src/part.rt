@@ -3,7 +3,10 @@ ghost use Rattle.std.specs.Prelude.{◌≡◌, ◌+◌, ◌≤◌, length, Some,
 ghost use Rattle.ixdtf_checks.specs.Parts.{without_return, field_start, front_field, part_of, seen_part};
 
 use crate::request::Field;
-use ixdtf_buffers::place::place_of;
+use ixdtf_buffers::place::{pass_many, place_of};
+
+/// From how many fields on the separators before one are counted.
+const MANY_FIELDS: usize = 4;
 
 /// A part of a line.
 #[derive(Clone, Copy)]
@@ -54,7 +57,24 @@ fn field_of(field: Field, line: &[u8]) -> Option<Part<'_>>
 }
 
 /// Where the field after `before` others begins.
+///
+/// Behind many others it is looked for by counts of separators, sixteen bytes at once: short fields are not worth a search each.
 fn field_start(separator: u8, before: usize, line: &[u8]) -> Option<usize>
+    ensures start { result ≡ field_start separator before line.now }
+    ensures within { IfSome result (λ start. start ≤ length line.now) }
+{
+    if before < MANY_FIELDS {
+        return near_field_start(separator, before, line);
+    }
+    let passed = pass_many(separator, before, line);
+    match near_field_start(separator, passed.left, &line[passed.place..]) {
+        None => None,
+        Some(start) => Some(passed.place + start),
+    }
+}
+
+/// The same, by a search for each separator.
+fn near_field_start(separator: u8, before: usize, line: &[u8]) -> Option<usize>
     ensures start { result ≡ field_start separator before line.now }
     ensures within { IfSome result (λ start. start ≤ length line.now) }
 {

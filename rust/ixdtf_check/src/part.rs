@@ -3,7 +3,10 @@
 //! The part of a line that is its text.
 
 use crate::request::Field;
-use ixdtf_buffers::place::place_of;
+use ixdtf_buffers::place::{pass_many, place_of};
+
+/// From how many fields on the separators before one are counted.
+const MANY_FIELDS: usize = 4;
 
 /// A part of a line.
 #[derive(Clone, Copy)]
@@ -45,7 +48,21 @@ fn field_of(field: Field, line: &[u8]) -> Option<Part<'_>> {
 }
 
 /// Where the field after `before` others begins.
+///
+/// Behind many others it is looked for by counts of separators, sixteen bytes at once: short fields are not worth a search each.
 fn field_start(separator: u8, before: usize, line: &[u8]) -> Option<usize> {
+    if before < MANY_FIELDS {
+        return near_field_start(separator, before, line);
+    }
+    let passed = pass_many(separator, before, line);
+    match near_field_start(separator, passed.left, &line[passed.place..]) {
+        None => None,
+        Some(start) => Some(passed.place + start),
+    }
+}
+
+/// The same, by a search for each separator.
+fn near_field_start(separator: u8, before: usize, line: &[u8]) -> Option<usize> {
     let mut start = 0;
     let mut left = before;
     while left > 0 {

@@ -2,6 +2,7 @@
 
 use super::{DATE_TIMES, check_written};
 use ixdtf::parsers::Profile;
+use ixdtf_buffers::place::pass_many;
 use ixdtf_checks::kind::Kind;
 use ixdtf_checks::request::{Field, Request, Task};
 use std::alloc::Global;
@@ -94,6 +95,68 @@ fn reads_a_field(rt: HostRuntime) -> Result<(), Fail> {
 f:3:4: no such field\n",
         (4, 2),
     )
+}
+
+#[test]
+fn reads_a_field_behind_many(rt: HostRuntime) -> Result<(), Fail> {
+    let mut request = DATE_TIMES;
+    request.field = Some(Field {
+        before: 20,
+        separator: b',',
+    });
+    check_written(
+        &rt,
+        rt.alloc(),
+        &request,
+        b",,,,,,,,,,,,,,,,,,,,2020-01-01,b\n,,,,,,,,,,,,,,,,,,,ab,2020-13-01\n,,,,,,,,,,,,,,,,,,,2020-01-01\n",
+        b"f:2:30: Parsed month value not in a valid range.\n2020-13-01\n       ^\n\
+f:3:30: no such field\n",
+        (3, 2),
+    )
+}
+
+#[test]
+fn passes_over_sixteen_bytes(rt: HostRuntime) {
+    let fields = b"a,b,c,d,e,f,g,h,i,j";
+    let passed = pass_many(b',', 9, fields);
+    assert_eq!(rt; passed.place, 16);
+    assert_eq!(rt; passed.left, 1);
+    let stayed = pass_many(b',', 8, fields);
+    assert_eq!(rt; stayed.place, 0);
+    assert_eq!(rt; stayed.left, 8);
+}
+
+/// Names of files of 48 and 49 bytes, and the front of a report that has them.
+const NAMES: [(&str, &str); 2] = [
+    (
+        "a-file-of-a-name-that-is-as-long-as-an-array-has",
+        "a-file-of-a-name-that-is-as-long-as-an-array-has:1:8: ",
+    ),
+    (
+        "a-file-of-a-name-that-is-longer-than-an-array-has",
+        "a-file-of-a-name-that-is-longer-than-an-array-has:1:8: ",
+    ),
+];
+
+#[test]
+fn reports_lines_of_files_with_long_names(rt: HostRuntime) -> Result<(), Fail> {
+    for (name, front) in NAMES {
+        let mut request = DATE_TIMES;
+        request.name = name;
+        let mut report = front.as_bytes().to_vec(rt.alloc())?;
+        report.extend_from_slice(
+            b"Parsed month value not in a valid range.\n2020-13-01\n       ^\n",
+        )?;
+        check_written(
+            &rt,
+            rt.alloc(),
+            &request,
+            b"2020-13-01",
+            report.as_slice(),
+            (1, 1),
+        )?;
+    }
+    Ok(())
 }
 
 #[test]

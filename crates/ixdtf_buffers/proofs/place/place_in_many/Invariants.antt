@@ -1,6 +1,6 @@
 -- Look after look.
 use Rattle.ixdtf_buffers.proofs.place.place_in_many.Given as goal
-use Rattle.std.proofs.Common.{◌≡◌, ℕ, ◌-◌, ◌+◌, ◌<◌, ◌≤◌, length, false}
+use Rattle.std.proofs.Common.{◌≡◌, ℕ, ◌-◌, ◌<◌, ◌≤◌, length, false}
 use Rattle.std.specs.List.{slice_index}
 use Rattle.ixdtf_buffers.specs.Lines.{is_byte}
 

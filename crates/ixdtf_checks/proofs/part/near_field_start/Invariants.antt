@@ -1,5 +1,5 @@
 -- Field after field.
-use Rattle.ixdtf_checks.proofs.part.field_start.Given as goal
+use Rattle.ixdtf_checks.proofs.part.near_field_start.Given as goal
 use Rattle.std.proofs.Common.{◌≡◌, ◌+◌, ◌≤◌, length, drop, option_map}
 use Rattle.ixdtf_checks.specs.Parts.{field_start}
 
