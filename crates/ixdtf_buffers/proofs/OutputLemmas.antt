@@ -67,6 +67,12 @@ module _ {W : Type 0} {contents : W → Option (List ℕ)} where
     err = (same ∙ failed.err.0, rw (← append_assoc) (AppendsFront-more ys failed.err.1));
   }
 
+module _ {W : Type 0} {contents : W → Option (List ℕ)} where
+  -- the bytes were put, and of what waits some were written, or that failed
+  pub Puts-written : {x y z : Output W} {r : Result (Unit {0}) RunError} (xs : List ℕ) → Puts contents x y (Ok tt) xs → Puts contents y z r []
+      → Puts contents x z r xs
+  Puts-written {x = x} {z = z} {r = r} xs first written = subst (λ (text : List ℕ). Puts contents x z r text) (append-nil xs) (Puts-after first written)
+
 filled : (front back bytes : List ℕ) → front ++ back ≡ bytes → (front ++ []) ++ back ≡ bytes
 filled front back bytes whole = ap (λ (text : List ℕ). text ++ back) (append-nil front) ∙ whole
 

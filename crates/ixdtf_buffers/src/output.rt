@@ -1,5 +1,5 @@
 //! A writer, and what waits to be written to it.
-ghost use Rattle.std.specs.Prelude.{◌≡◌, ◌+◌, ◌<◌, ◌≤◌, [], length, Ok, IfSome, OnOk};
+ghost use Rattle.std.specs.Prelude.{◌≡◌, ◌+◌, ◌<◌, ◌≤◌, [], ◌++◌, length, Ok, IfSome, OnOk};
 ghost use Rattle.ixdtf_buffers.specs.Output.{Puts, Writes, joined};
 
 use crate::error::RunError;
@@ -38,29 +38,49 @@ impl<'w, W: Write> Output<'w, W> {
         Ok(())
     }
 
-    /// Fills what waits with the first of the bytes, writes it, and puts the others behind it.
+    /// Puts bytes that do not fit: what waits is filled with the first of them, and written as far as one write takes it.
     ///
-    /// What waits goes out full, so that no write takes out less than it would of the same bytes in smaller pieces.
+    /// What waits goes out full, and what a write leaves is filled again, so that no writer takes more writes for as many bytes
+    /// than it would of the same bytes in smaller pieces. It stands out of line, since nearly all bytes fit.
+    #[cold]
+    #[inline(never)]
     fn put_after(&mut self, bytes: &[u8]) -> Result<(), RunError>
-        requires { 4096 < length self.old.waiting + length bytes.now }
         ensures { Puts W.contents self.old self.new result bytes.now }
     {
         if bytes.len() > WAITING_LIMIT {
             self.hand_on()?;
             return write_whole(self.writer, bytes);
         }
-        let room = self.waiting.room();
-        let (front, back) = bytes.split_at(room);
-        self.push(front);
-        self.hand_on()?;
-        self.push(back);
+        let mut rest = bytes;
+        'writes: while rest.len() > self.waiting.room() {
+            let (front, back) = rest.split_at(self.waiting.room());
+            self.push(front);
+            self.write_once()?;
+            rest = back;
+        }
+        self.push(rest);
+        Ok(())
+    }
+
+    /// Writes as many of the waiting bytes as one write takes.
+    fn write_once(&mut self) -> Result<(), RunError>
+        requires { length self.old.waiting ≡ 4096 }
+        ensures puts { Puts W.contents self.old self.new result [] }
+        ensures fewer { OnOk result (length self.new.waiting < 4096) }
+    {
+        let taken = self.writer.write(self.waiting.as_slice()).unwrap_or(0);
+        if taken == 0 {
+            return Err(RunError::Write);
+        }
+        self.waiting.drop_front(taken);
         Ok(())
     }
 
     /// Puts bytes that fit behind those that wait.
     fn push(&mut self, bytes: &[u8])
         requires { length self.old.waiting + length bytes.now ≤ 4096 }
-        ensures { Puts W.contents self.old self.new (Ok tt) bytes.now }
+        ensures waiting { self.new.waiting ≡ self.old.waiting ++ bytes.now }
+        ensures puts { Puts W.contents self.old self.new (Ok tt) bytes.now }
     {
         self.waiting.push_all(bytes);
     }

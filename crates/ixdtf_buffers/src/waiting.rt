@@ -1,5 +1,5 @@
 //! Bytes that wait to be written.
-ghost use Rattle.std.specs.Prelude.{◌≡◌, ◌≤◌, ◌++◌, ◌+◌, length, ℕ, List, [], take, IfSome, OnOk};
+ghost use Rattle.std.specs.Prelude.{◌≡◌, ◌≤◌, ◌++◌, ◌+◌, length, ℕ, List, [], take, drop, IfSome, OnOk};
 
 use std::fmt;
 use std::fmt::Write;
@@ -64,6 +64,17 @@ impl Waiting {
         ensures { result.now ≡ self.now }
     {
         &self.bytes[..self.count]
+    }
+
+    /// The first of the bytes wait no longer, as many as these.
+    pub fn drop_front(&mut self, count: usize)
+        requires { count ≤ length self.old }
+        ensures { self.new ≡ drop count self.old }
+    {
+        let kept = self.bytes;
+        let end = self.count;
+        self.bytes[..end - count].copy_from_slice(&kept[count..end]);
+        self.count = end - count;
     }
 
     /// No byte waits any longer.

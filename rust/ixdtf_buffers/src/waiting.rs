@@ -45,6 +45,14 @@ impl Waiting {
         &self.bytes[..self.count]
     }
 
+    /// The first of the bytes wait no longer, as many as these.
+    pub fn drop_front(&mut self, count: usize) {
+        let kept = self.bytes;
+        let end = self.count;
+        self.bytes[..end - count].copy_from_slice(&kept[count..end]);
+        self.count = end - count;
+    }
+
     /// No byte waits any longer.
     pub fn clear(&mut self) {
         self.count = 0;

@@ -74,3 +74,159 @@ fn stops_at_a_write_that_fails(rt: HostRuntime) {
     let checked = check(&mut reader, &mut ClosedWriter, &DATE_TIMES);
     assert_eq!(rt; checked.end, Err(RunError::Write));
 }
+
+/// A writer that takes at most so many bytes at each write, and fails after so many writes.
+#[derive(Clone, Copy)]
+struct ShortWriter {
+    most: usize,
+    writes: u64,
+    taken: u64,
+}
+
+impl ShortWriter {
+    /// How many of so many bytes it takes, or `None` where it fails.
+    fn take(&mut self, count: usize) -> Option<usize> {
+        if self.writes == 0 {
+            return None;
+        }
+        self.writes -= 1;
+        let taken = count.min(self.most);
+        self.taken = self.taken.wrapping_add(taken as u64);
+        Some(taken)
+    }
+
+    /// Whether it takes so many bytes, in as many writes as it needs.
+    fn takes_whole(&mut self, count: usize) -> bool {
+        let mut left = count;
+        for _ in 0..count {
+            if left == 0 {
+                return true;
+            }
+            match self.take(left) {
+                Some(taken) => left = left.saturating_sub(taken),
+                None => return false,
+            }
+        }
+        left == 0
+    }
+}
+
+impl Write for ShortWriter {
+    fn write(&mut self, buf: &[u8]) -> io::Result<usize> {
+        match self.take(buf.len()) {
+            Some(taken) => Ok(taken.min(buf.len())),
+            None => Err(io::Error::from(ErrorKind::Other)),
+        }
+    }
+
+    fn flush(&mut self) -> io::Result<()> {
+        Ok(())
+    }
+}
+
+/// How many bytes wait at most.
+const WAITING: usize = 4096;
+
+/// So many lines that are refused at their month.
+const REFUSED_LINES: u64 = 150;
+
+/// How many bytes a writer takes at each write, and from how many writes up to how many it fails.
+const WRITERS: &[(usize, u64, u64)] = &[
+    (1, 4090, 4100),
+    (7, 575, 600),
+    (7, 1160, 1180),
+    (100, 38, 90),
+    (1000, 0, 14),
+    (1365, 0, 12),
+    (4095, 0, 8),
+    (4096, 0, 6),
+    (20000, 0, 6),
+];
+
+/// The pieces that a report of such a line was put in before it was made in arrays, but for the number of the line: their lengths.
+const FRONT: [usize; 2] = [1, 1];
+
+const BACK: [usize; 7] = [1, 1, 2, 40, 1, 19, 1];
+
+/// Puts a piece as it was put then: where it does not fit behind the bytes that wait, these are written.
+fn put_before(writer: &mut ShortWriter, waiting: &mut usize, piece: usize) -> bool {
+    if piece > WAITING.saturating_sub(*waiting) {
+        if !writer.takes_whole(*waiting) {
+            return false;
+        }
+        *waiting = 0;
+    }
+    *waiting = waiting.saturating_add(piece);
+    true
+}
+
+/// How many digits a number below 1,000 has.
+fn digits_of(number: u64) -> usize {
+    if number < 10 {
+        1
+    } else if number < 100 {
+        2
+    } else {
+        3
+    }
+}
+
+/// Puts the pieces of the report of the line with this number.
+fn report_before(writer: &mut ShortWriter, waiting: &mut usize, number: u64) -> bool {
+    for piece in FRONT {
+        if !put_before(writer, waiting, piece) {
+            return false;
+        }
+    }
+    if !put_before(writer, waiting, digits_of(number)) {
+        return false;
+    }
+    for piece in BACK {
+        if !put_before(writer, waiting, piece) {
+            return false;
+        }
+    }
+    true
+}
+
+/// How many bytes of the reports of all lines such a writer took then.
+fn taken_before(writer: ShortWriter) -> u64 {
+    let mut writer = writer;
+    let mut waiting = 0;
+    for number in 0..REFUSED_LINES {
+        if !report_before(&mut writer, &mut waiting, number + 1) {
+            return writer.taken;
+        }
+    }
+    let _whole = writer.takes_whole(waiting);
+    writer.taken
+}
+
+/// How many bytes of them it takes now.
+fn taken_now(writer: ShortWriter, lines: &[u8]) -> u64 {
+    let mut reader = lines;
+    let mut writer = writer;
+    let _checked = check(&mut reader, &mut writer, &DATE_TIMES);
+    writer.taken
+}
+
+#[test]
+fn takes_no_less_from_a_writer_that_fails(rt: HostRuntime) -> Result<(), Fail> {
+    let mut lines = Vec::new(rt.alloc());
+    for _ in 0..REFUSED_LINES {
+        lines.extend_from_slice(b"2020-13-01\n")?;
+    }
+    for (most, first, last) in WRITERS {
+        for writes in *first..*last {
+            let writer = ShortWriter {
+                most: *most,
+                writes,
+                taken: 0,
+            };
+            let before = taken_before(writer);
+            let now = taken_now(writer, lines.as_slice());
+            assert!(rt; before <= now, "{most} bytes at each of {writes} writes");
+        }
+    }
+    Ok(())
+}
