@@ -1,13 +1,13 @@
 -- What a plain text is shown as.
-use Rattle.std.proofs.Common.{◌≡◌, ℕ, ◌+◌, ◌-◌, ◌<◌, ◌≤◌, Bool, false, true, List, [], ◌∷◌, ◌++◌, map, length, take, drop, replicate, suc, zero, sym, refl, ◌∙◌, arith, ⊎_elim, append_assoc}
+use Rattle.std.proofs.Common.{◌≡◌, ℕ, ◌+◌, ◌-◌, ◌<◌, ◌≤◌, Bool, false, true, List, [], ◌∷◌, ◌++◌, map, length, take, drop, replicate, suc, zero, sym, refl, ◌∙◌, arith, ⊎_elim, append_assoc, if◌then◌else◌}
 use Rattle.std.proofs.lemmas.{Bool.{cases_lt, lt-ltb, le-ltb}, Str.len_utf8_ascii}
-use Rattle.std.proofs.lemmas.Str.{chars-IsAscii, encodes-IsAscii, IsAscii-take, IsAscii-drop, IsAscii-append}
+use Rattle.std.proofs.lemmas.Str.{chars-IsAscii, encodes-IsAscii, IsAscii-take, IsAscii-drop, IsAscii-append, IsUtf8-from_ascii, IsUtf8-from_is_utf8, is_utf8-from_IsUtf8}
 use Rattle.std.proofs.lemmas.Str.Ascii.{IsAscii-nil, IsAscii-cons}
 use Rattle.std.proofs.lemmas.Bool.Decides.{nat_tests}
-use Rattle.std.specs.{Str.{IsAscii}, Char.len_utf8, Prelude.{nat_lt}}
+use Rattle.std.specs.{Str.{IsAscii, IsUtf8, is_utf8}, Char.len_utf8, Prelude.{nat_lt}}
 use Rattle.ixdtf_grammar.specs.LocatedTexts.{shown, column_of, cut_mark, indent_of, pointed_text}
 use Rattle.ixdtf_buffers.specs.Lines.{newline}
-use Rattle.ixdtf_checks.specs.Plain.{IsPlain, plain_lines}
+use Rattle.ixdtf_checks.specs.{Plain.{IsPlain, plain_lines}, Seen.lines_at}
 
 plain_rest : (b : ℕ) (bs : List ℕ) → IsPlain (b ∷ bs) → IsPlain bs
 plain_rest b bs plain = λ place below. plain (suc place) (omega (arith, below))
@@ -85,3 +85,23 @@ pointed_plain bs at plain within =
       more_behind at (length bs) within,
     )
     (regroup 10 94 (cut_mark (nat_lt 48 at)) (drop (at - 48) (take (at + 24) bs)) (cut_mark (nat_lt 24 (length bs - at))) (replicate (indent_of at) 32))
+
+-- the lines of bytes that are a text
+pub lines_shown : (bs : List ℕ) (at : ℕ) → IsUtf8 bs → lines_at at bs ≡ pointed_text bs at ++ newline ∷ []
+lines_shown bs at good = rw (is_utf8-from_IsUtf8 bs good) refl
+
+-- there are none where the bytes are no text
+pub lines_hidden : (bs : List ℕ) (at : ℕ) → ¬ (IsUtf8 bs) → lines_at at bs ≡ []
+lines_hidden bs at bad = go (is_utf8 bs) refl
+  where
+    go : (test : Bool) → is_utf8 bs ≡ test → (if test then pointed_text bs at ++ newline ∷ [] else []) ≡ []
+    go true is = absurd (bad (IsUtf8-from_is_utf8 bs is))
+    go false is = refl
+
+-- the lines of a plain text
+pub lines_plain : (bs : List ℕ) (at : ℕ) → IsPlain bs → at ≤ length bs → lines_at at bs ≡ plain_lines bs at
+lines_plain bs at plain within = lines_shown bs at (IsUtf8-from_ascii bs (plain_ascii bs plain)) ∙ pointed_plain bs at plain within
+
+-- the report of a line: its head, which ends with a newline, and the lines under it
+pub report_whole : (place message lines : List ℕ) → (place ++ (message ++ newline ∷ [])) ++ lines ≡ place ++ (message ++ newline ∷ lines)
+report_whole place message lines = simp append_assoc refl

@@ -1,6 +1,9 @@
 -- What a reader returns for the text of a line.
-use Rattle.std.proofs.Common.{◌≡◌, ℕ, ◌+◌, ◌≤◌, List, length, Option, Some, None, MatchOption, IsUtf8, Bor, inl, inr, refl, ap, arith, length-append}
-use Rattle.std.proofs.lemmas.List.{length-map}
+use Rattle.std.proofs.Common.{◌≡◌, ℕ, ◌+◌, ◌≤◌, Bool, true, false, if◌then◌else◌, List, [], ◌∷◌, ◌++◌, length, inl, inr, refl, sym, ap, ◌∙◌, true≢false, arith, length-append}
+use Rattle.std.proofs.lemmas.{List.{length-map}, Str.{IsUtf8-from_is_utf8, is_utf8-from_IsUtf8}}
+use Rattle.std.specs.Str.{is_utf8}
+use Rattle.ixdtf_grammar.specs.LocatedTexts.{pointed_text}
+use Rattle.ixdtf_buffers.specs.Lines.{newline}
 use Rattle.ixdtf_grammar.specs.{declared.profile.Profile.Profile, Handlers.UnhandledRecord, Places.HasUnhandledFaultAt}
 use Rattle.ixdtf_grammar.specs.{Widths.{byte_text}, language.Languages.{Parsed}}
 use Rattle.ixdtf_grammar.specs.language.{Letters.{Text, Letter, byte_letter}, Readers.{Reader, parse}}
@@ -28,17 +31,19 @@ at_within reader bytes fault at has =
     omega (arith, at_most reader (byte_text bytes) fault at has, length-map bytes spell)
 
 -- the lines under a message
-pub shows_place : (bytes : List ℕ) (at : ℕ) (text : Option (Bor (List ℕ)))
-    → MatchOption text (¬ (IsUtf8 bytes)) (λ t. (t.now ≡ bytes) × IsUtf8 bytes) → ShowsPlace bytes at (lines_at at text)
-shows_place bytes at None bad = inr (bad, refl)
-shows_place bytes at (Some text) (same, good) = inl (good, ap (λ (t : List ℕ). lines_at at (Some (record text { now = t }))) same)
+pub shows_place : (bytes : List ℕ) (at : ℕ) → ShowsPlace bytes at (lines_at at bytes)
+shows_place bytes at = go (is_utf8 bytes) refl
+  where
+    go : (test : Bool) → is_utf8 bytes ≡ test → ShowsPlace bytes at (if test then pointed_text bytes at ++ newline ∷ [] else [])
+    go true is = inl (IsUtf8-from_is_utf8 bytes is, refl)
+    go false is = inr ((λ good. true≢false (sym (is_utf8-from_IsUtf8 bytes good) ∙ is)), refl)
 
 -- a record that was read from a line fits into the array
 pub read_fits : (text : List ℕ) (found : Parsed) → CanonicalFits → UnhandledRecord parse (byte_text text) found → length text ≤ 65536 → FitsArray found
 read_fits text found fits given short =
     let spell : ℕ → Letter = λ n. byte_letter n in
     let most : length (canonical_text found) ≤ length (byte_text text) + 14 = fits (byte_text text) found given in
-    (λ no. no (byte_text text, given), omega (arith, most, length-map text spell))
+    omega (arith, most, length-map text spell)
 
 -- a text that is refused has this verdict
 pub check_refused : (kind : Kind) (profile : Profile) (text : Part) (verdict : Verdict) → IsRefusal (reader_of kind profile) text verdict

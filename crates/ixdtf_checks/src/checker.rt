@@ -14,7 +14,7 @@ use crate::printed::PrintedText;
 use crate::report::put_report;
 use crate::request::Request;
 use crate::tally::Tally;
-use crate::verdict::LINE_LIMIT;
+use crate::verdict::{LINE_LIMIT, Refusal};
 use ixdtf_buffers::error::RunError;
 use ixdtf_buffers::input::read_some;
 use ixdtf_buffers::output::Output;
@@ -202,9 +202,10 @@ fn report_text<W: Write>(
         (Fails start (written W.contents output.new) request.now (lines ++ line.now ∷ [])) }
 {
     let number = tally.lines + 1;
-    let verdict = verdict_on_short(request, line, printed);
+    let mut refusal = Refusal::new();
+    let verdict = verdict_on_short(request, line, printed, &mut refusal);
     tally.add_line(verdict.is_refused());
-    put_report(output, request, number, printed, &verdict)
+    put_report(output, request, number, printed, &refusal, verdict)
 }
 
 /// Reports the line and counts it.
@@ -226,9 +227,10 @@ fn report_line<W: Write>(
         (Fails start (written W.contents output.new) request.now (lines ++ text ∷ [])) }
 {
     let number = kept.tally.lines + 1;
-    let verdict = verdict_on(request, &kept.line, &mut kept.printed);
+    let mut refusal = Refusal::new();
+    let verdict = verdict_on(request, &kept.line, &mut kept.printed, &mut refusal);
     kept.tally.add_line(verdict.is_refused());
-    put_report(output, request, number, &kept.printed, &verdict)
+    put_report(output, request, number, &kept.printed, &refusal, verdict)
 }
 
 /// Reports what stands after the last newline, writes the report, and flushes the writer.

@@ -1,5 +1,5 @@
 //! Which verdict a line gets.
-ghost use Rattle.std.specs.Prelude.{◌≡◌, ◌≤◌, ◌+◌, ℕ, List, length, IsUtf8, MatchOption};
+ghost use Rattle.std.specs.Prelude.{◌≡◌, ◌≤◌, ◌+◌, ℕ, List, length};
 ghost use Rattle.ixdtf_grammar.specs.Places.{HasUnhandledFaultAt};
 ghost use Rattle.ixdtf_grammar.specs.Widths.{byte_text};
 ghost use Rattle.ixdtf_grammar.specs.language.Readers.{Reader};
@@ -14,26 +14,29 @@ use crate::part::{Part, part_of, without_return};
 use crate::printed::PrintedText;
 use crate::reading::{read, read_to_print};
 use crate::request::{Request, Task};
-use crate::verdict::{LINE_LIMIT, Reason, Verdict};
+use crate::verdict::{LINE_LIMIT, Reason, Refusal, Verdict};
 use ixdtf::LocatedError;
 use ixdtf_buffers::line::Line;
-use std::str;
 
-/// The verdict on the line.
+/// The verdict on the line. Where it is refused, that is put in the place of the refusal.
 pub fn verdict_on<'a>(
     request: &Request<'_>,
     line: &'a Line<LINE_LIMIT>,
     printed: &mut PrintedText,
-) -> Verdict<'a>
+    refusal: &mut Refusal<'a>,
+) -> Verdict
     ensures { (text : List ℕ) → Holds line.now text
-        → IsVerdict request.now text (seen printed.new result) }
+        → IsVerdict request.now text (seen printed.new refusal.new result) }
 {
     match line.as_slice() {
-        None => Verdict::Refused {
-            column: LINE_LIMIT + 1,
-            reason: Reason::TooLong,
-        },
-        Some(bytes) => verdict_on_short(request, bytes, printed),
+        None => {
+            *refusal = Refusal {
+                column: LINE_LIMIT + 1,
+                reason: Reason::TooLong,
+            };
+            Verdict::Refused
+        }
+        Some(bytes) => verdict_on_short(request, bytes, printed, refusal),
     }
 }
 
@@ -42,11 +45,12 @@ pub fn verdict_on_short<'a>(
     request: &Request<'_>,
     line: &'a [u8],
     printed: &mut PrintedText,
-) -> Verdict<'a>
+    refusal: &mut Refusal<'a>,
+) -> Verdict
     requires { length line.now ≤ 65536 }
-    ensures { IsVerdict request.now line.now (seen printed.new result) }
+    ensures { IsVerdict request.now line.now (seen printed.new refusal.new result) }
 {
-    verdict_on_line(request, without_return(line), printed)
+    verdict_on_line(request, without_return(line), printed, refusal)
 }
 
 /// The verdict on a line that is not too long, without its carriage return.
@@ -54,16 +58,20 @@ fn verdict_on_line<'a>(
     request: &Request<'_>,
     line: &'a [u8],
     printed: &mut PrintedText,
-) -> Verdict<'a>
+    refusal: &mut Refusal<'a>,
+) -> Verdict
     requires { length line.now ≤ 65536 }
-    ensures { IsLineVerdict request.now line.now (seen printed.new result) }
+    ensures { IsLineVerdict request.now line.now (seen printed.new refusal.new result) }
 {
     match part_of(request.field, line) {
-        None => Verdict::Refused {
-            column: line.len() + 1,
-            reason: Reason::NoField,
-        },
-        Some(part) => verdict_on_text(request, part, printed),
+        None => {
+            *refusal = Refusal {
+                column: line.len() + 1,
+                reason: Reason::NoField,
+            };
+            Verdict::Refused
+        }
+        Some(part) => verdict_on_text(request, part, printed, refusal),
     }
 }
 
@@ -72,47 +80,39 @@ fn verdict_on_text<'a>(
     request: &Request<'_>,
     part: Part<'a>,
     printed: &mut PrintedText,
-) -> Verdict<'a>
+    refusal: &mut Refusal<'a>,
+) -> Verdict
     requires { part.start + length part.text.now ≤ 65536 }
     ensures { IsTextVerdict request.now.task request.now.profile (seen_part part.entry)
-        (seen printed.new result) }
+        (seen printed.new refusal.new result) }
 {
     match request.task {
         Task::Check(kind) => match read(kind, request.profile, part.text) {
             Ok(()) => Verdict::Accepted,
-            Err(error) => refusal_of(error, part),
+            Err(error) => refuse(refusal, error, part),
         },
         Task::Print => match read_to_print(part.text, printed) {
             Ok(()) => Verdict::Printed,
-            Err(error) => refusal_of(error, part),
+            Err(error) => refuse(refusal, error, part),
         },
     }
 }
 
 /// The verdict on a line whose text a reader refuses.
-fn refusal_of(error: LocatedError, part: Part<'_>) -> Verdict<'_>
+fn refuse<'a>(refusal: &mut Refusal<'a>, error: LocatedError, part: Part<'a>) -> Verdict
     requires short { part.start + length part.text.now ≤ 65536 }
     requires within { error.at ≤ length part.text.now }
     ensures { (reader : Reader)
         → HasUnhandledFaultAt reader (byte_text part.entry.text.now) (fault_of_located error) error.at
-        → (printed : List ℕ) → IsRefusal reader (seen_part part.entry) (seen printed result) }
+        → (printed : List ℕ) → IsRefusal reader (seen_part part.entry)
+        (seen printed refusal.new result) }
 {
-    Verdict::Refused {
+    *refusal = Refusal {
         column: part.start + error.at + 1,
         reason: Reason::Unread {
             error,
-            text: as_text(part.text),
+            text: part.text,
         },
-    }
-}
-
-/// The bytes as a text, where they are UTF-8.
-fn as_text(bytes: &[u8]) -> Option<&str>
-    ensures { MatchOption result (¬ (IsUtf8 bytes.now))
-        (λ text. (text.now ≡ bytes.now) × IsUtf8 bytes.now) }
-{
-    match str::from_utf8(bytes) {
-        Ok(text) => Some(text),
-        Err(_) => None,
-    }
+    };
+    Verdict::Refused
 }

@@ -1,16 +1,17 @@
 //! The canonical text that was printed last.
-ghost use Rattle.std.specs.Prelude.{◌≡◌, ◌≤◌, ℕ, List, [], map, take};
+ghost use Rattle.std.specs.Prelude.{◌≡◌, ◌<◌, ◌++◌, ◌∷◌, ℕ, List, [], map, take, slice_index};
 ghost use Rattle.ixdtf_grammar.specs.language.Letters.{byte_letter};
 ghost use Rattle.ixdtf_print.specs.Canonical.{canonical_text};
 ghost use Rattle.ixdtf_print.specs.Printable.{record_of};
+ghost use Rattle.ixdtf_buffers.specs.Lines.{newline};
 ghost use Rattle.ixdtf_checks.specs.Printed.{FitsArray};
 
 use ixdtf::encoding::Utf8;
 use ixdtf::records::IxdtfParseRecord;
-use ixdtf_print::print;
+use ixdtf_print::print_with_room;
 use std::marker::Model;
 
-/// At least as many bytes as the canonical text of a record that was read from a line has.
+/// More bytes than the canonical text of a record that was read from a line has.
 const MOST_BYTES: usize = 65792;
 
 /// A canonical text, in an array of fixed size.
@@ -25,7 +26,8 @@ impl Model for PrintedText {
 
     ghost view = { λ text. take text.count text.bytes };
 
-    ghost invariant = { λ text. text.count ≤ 65792 };
+    // A newline stands behind the text.
+    ghost invariant = { λ text. (text.count < 65792) × (slice_index text.bytes text.count ≡ 10) };
 }
 
 impl PrintedText {
@@ -33,10 +35,9 @@ impl PrintedText {
     pub fn new() -> PrintedText
         ensures { result ≡ [] }
     {
-        PrintedText {
-            bytes: [0; MOST_BYTES],
-            count: 0,
-        }
+        let mut bytes = [0; MOST_BYTES];
+        bytes[0] = b'\n';
+        PrintedText { bytes, count: 0 }
     }
 
     /// Prints the record, in the place of what was printed before.
@@ -44,16 +45,15 @@ impl PrintedText {
         requires { FitsArray (record_of parts.now) }
         ensures { map byte_letter self.new ≡ canonical_text (record_of parts.now) }
     {
-        match print(parts, &mut self.bytes) {
-            Ok(count) => self.count = count,
-            Err(_) => unreachable!(),
-        }
+        let count = print_with_room(parts, &mut self.bytes);
+        self.bytes[count] = b'\n';
+        self.count = count;
     }
 
-    /// The bytes.
-    pub fn as_slice(&self) -> &[u8]
-        ensures { result.now ≡ self.now }
+    /// The bytes, and a newline.
+    pub fn as_line(&self) -> &[u8]
+        ensures { result.now ≡ self.now ++ newline ∷ [] }
     {
-        &self.bytes[..self.count]
+        &self.bytes[..self.count + 1]
     }
 }

@@ -1,8 +1,9 @@
 //! The report of a line.
 ghost use Rattle.std.specs.Prelude.{◌≡◌, ◌≤◌, ◌+◌, ◌++◌, ◌∷◌, [], ◌-◌, length, take, drop, replicate, IsTrue};
 ghost use Rattle.ixdtf_grammar.specs.table.ErrorTexts.{message_of};
-ghost use Rattle.ixdtf_grammar.specs.table.Faults.{fault_of};
+ghost use Rattle.ixdtf_grammar.specs.table.Faults.{fault_of, fault_of_located};
 ghost use Rattle.ixdtf_grammar.specs.LocatedTexts.{cut_mark, indent_of, pointed_text};
+ghost use Rattle.ixdtf_buffers.specs.Adding.{Adds};
 ghost use Rattle.ixdtf_buffers.specs.Lines.{newline};
 ghost use Rattle.ixdtf_buffers.specs.Output.{Puts};
 ghost use Rattle.ixdtf_checks.specs.Plain.{IsPlain, plain_lines};
@@ -11,12 +12,14 @@ ghost use Rattle.ixdtf_checks.specs.Seen.{seen, message_in, lines_in, lines_at};
 
 use crate::printed::PrintedText;
 use crate::request::Request;
-use crate::verdict::{Reason, Verdict};
+use crate::verdict::{Reason, Refusal, Verdict};
 use ixdtf::{LocatedError, ParseError};
+use ixdtf_buffers::adding::{ROOM, add_byte, add_bytes, add_number};
 use ixdtf_buffers::decimal::Decimal;
 use ixdtf_buffers::error::RunError;
 use ixdtf_buffers::output::Output;
 use std::io::Write;
+use std::str;
 
 /// The most characters that are shown before the place of an error.
 const BEFORE_PLACE: usize = 48;
@@ -24,30 +27,63 @@ const BEFORE_PLACE: usize = 48;
 /// The most characters that are shown from the place on.
 const FROM_PLACE: usize = 24;
 
+/// The most bytes of a line that are put at once.
+const MOST_AT_ONCE: usize = 4096;
+
+/// The longest name of a file, text of an error and place of an end in it that a report is made of in an array.
+const MOST_OF_A_NAME: usize = 48;
+
+const MOST_OF_A_TEXT: usize = 72;
+
+const MOST_OF_A_LOCATION: usize = 24;
+
 /// A newline, and as many spaces as stand before a mark at most.
 const SPACES: &[u8; 51] = b"\n                                                  ";
 
-/// Puts the report of the line with this number, where this is the canonical text that was printed last.
+/// Puts the report of the line with this number, where this is the canonical text that was printed last, and this where and why
+/// a line was refused last.
+///
+/// It is inlined, since most lines are read and have none.
+#[inline(always)]
 pub fn put_report<W: Write>(
     output: &mut Output<'_, W>,
     request: &Request<'_>,
     number: u64,
     printed: &PrintedText,
-    verdict: &Verdict<'_>,
+    refusal: &Refusal<'_>,
+    verdict: Verdict,
 ) -> Result<(), RunError>
     ensures { Puts W.contents output.old output.new result
-        (report_of request.now number (seen printed.now verdict.now)) }
+        (report_of request.now number (seen printed.now refusal.now verdict)) }
 {
     match verdict {
         Verdict::Accepted => Ok(()),
-        Verdict::Printed => output.put_all(&[printed.as_slice(), b"\n".as_slice()]),
-        Verdict::Refused { column, reason } => {
+        Verdict::Printed => put_printed(output, printed.as_line()),
+        Verdict::Refused => {
             if request.is_quiet {
                 return Ok(());
             }
-            put_refusal(output, request.name, number, *column, reason)
+            put_refusal(
+                output,
+                request.name,
+                number,
+                refusal.column,
+                &refusal.reason,
+            )
         }
     }
+}
+
+/// Puts a canonical text and its newline at once. Of a text that is written by itself, since it is longer than what waits, the
+/// newline waits.
+fn put_printed<W: Write>(output: &mut Output<'_, W>, line: &[u8]) -> Result<(), RunError>
+    ensures { Puts W.contents output.old output.new result line.now }
+{
+    if line.len() <= MOST_AT_ONCE {
+        return output.put(line);
+    }
+    let (text, newline) = line.split_at(line.len() - 1);
+    output.put_all(&[text, newline])
 }
 
 /// Puts the report of a line that is refused.
@@ -64,12 +100,101 @@ fn put_refusal<W: Write>(
     ensures { Puts W.contents output.old output.new result
         (refusal_of name.now number column (message_in reason.now) (lines_in reason.now)) }
 {
-    put_place(output, name, number, column)?;
-    put_message(output, reason)?;
-    put_lines(output, reason)
+    match reason {
+        Reason::TooLong => put_unread_line(output, name, number, column, b"line too long"),
+        Reason::NoField => put_unread_line(output, name, number, column, b"no such field"),
+        Reason::Unread { error, text } => put_unread_text(
+            output, name, number, column, error, text,
+        ),
+    }
 }
 
-/// Puts the place of a line that is refused.
+/// Puts the report of a line in which no text was read.
+fn put_unread_line<W: Write>(
+    output: &mut Output<'_, W>,
+    name: &str,
+    number: u64,
+    column: usize,
+    message: &[u8],
+) -> Result<(), RunError>
+    ensures { Puts W.contents output.old output.new result
+        (refusal_of name.now number column message.now []) }
+{
+    put_place(output, name, number, column)?;
+    output.put_all(&[message, b"\n".as_slice()])
+}
+
+/// Puts the report of a text that is refused.
+fn put_unread_text<W: Write>(
+    output: &mut Output<'_, W>,
+    name: &str,
+    number: u64,
+    column: usize,
+    error: &LocatedError,
+    text: &[u8],
+) -> Result<(), RunError>
+    ensures { Puts W.contents output.old output.new result
+        (refusal_of name.now number column (message_of (fault_of_located error.now))
+        (lines_at error.now.at text.now)) }
+{
+    put_head(output, name, number, column, error.error)?;
+    put_pointed(output, error, text)
+}
+
+/// Puts the place of a line that is refused, and why, with a newline.
+///
+/// Nearly all are short, and are made in an array and put at once.
+fn put_head<W: Write>(
+    output: &mut Output<'_, W>,
+    name: &str,
+    number: u64,
+    column: usize,
+    error: ParseError,
+) -> Result<(), RunError>
+    ensures { Puts W.contents output.old output.new result
+        (place_of name.now number column ++ (message_of (fault_of error) ++ newline ∷ [])) }
+{
+    let (text, location) = error_parts(error);
+    if name.len() > MOST_OF_A_NAME
+        || text.len() > MOST_OF_A_TEXT
+        || location.len() > MOST_OF_A_LOCATION
+    {
+        put_place(output, name, number, column)?;
+        return put_message(output, text, location);
+    }
+    let mut room = [0; ROOM];
+    let message = add_place(&mut room, name.as_bytes(), number, column);
+    let end = add_message(&mut room, message, text, location);
+    output.put(&room[..end])
+}
+
+/// Adds the place of a line that is refused.
+fn add_place(room: &mut [u8; ROOM], name: &[u8], number: u64, column: usize) -> usize
+    requires { length name.now ≤ 48 }
+    ensures place { result ≤ length name.now + 44 }
+    ensures text { Adds room.old room.new 0 result (place_of name.now number column) }
+{
+    let first_colon = add_bytes(room, 0, name);
+    let line = add_byte(room, first_colon, b':');
+    let second_colon = add_number(room, line, number);
+    let place = add_byte(room, second_colon, b':');
+    let third_colon = add_number(room, place, column as u64);
+    add_bytes(room, third_colon, b": ")
+}
+
+/// Adds the two parts of the text of an error, and a newline.
+fn add_message(room: &mut [u8; ROOM], at: usize, text: &str, location: &str) -> usize
+    requires { at + length text.now + length location.now + 1 ≤ 192 }
+    ensures place { result ≡ at + length text.now + length location.now + 1 }
+    ensures text { Adds room.old room.new at result
+        ((text.now ++ location.now) ++ newline ∷ []) }
+{
+    let middle = add_bytes(room, at, text.as_bytes());
+    let newline = add_bytes(room, middle, location.as_bytes());
+    add_byte(room, newline, b'\n')
+}
+
+/// Puts the place of a line that is refused, piece by piece.
 fn put_place<W: Write>(
     output: &mut Output<'_, W>,
     name: &str,
@@ -90,23 +215,15 @@ fn put_place<W: Write>(
     ])
 }
 
-/// Puts why a line is refused, and a newline.
-fn put_message<W: Write>(output: &mut Output<'_, W>, reason: &Reason<'_>) -> Result<(), RunError>
-    ensures { Puts W.contents output.old output.new result (message_in reason.now ++ newline ∷ []) }
-{
-    match reason {
-        Reason::TooLong => output.put(b"line too long\n"),
-        Reason::NoField => output.put(b"no such field\n"),
-        Reason::Unread { error, .. } => put_error(output, error.error),
-    }
-}
-
-/// Puts the text of an error, and a newline.
-fn put_error<W: Write>(output: &mut Output<'_, W>, error: ParseError) -> Result<(), RunError>
+/// Puts the two parts of the text of an error, and a newline.
+fn put_message<W: Write>(
+    output: &mut Output<'_, W>,
+    text: &str,
+    location: &str,
+) -> Result<(), RunError>
     ensures { Puts W.contents output.old output.new result
-        (message_of (fault_of error) ++ newline ∷ []) }
+        ((text.now ++ location.now) ++ newline ∷ []) }
 {
-    let (text, location) = error_parts(error);
     output.put_all(&[text.as_bytes(), location.as_bytes(), b"\n".as_slice()])
 }
 
@@ -120,32 +237,21 @@ fn error_parts(error: ParseError) -> (&'static str, &'static str)
     }
 }
 
-/// Puts the lines under a message.
-fn put_lines<W: Write>(output: &mut Output<'_, W>, reason: &Reason<'_>) -> Result<(), RunError>
-    ensures { Puts W.contents output.old output.new result (lines_in reason.now) }
-{
-    match reason {
-        Reason::TooLong | Reason::NoField => Ok(()),
-        Reason::Unread { error, text } => put_pointed(output, error, *text),
-    }
-}
-
-/// Puts the text with a mark under the place of the error, where there is a text.
+/// Puts the text with a mark under the place of the error, where it is a text.
 fn put_pointed<W: Write>(
     output: &mut Output<'_, W>,
     error: &LocatedError,
-    text: Option<&str>,
+    text: &[u8],
 ) -> Result<(), RunError>
-    ensures { Puts W.contents output.old output.new result (lines_at error.now.at text.entry) }
+    ensures { Puts W.contents output.old output.new result (lines_at error.now.at text.now) }
 {
-    let Some(text) = text else {
-        return Ok(());
-    };
-    let bytes = text.as_bytes();
-    if error.at <= bytes.len() && is_plain(bytes) {
-        return put_plain(output, bytes, error.at);
+    if error.at <= text.len() && is_plain(text) {
+        return put_plain(output, text, error.at);
     }
-    put_any(output, error, text)
+    match str::from_utf8(text) {
+        Ok(text) => put_any(output, error, text),
+        Err(_) => Ok(()),
+    }
 }
 
 /// Puts any text with a mark under the place of the error.
@@ -179,16 +285,52 @@ fn is_plain(bytes: &[u8]) -> bool
     true
 }
 
-/// Puts a plain text with a mark under the place: a slice of the text, and one of spaces.
+/// Puts a plain text with a mark under the place.
 fn put_plain<W: Write>(output: &mut Output<'_, W>, bytes: &[u8], at: usize) -> Result<(), RunError>
     requires { at ≤ length bytes.now }
     ensures { Puts W.contents output.old output.new result (plain_lines bytes.now at) }
 {
-    output.put(cut_mark(BEFORE_PLACE < at))?;
-    output.put(shown_of(bytes, at))?;
-    output.put(cut_mark(FROM_PLACE < bytes.len() - at))?;
-    output.put(spaces_before(at))?;
-    output.put(b"^\n")
+    let mut room = [0; ROOM];
+    let end = add_plain(&mut room, bytes, at);
+    output.put(&room[..end])
+}
+
+/// Adds a plain text with a mark under the place: a slice of the text, and spaces.
+fn add_plain(room: &mut [u8; ROOM], bytes: &[u8], at: usize) -> usize
+    requires { at ≤ length bytes.now }
+    ensures place { result ≤ 192 }
+    ensures text { Adds room.old room.new 0 result (plain_lines bytes.now at) }
+{
+    let first = add_cut_mark(room, 0, BEFORE_PLACE < at);
+    let second = add_bytes(room, first, shown_of(bytes, at));
+    let third = add_cut_mark(room, second, FROM_PLACE < bytes.len() - at);
+    let mark = add_spaces(room, third, at);
+    add_bytes(room, mark, b"^\n")
+}
+
+/// Adds `..` where something is cut.
+fn add_cut_mark(room: &mut [u8; ROOM], at: usize, is_cut: bool) -> usize
+    requires { at + 2 ≤ 192 }
+    ensures place { result ≤ at + 2 }
+    ensures text { Adds room.old room.new at result (cut_mark is_cut) }
+{
+    if is_cut {
+        add_bytes(room, at, b"..")
+    } else {
+        at
+    }
+}
+
+/// Adds a newline and the spaces before the mark.
+///
+/// All spaces that there may be are written, which no call does, and what stands behind the mark is written over them.
+fn add_spaces(room: &mut [u8; ROOM], at: usize, column: usize) -> usize
+    requires { at + 51 ≤ 192 }
+    ensures place { result ≤ at + 51 }
+    ensures text { Adds room.old room.new at result (newline ∷ replicate (indent_of column) 32) }
+{
+    let _end = add_bytes(room, at, SPACES);
+    at + indent_of(column) + 1
 }
 
 /// The bytes that are shown.
@@ -211,24 +353,6 @@ fn front_of(bytes: &[u8], at: usize) -> &[u8]
     } else {
         bytes
     }
-}
-
-/// `..` where something is cut.
-fn cut_mark(is_cut: bool) -> &'static [u8]
-    ensures { result.now ≡ cut_mark is_cut }
-{
-    if is_cut {
-        b"..".as_slice()
-    } else {
-        b"".as_slice()
-    }
-}
-
-/// A newline, and the spaces before the mark.
-fn spaces_before(column: usize) -> &'static [u8]
-    ensures { result.now ≡ newline ∷ replicate (indent_of column) 32 }
-{
-    &SPACES.as_slice()[..indent_of(column) + 1]
 }
 
 /// How many columns stand before the mark.

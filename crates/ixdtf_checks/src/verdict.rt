@@ -7,19 +7,25 @@ use ixdtf::LocatedError;
 pub const LINE_LIMIT: usize = 65536;
 
 /// The verdict on a line.
-#[derive(Drop)]
-pub enum Verdict<'a> {
+///
+/// Where and why a line is refused stands apart (`Refusal`), so that nothing is written for a line that is read.
+#[derive(Clone, Copy)]
+pub enum Verdict {
     /// Its text is read.
     Accepted,
     /// Its text is read, and its canonical text is printed.
     Printed,
     /// It is refused.
-    Refused {
-        /// At which byte of the line, from 1.
-        column: usize,
-        /// Why.
-        reason: Reason<'a>,
-    },
+    Refused,
+}
+
+/// Where and why a line is refused.
+#[derive(Drop)]
+pub struct Refusal<'a> {
+    /// At which byte of the line, from 1.
+    pub column: usize,
+    /// Why.
+    pub reason: Reason<'a>,
 }
 
 /// Why a line is refused.
@@ -33,20 +39,34 @@ pub enum Reason<'a> {
     Unread {
         /// The error, with its place in the text.
         error: LocatedError,
-        /// The text, where it is UTF-8.
-        text: Option<&'a str>,
+        /// The text, which may not be UTF-8.
+        text: &'a [u8],
     },
 }
 
-impl Verdict<'_> {
+impl<'a> Refusal<'a> {
+    /// A refusal in whose place another is put.
+    pub fn new() -> Refusal<'a>
+        ensures column { result.column ≡ 0 }
+        ensures reason { result.reason ≡ Reason.NoField }
+    {
+        Refusal {
+            column: 0,
+            reason: Reason::NoField,
+        }
+    }
+}
+
+impl Verdict {
     ghost use Rattle.ixdtf_checks.specs.Reports.{refusal_count};
     ghost use Rattle.ixdtf_checks.specs.Seen.{seen};
+    ghost use Rattle.ixdtf_checks.specs.declared.verdict.Refusal.{Refusal};
 
     /// Whether the line is refused.
-    pub fn is_refused(&self) -> bool
-        ensures { (printed : List ℕ)
-            → refusal_count (seen printed self.now) ≡ (if result then 1 else 0) }
+    pub fn is_refused(self) -> bool
+        ensures { (printed : List ℕ) (refusal : Refusal)
+            → refusal_count (seen printed refusal self) ≡ (if result then 1 else 0) }
     {
-        matches!(self, Verdict::Refused { .. })
+        matches!(self, Verdict::Refused)
     }
 }

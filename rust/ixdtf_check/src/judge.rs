@@ -6,23 +6,26 @@ use crate::part::{Part, part_of, without_return};
 use crate::printed::PrintedText;
 use crate::reading::{read, read_to_print};
 use crate::request::{Request, Task};
-use crate::verdict::{LINE_LIMIT, Reason, Verdict};
+use crate::verdict::{LINE_LIMIT, Reason, Refusal, Verdict};
 use ixdtf::LocatedError;
 use ixdtf_buffers::line::Line;
-use std::str;
 
-/// The verdict on the line.
+/// The verdict on the line. Where it is refused, that is put in the place of the refusal.
 pub fn verdict_on<'a>(
     request: &Request<'_>,
     line: &'a Line<LINE_LIMIT>,
     printed: &mut PrintedText,
-) -> Verdict<'a> {
+    refusal: &mut Refusal<'a>,
+) -> Verdict {
     match line.as_slice() {
-        None => Verdict::Refused {
-            column: LINE_LIMIT + 1,
-            reason: Reason::TooLong,
-        },
-        Some(bytes) => verdict_on_short(request, bytes, printed),
+        None => {
+            *refusal = Refusal {
+                column: LINE_LIMIT + 1,
+                reason: Reason::TooLong,
+            };
+            Verdict::Refused
+        }
+        Some(bytes) => verdict_on_short(request, bytes, printed, refusal),
     }
 }
 
@@ -31,8 +34,9 @@ pub fn verdict_on_short<'a>(
     request: &Request<'_>,
     line: &'a [u8],
     printed: &mut PrintedText,
-) -> Verdict<'a> {
-    verdict_on_line(request, without_return(line), printed)
+    refusal: &mut Refusal<'a>,
+) -> Verdict {
+    verdict_on_line(request, without_return(line), printed, refusal)
 }
 
 /// The verdict on a line that is not too long, without its carriage return.
@@ -40,13 +44,17 @@ fn verdict_on_line<'a>(
     request: &Request<'_>,
     line: &'a [u8],
     printed: &mut PrintedText,
-) -> Verdict<'a> {
+    refusal: &mut Refusal<'a>,
+) -> Verdict {
     match part_of(request.field, line) {
-        None => Verdict::Refused {
-            column: line.len() + 1,
-            reason: Reason::NoField,
-        },
-        Some(part) => verdict_on_text(request, part, printed),
+        None => {
+            *refusal = Refusal {
+                column: line.len() + 1,
+                reason: Reason::NoField,
+            };
+            Verdict::Refused
+        }
+        Some(part) => verdict_on_text(request, part, printed, refusal),
     }
 }
 
@@ -55,34 +63,28 @@ fn verdict_on_text<'a>(
     request: &Request<'_>,
     part: Part<'a>,
     printed: &mut PrintedText,
-) -> Verdict<'a> {
+    refusal: &mut Refusal<'a>,
+) -> Verdict {
     match request.task {
         Task::Check(kind) => match read(kind, request.profile, part.text) {
             Ok(()) => Verdict::Accepted,
-            Err(error) => refusal_of(error, part),
+            Err(error) => refuse(refusal, error, part),
         },
         Task::Print => match read_to_print(part.text, printed) {
             Ok(()) => Verdict::Printed,
-            Err(error) => refusal_of(error, part),
+            Err(error) => refuse(refusal, error, part),
         },
     }
 }
 
 /// The verdict on a line whose text a reader refuses.
-fn refusal_of(error: LocatedError, part: Part<'_>) -> Verdict<'_> {
-    Verdict::Refused {
+fn refuse<'a>(refusal: &mut Refusal<'a>, error: LocatedError, part: Part<'a>) -> Verdict {
+    *refusal = Refusal {
         column: part.start + error.at + 1,
         reason: Reason::Unread {
             error,
-            text: as_text(part.text),
+            text: part.text,
         },
-    }
-}
-
-/// The bytes as a text, where they are UTF-8.
-fn as_text(bytes: &[u8]) -> Option<&str> {
-    match std::str::from_utf8(bytes) {
-        Ok(text) => Some(text),
-        Err(_) => None,
-    }
+    };
+    Verdict::Refused
 }

@@ -4,9 +4,9 @@
 
 use ixdtf::encoding::Utf8;
 use ixdtf::records::IxdtfParseRecord;
-use ixdtf_print::print;
+use ixdtf_print::print_with_room;
 
-/// At least as many bytes as the canonical text of a record that was read from a line has.
+/// More bytes than the canonical text of a record that was read from a line has.
 const MOST_BYTES: usize = 65792;
 
 /// A canonical text, in an array of fixed size.
@@ -18,22 +18,20 @@ pub struct PrintedText {
 impl PrintedText {
     /// No byte.
     pub fn new() -> PrintedText {
-        PrintedText {
-            bytes: [0; MOST_BYTES],
-            count: 0,
-        }
+        let mut bytes = [0; MOST_BYTES];
+        bytes[0] = b'\n';
+        PrintedText { bytes, count: 0 }
     }
 
     /// Prints the record, in the place of what was printed before.
     pub fn print(&mut self, parts: &IxdtfParseRecord<'_, Utf8>) {
-        match print(parts, &mut self.bytes) {
-            Ok(count) => self.count = count,
-            Err(_) => unreachable!(),
-        }
+        let count = print_with_room(parts, &mut self.bytes);
+        self.bytes[count] = b'\n';
+        self.count = count;
     }
 
-    /// The bytes.
-    pub fn as_slice(&self) -> &[u8] {
-        &self.bytes[..self.count]
+    /// The bytes, and a newline.
+    pub fn as_line(&self) -> &[u8] {
+        &self.bytes[..self.count + 1]
     }
 }

@@ -8,18 +8,24 @@ use ixdtf::LocatedError;
 pub const LINE_LIMIT: usize = 65536;
 
 /// The verdict on a line.
-pub enum Verdict<'a> {
+///
+/// Where and why a line is refused stands apart (`Refusal`), so that nothing is written for a line that is read.
+#[derive(Clone, Copy)]
+pub enum Verdict {
     /// Its text is read.
     Accepted,
     /// Its text is read, and its canonical text is printed.
     Printed,
     /// It is refused.
-    Refused {
-        /// At which byte of the line, from 1.
-        column: usize,
-        /// Why.
-        reason: Reason<'a>,
-    },
+    Refused,
+}
+
+/// Where and why a line is refused.
+pub struct Refusal<'a> {
+    /// At which byte of the line, from 1.
+    pub column: usize,
+    /// Why.
+    pub reason: Reason<'a>,
 }
 
 /// Why a line is refused.
@@ -32,14 +38,24 @@ pub enum Reason<'a> {
     Unread {
         /// The error, with its place in the text.
         error: LocatedError,
-        /// The text, where it is UTF-8.
-        text: Option<&'a str>,
+        /// The text, which may not be UTF-8.
+        text: &'a [u8],
     },
 }
 
-impl Verdict<'_> {
+impl<'a> Refusal<'a> {
+    /// A refusal in whose place another is put.
+    pub fn new() -> Refusal<'a> {
+        Refusal {
+            column: 0,
+            reason: Reason::NoField,
+        }
+    }
+}
+
+impl Verdict {
     /// Whether the line is refused.
-    pub fn is_refused(&self) -> bool {
-        matches!(self, Verdict::Refused { .. })
+    pub fn is_refused(self) -> bool {
+        matches!(self, Verdict::Refused)
     }
 }

@@ -7,5 +7,6 @@ use Rattle.ixdtf_checks.proofs.ProgressLemmas.{reported}
 pub returns-clause-reports : goal.returns-clause-reports
 returns-clause-reports g c = λ start lines text holds takes.
     let printed = c.verdict_on-verdict.new.printed in
-    reported text (seen printed c.verdict_on-verdict.result) _ takes (c.verdict_on-verdict.ensures text holds)
-    (record { lines = c.add_line.ensures.lines; refused = c.add_line.ensures.refused ∙ ap (λ n. c.args.kept.now.tally.refused + n) (sym (c.is_refused.ensures printed)) }) refl c.put_report.ensures
+    let refusal = c.verdict_on-verdict.new.refusal in
+    reported text (seen printed refusal c.verdict_on-verdict.result) _ takes (c.verdict_on-verdict.ensures text holds)
+    (record { lines = c.add_line.ensures.lines; refused = c.add_line.ensures.refused ∙ ap (λ n. c.args.kept.now.tally.refused + n) (sym (c.is_refused.ensures printed refusal)) }) refl c.put_report.ensures

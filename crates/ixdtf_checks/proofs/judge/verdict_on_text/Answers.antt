@@ -4,16 +4,16 @@ use Rattle.ixdtf_grammar.specs.language.Readers.{parse}
 use Rattle.ixdtf_checks.specs.Kinds.{reader_of}
 use Rattle.ixdtf_checks.proofs.VerdictLemmas.{at_within, check_refused, print_refused}
 
-pub refusal_of-requires-clause-within : goal.refusal_of-requires-clause-within
-refusal_of-requires-clause-within c =
+pub refuse-requires-clause-within : goal.refuse-requires-clause-within
+refuse-requires-clause-within c =
     at_within (reader_of c.in-Check.kind c.args.request.now.profile) c.args.part.text.now _ c.in-Err.error.at c.in-Err.ensures.err
 
 pub returns-in-Err : goal.returns-in-Err
 returns-in-Err c =
     let profile = c.args.request.now.profile in
-    rw c.in-Check.is (check_refused c.in-Check.kind profile _ _ (c.refusal_of.ensures (reader_of c.in-Check.kind profile) c.in-Err.ensures.err _))
+    rw c.in-Check.is (check_refused c.in-Check.kind profile _ _ (c.refuse.ensures (reader_of c.in-Check.kind profile) c.in-Err.ensures.err _))
 
 pub returns-in-Err-read_to_print : goal.returns-in-Err-read_to_print
 returns-in-Err-read_to_print c =
     rw c.in-Print.is (print_refused c.args.request.now.profile _ _
-    (c.refusal_of-in-Err-read_to_print.ensures parse c.in-Err-read_to_print.ensures.err _))
+    (c.refuse-in-Err-read_to_print.ensures parse c.in-Err-read_to_print.ensures.err _))
