@@ -34,7 +34,7 @@ pub fn run<R: Read, W: Write>(reader: &mut R, writer: &mut W) -> Result<(), RunE
         × Consumes (R.remaining reader.old) (R.remaining reader.new) bytes
         × WritesFront (W.contents writer.old) (W.contents writer.new) (lines_of bytes) }
 {
-    let mut output = Output::new(writer);
+    let mut output = Output::filling(writer);
     answer_all(reader, &mut output)
 }
 

@@ -77,12 +77,6 @@ filled : (front back bytes : List ℕ) → front ++ back ≡ bytes → (front ++
 filled front back bytes whole = ap (λ (text : List ℕ). text ++ back) (append-nil front) ∙ whole
 
 module _ {W : Type 0} {contents : W → Option (List ℕ)} where
-  -- the first bytes were put, what waited was written, and the others were put
-  pub Puts-filled : {x y z w : Output W} (front back bytes : List ℕ) → front ++ back ≡ bytes → Puts contents x y (Ok tt) front → Puts contents y z (Ok tt) []
-      → Puts contents z w (Ok tt) back → Puts contents x w (Ok tt) bytes
-  Puts-filled {x = x} {w = w} front back bytes whole first written others =
-      subst (λ (text : List ℕ). Puts contents x w (Ok tt) text) (filled front back bytes whole) (Puts-after (Puts-after first written) others)
-
   -- the exit of a `?`: the first bytes were put, and writing what waited failed
   pub Puts-filled-exit : {x y z : Output W} {r : Result (Unit {0}) RunError} {e : RunError} (front back bytes : List ℕ) → front ++ back ≡ bytes
       → Puts contents x y (Ok tt) front → Puts contents y z (Err e) [] → IsErrAnd r (λ y. y ≡ e) → Puts contents x z r bytes

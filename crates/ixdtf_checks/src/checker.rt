@@ -56,7 +56,7 @@ pub fn check<R: Read, W: Write>(reader: &mut R, writer: &mut W, request: &Reques
         × ReportsFront (W.contents writer.old) (W.contents writer.new) request.now
         (lines_of bytes) }
 {
-    let mut output = Output::new(writer);
+    let mut output = Output::filling(writer);
     let mut kept = Kept::new();
     let end = check_all(reader, &mut output, &mut kept, request);
     Checked {

@@ -11,14 +11,30 @@ use std::io::Write;
 pub struct Output<'w, W> {
     writer: &'w mut W,
     waiting: Waiting,
+    // Whether what waits is filled before it is written.
+    fills: bool,
 }
 
 impl<'w, W: Write> Output<'w, W> {
-    /// An output to the writer. No byte waits.
+    /// An output to the writer. No byte waits. What waits is written whole as soon as a piece does not fit behind it.
     pub fn new(writer: &'w mut W) -> Output<'w, W> {
         Output {
             writer,
             waiting: Waiting::new(),
+            fills: false,
+        }
+    }
+
+    /// An output to the writer whose writes are full. No byte waits. Where a piece does not fit behind what waits, that is filled
+    /// with the first of its bytes, and written as far as one write takes it.
+    ///
+    /// So pieces may be gathered: no writer takes more writes for as many bytes than it would of the same bytes in smaller
+    /// pieces. But bytes may wait longer than with `new`, until `hand_on` or `finish`.
+    pub fn filling(writer: &'w mut W) -> Output<'w, W> {
+        Output {
+            writer,
+            waiting: Waiting::new(),
+            fills: true,
         }
     }
 
@@ -31,17 +47,24 @@ impl<'w, W: Write> Output<'w, W> {
         Ok(())
     }
 
-    /// Puts bytes that do not fit: what waits is filled with the first of them, and written as far as one write takes it.
-    ///
-    /// What waits goes out full, and what a write leaves is filled again, so that no writer takes more writes for as many bytes
-    /// than it would of the same bytes in smaller pieces. It stands out of line, since nearly all bytes fit.
+    /// Puts bytes that do not fit behind those that wait. It stands out of line, since nearly all bytes fit.
     #[cold]
     #[inline(never)]
     fn put_after(&mut self, bytes: &[u8]) -> Result<(), RunError> {
+        if self.fills && bytes.len() <= WAITING_LIMIT {
+            return self.fill_with(bytes);
+        }
+        self.hand_on()?;
         if bytes.len() > WAITING_LIMIT {
-            self.hand_on()?;
             return write_whole(self.writer, bytes);
         }
+        self.push(bytes);
+        Ok(())
+    }
+
+    /// Fills what waits with the first of the bytes, writes as much of it as one write takes, and goes on with the others until
+    /// they fit.
+    fn fill_with(&mut self, bytes: &[u8]) -> Result<(), RunError> {
         let mut rest = bytes;
         'writes: while rest.len() > self.waiting.room() {
             let (front, back) = rest.split_at(self.waiting.room());

@@ -32,7 +32,7 @@ pub struct Checked {
 
 /// Checks each line of the reader, and writes its report.
 pub fn check<R: Read, W: Write>(reader: &mut R, writer: &mut W, request: &Request<'_>) -> Checked {
-    let mut output = Output::new(writer);
+    let mut output = Output::filling(writer);
     let mut kept = Kept::new();
     let end = check_all(reader, &mut output, &mut kept, request);
     Checked {

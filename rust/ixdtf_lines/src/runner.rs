@@ -15,7 +15,7 @@ const INPUT_SIZE: usize = 4096;
 
 /// Answers each line of the reader on the writer.
 pub fn run<R: Read, W: Write>(reader: &mut R, writer: &mut W) -> Result<(), RunError> {
-    let mut output = Output::new(writer);
+    let mut output = Output::filling(writer);
     answer_all(reader, &mut output)
 }
 

@@ -2,6 +2,7 @@
 
 use super::DATE_TIMES;
 use ixdtf_buffers::error::RunError;
+use ixdtf_buffers::output::Output;
 use ixdtf_checks::checker::{Checked, check};
 use ixdtf_checks::tally::Tally;
 use std::io;
@@ -208,6 +209,27 @@ fn taken_now(writer: ShortWriter, lines: &[u8]) -> u64 {
     let mut writer = writer;
     let _checked = check(&mut reader, &mut writer, &DATE_TIMES);
     writer.taken
+}
+
+/// Puts pieces of 4,000, 200 and 3,900 bytes, and does not hand them on.
+fn put_pieces(output: &mut Output<'_, ShortWriter>) -> Result<(), RunError> {
+    output.put([1; 4000].as_slice())?;
+    output.put([2; 200].as_slice())?;
+    output.put([3; 3900].as_slice())
+}
+
+#[test]
+fn writes_what_waits_whole_or_full(rt: HostRuntime) -> Result<(), Fail> {
+    let mut writer = ShortWriter {
+        most: 20000,
+        writes: 9,
+        taken: 0,
+    };
+    put_pieces(&mut Output::new(&mut writer))?;
+    assert_eq!(rt; writer.taken, 4200);
+    put_pieces(&mut Output::filling(&mut writer))?;
+    assert_eq!(rt; writer.taken, 4200 + 4096);
+    Ok(())
 }
 
 #[test]

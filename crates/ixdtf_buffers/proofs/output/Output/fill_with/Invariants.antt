@@ -1,5 +1,5 @@
 -- Write after write.
-use Rattle.ixdtf_buffers.proofs.output.Output.put_after.Given as goal
+use Rattle.ixdtf_buffers.proofs.output.Output.fill_with.Given as goal
 use Rattle.std.proofs.Common.{◌≡◌, ℕ, ◌+◌, ◌-◌, ◌*◌, List, ◌++◌, length, Ok}
 use Rattle.ixdtf_buffers.specs.Output.{Puts}
 
