@@ -1,9 +1,9 @@
 //! The fields of what a reader found, added to the text of an answer.
-ghost use Rattle.std.specs.Prelude.{◌≡◌, ◌+◌, ◌≤◌, [], ◌∷◌, codes, option_map};
+ghost use Rattle.std.specs.Prelude.{◌≡◌, ◌+◌, ◌≤◌, [], ◌∷◌, option_map};
 ghost use Rattle.ixdtf.specs.Views.{note_of, zone_of};
 ghost use Rattle.ixdtf_buffers.specs.Adding.{Adds};
 ghost use Rattle.ixdtf_answers.specs.Fields.{comma, date_field_of, date_text_of, time_field_of, clock_text_of};
-ghost use Rattle.ixdtf_answers.specs.Fields.{fraction_text_of, sign_text_of, minute_offset_text_of, second_text_of};
+ghost use Rattle.ixdtf_answers.specs.Fields.{fraction_text_of, sign_text_of, minute_offset_text_of};
 ghost use Rattle.ixdtf_answers.specs.Fields.{full_offset_text_of, offset_text_of, offset_field_of};
 ghost use Rattle.ixdtf_answers.specs.Fields.{zone_label_of, sign_field_of};
 ghost use Rattle.ixdtf_answers.specs.Fields.{date_duration_text_of, date_duration_field_of, time_numbers_of};
@@ -18,7 +18,7 @@ use ixdtf::records::{
     MinutePrecisionOffset, Sign, TimeDurationRecord, TimeRecord, TimeZoneAnnotation,
     TimeZoneRecord, UtcOffsetRecord, UtcOffsetRecordOrZ,
 };
-use ixdtf_buffers::adding::{ROOM, add_byte, add_bytes, add_number, add_small, add_year};
+use ixdtf_buffers::adding::{ROOM, add_byte, add_bytes, add_number, add_signed, add_small};
 
 /// Adds a comma and a number below 256.
 fn add_small_behind_comma(room: &mut [u8; ROOM], at: usize, number: u8) -> usize
@@ -59,7 +59,7 @@ fn add_date(room: &mut [u8; ROOM], at: usize, date: DateRecord) -> usize
     ensures text { Adds room.old room.new at result (date_text_of date) }
 {
     let year = add_bytes(room, at, b" date=");
-    let month = add_year(room, year, date.year);
+    let month = add_signed(room, year, date.year);
     let day = add_small_behind_comma(room, month, date.month);
     add_small_behind_comma(room, day, date.day)
 }

@@ -1,4 +1,4 @@
--- Texts that are added at a place of an array. No clause of `run` cites this module.
+-- Texts that are added at a place of an array.
 use Rattle.std.specs.Prelude.{◌≡◌, ℕ, ◌+◌, ◌/◌, ◌%◌, List, [], ◌∷◌, ◌++◌, take}
 
 -- what stands before the second place is what stood before the first one, and the text

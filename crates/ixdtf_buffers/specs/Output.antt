@@ -1,5 +1,5 @@
 -- What a writer holds after a call, and what waits to be written to it.
-use Rattle.std.specs.{Prelude.{◌≡◌, ℕ, List, ◌++◌, Option, Result, OnOk, IfErr}, Io.KnownBytes.Appends, List.flat_map}
+use Rattle.std.specs.{Prelude.{◌≡◌, ◌≤◌, ℕ, List, ◌++◌, length, take, Option, Result, OnOk, IfOk, IfErr}, Io.KnownBytes.Appends, List.flat_map}
 use Rattle.ixdtf_buffers.specs.declared.{error.RunError.{RunError, TheVariants.Write}, output.Output.Output}
 use denote.Bor.{Bor}
 
@@ -13,6 +13,11 @@ pub record AppendsFront (old new : Option (List ℕ)) (bytes : List ℕ) : Type 
 -- all the bytes were appended, or writing failed after a prefix of them
 pub record Writes (old new : Option (List ℕ)) (result : Result (Unit {0}) RunError) (bytes : List ℕ) : Type 0 where
   pub ok : OnOk result (Appends old new bytes)
+  pub err : IfErr result (λ error. (error ≡ Write) × AppendsFront old new bytes)
+
+-- at least so many of the bytes were appended, as many as is told, or writing failed after a prefix of them
+pub record TakesLeast (old new : Option (List ℕ)) (result : Result ℕ RunError) (bytes : List ℕ) (least : ℕ) : Type 0 where
+  pub ok : IfOk result (λ count. (least ≤ count) × (count ≤ length bytes) × Appends old new (take count bytes))
   pub err : IfErr result (λ error. (error ≡ Write) × AppendsFront old new bytes)
 
 -- of the bytes that were taken all were appended but those that wait

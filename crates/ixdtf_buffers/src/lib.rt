@@ -1,4 +1,5 @@
-//! What the programs over lines share: the line that is being read, the bytes that wait to be written, and decimal numbers.
+//! What the programs over lines share: the line that is being read, the bytes that wait to be
+//! written, texts that are made in an array, and decimal numbers.
 //!
 //! Nothing here allocates: each buffer is an array of fixed size. The crate uses the standard library alone.
 #![tactic(auto)]

@@ -1,6 +1,6 @@
 //! A writer, and what waits to be written to it.
 ghost use Rattle.std.specs.Prelude.{◌≡◌, ◌+◌, ◌<◌, ◌≤◌, [], ◌++◌, length, Ok, IfSome, OnOk};
-ghost use Rattle.ixdtf_buffers.specs.Output.{Puts, Writes, joined};
+ghost use Rattle.ixdtf_buffers.specs.Output.{Puts, TakesLeast, Writes, joined};
 
 use crate::error::RunError;
 use crate::waiting::{WAITING_LIMIT, Waiting};
@@ -31,10 +31,10 @@ impl<'w, W: Write> Output<'w, W> {
     }
 
     /// An output to the writer whose writes are full. No byte waits. Where a piece does not fit behind what waits, that is filled
-    /// with the first of its bytes, and written as far as one write takes it.
+    /// with the first of its bytes, and as much of it is written as makes room for the others.
     ///
-    /// So pieces may be gathered: no writer takes more writes for as many bytes than it would of the same bytes in smaller
-    /// pieces. But bytes may wait longer than with `new`, until `hand_on` or `finish`.
+    /// So pieces may be gathered: a writer that takes no less of a longer slice takes no more writes for as many bytes than it
+    /// would of the same bytes in smaller pieces. But bytes may wait longer than with `new`, until `hand_on` or `finish`.
     pub fn filling(writer: &'w mut W) -> Output<'w, W>
         ensures same { result.writer.ghost_name ≡ writer.entry.ghost_name }
         ensures writer { result.writer.now ≡ writer.old }
@@ -62,6 +62,7 @@ impl<'w, W: Write> Output<'w, W> {
     #[cold]
     #[inline(never)]
     fn put_after(&mut self, bytes: &[u8]) -> Result<(), RunError>
+        requires { 4096 < length self.old.waiting + length bytes.now }
         ensures { Puts W.contents self.old self.new result bytes.now }
     {
         if self.fills && bytes.len() <= WAITING_LIMIT {
@@ -75,32 +76,26 @@ impl<'w, W: Write> Output<'w, W> {
         Ok(())
     }
 
-    /// Fills what waits with the first of the bytes, writes as much of it as one write takes, and goes on with the others until
-    /// they fit.
+    /// Fills what waits with the first of the bytes, writes as much of it as makes room for the others, and puts these behind.
     fn fill_with(&mut self, bytes: &[u8]) -> Result<(), RunError>
+        requires over { 4096 < length self.old.waiting + length bytes.now }
+        requires short { length bytes.now ≤ 4096 }
         ensures { Puts W.contents self.old self.new result bytes.now }
     {
-        let mut rest = bytes;
-        'writes: while rest.len() > self.waiting.room() {
-            let (front, back) = rest.split_at(self.waiting.room());
-            self.push(front);
-            self.write_once()?;
-            rest = back;
-        }
-        self.push(rest);
+        let (front, back) = bytes.split_at(self.waiting.room());
+        self.push(front);
+        self.make_room(back.len())?;
+        self.push(back);
         Ok(())
     }
 
-    /// Writes as many of the waiting bytes as one write takes.
-    fn write_once(&mut self) -> Result<(), RunError>
-        requires { length self.old.waiting ≡ 4096 }
+    /// Writes of the bytes that wait at least so many, and further as far as the writes take them.
+    fn make_room(&mut self, room: usize) -> Result<(), RunError>
+        requires { room ≤ length self.old.waiting }
         ensures puts { Puts W.contents self.old self.new result [] }
-        ensures fewer { OnOk result (length self.new.waiting < 4096) }
+        ensures room { OnOk result (length self.new.waiting + room ≤ length self.old.waiting) }
     {
-        let taken = self.writer.write(self.waiting.as_slice()).unwrap_or(0);
-        if taken == 0 {
-            return Err(RunError::Write);
-        }
+        let taken = write_least(self.writer, self.waiting.as_slice(), room)?;
         self.waiting.drop_front(taken);
         Ok(())
     }
@@ -171,4 +166,19 @@ fn write_whole<W: Write>(writer: &mut W, bytes: &[u8]) -> Result<(), RunError>
         }
     }
     Ok(())
+}
+
+/// Writes at least so many of the bytes, and returns how many the writes took, or fails after a prefix of them.
+fn write_least<W: Write>(writer: &mut W, bytes: &[u8], least: usize) -> Result<usize, RunError>
+    requires { least ≤ length bytes.now }
+    ensures { TakesLeast (W.contents writer.old) (W.contents writer.new) result bytes.now least }
+{
+    let mut rest = bytes;
+    'writes: while bytes.len() - rest.len() < least {
+        match writer.write(rest) {
+            Ok(count) if count > 0 => rest = &rest[count..],
+            Ok(_) | Err(_) => return Err(RunError::Write),
+        }
+    }
+    Ok(bytes.len() - rest.len())
 }

@@ -1,5 +1,5 @@
 //! Which verdict a line gets.
-ghost use Rattle.std.specs.Prelude.{◌≡◌, ◌≤◌, ◌+◌, ℕ, List, length};
+ghost use Rattle.std.specs.Prelude.{◌≤◌, ◌+◌, ℕ, List, length};
 ghost use Rattle.ixdtf_grammar.specs.Places.{HasUnhandledFaultAt};
 ghost use Rattle.ixdtf_grammar.specs.Widths.{byte_text};
 ghost use Rattle.ixdtf_grammar.specs.language.Readers.{Reader};
@@ -18,7 +18,7 @@ use crate::verdict::{LINE_LIMIT, Reason, Refusal, Verdict};
 use ixdtf::LocatedError;
 use ixdtf_buffers::line::Line;
 
-/// The verdict on the line. Where it is refused, that is put in the place of the refusal.
+/// The verdict on the line. Where the line is refused, where and why is written into `refusal`.
 pub fn verdict_on<'a>(
     request: &Request<'_>,
     line: &'a Line<LINE_LIMIT>,

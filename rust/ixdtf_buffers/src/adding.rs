@@ -7,7 +7,7 @@
 
 use crate::decimal::Decimal;
 
-/// At least as many bytes as an answer without names has, and as a report has before the lines that show the place.
+/// How many bytes the array has: at least as many as an answer without names.
 pub const ROOM: usize = 192;
 
 /// Adds the byte at the place, and returns the place behind it.
@@ -76,25 +76,25 @@ fn add_two_digits(room: &mut [u8; ROOM], at: usize, number: u8) -> usize {
     at + 2
 }
 
-/// Adds the year at the place, and returns the place behind it.
+/// Adds a signed number, as a year, at the place, and returns the place behind it. Nearly all years have four digits.
 #[inline(always)]
-pub fn add_year(room: &mut [u8; ROOM], at: usize, year: i32) -> usize {
-    if year >= 1000 && year <= 9999 {
-        add_four_digits(room, at, year as u16)
+pub fn add_signed(room: &mut [u8; ROOM], at: usize, number: i32) -> usize {
+    if number >= 1000 && number <= 9999 {
+        add_four_digits(room, at, number as u16)
     } else {
-        add_other_year(room, at, year)
+        add_other_signed(room, at, number)
     }
 }
 
-/// Adds a year that has not four digits.
+/// Adds a number that has not four digits.
 #[cold]
 #[inline(never)]
-fn add_other_year(room: &mut [u8; ROOM], at: usize, year: i32) -> usize {
-    if year < 0 {
+fn add_other_signed(room: &mut [u8; ROOM], at: usize, number: i32) -> usize {
+    if number < 0 {
         let digits = add_byte(room, at, b'-');
-        add_long(room, digits, u64::from(year.unsigned_abs()))
+        add_long(room, digits, u64::from(number.unsigned_abs()))
     } else {
-        add_long(room, at, u64::from(year.unsigned_abs()))
+        add_long(room, at, u64::from(number.unsigned_abs()))
     }
 }
 

@@ -1,6 +1,7 @@
 // Made by tools/to_rust.py of crates/ixdtf_buffers/src/lib.rt. Do not edit.
 
-//! What the programs over lines share: the line that is being read, the bytes that wait to be written, and decimal numbers.
+//! What the programs over lines share: the line that is being read, the bytes that wait to be
+//! written, texts that are made in an array, and decimal numbers.
 //!
 //! Nothing here allocates: each buffer is an array of fixed size. The crate uses the standard library alone.
 

@@ -26,10 +26,10 @@ impl<'w, W: Write> Output<'w, W> {
     }
 
     /// An output to the writer whose writes are full. No byte waits. Where a piece does not fit behind what waits, that is filled
-    /// with the first of its bytes, and written as far as one write takes it.
+    /// with the first of its bytes, and as much of it is written as makes room for the others.
     ///
-    /// So pieces may be gathered: no writer takes more writes for as many bytes than it would of the same bytes in smaller
-    /// pieces. But bytes may wait longer than with `new`, until `hand_on` or `finish`.
+    /// So pieces may be gathered: a writer that takes no less of a longer slice takes no more writes for as many bytes than it
+    /// would of the same bytes in smaller pieces. But bytes may wait longer than with `new`, until `hand_on` or `finish`.
     pub fn filling(writer: &'w mut W) -> Output<'w, W> {
         Output {
             writer,
@@ -62,26 +62,18 @@ impl<'w, W: Write> Output<'w, W> {
         Ok(())
     }
 
-    /// Fills what waits with the first of the bytes, writes as much of it as one write takes, and goes on with the others until
-    /// they fit.
+    /// Fills what waits with the first of the bytes, writes as much of it as makes room for the others, and puts these behind.
     fn fill_with(&mut self, bytes: &[u8]) -> Result<(), RunError> {
-        let mut rest = bytes;
-        'writes: while rest.len() > self.waiting.room() {
-            let (front, back) = rest.split_at(self.waiting.room());
-            self.push(front);
-            self.write_once()?;
-            rest = back;
-        }
-        self.push(rest);
+        let (front, back) = bytes.split_at(self.waiting.room());
+        self.push(front);
+        self.make_room(back.len())?;
+        self.push(back);
         Ok(())
     }
 
-    /// Writes as many of the waiting bytes as one write takes.
-    fn write_once(&mut self) -> Result<(), RunError> {
-        let taken = self.writer.write(self.waiting.as_slice()).unwrap_or(0);
-        if taken == 0 {
-            return Err(RunError::Write);
-        }
+    /// Writes of the bytes that wait at least so many, and further as far as the writes take them.
+    fn make_room(&mut self, room: usize) -> Result<(), RunError> {
+        let taken = write_least(self.writer, self.waiting.as_slice(), room)?;
         self.waiting.drop_front(taken);
         Ok(())
     }
@@ -135,4 +127,16 @@ fn write_whole<W: Write>(writer: &mut W, bytes: &[u8]) -> Result<(), RunError> {
         }
     }
     Ok(())
+}
+
+/// Writes at least so many of the bytes, and returns how many the writes took, or fails after a prefix of them.
+fn write_least<W: Write>(writer: &mut W, bytes: &[u8], least: usize) -> Result<usize, RunError> {
+    let mut rest = bytes;
+    'writes: while bytes.len() - rest.len() < least {
+        match writer.write(rest) {
+            Ok(count) if count > 0 => rest = &rest[count..],
+            Ok(_) | Err(_) => return Err(RunError::Write),
+        }
+    }
+    Ok(bytes.len() - rest.len())
 }

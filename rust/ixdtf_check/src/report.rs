@@ -22,11 +22,13 @@ const FROM_PLACE: usize = 24;
 /// The most bytes of a line that are put at once.
 const MOST_AT_ONCE: usize = 4096;
 
-/// The longest name of a file, text of an error and place of an end in it that a report is made of in an array.
+/// The longest name of a file in a report that is made in an array.
 const MOST_OF_A_NAME: usize = 48;
 
+/// The longest text of an error in it.
 const MOST_OF_A_TEXT: usize = 72;
 
+/// The longest text of where the input ended in it.
 const MOST_OF_A_LOCATION: usize = 24;
 
 /// A newline, and as many spaces as stand before a mark at most.
@@ -263,7 +265,7 @@ fn add_cut_mark(room: &mut [u8; ROOM], at: usize, is_cut: bool) -> usize {
 
 /// Adds a newline and the spaces before the mark.
 ///
-/// All spaces that there may be are written, which no call does, and what stands behind the mark is written over them.
+/// As many spaces as there may be are written, since so many need no call, and what follows is written over those behind the mark.
 fn add_spaces(room: &mut [u8; ROOM], at: usize, column: usize) -> usize {
     let _end = add_bytes(room, at, SPACES);
     at + indent_of(column) + 1

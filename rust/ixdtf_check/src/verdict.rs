@@ -9,7 +9,7 @@ pub const LINE_LIMIT: usize = 65536;
 
 /// The verdict on a line.
 ///
-/// Where and why a line is refused stands apart (`Refusal`), so that nothing is written for a line that is read.
+/// Where and why a line is refused stands apart (`Refusal`), so that a verdict is one byte.
 #[derive(Clone, Copy)]
 pub enum Verdict {
     /// Its text is read.

@@ -9,7 +9,7 @@ use ixdtf::records::{
     MinutePrecisionOffset, Sign, TimeDurationRecord, TimeRecord, TimeZoneAnnotation,
     TimeZoneRecord, UtcOffsetRecord, UtcOffsetRecordOrZ,
 };
-use ixdtf_buffers::adding::{ROOM, add_byte, add_bytes, add_number, add_small, add_year};
+use ixdtf_buffers::adding::{ROOM, add_byte, add_bytes, add_number, add_signed, add_small};
 
 /// Adds a comma and a number below 256.
 fn add_small_behind_comma(room: &mut [u8; ROOM], at: usize, number: u8) -> usize {
@@ -34,7 +34,7 @@ pub fn add_date_field(room: &mut [u8; ROOM], at: usize, date: Option<DateRecord>
 /// Adds the year, month and day.
 fn add_date(room: &mut [u8; ROOM], at: usize, date: DateRecord) -> usize {
     let year = add_bytes(room, at, b" date=");
-    let month = add_year(room, year, date.year);
+    let month = add_signed(room, year, date.year);
     let day = add_small_behind_comma(room, month, date.month);
     add_small_behind_comma(room, day, date.day)
 }

@@ -95,21 +95,6 @@ impl ShortWriter {
         self.taken = self.taken.wrapping_add(taken as u64);
         Some(taken)
     }
-
-    /// Whether it takes so many bytes, in as many writes as it needs.
-    fn takes_whole(&mut self, count: usize) -> bool {
-        let mut left = count;
-        for _ in 0..count {
-            if left == 0 {
-                return true;
-            }
-            match self.take(left) {
-                Some(taken) => left = left.saturating_sub(taken),
-                None => return false,
-            }
-        }
-        left == 0
-    }
 }
 
 impl Write for ShortWriter {
@@ -125,12 +110,6 @@ impl Write for ShortWriter {
     }
 }
 
-/// How many bytes wait at most.
-const WAITING: usize = 4096;
-
-/// So many lines that are refused at their month.
-const REFUSED_LINES: u64 = 150;
-
 /// How many bytes a writer takes at each write, and from how many writes up to how many it fails.
 const WRITERS: &[(usize, u64, u64)] = &[
     (1, 4090, 4100),
@@ -144,70 +123,46 @@ const WRITERS: &[(usize, u64, u64)] = &[
     (20000, 0, 6),
 ];
 
-/// The pieces that a report of such a line was put in before it was made in arrays, but for the number of the line: their lengths.
-const FRONT: [usize; 2] = [1, 1];
+/// How many pieces are put.
+const PIECES: u64 = 400;
 
-const BACK: [usize; 7] = [1, 1, 2, 40, 1, 19, 1];
+/// Their bytes.
+static BYTES: [u8; 4096] = [7; 4096];
 
-/// Puts a piece as it was put then: where it does not fit behind the bytes that wait, these are written.
-fn put_before(writer: &mut ShortWriter, waiting: &mut usize, piece: usize) -> bool {
-    if piece > WAITING.saturating_sub(*waiting) {
-        if !writer.takes_whole(*waiting) {
-            return false;
-        }
-        *waiting = 0;
-    }
-    *waiting = waiting.saturating_add(piece);
-    true
-}
-
-/// How many digits a number below 1,000 has.
-fn digits_of(number: u64) -> usize {
-    if number < 10 {
-        1
-    } else if number < 100 {
-        2
+/// How many bytes a piece has: up to 60, and one of some fifty 300.
+fn length_of(number: u64) -> usize {
+    let mixed = number.wrapping_mul(2_654_435_761) >> 9;
+    if mixed % 53 == 0 {
+        300
     } else {
-        3
+        (mixed % 61) as usize
     }
 }
 
-/// Puts the pieces of the report of the line with this number.
-fn report_before(writer: &mut ShortWriter, waiting: &mut usize, number: u64) -> bool {
-    for piece in FRONT {
-        if !put_before(writer, waiting, piece) {
-            return false;
+/// Puts so many of the pieces at a time, and hands all of them on.
+fn put_together(output: &mut Output<'_, ShortWriter>, together: u64) -> Result<(), RunError> {
+    let mut length = 0usize;
+    for number in 0..PIECES {
+        length = length.saturating_add(length_of(number));
+        if number % together == together - 1 {
+            output.put(&BYTES[..length.min(BYTES.len())])?;
+            length = 0;
         }
     }
-    if !put_before(writer, waiting, digits_of(number)) {
-        return false;
-    }
-    for piece in BACK {
-        if !put_before(writer, waiting, piece) {
-            return false;
-        }
-    }
-    true
+    output.hand_on()
 }
 
-/// How many bytes of the reports of all lines such a writer took then.
-fn taken_before(writer: ShortWriter) -> u64 {
+/// How many bytes the writer takes of the pieces, each put by itself into an output that writes what waits whole.
+fn taken_apart(writer: ShortWriter) -> u64 {
     let mut writer = writer;
-    let mut waiting = 0;
-    for number in 0..REFUSED_LINES {
-        if !report_before(&mut writer, &mut waiting, number + 1) {
-            return writer.taken;
-        }
-    }
-    let _whole = writer.takes_whole(waiting);
+    let _end = put_together(&mut Output::new(&mut writer), 1);
     writer.taken
 }
 
-/// How many bytes of them it takes now.
-fn taken_now(writer: ShortWriter, lines: &[u8]) -> u64 {
-    let mut reader = lines;
+/// How many it takes of five of them at a time, put into an output whose writes are full.
+fn taken_together(writer: ShortWriter) -> u64 {
     let mut writer = writer;
-    let _checked = check(&mut reader, &mut writer, &DATE_TIMES);
+    let _end = put_together(&mut Output::filling(&mut writer), 5);
     writer.taken
 }
 
@@ -233,11 +188,7 @@ fn writes_what_waits_whole_or_full(rt: HostRuntime) -> Result<(), Fail> {
 }
 
 #[test]
-fn takes_no_less_from_a_writer_that_fails(rt: HostRuntime) -> Result<(), Fail> {
-    let mut lines = Vec::new(rt.alloc());
-    for _ in 0..REFUSED_LINES {
-        lines.extend_from_slice(b"2020-13-01\n")?;
-    }
+fn takes_no_less_from_a_writer_that_fails(rt: HostRuntime) {
     for (most, first, last) in WRITERS {
         for writes in *first..*last {
             let writer = ShortWriter {
@@ -245,10 +196,12 @@ fn takes_no_less_from_a_writer_that_fails(rt: HostRuntime) -> Result<(), Fail> {
                 writes,
                 taken: 0,
             };
-            let before = taken_before(writer);
-            let now = taken_now(writer, lines.as_slice());
-            assert!(rt; before <= now, "{most} bytes at each of {writes} writes");
+            let apart = taken_apart(writer);
+            let together = taken_together(writer);
+            assert!(rt;
+                apart <= together,
+                "{most} bytes at each of {writes} writes"
+            );
         }
     }
-    Ok(())
 }
