@@ -1,5 +1,7 @@
 //! Readers and writers that fail.
 
+ghost use Rattle.std.specs.Prelude.{◌<◌};
+
 use super::DATE_TIMES;
 use ixdtf_buffers::error::RunError;
 use ixdtf_buffers::output::Output;
@@ -140,7 +142,9 @@ fn length_of(number: u64) -> usize {
 }
 
 /// Puts so many of the pieces at a time, and hands all of them on.
-fn put_together(output: &mut Output<'_, ShortWriter>, together: u64) -> Result<(), RunError> {
+fn put_together(output: &mut Output<'_, ShortWriter>, together: u64) -> Result<(), RunError>
+    requires { 0 < together }
+{
     let mut length = 0usize;
     for number in 0..PIECES {
         length = length.saturating_add(length_of(number));
