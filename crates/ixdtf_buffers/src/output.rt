@@ -33,8 +33,9 @@ impl<'w, W: Write> Output<'w, W> {
     /// An output to the writer whose writes are full. No byte waits. Where a piece does not fit behind what waits, that is filled
     /// with the first of its bytes, and as much of it is written as makes room for the others.
     ///
-    /// So pieces may be gathered: a writer that takes no less of a longer slice takes no more writes for as many bytes than it
-    /// would of the same bytes in smaller pieces. But bytes may wait longer than with `new`, until `hand_on` or `finish`.
+    /// So short pieces may be gathered, up to 2,048 bytes: of these a writer that takes up to some number of bytes at each write has
+    /// no less after as many writes than of the pieces by themselves. But bytes may wait longer than with `new`, until `hand_on`
+    /// or `finish`.
     pub fn filling(writer: &'w mut W) -> Output<'w, W>
         ensures same { result.writer.ghost_name ≡ writer.entry.ghost_name }
         ensures writer { result.writer.now ≡ writer.old }
