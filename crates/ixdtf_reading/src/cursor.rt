@@ -5,7 +5,7 @@
 
 #![tactic(auto, unfolding(crate::specs::reading::Looks::look_readings))]
 
-ghost use Rattle.std.specs.Prelude.{◌≡◌, ℕ, ◌+◌, ◌-◌, ◌<◌, ◌≤◌, ◌∷◌, List, [], map, length, drop, Option, Result, Ok, Err, Some, None, IfOk, IfErr, IfSome, OnOk, OnErr, IsTrue, IsFalse, nat_eq};
+ghost use Rattle.std.specs.Prelude.{◌≡◌, ℕ, ◌+◌, ◌-◌, ◌<◌, ◌≤◌, map, length, drop, Option, Result, Ok, Err, Some, None, IfOk, IfErr, IfSome, OnOk, OnErr, IsTrue, IsFalse, nat_eq};
 ghost use Rattle.ixdtf_grammar.specs.language.Letters.{digit};
 ghost use Rattle.ixdtf_grammar.specs.language.Digits.{decimal};
 ghost use Rattle.ixdtf_grammar.specs.table.Faults.{Fault};
@@ -166,8 +166,8 @@ impl<'a, T: EncodingType> Cursor<'a, T> {
         }
     }
 
-    /// Takes a digit, and returns it as an ASCII byte. The end of the input is `AbruptDigit`. Another code unit is this
-    /// stop, and is not taken.
+    /// Takes a digit, and returns it as an ASCII byte. The end of the input is `AbruptDigit`, a bad code unit is
+    /// `NonAsciiCodePoint`, and another code unit is this stop. None of these is taken.
     #[inline(always)]
     pub fn next_digit(&mut self, other: Stop) -> Result<u8, Stop>
         ensures digit { Reads T.letter (λ byte. byte) self.old result self.new

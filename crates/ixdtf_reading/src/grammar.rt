@@ -230,21 +230,11 @@ pub fn is_annotation_value_component(byte: u8) -> bool
     CLASSES[byte as usize] & VALUE_CHAR != 0
 }
 
-/// The value of two digits.
-#[inline(always)]
-pub fn digits_value(tens: u8, ones: u8) -> u8
-    requires tens { IsTrue (digit tens) }
-    requires ones { IsTrue (digit ones) }
-    ensures value { result ≡ decimal (Plain tens ∷ Plain ones ∷ []) }
-    ensures small { result < 100 }
-{
-    two_digit_number(tens, ones)
-}
-
 /// The value of two digits, or at least 100 where one of the bytes is not a digit.
 #[inline(always)]
 pub fn two_digit_number(tens: u8, ones: u8) -> u8
     ensures value { result ≡ tens_value tens + ones_value ones }
+    ensures number { IsTrue (digit tens) → IsTrue (digit ones) → result ≡ decimal (Plain tens ∷ Plain ones ∷ []) }
     ensures digits { result ≤ 99 → IsTrue (digit tens) × IsTrue (digit ones) }
     ensures other { 99 < result → IsTrue (digit tens) → IsFalse (digit ones) }
 {

@@ -2,13 +2,11 @@
 use Rattle.ixdtf_times.specs.declared.offsets.AfterCore.TheVariants as afters
 use Rattle.ixdtf_times.specs.declared.time.Clock.TheVariants as code_clocks
 use Rattle.ixdtf_times.specs.declared.time.TimeShape.TheVariants as code_shapes
-use Rattle.std.specs.Prelude.{Bool, true, false, Option, Some, None}
-use Rattle.ixdtf_grammar.specs.{declared.records.{DateRecord.DateRecord, TimeRecord.TimeRecord}, language.Letters.Text}
-use Rattle.ixdtf_grammar.specs.{language.{Times.{Clock, TimeShape, Clock as clocks, TimeShape as shapes}, Cores.core_of}, table.LineNames.of_date}
-use Rattle.ixdtf_grammar.specs.table.LineNames.DateLine.{after_date}
-use Rattle.ixdtf_times.specs.declared.{time.{Clock.{Clock as CodeClock}, TimeShape.{TimeShape as CodeTimeShape}, WholeTime.WholeTime}, dates.DateDigits.DateDigits}
+use Rattle.std.specs.Prelude.{Bool, true, false, None}
+use Rattle.ixdtf_grammar.specs.{declared.records.TimeRecord.TimeRecord, language.Times.{Clock, TimeShape, Clock as clocks, TimeShape as shapes}}
+use Rattle.ixdtf_times.specs.declared.{time.{Clock.{Clock as CodeClock}, TimeShape.{TimeShape as CodeTimeShape}, WholeTime.WholeTime}}
 use Rattle.ixdtf_times.specs.declared.{offsets.AfterCore.AfterCore}
-use Rattle.ixdtf_reading.specs.reading.{Looks.{Read, Placed, error_of}, Dates.date_of, Times.{OpenTime, time_of}, Cores.{ClosedCore, core_end_at, after_time_at}}
+use Rattle.ixdtf_reading.specs.reading.Times.{OpenTime, time_of}
 
 abbrev pub clock_of : CodeClock → Clock
 clock_of code_clocks.Time = clocks.Time
@@ -22,10 +20,6 @@ shape_of code_shapes.ColonMinutes = shapes.colon_minutes
 shape_of code_shapes.Seconds = shapes.seconds
 shape_of code_shapes.Fractions = shapes.fractions
 
--- the date that digits are, whatever its month and its day
-abbrev pub digits_date : DateDigits → DateRecord
-digits_date digits = date_of digits.year digits.month digits.day
-
 -- a time that ends with its second
 abbrev pub time_to_second : WholeTime → TimeRecord
 time_to_second time = time_of time.hour time.minute time.second None
@@ -38,8 +32,3 @@ open_time_of time shape = (shape_of shape, time)
 abbrev pub opens_bracket : AfterCore → Bool
 opens_bracket afters.End = false
 opens_bracket afters.Bracket = true
-
--- what is read behind a date, with a time behind it or without
-abbrev pub after_date_time_at : Option DateRecord → TimeRecord → Option CodeTimeShape → Text → Read Placed ClosedCore
-after_date_time_at date time None text = core_end_at error_of (of_date after_date) (core_of date None None) text
-after_date_time_at date time (Some shape) text = after_time_at error_of date (open_time_of time shape) text

@@ -11,7 +11,7 @@ ghost use Rattle.ixdtf_reading.specs.reading.Clauses.{Spends};
 ghost use Rattle.ixdtf_reading.specs.reading.FixedPlaces.{letter_place, date_time_place};
 ghost use Rattle.ixdtf_times.specs.TimeTypes.{time_to_second};
 
-use crate::dates::fixed_date;
+use crate::dates::{fixed_date, is_date};
 use crate::time::{WholeTime, fixed_time};
 use ixdtf_grammar::encoding::EncodingType;
 use ixdtf_grammar::records::DateRecord;
@@ -60,10 +60,10 @@ fn fixed_date_time<'a, T: EncodingType>(
     let date = fixed_date(cursor)?;
     fixed_separator(cursor, 10)?;
     let time = fixed_time(cursor)?;
-    if !time.is_time() || !date.is_date() {
+    if !time.is_time() || !is_date(date) {
         return None;
     }
-    Some((date.record(), time))
+    Some((date, time))
 }
 
 /// The separator of a date and a time, where one stands at a place, or `None`.

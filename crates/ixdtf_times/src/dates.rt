@@ -2,20 +2,19 @@
 
 #![tactic(auto, unfolding(ixdtf_reading::specs::reading::Dates::date_readings, ixdtf_reading::specs::reading::FixedPlaces::fixed_readings))]
 
-ghost use Rattle.std.specs.Prelude.{◌≡◌, ◌&&◌, ◌+◌, ◌*◌, ◌-◌, ◌<◌, ◌≤◌, map, drop, option_map, nat_le, pos, length, None, IsTrue, IfOk, IfSome, OnOk};
-ghost use Rattle.ixdtf_grammar.specs.language.Letters.{Text, digit, hyphen};
+ghost use Rattle.std.specs.Prelude.{◌≡◌, ◌&&◌, ◌+◌, ◌*◌, ◌-◌, ◌<◌, ◌≤◌, map, drop, nat_le, pos, length, None, IsTrue, IfOk, IfSome, OnOk};
+ghost use Rattle.ixdtf_grammar.specs.language.Letters.{digit, hyphen};
 ghost use Rattle.ixdtf_grammar.specs.language.Dates.{is_leap, month_length};
 ghost use Rattle.ixdtf_grammar.specs.table.Faults.Fault.{DateExtendedYear, DateMonth, InvalidMonthRange, InvalidDayRange};
 ghost use Rattle.ixdtf_reading.specs.reading.Clauses.{Reads, Spends, SpendsInAll, SpendsOr, Checks, YieldsAt, fault_of_stop, hyphen_look};
 ghost use Rattle.ixdtf_reading.specs.reading.FixedPlaces.{year_place, days_place, basic_days_place, date_place, ranged, date_in_range};
-ghost use Rattle.ixdtf_times.specs.TimeTypes.{digits_date};
 ghost use Rattle.ixdtf_reading.specs.reading.Looks.{error_of, as_number, digits_by, digit_look, mark_by, mark_at};
 ghost use Rattle.ixdtf_reading.specs.reading.Dates.{date_of, year_at, four_digit_year_at, extended_year_at, date_at, days_at, month_by, day_at, line_after_month};
 
 use ixdtf_grammar::encoding::EncodingType;
 use ixdtf_grammar::records::DateRecord;
 use ixdtf_reading::cursor::Cursor;
-use ixdtf_reading::grammar::{digits_value, is_ascii_sign, is_hyphen};
+use ixdtf_reading::grammar::{is_ascii_sign, is_hyphen, two_digit_number};
 use ixdtf_reading::stop::Stop;
 
 /// Reads a date: at its ten places or its eight where these fit, and else part by part.
@@ -33,52 +32,30 @@ pub fn parse_date<'a, T: EncodingType>(cursor: &mut Cursor<'a, T>) -> Result<Dat
 
 // ==== At fixed places ====
 
-/// The three numbers of a date's digits, which may be no date: its year, and what stands where its month and its day do.
-#[derive(Clone, Copy)]
-pub struct DateDigits {
-    pub year: i32,
-    pub month: u8,
-    pub day: u8,
+/// The first day of a month, which is not checked.
+#[inline(always)]
+pub fn first_day(year: u16, month: u8) -> DateRecord
+    ensures { result ≡ date_of (pos year) month 1 }
+{
+    DateRecord {
+        year: i32::from(year),
+        month,
+        day: 1,
+    }
 }
 
-impl DateDigits {
-    /// The first day of a month, which is not checked.
-    #[inline(always)]
-    pub fn first_day(year: u16, month: u8) -> Self
-        ensures { digits_date result ≡ date_of (pos year) month 1 }
-    {
-        DateDigits {
-            year: i32::from(year),
-            month,
-            day: 1,
-        }
-    }
-
-    /// The date of the digits, once they are known to be one.
-    #[inline(always)]
-    pub fn record(self) -> DateRecord
-        ensures { result ≡ digits_date self }
-    {
-        DateRecord {
-            year: self.year,
-            month: self.month,
-            day: self.day,
-        }
-    }
-
-    /// Whether the month is from 1 to 12 and has the day.
-    #[inline(always)]
-    pub fn is_date(self) -> bool
-        ensures { result ≡ date_in_range (digits_date self) }
-    {
-        self.month >= 1 && self.month <= 12 && has_day(self.year, self.month, self.day)
-    }
+/// Whether the month is from 1 to 12 and has the day.
+#[inline(always)]
+pub fn is_date(date: DateRecord) -> bool
+    ensures { result ≡ date_in_range date }
+{
+    date.month >= 1 && date.month <= 12 && has_day(date.year, date.month, date.day)
 }
 
 /// The date at the first ten places, or `None` at the first that does not fit. Its month and its day are not checked.
 #[inline(always)]
-pub fn fixed_date<'a, T: EncodingType>(cursor: &mut Cursor<'a, T>) -> Option<DateDigits>
-    ensures there { option_map digits_date result ≡ date_place (map T.letter cursor.old.rest) }
+pub fn fixed_date<'a, T: EncodingType>(cursor: &mut Cursor<'a, T>) -> Option<DateRecord>
+    ensures there { result ≡ date_place (map T.letter cursor.old.rest) }
     ensures long { IfSome result (λ _. 10 ≤ length cursor.old.rest) }
     ensures rest { cursor.new.rest ≡ cursor.old.rest }
     ensures few { cursor.new.looks ≤ cursor.old.looks + 10 }
@@ -110,11 +87,11 @@ fn take_fixed_date<'a, T: EncodingType>(
     }
     let year = fixed_year(cursor)?;
     if is_hyphen(cursor.byte_at(4)) {
-        if let Some(digits) = fixed_days(cursor, year) {
-            return Some(take_date(cursor, digits, 7, 10));
+        if let Some(date) = fixed_days(cursor, year) {
+            return Some(take_date(cursor, date, 7, 10));
         }
-    } else if let Some(digits) = fixed_basic_days(cursor, year) {
-        return Some(take_date(cursor, digits, 6, 8));
+    } else if let Some(date) = fixed_basic_days(cursor, year) {
+        return Some(take_date(cursor, date, 6, 8));
     }
     cursor.advance_by(4);
     Some(parse_days(cursor, year))
@@ -125,7 +102,7 @@ fn take_fixed_date<'a, T: EncodingType>(
 #[inline(always)]
 fn take_date<'a, T: EncodingType>(
     cursor: &mut Cursor<'a, T>,
-    digits: DateDigits,
+    date: DateRecord,
     month_end: usize,
     day_end: usize,
 ) -> Result<DateRecord, Stop>
@@ -133,17 +110,17 @@ fn take_date<'a, T: EncodingType>(
     requires day { day_end ≤ length cursor.old.rest }
     ensures ranged { YieldsAt (λ date. (date, map T.letter cursor.new.rest)) result
         (map T.letter cursor.new.rest)
-        (ranged (digits_date digits) (map T.letter (drop month_end cursor.old.rest))
+        (ranged date (map T.letter (drop month_end cursor.old.rest))
         (map T.letter (drop day_end cursor.old.rest))) }
     ensures shorter { length cursor.new.rest ≤ length cursor.old.rest }
     ensures looks { cursor.new.looks ≡ cursor.old.looks }
 {
-    if let Err(stop) = check_month(digits.month) {
+    if let Err(stop) = check_month(date.month) {
         cursor.advance_by(month_end);
         return Err(stop);
     }
     cursor.advance_by(day_end);
-    check_date(digits.year, digits.month, digits.day)
+    check_date(date.year, date.month, date.day)
 }
 
 /// The year at the first four places, or `None` where one of them is no digit.
@@ -162,8 +139,8 @@ pub fn fixed_year<'a, T: EncodingType>(cursor: &mut Cursor<'a, T>) -> Option<u16
 /// The date of a year and of the month and the day at their places behind a hyphen, or `None` at the first place that does
 /// not fit. Its month and its day are not checked.
 #[inline(always)]
-fn fixed_days<'a, T: EncodingType>(cursor: &mut Cursor<'a, T>, year: u16) -> Option<DateDigits>
-    ensures there { option_map digits_date result ≡ days_place year (map T.letter cursor.old.rest) }
+fn fixed_days<'a, T: EncodingType>(cursor: &mut Cursor<'a, T>, year: u16) -> Option<DateRecord>
+    ensures there { result ≡ days_place year (map T.letter cursor.old.rest) }
     ensures long { IfSome result (λ _. 10 ≤ length cursor.old.rest) }
     ensures rest { cursor.new.rest ≡ cursor.old.rest }
     ensures few { cursor.new.looks ≤ cursor.old.looks + 5 }
@@ -175,7 +152,7 @@ fn fixed_days<'a, T: EncodingType>(cursor: &mut Cursor<'a, T>, year: u16) -> Opt
     let month = cursor.fixed_number(5)?;
     cursor.fixed_letter(7, b'-')?;
     let day = cursor.fixed_number(8)?;
-    Some(DateDigits {
+    Some(DateRecord {
         year: i32::from(year),
         month,
         day,
@@ -187,15 +164,15 @@ fn fixed_days<'a, T: EncodingType>(cursor: &mut Cursor<'a, T>, year: u16) -> Opt
 fn fixed_basic_days<'a, T: EncodingType>(
     cursor: &mut Cursor<'a, T>,
     year: u16,
-) -> Option<DateDigits>
-    ensures there { option_map digits_date result ≡ basic_days_place year (map T.letter cursor.old.rest) }
+) -> Option<DateRecord>
+    ensures there { result ≡ basic_days_place year (map T.letter cursor.old.rest) }
     ensures rest { cursor.new.rest ≡ cursor.old.rest }
     ensures few { cursor.new.looks ≤ cursor.old.looks + 4 }
     ensures counted { cursor.old.looks ≤ cursor.new.looks }
 {
     let month = cursor.fixed_number(4)?;
     let day = cursor.fixed_number(6)?;
-    Some(DateDigits {
+    Some(DateRecord {
         year: i32::from(year),
         month,
         day,
@@ -364,7 +341,7 @@ pub fn parse_month<'a, T: EncodingType>(
     let hyphened = take_hyphen(cursor, at_end, Stop::DateMonth)?;
     let tens = cursor.next_digit(Stop::DateMonth)?;
     let ones = cursor.next_digit(Stop::DateMonth)?;
-    let month = check_month(digits_value(tens, ones))?;
+    let month = check_month(two_digit_number(tens, ones))?;
     Ok((month, hyphened))
 }
 

@@ -2,19 +2,18 @@
 
 #![tactic(auto, unfolding(ixdtf_reading::specs::reading::Months::month_readings, ixdtf_reading::specs::reading::FixedPlaces::fixed_readings))]
 
-ghost use Rattle.std.specs.Prelude.{◌≡◌, ◌+◌, ◌<◌, ◌≤◌, ◌&&◌, nat_le, pos, map, drop, length, option_map, Some, None, IfSome, IsTrue};
-ghost use Rattle.ixdtf_grammar.specs.language.Letters.{Text, digit};
+ghost use Rattle.std.specs.Prelude.{◌≡◌, ◌+◌, ◌<◌, ◌≤◌, ◌&&◌, nat_le, pos, map, drop, length, Some, None, IfSome};
+ghost use Rattle.ixdtf_grammar.specs.language.Letters.{Text};
 ghost use Rattle.ixdtf_grammar.specs.language.Months.{greatest_day, least_day};
 ghost use Rattle.ixdtf_grammar.specs.table.Faults.Fault.{InvalidMonthDay};
 ghost use Rattle.ixdtf_reading.specs.reading.Clauses.{Reads, Checks, YieldsAt, Spends, SpendsInAll};
 ghost use Rattle.ixdtf_reading.specs.reading.Looks.{error_of};
 ghost use Rattle.ixdtf_reading.specs.reading.Dates.{date_of};
 ghost use Rattle.ixdtf_reading.specs.reading.Months.{year_month_at, marks_at, month_day_at, lone_day_at};
-ghost use Rattle.ixdtf_reading.specs.reading.FixedPlaces.{byte_place, number_place, month_of_year_place, ranged_month, unmarked_at};
-ghost use Rattle.ixdtf_times.specs.TimeTypes.{digits_date};
+ghost use Rattle.ixdtf_reading.specs.reading.FixedPlaces.{number_place, month_of_year_place, ranged_month, unmarked_at};
 
 use crate::dates::{
-    DateDigits, check_month, days_in_month, fixed_year, parse_date_year, parse_month, take_hyphen,
+    check_month, days_in_month, first_day, fixed_year, parse_date_year, parse_month, take_hyphen,
 };
 use ixdtf_grammar::encoding::EncodingType;
 use ixdtf_grammar::profile::Profile;
@@ -42,20 +41,20 @@ pub fn parse_year_month_date<'a, T: EncodingType>(
 
 /// The first day of a year-month, where its month is from 1 to 12.
 #[inline(always)]
-fn check_year_month(first: DateDigits) -> Result<DateRecord, Stop>
+fn check_year_month(first: DateRecord) -> Result<DateRecord, Stop>
     ensures { (rest : Text) → YieldsAt (λ date. (date, rest)) result rest
-        (ranged_month (digits_date first) rest) }
+        (ranged_month first rest) }
 {
     check_month(first.month)?;
-    Ok(first.record())
+    Ok(first)
 }
 
 /// Takes off the year-month that stands at the first seven places, or at the six of one without a hyphen, as a date with
 /// day 1. It is `None`, with the rest unchanged, at the first place that does not fit. Its month is not checked.
 #[inline(always)]
-fn take_fixed_year_month<'a, T: EncodingType>(cursor: &mut Cursor<'a, T>) -> Option<DateDigits>
-    ensures read { IfSome result (λ digits. year_month_at error_of (map T.letter cursor.old.rest) ≡
-        ranged_month (digits_date digits) (map T.letter cursor.new.rest)) }
+fn take_fixed_year_month<'a, T: EncodingType>(cursor: &mut Cursor<'a, T>) -> Option<DateRecord>
+    ensures read { IfSome result (λ first. year_month_at error_of (map T.letter cursor.old.rest) ≡
+        ranged_month first (map T.letter cursor.new.rest)) }
     ensures rest { result ≡ None → cursor.new.rest ≡ cursor.old.rest }
     ensures shorter { length cursor.new.rest ≤ length cursor.old.rest }
     ensures few { cursor.new.looks ≤ cursor.old.looks + 7 }
@@ -69,13 +68,13 @@ fn take_fixed_year_month<'a, T: EncodingType>(cursor: &mut Cursor<'a, T>) -> Opt
         if cursor.remaining() < 7 {
             return None;
         }
-        let digits = fixed_month_of(cursor, year, 5)?;
+        let first = fixed_month_of(cursor, year, 5)?;
         cursor.advance_by(7);
-        return Some(digits);
+        return Some(first);
     }
-    let digits = fixed_month_of(cursor, year, 4)?;
+    let first = fixed_month_of(cursor, year, 4)?;
     cursor.advance_by(6);
-    Some(digits)
+    Some(first)
 }
 
 /// The first day of a month of the year, where its two digits stand at a place and the next, or `None`. It is not checked.
@@ -84,15 +83,15 @@ fn fixed_month_of<'a, T: EncodingType>(
     cursor: &mut Cursor<'a, T>,
     year: u16,
     place: usize,
-) -> Option<DateDigits>
+) -> Option<DateRecord>
     requires early { place < 18 }
-    ensures there { option_map digits_date result ≡ month_of_year_place year place (map T.letter cursor.old.rest) }
+    ensures there { result ≡ month_of_year_place year place (map T.letter cursor.old.rest) }
     ensures rest { cursor.new.rest ≡ cursor.old.rest }
     ensures few { cursor.new.looks ≤ cursor.old.looks + 2 }
     ensures counted { cursor.old.looks ≤ cursor.new.looks }
 {
     let month = cursor.fixed_number(place)?;
-    Some(DateDigits::first_day(year, month))
+    Some(first_day(year, month))
 }
 
 /// Reads the parts of a year-month.

@@ -2,7 +2,7 @@
 
 #![tactic(auto, unfolding(ixdtf_reading::specs::reading::Times::time_readings))]
 
-ghost use Rattle.std.specs.Prelude.{◌≡◌, ◌+◌, ◌≤◌, ◌∷◌, [], map, nat_le, length, false, true, None, IsTrue, IfSome, OnOk, option_map};
+ghost use Rattle.std.specs.Prelude.{◌≡◌, ◌+◌, ◌≤◌, ◌∷◌, [], map, nat_le, false, true, None, IsTrue, option_map};
 ghost use Rattle.ixdtf_grammar.specs.language.Letters.{Text, digit};
 ghost use Rattle.ixdtf_grammar.specs.language.Letters.Letter.{Plain};
 ghost use Rattle.ixdtf_grammar.specs.language.Fractions.{fraction_of};

@@ -93,8 +93,8 @@ impl<'a, T: EncodingType> Cursor<'a, T> {
         }
     }
 
-    /// Takes a digit, and returns it as an ASCII byte. The end of the input is `AbruptDigit`. Another code unit is this
-    /// stop, and is not taken.
+    /// Takes a digit, and returns it as an ASCII byte. The end of the input is `AbruptDigit`, a bad code unit is
+    /// `NonAsciiCodePoint`, and another code unit is this stop. None of these is taken.
     #[inline(always)]
     pub fn next_digit(&mut self, other: Stop) -> Result<u8, Stop> {
         match self.look()? {

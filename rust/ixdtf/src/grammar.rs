@@ -187,12 +187,6 @@ pub fn is_annotation_value_component(byte: u8) -> bool {
     CLASSES[byte as usize] & VALUE_CHAR != 0
 }
 
-/// The value of two digits.
-#[inline(always)]
-pub fn digits_value(tens: u8, ones: u8) -> u8 {
-    two_digit_number(tens, ones)
-}
-
 /// The value of two digits, or at least 100 where one of the bytes is not a digit.
 #[inline(always)]
 pub fn two_digit_number(tens: u8, ones: u8) -> u8 {

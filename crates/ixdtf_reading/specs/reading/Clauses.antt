@@ -92,11 +92,6 @@ abbrev pub Reads : {X Y : Type 0} → (ℕ → Letter) → (X → Y) → Unread 
 Reads letter view old (Ok x) new reading = reading (map letter old.rest) ≡ Ok (view x, map letter new.rest)
 Reads letter view old (Err e) new reading = reading (map letter old.rest) ≡ Err (fault_of_stop e, map letter new.rest)
 
--- what reading returns for the remaining input is what it returns from where a function left it, or its stop
-abbrev pub GoesOn : {X Y : Type 0} → (ℕ → Letter) → Unread → Result X Stop → Unread → (Text → Read Placed Y) → (X → Text → Read Placed Y) → Type 0
-GoesOn letter old (Ok x) new reading further = reading (map letter old.rest) ≡ further x (map letter new.rest)
-GoesOn letter old (Err e) new reading further = reading (map letter old.rest) ≡ Err (fault_of_stop e, map letter new.rest)
-
 -- what a public function returned is what a private one did, with the error of its stop
 abbrev pub Settles : {X E : Type 0} → (E → Fault) → Result X Stop → Result X E → Type 0
 Settles named (Ok x) (Ok y) = y ≡ x

@@ -2,7 +2,7 @@
 
 //! Reading a date, a separator and a time at the first nineteen places of a text, as most have them: `YYYY-MM-DDTHH:MM:SS`.
 
-use crate::parsers::dates::fixed_date;
+use crate::parsers::dates::{fixed_date, is_date};
 use crate::parsers::time::{WholeTime, fixed_time};
 use crate::encoding::EncodingType;
 use crate::records::DateRecord;
@@ -32,10 +32,10 @@ fn fixed_date_time<'a, T: EncodingType>(
     let date = fixed_date(cursor)?;
     fixed_separator(cursor, 10)?;
     let time = fixed_time(cursor)?;
-    if !time.is_time() || !date.is_date() {
+    if !time.is_time() || !is_date(date) {
         return None;
     }
-    Some((date.record(), time))
+    Some((date, time))
 }
 
 /// The separator of a date and a time, where one stands at a place, or `None`.

@@ -5,7 +5,7 @@
 use crate::encoding::EncodingType;
 use crate::records::DateRecord;
 use crate::cursor::Cursor;
-use crate::grammar::{digits_value, is_ascii_sign, is_hyphen};
+use crate::grammar::{is_ascii_sign, is_hyphen, two_digit_number};
 use crate::stop::Stop;
 
 /// Reads a date: at its ten places or its eight where these fit, and else part by part.
@@ -19,45 +19,25 @@ pub fn parse_date<'a, T: EncodingType>(cursor: &mut Cursor<'a, T>) -> Result<Dat
 
 // ==== At fixed places ====
 
-/// The three numbers of a date's digits, which may be no date: its year, and what stands where its month and its day do.
-#[derive(Clone, Copy)]
-pub struct DateDigits {
-    pub year: i32,
-    pub month: u8,
-    pub day: u8,
+/// The first day of a month, which is not checked.
+#[inline(always)]
+pub fn first_day(year: u16, month: u8) -> DateRecord {
+    DateRecord {
+        year: i32::from(year),
+        month,
+        day: 1,
+    }
 }
 
-impl DateDigits {
-    /// The first day of a month, which is not checked.
-    #[inline(always)]
-    pub fn first_day(year: u16, month: u8) -> Self {
-        DateDigits {
-            year: i32::from(year),
-            month,
-            day: 1,
-        }
-    }
-
-    /// The date of the digits, once they are known to be one.
-    #[inline(always)]
-    pub fn record(self) -> DateRecord {
-        DateRecord {
-            year: self.year,
-            month: self.month,
-            day: self.day,
-        }
-    }
-
-    /// Whether the month is from 1 to 12 and has the day.
-    #[inline(always)]
-    pub fn is_date(self) -> bool {
-        self.month >= 1 && self.month <= 12 && has_day(self.year, self.month, self.day)
-    }
+/// Whether the month is from 1 to 12 and has the day.
+#[inline(always)]
+pub fn is_date(date: DateRecord) -> bool {
+    date.month >= 1 && date.month <= 12 && has_day(date.year, date.month, date.day)
 }
 
 /// The date at the first ten places, or `None` at the first that does not fit. Its month and its day are not checked.
 #[inline(always)]
-pub fn fixed_date<'a, T: EncodingType>(cursor: &mut Cursor<'a, T>) -> Option<DateDigits> {
+pub fn fixed_date<'a, T: EncodingType>(cursor: &mut Cursor<'a, T>) -> Option<DateRecord> {
     if cursor.remaining() < 10 {
         return None;
     }
@@ -78,11 +58,11 @@ fn take_fixed_date<'a, T: EncodingType>(
     }
     let year = fixed_year(cursor)?;
     if is_hyphen(cursor.byte_at(4)) {
-        if let Some(digits) = fixed_days(cursor, year) {
-            return Some(take_date(cursor, digits, 7, 10));
+        if let Some(date) = fixed_days(cursor, year) {
+            return Some(take_date(cursor, date, 7, 10));
         }
-    } else if let Some(digits) = fixed_basic_days(cursor, year) {
-        return Some(take_date(cursor, digits, 6, 8));
+    } else if let Some(date) = fixed_basic_days(cursor, year) {
+        return Some(take_date(cursor, date, 6, 8));
     }
     cursor.advance_by(4);
     Some(parse_days(cursor, year))
@@ -93,16 +73,16 @@ fn take_fixed_date<'a, T: EncodingType>(
 #[inline(always)]
 fn take_date<'a, T: EncodingType>(
     cursor: &mut Cursor<'a, T>,
-    digits: DateDigits,
+    date: DateRecord,
     month_end: usize,
     day_end: usize,
 ) -> Result<DateRecord, Stop> {
-    if let Err(stop) = check_month(digits.month) {
+    if let Err(stop) = check_month(date.month) {
         cursor.advance_by(month_end);
         return Err(stop);
     }
     cursor.advance_by(day_end);
-    check_date(digits.year, digits.month, digits.day)
+    check_date(date.year, date.month, date.day)
 }
 
 /// The year at the first four places, or `None` where one of them is no digit.
@@ -116,14 +96,14 @@ pub fn fixed_year<'a, T: EncodingType>(cursor: &mut Cursor<'a, T>) -> Option<u16
 /// The date of a year and of the month and the day at their places behind a hyphen, or `None` at the first place that does
 /// not fit. Its month and its day are not checked.
 #[inline(always)]
-fn fixed_days<'a, T: EncodingType>(cursor: &mut Cursor<'a, T>, year: u16) -> Option<DateDigits> {
+fn fixed_days<'a, T: EncodingType>(cursor: &mut Cursor<'a, T>, year: u16) -> Option<DateRecord> {
     if cursor.remaining() < 10 {
         return None;
     }
     let month = cursor.fixed_number(5)?;
     cursor.fixed_letter(7, b'-')?;
     let day = cursor.fixed_number(8)?;
-    Some(DateDigits {
+    Some(DateRecord {
         year: i32::from(year),
         month,
         day,
@@ -135,10 +115,10 @@ fn fixed_days<'a, T: EncodingType>(cursor: &mut Cursor<'a, T>, year: u16) -> Opt
 fn fixed_basic_days<'a, T: EncodingType>(
     cursor: &mut Cursor<'a, T>,
     year: u16,
-) -> Option<DateDigits> {
+) -> Option<DateRecord> {
     let month = cursor.fixed_number(4)?;
     let day = cursor.fixed_number(6)?;
-    Some(DateDigits {
+    Some(DateRecord {
         year: i32::from(year),
         month,
         day,
@@ -262,7 +242,7 @@ pub fn parse_month<'a, T: EncodingType>(
     let hyphened = take_hyphen(cursor, at_end, Stop::DateMonth)?;
     let tens = cursor.next_digit(Stop::DateMonth)?;
     let ones = cursor.next_digit(Stop::DateMonth)?;
-    let month = check_month(digits_value(tens, ones))?;
+    let month = check_month(two_digit_number(tens, ones))?;
     Ok((month, hyphened))
 }
 

@@ -3,7 +3,7 @@
 //! Reading year-months and month-days.
 
 use crate::parsers::dates::{
-    DateDigits, check_month, days_in_month, fixed_year, parse_date_year, parse_month, take_hyphen,
+    check_month, days_in_month, first_day, fixed_year, parse_date_year, parse_month, take_hyphen,
 };
 use crate::encoding::EncodingType;
 use crate::parsers::profile::Profile;
@@ -27,15 +27,15 @@ pub fn parse_year_month_date<'a, T: EncodingType>(
 
 /// The first day of a year-month, where its month is from 1 to 12.
 #[inline(always)]
-fn check_year_month(first: DateDigits) -> Result<DateRecord, Stop> {
+fn check_year_month(first: DateRecord) -> Result<DateRecord, Stop> {
     check_month(first.month)?;
-    Ok(first.record())
+    Ok(first)
 }
 
 /// Takes off the year-month that stands at the first seven places, or at the six of one without a hyphen, as a date with
 /// day 1. It is `None`, with the rest unchanged, at the first place that does not fit. Its month is not checked.
 #[inline(always)]
-fn take_fixed_year_month<'a, T: EncodingType>(cursor: &mut Cursor<'a, T>) -> Option<DateDigits> {
+fn take_fixed_year_month<'a, T: EncodingType>(cursor: &mut Cursor<'a, T>) -> Option<DateRecord> {
     if cursor.remaining() < 6 {
         return None;
     }
@@ -44,13 +44,13 @@ fn take_fixed_year_month<'a, T: EncodingType>(cursor: &mut Cursor<'a, T>) -> Opt
         if cursor.remaining() < 7 {
             return None;
         }
-        let digits = fixed_month_of(cursor, year, 5)?;
+        let first = fixed_month_of(cursor, year, 5)?;
         cursor.advance_by(7);
-        return Some(digits);
+        return Some(first);
     }
-    let digits = fixed_month_of(cursor, year, 4)?;
+    let first = fixed_month_of(cursor, year, 4)?;
     cursor.advance_by(6);
-    Some(digits)
+    Some(first)
 }
 
 /// The first day of a month of the year, where its two digits stand at a place and the next, or `None`. It is not checked.
@@ -59,9 +59,9 @@ fn fixed_month_of<'a, T: EncodingType>(
     cursor: &mut Cursor<'a, T>,
     year: u16,
     place: usize,
-) -> Option<DateDigits> {
+) -> Option<DateRecord> {
     let month = cursor.fixed_number(place)?;
-    Some(DateDigits::first_day(year, month))
+    Some(first_day(year, month))
 }
 
 /// Reads the parts of a year-month.

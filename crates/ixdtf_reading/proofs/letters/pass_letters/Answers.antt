@@ -3,7 +3,7 @@ use Rattle.std.proofs.Common.{◌≡◌, ◌+◌, ℕ, List, map, length, drop, 
 use Rattle.std.specs.Prelude.{IfOk, IsSome}
 use Rattle.ixdtf_grammar.specs.{language.Letters.{Letter, Text, Class, Letter.Plain}, Views.Unread}
 use Rattle.ixdtf_reading.specs.{declared.stop.Stop.Stop, reading.{Clauses.{YieldsAt}, Looks.{Placed, seen}, Runs.{PassesOver, found_in, within}}}
-use Rattle.ixdtf_reading.proofs.code.{FractionLoop.one_taken, LetterLoops.{IsSoFar, begins, goes_on, ceases, fails}}
+use Rattle.ixdtf_reading.proofs.code.{FractionLoop.one_taken, LetterLoops.{IsSoFar, goes_on, ceases, fails}}
 
 -- a look that found a code unit of the class
 one_found : (class : Class) (found : Result (Option ℕ) Stop) (text : Text) (sees : Result (Option ℕ) Placed) → YieldsAt (λ x. x) found text sees
