@@ -1,15 +1,15 @@
 -- The code unit after the digits of a group, and the groups that it ends.
-use Rattle.std.proofs.Common.{◌≡◌, ℕ, Bool, true, false, [], ◌∷◌, List, None, IsSome, IfOk, Result, Ok, Err, map, drop, refl, sym, ◌∙◌, arith, nat_le}
+use Rattle.std.proofs.Common.{◌≡◌, ℕ, Bool, true, false, [], ◌∷◌, List, None, Ok, Err, map, drop, refl, sym, ◌∙◌, arith, nat_le}
 use Rattle.std.proofs.{Common.if◌then◌else◌, lemmas.Bool.Decides.nat_tests}
 use Rattle.ixdtf_grammar.specs.declared.{profile.Profile.Profile, records.{Sign.Sign, DurationParseRecord.DurationParseRecord}}
 use Rattle.ixdtf_grammar.specs.language.Letters.{Letter, Text, digit, decimal_mark, hour_letter, minute_letter, Letter.Plain}
 use Rattle.ixdtf_grammar.specs.language.Durations.{Half, Group, designator, unit_of, greatest, greatest_value, in_order, Half.{date, time}}
 use Rattle.ixdtf_grammar.specs.{language.Durations.DurationUnit.{hours, minutes, seconds}, table.{Faults.Fault, DurationFronts.Context}}
 use Rattle.ixdtf_grammar.specs.table.DurationFronts.Context.{in_dates, in_times}
-use Rattle.ixdtf_reading.specs.{declared.stop.Stop.Stop, reading.Looks.{Placed, Read, ◌>>=◌, error_of}}
+use Rattle.ixdtf_reading.specs.reading.Looks.{Placed, Read, ◌>>=◌, error_of}
 use Rattle.ixdtf_reading.specs.reading.Durations.{State, add_group, end_group, step, run, integer_group, State.{between, in_number, at_mark, ended}}
 use Rattle.ixdtf_reading.proofs.code.FirstLetter.{first_is}
-use Rattle.ixdtf_durations.specs.{declared.duration.{TimeGroup.TimeGroup, Number.Number}, reading.DurationClauses.{run_from, run_where, IsNumber}}
+use Rattle.ixdtf_durations.specs.{declared.duration.Number.Number, reading.DurationClauses.{run_from, run_where, IsNumber}}
 use Rattle.ixdtf_durations.specs.reading.DurationClauses.{behind_unit, date_group_of, date_read, after_time_group, date_group_fits, time_group_fits}
 
 -- ---- code units
@@ -95,9 +95,3 @@ module _ (letter : ℕ → Letter) (first : ℕ) (old : List ℕ) (number : Numb
   unfolding run step
   at_decimal_mark profile s dates times left moved is =
       reads.leads profile _ ∙ rw (first_is (map letter new) number.next reads.next, no_digit, mark_no_designator _ is, is, moved) refl
-
--- a group that has a fraction is not one without
-pub has_fraction : (result : Result TimeGroup Stop) (otherwise : Type 0) → IfOk result (λ g. IsSome g.fraction)
-    → IfOk result (λ g. g.fraction ≡ None → otherwise)
-has_fraction (Err stop) otherwise some = tt
-has_fraction (Ok g) otherwise some = λ none. let never = rw none at some in absurd cc

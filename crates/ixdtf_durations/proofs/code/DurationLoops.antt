@@ -7,20 +7,11 @@ use Rattle.ixdtf_grammar.specs.{language.Durations.{Group, unit_of, least_step, 
 use Rattle.ixdtf_grammar.specs.table.{Faults.Fault.InvalidEnd, DurationFronts.Context.{in_dates, in_times}}
 use Rattle.ixdtf_durations.specs.{declared.duration.{Number.Number, TimeGroup.TimeGroup}, reading.DurationClauses.{run_from, run_where, date_group_of}}
 use Rattle.ixdtf_durations.specs.reading.DurationClauses.{time_group_of, rank, date_rank_from, time_rank_from, behind_unit, date_read, after_group}
-use Rattle.ixdtf_durations.specs.reading.DurationClauses.{after_time_group, begins_group, HasSmallDates, IsDateRecord, IsTimeRecord, AreDates, dated}
+use Rattle.ixdtf_durations.specs.reading.DurationClauses.{after_time_group, HasSmallDates, IsDateRecord, IsTimeRecord, AreDates, dated}
 use Rattle.ixdtf_durations.proofs.code.{DurationRanks.below, DurationGroups.{HasDates, HasTimes, date_added, date_refused, time_added, time_refused}}
 use Rattle.ixdtf_durations.proofs.code.DurationSteps.{fails, at_digit, dates_end, dates_at_mark, dates_at_other, times_end, fraction_end, more_times_at_other}
 use Rattle.ixdtf_durations.proofs.code.DurationSteps.{fraction_at_other}
 use Rattle.ixdtf_reading.specs.reading.{Looks.{Placed, Read, seen}, Durations.State.{between, in_number}}
-
--- a code unit that begins one more group, and one that begins none
-pub begins_is : (fraction : Option FractionParts) (c : ℕ) → begins_group fraction c ≡ true → (fraction ≡ None) × (digit c ≡ true)
-begins_is None c is = (refl, is)
-begins_is (Some f) c is = absurd cc
-
-pub begins_none : (fraction : Option FractionParts) (c : ℕ) → begins_group fraction c ≡ false → digit c ≡ true → fraction ≡ None → ⊥
-begins_none None c miss is none = cc
-begins_none (Some f) c miss is none = cc
 
 -- ---- dates
 

@@ -1,5 +1,5 @@
 -- Forms of the clauses of the private functions that read durations, and what their types stand for. No public clause cites one.
-use Rattle.std.specs.Prelude.{◌≡◌, ◌≤◌, ℕ, Bool, false, IsFalse, IsTrue, List, [], ◌∷◌, map, Option, Some, None, Result, Ok, Err, nat_le, drop}
+use Rattle.std.specs.Prelude.{◌≡◌, ◌≤◌, ℕ, IsFalse, IsTrue, List, [], ◌∷◌, map, Option, Some, None, Result, Ok, Err, nat_le, drop}
 use Rattle.std.specs.Prelude.{slice_index_or, if◌then◌else◌, ◌-◌, length, OnOk, IfErr}
 use Rattle.ixdtf_grammar.specs.declared.{profile.Profile.Profile, records.{Sign.Sign, DurationParseRecord.DurationParseRecord}}
 use Rattle.ixdtf_grammar.specs.declared.records.{DateDurationRecord.DateDurationRecord, TimeDurationRecord.TimeDurationRecord}
@@ -119,11 +119,6 @@ time_read profile times g = if designator time g.letter then time_group_fits pro
 abbrev pub after_time_group : Profile → Sign → List Group → List Group → TimeGroup → Text → Read Placed DurationParseRecord
 after_time_group profile s dates times g text =
     run_where profile (time_read profile times g) (after_group g.fraction s dates times (time_group_of g)) (behind_unit time g.letter text)
-
--- whether the code unit begins one more time group, after one with a fraction or without
-abbrev pub begins_group : Option FractionParts → ℕ → Bool
-begins_group None c = digit c
-begins_group (Some fraction) c = false
 
 -- the numbers of groups, by the ranks of their units
 abbrev pub date_numbers : List Group → List ℕ
