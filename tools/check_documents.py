@@ -459,9 +459,9 @@ def edits(tree: Tree) -> list[str]:
     return [it for it in tree.files if it.endswith('.edit')]
 
 
-def is_of_a_definition(path: str) -> bool:
+def is_of_a_definition(tree: Tree, path: str) -> bool:
     """Whether an edit turns a definition, and no body."""
-    return 'definitions.' in path or '.canonical_fits.' in path
+    return '\nfile: specs/' in tree.read(path)
 
 
 def variants(tree: Tree) -> list[str]:
@@ -483,8 +483,8 @@ COUNTS = [(re.compile(pattern, re.I), counted) for pattern, counted in [
     (rf'{A_COUNT} of the \d+ errors', lambda tree: len(never_come(tree))),
     (rf'the {A_COUNT} with "none"', lambda tree: len(never_come(tree))),
     (rf'is each of the {A_COUNT}:', lambda tree: len(members('each reader'))),
-    (rf'{A_COUNT} wrong bodies(?! that)', lambda tree: len([it for it in edits(tree) if not is_of_a_definition(it)])),
-    (rf'{A_COUNT} edits turn definitions', lambda tree: len([it for it in edits(tree) if is_of_a_definition(it)])),
+    (rf'{A_COUNT} wrong bodies(?! that)', lambda tree: len([it for it in edits(tree) if not is_of_a_definition(tree, it)])),
+    (rf'{A_COUNT} edits turn definitions', lambda tree: len([it for it in edits(tree) if is_of_a_definition(tree, it)])),
     (rf'have {A_COUNT} lines, of which', lambda tree: len(lines_of_definitions(tree))),
     (rf'of which {A_COUNT} are definitions',
      lambda tree: len([it for it in lines_of_definitions(tree) if it and not it.startswith(('use ', '--'))])),

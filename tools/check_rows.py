@@ -12,8 +12,12 @@ read from
 Each row has the error and the place that places.tsv has for its text, where it has the text, and that the model places.py has. What a row
 says is never taken from the library's own output.
 
-It prints what differs, one finding a line, and how many rows it read; it ends with status 1 where there is a finding, or a source has
-fewer rows than `LEAST` says, so that a table that is no longer read is seen."""
+It looks at the edits too, which are rows of wrong bodies: FILE.FUNCTION in the name of crates/*/must-fail/FILE.FUNCTION.WHAT.edit is the
+file, without its ending, and the function in which its `old` stands. The function may have its type before it. Of an edit of a definition,
+FILE and FUNCTION are the file and the definition.
+
+It prints what differs, one finding a line, and how many rows and edits it read; it ends with status 1 where there is a finding, or a source
+has fewer rows than `LEAST` says, so that a table that is no longer read is seen."""
 import os
 import re
 import sys
@@ -23,6 +27,7 @@ from typing import Callable, Iterator, NamedTuple, Optional, Union
 TOOLS = os.path.dirname(os.path.abspath(__file__))
 sys.path.insert(0, TOOLS)
 import places
+from check_documents import FUNCTION, IMPL
 from places import Annotation, Error, Fault, Handler
 
 ROOT = os.path.dirname(TOOLS)
@@ -544,6 +549,121 @@ ABRUPT = re.compile(r'^(abrupt_\w+) = AbruptEnd \(codes "(.*)"\)$', re.M)
 
 
 # ---------------------------------------------------------------------------------------------------------------------------------
+# Edits
+
+# a definition of a file in specs/, and what stands outside functions and may be named
+OF_SPECS = re.compile(r'(?:(?:abbrev|unfoldable|record|data|pub) )*([^\W\d]\w*) (?:[^=:]* )?[:=] ')
+OUTSIDE = re.compile(r'(?:pub(?:\([a-z]+\))? )?(?:struct|enum|const|static) (\w+)')
+
+
+class Change(NamedTuple):
+    """A change of an edit: a file of the crate, and the text of it that goes."""
+    path: str
+    old: str
+
+
+class Part(NamedTuple):
+    """A part of a file: a function with the words of the `impl` that it stands in, a definition, or another item; with its text."""
+    kind: str
+    name: str
+    owners: tuple[str, ...]
+    text: str
+
+
+def changes_of(edit: str) -> list[Change]:
+    """The changes of an edit. An `old` without a `file` is of the one above it."""
+    found, path = [], ''
+    for line in edit.splitlines():
+        key, _, value = line.partition(': ')
+        if key == 'file':
+            path = value
+        elif key == 'old':
+            found.append(Change(path, value))
+    return found
+
+
+def end_of(lines: list[str], first: int) -> int:
+    """The last line of an item that begins in this one. Sources are laid out, so it is the first that closes it at its own margin."""
+    margin = lines[first][:len(lines[first]) - len(lines[first].lstrip())]
+    for at in range(first, len(lines)):
+        text = lines[at].rstrip()
+        if text.startswith((margin + '}', margin + ']', margin + ')')) and text[-1] in '};' or text.startswith(margin + '{') and text.endswith('}'):
+            return at
+        if at == first and text[-1] in '};' and text.count('{') == text.count('}'):
+            return at
+    return len(lines) - 1
+
+
+def functions_in(lines: list[str]) -> Iterator[tuple[int, int, Part]]:
+    """The functions and the other items of a source, each with its first and its last line."""
+    owners = ()
+    for at, line in enumerate(lines):
+        opens, function, item = (it.match(line) for it in (IMPL, FUNCTION, OUTSIDE))
+        if opens:
+            owners = tuple(re.findall(r'\w+', opens[1]))
+        elif line.startswith('}'):
+            owners = ()
+        elif function or item:
+            last = end_of(lines, at)
+            kind = 'function' if function else 'item'
+            yield at, last, Part(kind, (function or item)[1], owners, '\n'.join(lines[at:last + 1]))
+
+
+def definitions_in(lines: list[str]) -> Iterator[tuple[int, int, Part]]:
+    """The definitions of a file of specs/, each from its first line to the one before the next."""
+    begins = [(at, OF_SPECS.match(line)) for at, line in enumerate(lines) if line[:1].strip()] + [(len(lines), None)]
+    for (at, definition), (following, _) in zip(begins, begins[1:]):
+        if definition and not lines[at].startswith(('use ', '--')):
+            yield at, following - 1, Part('definition', definition[1], (), '')
+
+
+def part_of(path: str, source: str, old: str) -> Optional[Part]:
+    """The innermost part of a source that holds a text; None where none does, as at an import. Raises ValueError where the text does not
+    stand once."""
+    if source.count(old) != 1:
+        raise ValueError(f'`{old}` stands {source.count(old)} times in {path}')
+    line = source.count('\n', 0, source.index(old))
+    parts = definitions_in if path.endswith('.antt') else functions_in
+    around = [(first, part) for first, last, part in parts(source.splitlines()) if first <= line <= last]
+    return max(around, key=lambda it: it[0])[1] if around else None
+
+
+def names_of(part: Part, source: str) -> Iterator[str]:
+    """The words by which an edit of this part is named: the name, also with a word of its `impl` before it; and of what is no function,
+    such as a table, the functions that name it too."""
+    yield part.name
+    yield from (f'{owner}.{part.name}' for owner in part.owners)
+    if part.kind == 'item':
+        yield from (it.name for _, _, it in functions_in(source.splitlines())
+                    if it.kind == 'function' and re.search(rf'\b{part.name}\b', it.text))
+
+
+def findings_in_edit(path: str, edit: str) -> Iterator[str]:
+    """Where an edit is not named by what it changes."""
+    crate, name = path.split('/must-fail/')
+    parts, named = [], []
+    for change in changes_of(edit):
+        if not change.path.startswith('proofs/'):
+            try:
+                source = read(f'{crate}/{change.path}')
+                part = part_of(change.path, source, change.old)
+            except (ValueError, OSError) as why:
+                yield f'{path}: {why}'
+                return
+            file = os.path.splitext(os.path.basename(change.path))[0]
+            parts += [f'{file}.{part.name}'] if part else []
+            named += [f'{file}.{it}.' for it in names_of(part, source)] if part else []
+    if not name.startswith(tuple(named)):
+        yield f'{path}: what it changes stands in {" and ".join(sorted(set(parts))) or "no function"}'
+
+
+def findings_in_edits() -> tuple[list[str], int]:
+    """What is found in the edits of all crates, and how many they are."""
+    paths = [it for it in files('crates', '.edit') if '/must-fail/' in it]
+    return [what for path in paths for what in findings_in_edit(path, read(path))], len(paths)
+
+
+# ---------------------------------------------------------------------------------------------------------------------------------
 # All of it
 
 def read(path: str) -> str:
@@ -597,9 +717,11 @@ def main() -> int:
     found = [it for of_source in rows.values() for row in of_source for it in findings(row)]
     found += [f'{source}: {len(rows[source])} rows are read, and {least} are wanted' for source, least in LEAST.items()
               if len(rows[source]) < least]
+    of_edits, edits = findings_in_edits()
+    found += of_edits
     for it in found:
         print(it)
-    print(f'rows: {", ".join(f"{len(of_source)} of {source}" for source, of_source in rows.items())}; {len(found)} findings')
+    print(f'rows: {", ".join(f"{len(of_source)} of {source}" for source, of_source in rows.items())}; {edits} edits; {len(found)} findings')
     return 1 if found else 0
 
 

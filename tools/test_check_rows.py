@@ -221,8 +221,98 @@ class ComputedExamples(unittest.TestCase):
         self.assertEqual(rows, wanted)
 
 
+SOURCE = """//! Digits.
+
+/// The value of each digit.
+static VALUES: [u8; 3] = [
+    0, 1, 2,
+];
+
+impl<'a> Digits<'a, Utf8> {
+    /// The first, if there is one.
+    pub fn first(&self) -> Option<u8>
+        ensures { result \u2261 head self.digits }
+    {
+        fn at_most_nine(byte: u8) -> u8 {
+            byte.min(9)
+        }
+        self.digits.first().copied()
+    }
+
+    fn last(&self) -> Option<u8> { self.digits.last().copied() }
+}
+
+fn value_of(byte: u8) -> u8 {
+    VALUES[byte as usize]
+}
+
+fn put(bytes: &mut [u8], at: usize, byte: u8) {
+    if at < bytes.len() {
+        bytes[at] = byte;
+    }
+}
+"""
+DEFINITIONS = """use Rattle.std.specs.Prelude.{length}
+
+-- A digit.
+pub IsDigit : \u2115 \u2192 Set
+IsDigit letter = letter \u2264 9
+
+data pub Sign : Set where
+  plus : Sign
+"""
+
+
+class Edits(unittest.TestCase):
+    """Edits and their names."""
+
+    def findings(self, name: str, *changes: tuple[str, str]) -> list[str]:
+        """What is found in an edit of this name and these changes, each a file and the text that goes."""
+        edit = '# text: 10 is read; this refuses it\n' + ''.join(f'file: {path}\nold: {old}\nnew: 0\n' for path, old in changes)
+        before, check.read = check.read, lambda path: DEFINITIONS if path.endswith('.antt') else SOURCE
+        try:
+            return list(check.findings_in_edit(f'crates/ixdtf_digits/must-fail/{name}.edit', edit))
+        finally:
+            check.read = before
+
+    def test_right(self):
+        for name, old in [('digits.first.takes_none', 'self.digits.first()'), ('digits.Digits.first.takes_none', 'self.digits.first()'),
+                          ('digits.Utf8.first.takes_none', 'self.digits.first()'), ('digits.at_most_nine.takes_ten', 'byte.min(9)'),
+                          ('digits.last.takes_none', 'self.digits.last()'), ('digits.put.puts_zero', 'bytes[at] = byte;'),
+                          ('digits.value_of.takes_two_for_one', '0, 1, 2,'), ('digits.VALUES.takes_two_for_one', '0, 1, 2,')]:
+            self.assertEqual(self.findings(name, ('src/parts/digits.rt', old)), [], name)
+        self.assertEqual(self.findings('Digit.IsDigit.takes_ten', ('specs/language/Digit.antt', 'letter \u2264 9')), [])
+
+    def test_wrong_names(self):
+        for name, old, stands in [('digits.last.takes_none', 'self.digits.first()', 'digits.first'),
+                                  ('digit.first.takes_none', 'self.digits.first()', 'digits.first'),
+                                  ('digits.Utf16.first.takes_none', 'self.digits.first()', 'digits.first'),
+                                  ('digits.fir.takes_none', 'self.digits.first()', 'digits.first'),
+                                  ('digits.first.takes_ten', 'byte.min(9)', 'digits.at_most_nine'),
+                                  ('digits.first.takes_none', 'self.digits.last()', 'digits.last'),
+                                  ('digits.put.takes_two_for_one', '0, 1, 2,', 'digits.VALUES'),
+                                  ('digits.first.says_another_thing', '//! Digits.', 'no function')]:
+            self.assertEqual(self.findings(name, ('src/digits.rt', old)),
+                             [f'crates/ixdtf_digits/must-fail/{name}.edit: what it changes stands in {stands}'], name)
+        self.assertTrue(self.findings('digits.is_digit.takes_ten', ('specs/Digit.antt', 'letter \u2264 9')))
+        self.assertTrue(self.findings('Digit.IsDigit.takes_ten', ('specs/Digit.antt', 'Prelude')))
+
+    def test_changes_of_one_body(self):
+        # what stands in no function may be changed beside it, and a proof
+        self.assertEqual(self.findings('digits.put.puts_zero', ('src/digits.rt', '//! Digits.'), ('src/digits.rt', 'bytes[at] = byte;'),
+                                       ('proofs/put/Proof.antt', 'it is not looked at')), [])
+
+    def test_an_old_that_is_not_there(self):
+        for old, times in [('byte.max(9)', 0), ('byte', 9)]:
+            self.assertEqual(self.findings('digits.put.puts_zero', ('src/digits.rt', old)),
+                             [f'crates/ixdtf_digits/must-fail/digits.put.puts_zero.edit: `{old}` stands {times} times in src/digits.rt'])
+
+
 class Repository(unittest.TestCase):
     """The rows that are there."""
+
+    def test_each_edit_is_read(self):
+        self.assertGreater(check.findings_in_edits()[1], 400)
 
     def test_each_source_is_read(self):
         rows = check.all_rows()
