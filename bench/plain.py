@@ -1,0 +1,98 @@
+#!/usr/bin/env python3
+"""plain.py CHECKOUT: makes the benchmark as plain Rust, over the plain crates of a checkout, and has cargo build it.
+
+The workloads are those of crates/ixdtf_bench of the checkout that this file is of, whatever CHECKOUT has, so that two checkouts are
+timed by the same. They are made by the rules of tools/to_rust.py; what they take from Rattle's library is bench/runtime.rs. The plain
+programs have no libraries, so their files become two, `ixdtf_answers` and `ixdtf_checks`, as the proved crates are. It writes to
+CHECKOUT/bench/out alone, and prints the path of the program."""
+import os
+import re
+import subprocess
+import sys
+
+BENCH = os.path.dirname(os.path.abspath(__file__))
+HERE = os.path.dirname(BENCH)
+sys.path.insert(0, os.path.join(HERE, 'tools'))
+import to_rust
+
+# the crates of what the programs do, and the plain programs that have their files
+LIBRARIES = {'ixdtf_answers': 'ixdtf_lines', 'ixdtf_checks': 'ixdtf_check'}
+MANIFEST = '''[package]
+name = "{0}"
+version = "0.0.0"
+edition = "2024"
+publish = false
+
+[workspace]
+
+[dependencies]
+'''
+OF_PLAIN = ('ixdtf', 'ixdtf_print', 'ixdtf_buffers')
+BENCHMARK = to_rust.Crate('crates/ixdtf_bench/src', '', root='main', tests=True, above=True)
+USES = {'use crate::runtime::{AllocError, Global, String};': 'use crate::runtime::{AllocError, Global, TryToVec, Vec};',
+        'use std::env;': 'use crate::runtime::{HostRuntime, env};', '.to_vec(alloc)': '.try_to_vec(alloc)'}
+# a loop that a proof names has a label
+HEAD = '#![forbid(unsafe_code)]\n#![allow(unused_imports, unused_labels)]\n\n#[macro_use]\nmod runtime;\n'
+
+
+def read(path):
+    """The text of a file."""
+    with open(path, encoding='utf-8') as file:
+        return file.read()
+
+
+def write(path, text):
+    """Writes a file where it is another one, so that cargo builds what has changed."""
+    os.makedirs(os.path.dirname(path), exist_ok=True)
+    if not os.path.exists(path) or read(path) != text:
+        with open(path, 'w', encoding='utf-8') as file:
+            file.write(text)
+
+
+def manifest(name, checkout, made):
+    """The manifest of a crate over the plain crates of a checkout and over these made ones."""
+    paths = {it: os.path.join(checkout, 'rust', it) for it in OF_PLAIN} | {it: f'../{it}' for it in made}
+    return MANIFEST.format(name) + ''.join(f'{it} = {{ path = "{path}" }}\n' for it, path in paths.items())
+
+
+def library(checkout, name, program):
+    """The root of a library of the files that a plain program has. All its modules are public."""
+    root = read(os.path.join(checkout, 'crates', name, 'src', 'lib.rt'))
+    folder = os.path.join(checkout, 'rust', program, 'src')
+    return '#![forbid(unsafe_code)]\n#![allow(unused_labels)]\n\n' + ''.join(
+        f'#[path = "{folder}/{module}.rs"]\npub mod {module};\n' for module in re.findall(r'^(?:pub )?mod (\w+);$', root, re.M))
+
+
+def workloads():
+    """The files of the benchmark in Rust, by their names."""
+    for module, text in sorted(to_rust.sources(BENCHMARK).items()):
+        # a string that goes on in the next line is one
+        plain = to_rust.written(BENCHMARK, module, re.sub(r'\\\n\s*', '', text))
+        for old, new in USES.items():
+            plain = plain.replace(old, new)
+        if module == 'main':
+            head = re.match(r'(?://![^\n]*\n)*', plain).end()
+            plain = plain[:head] + HEAD + plain[head:]
+        yield f'{module}.rs', plain
+
+
+def build(checkout):
+    """Makes the crates and builds them, and gives the path of the program."""
+    checkout = os.path.abspath(checkout)
+    top = os.path.join(checkout, 'bench', 'out', 'plain')
+    for name, program in LIBRARIES.items():
+        write(os.path.join(top, name, 'Cargo.toml'), manifest(name, checkout, ()))
+        write(os.path.join(top, name, 'src', 'lib.rs'), library(checkout, name, program))
+    folder = os.path.join(top, 'ixdtf_bench')
+    write(os.path.join(folder, 'Cargo.toml'), manifest('ixdtf_bench', checkout, LIBRARIES))
+    write(os.path.join(folder, 'src', 'runtime.rs'), read(os.path.join(BENCH, 'runtime.rs')))
+    for name, plain in workloads():
+        write(os.path.join(folder, 'src', name), plain)
+    subprocess.run(['cargo', 'build', '--quiet', '--offline', '--release', '--jobs', '2'], cwd=folder, check=True)
+    return os.path.join(folder, 'target', 'release', 'ixdtf_bench')
+
+
+if __name__ == '__main__':
+    if len(sys.argv) != 2:
+        sys.exit(__doc__)
+    print(build(sys.argv[1]))
