@@ -1,0 +1,149 @@
+//! `place_of` and `pass_many`, which are written by hand and not proved, beside the plainest forms of both.
+//!
+//! Words of eight bytes and looks at sixteen go wrong at their ends, and at bytes beside the one that is looked for: so each length has all
+//! places, and each byte has its neighbours and those that differ from it in one bit.
+
+use ixdtf_buffers::place::{pass_many, place_of};
+
+/// Lengths at both sides of one word, of one look, and of several.
+fn lengths() -> impl Iterator<Item = usize> {
+    (0..=40).chain(62..=66)
+}
+
+/// Bytes that are looked for: those of the programs, and the ends of the ranges.
+const WANTED: [u8; 10] = [b'\n', b' ', b',', b';', 0x00, 0x01, 0x7f, 0x80, 0xfe, 0xff];
+
+/// Bytes that are mistaken for the wanted one where a word is not looked at rightly.
+fn others(wanted: u8) -> Vec<u8> {
+    let mut found = vec![wanted.wrapping_add(1), wanted.wrapping_sub(1), !wanted, 0x00, 0x01, 0x7f, 0x80, 0x81, 0xff, b'x'];
+    found.extend((0..8).map(|bit| wanted ^ (1 << bit)));
+    found.retain(|byte| *byte != wanted);
+    found
+}
+
+/// The index of the first byte that is this one, byte by byte.
+fn plain_place(wanted: u8, bytes: &[u8]) -> Option<usize> {
+    for (place, byte) in bytes.iter().enumerate() {
+        if *byte == wanted {
+            return Some(place);
+        }
+    }
+    None
+}
+
+/// What `pass_many` promises, byte by byte: it passes over sixteen bytes as long as fewer of them are this one than are left.
+fn plain_passed(wanted: u8, count: usize, bytes: &[u8]) -> (usize, usize) {
+    let (mut place, mut left) = (0, count);
+    loop {
+        let mut here = 0;
+        for at in place..place + 16 {
+            match bytes.get(at) {
+                Some(byte) if *byte == wanted => here += 1,
+                Some(_) => {}
+                None => return (place, left),
+            }
+        }
+        if here >= left {
+            return (place, left);
+        }
+        (place, left) = (place + 16, left - here);
+    }
+}
+
+/// Compares both functions on these bytes.
+fn check(wanted: u8, bytes: &[u8]) {
+    assert_eq!(place_of(wanted, bytes), plain_place(wanted, bytes), "{wanted} in {bytes:?}");
+    for count in [0, 1, 2, 15, 16, 17] {
+        let passed = pass_many(wanted, count, bytes);
+        assert_eq!((passed.place, passed.left), plain_passed(wanted, count, bytes), "{count} of {wanted} in {bytes:?}");
+    }
+}
+
+#[test]
+fn finds_none() {
+    for wanted in WANTED {
+        for other in others(wanted) {
+            for length in lengths() {
+                check(wanted, &vec![other; length]);
+            }
+        }
+    }
+}
+
+#[test]
+fn finds_one_in_each_place() {
+    for wanted in WANTED {
+        for other in others(wanted) {
+            for length in lengths() {
+                for place in 0..length {
+                    let mut bytes = vec![other; length];
+                    bytes[place] = wanted;
+                    check(wanted, &bytes);
+                }
+            }
+        }
+    }
+}
+
+/// A byte beside the wanted one, on either side, may be taken for it: of a word from which 1 is taken away, a byte borrows from the next.
+#[test]
+fn finds_the_first_of_two_beside_each_other_byte() {
+    for wanted in WANTED {
+        for other in others(wanted) {
+            for length in lengths().filter(|length| *length <= 40) {
+                for place in 0..length {
+                    let mut bytes = vec![b'0'; length];
+                    bytes.iter_mut().skip(place).for_each(|byte| *byte = other);
+                    bytes[place] = wanted;
+                    check(wanted, &bytes);
+                    bytes.fill(other);
+                    bytes[place..].fill(wanted);
+                    check(wanted, &bytes);
+                    bytes.iter_mut().skip(place).step_by(2).for_each(|byte| *byte = other);
+                    check(wanted, &bytes);
+                }
+            }
+        }
+    }
+}
+
+/// The bytes before and behind the slice are not looked at, wherever it lies in memory.
+#[test]
+fn looks_at_the_slice_alone() {
+    for wanted in WANTED {
+        for length in 0..=24 {
+            for start in 0..16 {
+                let mut around = vec![wanted; start + length + 16];
+                around[start..start + length].fill(wanted.wrapping_add(1));
+                check(wanted, &around[start..start + length]);
+            }
+        }
+    }
+}
+
+/// Bytes that look random: each byte is looked for in each of them, with few and with many kinds of bytes.
+#[test]
+fn agrees_on_bytes_that_look_random() {
+    let mut state = 0x2545_f491_4f6c_dd1d_u64;
+    for round in 0..40_000_u32 {
+        let mut bytes = vec![0; (round % 97) as usize];
+        for byte in &mut bytes {
+            state ^= state << 13;
+            state ^= state >> 7;
+            state ^= state << 17;
+            *byte = match round % 4 {
+                0 => (state >> 32) as u8,
+                1 => (state >> 32) as u8 & 1,
+                2 => 0x80 | (state >> 32) as u8 & 1,
+                _ => ((state >> 32) as u8 & 3).wrapping_sub(2),
+            };
+        }
+        let wanted = match round % 4 {
+            0 => (state >> 40) as u8,
+            1 => (state >> 40) as u8 & 1,
+            2 => 0x80 | (state >> 40) as u8 & 1,
+            _ => ((state >> 40) as u8 & 3).wrapping_sub(2),
+        };
+        check(wanted, &bytes);
+    }
+}
