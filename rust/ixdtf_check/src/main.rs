@@ -69,10 +69,11 @@ fn main() -> ExitCode {
     if files.is_empty() {
         files.push("-");
     }
+    let mut output = standard_output();
     let mut outcome = Outcome { total: Tally::new(), has_failed: false, is_closed: false };
     for name in files {
         if !outcome.is_closed {
-            check_file(&options, name, &mut outcome);
+            check_file(&options, name, &mut output, &mut outcome);
         }
     }
     let Tally { lines, refused, bytes } = outcome.total;
@@ -94,24 +95,36 @@ fn refuse() -> ExitCode {
     ExitCode::from(2)
 }
 
+/// Standard output, without the buffer that Rust puts before it. What the program writes waited already, and that buffer, which ends with
+/// the last line that is whole, would cut each write in two.
+///
+/// It is a second descriptor of the same output. Where there is none to be had, it is standard output as Rust has it.
+fn standard_output() -> Box<dyn Write> {
+    #[cfg(unix)]
+    if let Ok(descriptor) = std::os::fd::AsFd::as_fd(&stdout()).try_clone_to_owned() {
+        return Box::new(File::from(descriptor));
+    }
+    Box::new(stdout().lock())
+}
+
 /// Checks the file of this name; `-` is standard input.
-fn check_file(options: &Options, name: &str, outcome: &mut Outcome) {
+fn check_file<W: Write>(options: &Options, name: &str, output: &mut W, outcome: &mut Outcome) {
     if name == "-" {
-        return check_reader(&mut stdin().lock(), options, name, outcome);
+        return check_reader(&mut stdin().lock(), options, name, output, outcome);
     }
     match File::open(name) {
-        Ok(mut file) => check_reader(&mut file, options, name, outcome),
+        Ok(mut file) => check_reader(&mut file, options, name, output, outcome),
         Err(error) => complain(name, error, outcome),
     }
 }
 
 /// Checks what the reader gives, under this name.
-fn check_reader<R: Read>(reader: &mut R, options: &Options, name: &str, outcome: &mut Outcome) {
+fn check_reader<R: Read, W: Write>(reader: &mut R, options: &Options, name: &str, output: &mut W, outcome: &mut Outcome) {
     let Some(request) = options.request(name) else {
         return;
     };
     let mut watched = Watched { reader, error: None };
-    let checked = check(&mut watched, &mut stdout().lock(), &request);
+    let checked = check(&mut watched, output, &request);
     outcome.total.add(checked.tally);
     match checked.end {
         Ok(()) => {}

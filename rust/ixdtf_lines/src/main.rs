@@ -13,7 +13,7 @@ mod word;
 use arguments::arguments_allowed;
 use ixdtf_buffers::error::RunError;
 use runner::run;
-use std::io::{stdin, stdout};
+use std::io::{Write, stdin, stdout};
 use std::process::ExitCode;
 
 fn main() -> ExitCode {
@@ -22,11 +22,23 @@ fn main() -> ExitCode {
         eprintln!("{USAGE}");
         return ExitCode::from(2);
     }
-    match run(&mut stdin().lock(), &mut stdout().lock()) {
+    match run(&mut stdin().lock(), &mut standard_output()) {
         Ok(()) => ExitCode::SUCCESS,
         Err(RunError::Read) => failed("read"),
         Err(RunError::Write) => failed("write"),
     }
+}
+
+/// Standard output, without the buffer that Rust puts before it. What the program writes waited already, and that buffer, which ends with
+/// the last line that is whole, would cut each write in two.
+///
+/// It is a second descriptor of the same output. Where there is none to be had, it is standard output as Rust has it.
+fn standard_output() -> Box<dyn Write> {
+    #[cfg(unix)]
+    if let Ok(descriptor) = std::os::fd::AsFd::as_fd(&stdout()).try_clone_to_owned() {
+        return Box::new(std::fs::File::from(descriptor));
+    }
+    Box::new(stdout().lock())
 }
 
 /// What a line of the input is, for whoever gave arguments in its place.

@@ -1,0 +1,47 @@
+//! The writes of the program. Its standard output is a socket here that keeps each write as one message, and that takes a message of
+//! 4,096 bytes, as on Linux.
+#![cfg(target_os = "linux")]
+
+use std::fs::{self, File};
+use std::os::fd::OwnedFd;
+use std::os::unix::net::UnixDatagram;
+use std::process::{Command, Stdio};
+use std::thread;
+
+/// What the program writes when it reads this, write by write.
+fn writes(input: File) -> Vec<Vec<u8>> {
+    let (ours, its) = UnixDatagram::pair().unwrap();
+    let reader = thread::spawn(move || {
+        let mut found = Vec::new();
+        let mut room = vec![0; 100_000];
+        loop {
+            let count = ours.recv(&mut room).unwrap();
+            if count == 0 {
+                return found;
+            }
+            found.push(room[..count].to_vec());
+        }
+    });
+    let end = its.try_clone().unwrap();
+    let ran = Command::new(env!("CARGO_BIN_EXE_ixdtf_lines"))
+        .stdin(input)
+        .stdout(OwnedFd::from(its))
+        .stderr(Stdio::null())
+        .status();
+    assert!(ran.unwrap().success());
+    end.send(&[]).unwrap();
+    reader.join().unwrap()
+}
+
+#[test]
+fn no_write_is_cut_in_two() {
+    let path = std::env::temp_dir().join(format!("ixdtf_lines_writes_{}", std::process::id()));
+    let lines: String = (0..40_000).map(|number| format!("canonical 2024-03-{:02} 08:48:00,{:03}+01\n", number % 28 + 1, number % 1000)).collect();
+    fs::write(&path, &lines).unwrap();
+    let found = writes(File::open(&path).unwrap());
+    fs::remove_file(&path).unwrap();
+    let bytes: usize = found.iter().map(Vec::len).sum();
+    assert_eq!(bytes, 40_000 * 33);
+    // one write for each 4,096 bytes that waited, and one for what waits before each read of 8,192 bytes
+    assert!(found.len() <= bytes / 4_096 + lines.len() / 8_192 + 2, "{} writes of {bytes} bytes", found.len());
+}
