@@ -42,6 +42,6 @@ fn no_write_is_cut_in_two() {
     fs::remove_file(&path).unwrap();
     let bytes: usize = found.iter().map(Vec::len).sum();
     assert_eq!(found.concat().iter().filter(|byte| **byte == b'\n').count(), 40_000);
-    // one write for each 4,096 bytes that waited, and one for what waits before each read of 8,192 bytes
-    assert!(found.len() <= bytes / 4_096 + lines.len() / 8_192 + 2, "{} writes of {bytes} bytes", found.len());
+    // one write for each 4,096 bytes that waited, and one for what waits before each read of as many
+    assert!(found.len() <= bytes / 4_096 + lines.len() / 4_096 + 2, "{} writes of {bytes} bytes", found.len());
 }
