@@ -1,5 +1,5 @@
 #!/usr/bin/env python3
-"""check_documents.py [--words]: sees that what the documents name is there.
+"""check_documents.py: sees that what the documents name is there.
 
 (a) Names. In every document each file and directory, each item in back-quotes, each target of a link with its heading, and each count
 that `COUNTS` knows must be there. `name` of `File.antt` asks that this file defines the name, and `name` of `item` that the item has such
@@ -13,9 +13,7 @@ hand. The errors have the texts of the code and of the model, and the readers th
 (c) Snippets. Each block of Rattle in README.md and docs/CALLING.md stands in a crate of tests, which compiles it: its items word by
 word, and what it imports among the imports there. Those of the READMEs of `rust/` are tests of their crates.
 
-(d) Words. With --words the words of each document are within its limit too; without it those that are above are printed.
-
-It prints what it finds, one finding a line, and ends with status 1 where there is one. Without --words those on words do not count."""
+It prints what it finds, one finding a line, and ends with status 1 where there is one."""
 import fnmatch
 import os
 import re
@@ -29,14 +27,6 @@ import places
 from places import Error, Fault
 
 ROOT = os.path.dirname(TOOLS)
-
-# at most so many words have these documents together, by `wc -w`
-LIMITS = [
-    (['README.md'], 1000), (['docs/CALLING.md'], 1800), (['docs/GRAMMAR.md'], 2800), (['docs/FAULTS.md'], 3200),
-    (['docs/TRUST.md'], 3400), (['docs/DECISIONS.md'], 2200), (['docs/NUMBERS.md'], 1300),
-    (['docs/DIFFERENCES.md', 'docs/RUST.md'], 1200), (['docs/C.md'], 1200), (['docs/PROGRAM.md'], 1200), (['CONTRIBUTING.md'], 1500),
-    (['rust/ixdtf/README.md'], 600), (['CHANGELOG.md'], 500),
-]
 
 # what a document may name and the repository does not have, and where it is
 EXCEPTIONS = {
@@ -223,16 +213,18 @@ class Contracts:
     is one of `promises`, a record, the fields of it are clauses too."""
 
     def __init__(self, sources: dict[str, str], promises: dict[str, dict[str, str]] = {}):
-        self.found = {}
+        self.found, self.files = {}, {}
         for path, source in sources.items():
             module = os.path.basename(path).removesuffix('.rt')
             for contract in contracts_of(source):
+                clauses = dict(contract.clauses)
+                for said in contract.clauses.values():
+                    promise = re.match(r'\s*(\w+)', said)
+                    clauses.update(promises.get(promise[1], {}) if promise else {})
                 for name in {contract.owner, contract.owner.split('::')[-1], f'{module}::{contract.owner}'}:
-                    self.found.setdefault(name, {}).update(contract.clauses)
-        for clauses in self.found.values():
-            for said in list(clauses.values()):
-                promise = re.match(r'\s*(\w+)', said)
-                clauses.update(promises.get(promise[1], {}) if promise else {})
+                    self.found.setdefault(name, {}).update(clauses)
+                    for clause in clauses:
+                        self.files.setdefault((name, clause), set()).add(path)
 
     def missing(self, owner: str, clause: str) -> Optional[str]:
         """What is not there: the function, or its clause."""
@@ -431,6 +423,38 @@ def missing_clauses(tree: Tree, owner: str, clause: str, fields: list[str]) -> I
                 yield f'`{clause}` of `{name}` has no field `{field}`'
 
 
+def findings_in_files(document: Document) -> Iterator[Finding]:
+    """The files of rows that do not have the contracts of these rows, and the contracts that none of these files has."""
+    for number, row in document.tables():
+        named = [it for it in SPAN.findall(row.get('File', '')) if it.endswith('.rt')]
+        contracts = set(contracts_in(document.tree, row)) if 'File' in row else set()
+        for path in sorted({path for _, path in contracts if not any(is_at_the_end(path, it) for it in named)}):
+            names = sorted({name for name, at in contracts if at == path})
+            yield Finding(document.path, number, f'no file of the row has the contract of `{names[0]}`: it stands in {path}')
+        for it in named:
+            if not any(is_at_the_end(path, it) for _, path in contracts) and not is_of_tests(document.tree, it):
+                yield Finding(document.path, number, f'`{it}` has no contract that the row names')
+
+
+def contracts_in(tree: Tree, row: dict[str, str]) -> Iterator[tuple[str, str]]:
+    """The functions whose clauses a row names, each with the file of its contract."""
+    for owner, clause, _ in clauses_in('Clause', row.get('Clause', '')):
+        group = owner.strip('*').removesuffix(' located')
+        for name in (members(owner.strip('*')) if group in GROUPS else []) if owner.startswith('*') else [owner.strip('`')]:
+            for path in tree.contracts.files.get((name, clause), ()):
+                yield name, path
+
+
+def is_at_the_end(path: str, end: str) -> bool:
+    """Whether a path ends with these directories and this file."""
+    return ('/' + path).endswith('/' + end)
+
+
+def is_of_tests(tree: Tree, name: str) -> bool:
+    """Whether a file of tests has this name."""
+    return any(is_at_the_end(it, name) for it in tree.files if it.startswith(COMPILING))
+
+
 # ---------------------------------------------------------------------------------------------------------------------------------
 # Counts
 
@@ -506,6 +530,20 @@ def findings_in_reading_order(document: Document) -> Iterator[Finding]:
     for path in definitions(document.tree):
         if os.path.basename(path).removesuffix('.antt') not in named:
             yield Finding(document.path, 1, f'{path} has no place in the order of reading')
+    yield from findings_in_contracts_to_read(document)
+
+
+def findings_in_contracts_to_read(document: Document) -> Iterator[Finding]:
+    """Where the files that people are to read for contracts are others than those that have the contracts which the tables name."""
+    wanted = {path for _, row in document.tables() for _, path in contracts_in(document.tree, row)}
+    for number, line in document.lines:
+        if line.startswith('Then read the contracts'):
+            named = [it for it in SPAN.findall(line) if it.endswith('.rt')]
+            for path in sorted(it for it in wanted if not any(is_at_the_end(it, name) for name in named)):
+                yield Finding(document.path, number, f'{path} has contracts that the tables name, and is not among the files to read')
+            for name in named:
+                if not any(is_at_the_end(path, name) for path in wanted):
+                    yield Finding(document.path, number, f'`{name}` has no contract that the tables name')
 
 
 # ---------------------------------------------------------------------------------------------------------------------------------
@@ -785,6 +823,7 @@ def findings(tree: Tree) -> Iterator[Finding]:
         document = Document(tree, path)
         yield from findings_in_names(document)
         yield from findings_in_clauses(document)
+        yield from findings_in_files(document)
         yield from findings_in_counts(document)
         if path == 'docs/TRUST.md':
             yield from findings_in_reading_order(document)
@@ -804,25 +843,14 @@ def findings_in_code(tree: Tree) -> Iterator[Finding]:
                 yield Finding(path, content.count('\n', 0, named.start()) + 1, f'no file {named[0]}')
 
 
-def words_above(tree: Tree) -> Iterator[str]:
-    """The documents that have more words than their limit."""
-    for paths, limit in LIMITS:
-        words = sum(len(tree.read(it).split()) for it in paths if it in tree.files)
-        if words > limit:
-            yield f'{" and ".join(paths)}: {words} words, and at most {limit} are wanted'
-
-
-def main(arguments: list[str]) -> int:
+def main() -> int:
     """The program."""
-    tree = Tree(ROOT)
-    found = list(findings(tree))
-    above = list(words_above(tree))
-    for it in [*found, *above]:
+    found = list(findings(Tree(ROOT)))
+    for it in found:
         print(it)
-    failed = bool(found) or '--words' in arguments and bool(above)
-    print(f'documents: {len(found)} findings; {len(above)} with too many words')
-    return 1 if failed else 0
+    print(f'documents: {len(found)} findings')
+    return 1 if found else 0
 
 
 if __name__ == '__main__':
-    sys.exit(main(sys.argv[1:]))
+    sys.exit(main())

@@ -140,6 +140,38 @@ class Clauses(InATree):
         document = self.document('| Clause of `read` | What it says |\n|---|---|\n| `ok`, `err` | it reads |\n')
         self.assertEqual([it.what for it in check.findings_in_clauses(document)], ['`read` has no clause `err`'])
 
+    def files(self, clause: str, file: str) -> list[str]:
+        """What is found in a row of a clause and the files that have it."""
+        document = self.document(f'| Promise | Clause | File |\n|---|---|---|\n| it reads | {clause} | {file} |\n')
+        return [it.what for it in check.findings_in_files(document)]
+
+    def test_files_of_rows(self):
+        self.write('crates/reader/src/more.rt', 'pub fn last()\n    ensures some { Free }\n{}\n')
+        self.write('crates/ixdtf_tests/src/tests/texts.rt', 'fn reads() {}\n')
+        for clause, file in [('`Reader::read`: `ok`', '`lib.rt`'), ('`Reader::read`: `ok`; `last`: `some`', '`reader/src/lib.rt`, `more.rt`'),
+                             ('`free`: *(unnamed)*', '`lib.rt`; the tests `texts.rt`'), ('the check itself', '')]:
+            self.assertEqual(self.files(clause, file), [])
+        of_read = 'no file of the row has the contract of `Reader::read`: it stands in crates/reader/src/lib.rt'
+        for clause, file, what in [
+            ('`Reader::read`: `ok`', '`more.rt`', [of_read, '`more.rt` has no contract that the row names']),
+            ('`Reader::read`: `ok`', 'the same', [of_read]),
+            ('`Reader::read`: `ok`; `last`: `some`', '`more.rt`', [of_read]),
+            ('`Reader::read`: `leaves` (`empty`)', '`lib.rt`, `more.rt`', ['`more.rt` has no contract that the row names']),
+            ('it is one function', '`lib.rt`', ['`lib.rt` has no contract that the row names']),
+        ]:
+            self.assertEqual(self.files(clause, file), what)
+
+    def test_files_to_read(self):
+        self.write('crates/reader/src/more.rt', 'pub fn last()\n    ensures some { Free }\n{}\n')
+        table = '| Promise | Clause |\n|---|---|\n| it reads | `Reader::read`: `ok` |\n\n'
+        for line, what in [
+            ('Then read the contracts: `lib.rt` of `crates/reader`.', []),
+            ('Then read the contracts: `lib.rt` and `more.rt`.', ['`more.rt` has no contract that the tables name']),
+            ('Then read the contracts.', ['crates/reader/src/lib.rt has contracts that the tables name, and is not among the files to read']),
+        ]:
+            document = self.document(table + line)
+            self.assertEqual([it.what for it in check.findings_in_contracts_to_read(document)], what)
+
     def test_each_reader_of_a_group(self):
         self.assertEqual(len(check.members('each reader')), 24)
         self.assertEqual(check.members('part located')[-1], 'IsoDurationParser::parse_located')
@@ -212,6 +244,13 @@ class Repository(unittest.TestCase):
     def test_the_order_of_reading(self):
         self.assertEqual(self.found('docs/TRUST.md', '3. `Handlers`, ', '3. ', check.findings_in_reading_order),
                          ['crates/ixdtf_grammar/specs/Handlers.antt has no place in the order of reading'])
+
+    def test_files_that_have_no_contract(self):
+        self.assertEqual(self.found('docs/TRUST.md', 'what it returns | `handled.rt` |', 'what it returns | `parsers.rt` |', check.findings_in_files),
+                         ['no file of the row has the contract of `IxdtfParser::parse_month_day_with_annotation_handler`: it stands in '
+                          'crates/ixdtf/src/parsers/handled.rt', '`parsers.rt` has no contract that the row names'])
+        self.assertEqual(self.found('docs/TRUST.md', '`parsers.rt`, `unhandled.rt`, ', '`parsers.rt`, ', check.findings_in_reading_order),
+                         ['crates/ixdtf/src/parsers/unhandled.rt has contracts that the tables name, and is not among the files to read'])
 
     def test_snippets(self):
         for path in check.WITH_SNIPPETS:
