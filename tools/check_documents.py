@@ -4,7 +4,9 @@
 (a) Names. In every document each file and directory, each item in back-quotes, each target of a link with its heading, and each count
 that `COUNTS` knows must be there. `name` of `File.antt` asks that this file defines the name, and `name` of `item` that the item has such
 a clause, field or function. In a table with a column `Clause` each function has the clauses that the row names, and each clause the
-fields in parentheses behind it.
+fields in parentheses behind it. With a column `File` beside it, each of these contracts stands in a file that the row names, and each
+file of the row has one of them or is one of tests. The files in which docs/TRUST.md has people read the contracts are those of the contracts
+that its tables name. Each line of a table begins and ends with a bar.
 
 (b) Examples. The lines of docs/FAULTS.md are those of the model `places.py`: their names, what they go on with, and their errors. Each
 example, a text with its place, has this error at this place in the model, and in the row of `places.tsv`, whose place was counted by
@@ -278,6 +280,9 @@ def owner_of(head: str) -> str:
 # ---------------------------------------------------------------------------------------------------------------------------------
 # Documents
 
+RULE = re.compile(r'\|?-+(\|-+)+\|?')
+
+
 class Document:
     """A document: its lines outside of blocks of code, by their numbers, and its headings."""
 
@@ -305,13 +310,23 @@ class Document:
         heads, rule = None, None
         for at, (number, line) in enumerate(self.lines):
             follows = self.lines[at + 1][1] if at + 1 < len(self.lines) else ''
-            if re.fullmatch(r'\|?-+(\|-+)+\|?', follows.strip()):
+            if RULE.fullmatch(follows.strip()):
                 heads, rule = cells_in_line(line), number + 1
             elif heads is not None and '|' not in line:
                 heads = None
             elif heads is not None and number != rule:
                 cells = cells_in_line(line)
                 yield number, dict(zip(heads, cells + [''] * (len(heads) - len(cells))))
+
+
+def findings_in_layout(document: Document) -> Iterator[Finding]:
+    """The lines of tables that do not have their bars: each line begins and ends with one, since not every reader of Markdown takes others."""
+    lines = dict(document.lines)
+    rules = [number for number, line in document.lines if RULE.fullmatch(line.strip())]
+    for number in sorted({it for it, _ in document.tables()} | set(rules) | {it - 1 for it in rules}):
+        line = lines[number].strip()
+        if not line.startswith('|') or not line.endswith('|'):
+            yield Finding(document.path, number, 'a line of a table has no bar at its beginning or at its end')
 
 
 def cells_in_line(line: str) -> list[str]:
@@ -821,6 +836,7 @@ def findings(tree: Tree) -> Iterator[Finding]:
     """What is not so, in all documents."""
     for path in tree.documents():
         document = Document(tree, path)
+        yield from findings_in_layout(document)
         yield from findings_in_names(document)
         yield from findings_in_clauses(document)
         yield from findings_in_files(document)

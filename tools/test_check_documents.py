@@ -186,6 +186,11 @@ class Tables(InATree):
         self.assertEqual([row for _, row in self.document('| A | B | C |\n|---|---|---|\n| x | | z |\n').tables()], rows)
         self.assertEqual([row for _, row in self.document('text\n\nA | B | C\n---|---|---\nx | | z\n\nno row').tables()], rows)
 
+    def test_bars(self):
+        self.assertEqual(list(check.findings_in_layout(self.document('| A | B |\n|---|---|\n| x | y |\n\na | b\n'))), [])
+        for content, lines in [('A | B\n---|---\nx | y\n', [1, 2, 3]), ('| A | B |\n|---|---|\nx | y |\n| x | y\n', [3, 4])]:
+            self.assertEqual([it.line for it in check.findings_in_layout(self.document(content))], lines)
+
     def test_a_row_that_lacks_cells(self):
         self.assertEqual([row for _, row in self.document('A | B\n---|---\ny |\n').tables()], [{'A': 'y', 'B': ''}])
 
