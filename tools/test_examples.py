@@ -55,8 +55,9 @@ class Examples(unittest.TestCase):
             self.assertEqual(printed(name, arguments, '', folder), wanted)
 
     def test_front_page(self):
-        """The two commands of the README print what it shows."""
-        commands = dict(re.findall(r"\(cd crates/(\w+) && echo '([^']*)' \| rt run\)", read('README.md')))
+        """The two commands of the README print what it shows; there are two by `cargo` and the same two by `rt`."""
+        commands = dict(re.findall(r"\(cd rust/(\w+) && echo '([^']*)' \| cargo run --release\)", read('README.md')))
+        self.assertEqual(commands, dict(re.findall(r"\(cd crates/(\w+) && echo '([^']*)' \| rt run\)", read('README.md'))))
         shown = {'ixdtf_check': blocks('README.md')[0], 'ixdtf_lines': re.search(r'answers each line; here `([^`]*)`', read('README.md'))[1] + '\n'}
         self.assertEqual(set(commands), set(shown))
         for name, given in commands.items():
