@@ -1,12 +1,18 @@
 #!/usr/bin/env python3
 """Tests of to_rust.py: sources that it refuses, changes that --check sees, and a comparison, token by token, of what goes in and
 what comes out, by other means than its own: text is cut into tokens by hand here, and what may differ is listed below."""
+import contextlib
+import functools
+import io
 import os
 import shutil
 import subprocess
 import sys
 import tempfile
 import unittest
+
+sys.path.insert(0, os.path.dirname(os.path.abspath(__file__)))
+import to_rust
 
 TOP = os.path.abspath(os.path.join(os.path.dirname(os.path.abspath(__file__)), '..'))
 PAIRS = [('crates/ixdtf/src', 'rust/ixdtf/src'), ('crates/ixdtf_tests/src', 'rust/ixdtf/src'),
@@ -253,7 +259,35 @@ def difference(source, made, heads=False):
     return '' if i == len(wanted) else f'{" ".join(wanted[i:i + 12])} | the end'
 
 
+# What a source becomes depends on its text alone, so a source that did not change is not made again for each test.
+to_rust.rewritten = functools.cache(to_rust.rewritten)
+
+
+class Answer:
+    """How a run of the tool ended, as a process of its own has it."""
+
+    def __init__(self, returncode, stdout, stderr):
+        self.returncode, self.stdout, self.stderr = returncode, stdout, stderr
+
+
 def run(top, *arguments):
+    """Runs the tool of these tests on the sources of a copy."""
+    before = to_rust.TOP, sys.argv
+    to_rust.TOP, sys.argv = top, ['to_rust.py', *arguments]
+    code, out = None, io.StringIO()
+    try:
+        with contextlib.redirect_stdout(out):
+            to_rust.main()
+    except SystemExit as end:
+        code = end.code
+    finally:
+        to_rust.TOP, sys.argv = before
+    # as Python ends: a text goes to standard error
+    return Answer(1, out.getvalue(), f'{code}\n') if isinstance(code, str) else Answer(int(code or 0), out.getvalue(), '')
+
+
+def run_apart(top, *arguments):
+    """Runs the tool that the copy has, as a process of its own."""
     return subprocess.run([sys.executable, os.path.join(top, 'tools/to_rust.py'), *arguments], capture_output=True, text=True)
 
 
@@ -304,6 +338,14 @@ class Refuses(Copied):
             self.assertNotEqual(answer.returncode, 0, body)
             self.assertIn('crates/ixdtf_reading/src/cursor.rt', answer.stderr, body)
 
+    def test_as_a_process(self):
+        path = os.path.join(self.top, 'crates/ixdtf_reading/src/cursor.rt')
+        with open(path, 'a', encoding='utf-8') as file:
+            file.write('\nfn added() { panic!("x"); }\n')
+        answer, apart = run(self.top), run_apart(self.top)
+        self.assertEqual((apart.returncode, apart.stdout, apart.stderr), (answer.returncode, answer.stdout, answer.stderr))
+        self.assertEqual(apart.stderr, 'to_rust.py: crates/ixdtf_reading/src/cursor.rt: the macro panic\n')
+
     def test_characters(self):
         answer = self.body('let text = "text"; text.chars().count(); for _ in text.chars().take(3).skip(1) {}')
         self.assertEqual((answer.returncode, answer.stderr), (0, ''))
@@ -341,7 +383,7 @@ class Refuses(Copied):
 
 class Checks(Copied):
     def test_nothing_changed(self):
-        answer = run(self.top, '--check')
+        answer = run_apart(self.top, '--check')
         self.assertEqual((answer.returncode, answer.stdout), (0, ''))
 
     def test_a_made_file_was_changed(self):
@@ -360,7 +402,7 @@ class Checks(Copied):
 
     def test_a_rule_was_changed(self):
         self.change('tools/to_rust.py', "#[derive({", "#[derive(Eq, {")
-        self.assertEqual(run(self.top, '--check').returncode, 1)
+        self.assertEqual(run_apart(self.top, '--check').returncode, 1)
 
 
 class SameTokens(unittest.TestCase):

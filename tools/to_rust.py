@@ -46,6 +46,7 @@ the name of a method of `core` (core_methods.txt) is called only on what is know
 on the characters of a text (ON_CHARACTERS).
 
 --check writes nothing, and says which files of the crates are not what would be written."""
+import functools
 import os
 import re
 import sys
@@ -259,9 +260,20 @@ def scan(text):
     return tokens
 
 
-def solid(tokens, at):
-    """The places of the next tokens from here on that are neither space nor comments."""
-    return [i for i in range(at, min(at + 200, len(tokens))) if tokens[i].kind not in ('space', 'comment', 'doc')]
+class Solid:
+    """The places of the next tokens from a place on that are neither space nor comments, looked for as they are asked for."""
+
+    def __init__(self, tokens, at):
+        self.found = []
+        self.left = (i for i in range(at, min(at + 200, len(tokens))) if tokens[i].kind not in ('space', 'comment', 'doc'))
+
+    def __getitem__(self, k):
+        while len(self.found) <= k:
+            following = next(self.left, None)
+            if following is None:
+                raise IndexError(k)
+            self.found.append(following)
+        return self.found[k]
 
 
 def gone(tokens, first, last):
@@ -298,7 +310,7 @@ def attribute(tokens, at, crate):
     names = arguments.rstrip(')').split(', ')
     if name == 'tactic' and arguments:
         return gone(tokens, at, last)
-    if text == 'cfg(test)' and (crate.tests or is_here(tokens, solid(tokens, last + 1), 0, ['mod', 'tests', ';']) and crate.omits('tests')):
+    if text == 'cfg(test)' and (crate.tests or is_here(tokens, Solid(tokens, last + 1), 0, ['mod', 'tests', ';']) and crate.omits('tests')):
         return gone(tokens, at, last)
     if inner:
         raise Refused(f'the attribute {text}')
@@ -310,12 +322,19 @@ def attribute(tokens, at, crate):
             raise Refused(f'the attribute {text}')
         return put(tokens, at, last, f'#[derive({", ".join(kept)})]') if kept else gone(tokens, at, last)
     kept = KEPT_ATTRIBUTES | (TEST_ATTRIBUTES if crate.tests else set()) | (EXPORT_ATTRIBUTES if crate.exports else set())
-    if text not in kept or text == 'unsafe(no_mangle)' and tokens[solid(tokens, last + 1)[2]].text != '"C"':
+    if text not in kept or text == 'unsafe(no_mangle)' and tokens[Solid(tokens, last + 1)[2]].text != '"C"':
         raise Refused(f'the attribute {text}')
 
 
 def is_here(tokens, places, k, words):
-    return [tokens[i].text for i in places[k:k + len(words)]] == words
+    """Whether these words stand from the k-th of the places on."""
+    try:
+        for i, word in enumerate(words):
+            if tokens[places[k + i]].text != word:
+                return False
+    except IndexError:
+        return False
+    return True
 
 
 def rewrite(tokens, module, crate):
@@ -326,8 +345,8 @@ def rewrite(tokens, module, crate):
         if token.kind not in ('word', 'mark'):
             at += 1
             continue
-        places = solid(tokens, at)
-        phrase = None if crate.tests else next((phrase for phrase in UNSEEN if is_here(tokens, places, 0, phrase)), None)
+        places = Solid(tokens, at)
+        phrase = None if crate.tests else next((phrase for phrase in UNSEEN if phrase[0] == token.text and is_here(tokens, places, 0, phrase)), None)
         if phrase:
             unseen(tokens, at, places[len(phrase) - 1])
         elif crate.on_core and module == 'cursor' and is_here(tokens, places, 0, COUNT):
@@ -583,6 +602,7 @@ def declared(words, files):
     return {name for text in files for name in re.findall(rf'\b(?:{words}) ([A-Za-z_0-9]+)', text)}
 
 
+@functools.cache
 def solid_tokens(text):
     return [t for t in scan(text) if t.kind not in ('space', 'comment', 'doc', 'string', 'char')]
 
@@ -826,11 +846,16 @@ def sources(crate):
     return found
 
 
-def written(crate, module, text):
-    """What a source is in Rust."""
+def rewritten(crate, module, text):
+    """A source with all that its own text has changed."""
     tokens = scan(text)
     rewrite(tokens, module, crate)
-    plain = lay_out(tokens)
+    return lay_out(tokens)
+
+
+def written(crate, module, text):
+    """What a source is in Rust."""
+    plain = rewritten(crate, module, text)
     for name in FARTHER.get(module, ()):
         plain = re.sub(rf'\[`({name}::\w+)`\](?!\()', r'[`\1`](super::\1)', plain)
     if crate.source == 'crates/ixdtf/src' and module in ('lib', 'parsers'):
@@ -838,9 +863,14 @@ def written(crate, module, text):
     return plain
 
 
-def source_of(crate, module):
-    with open(os.path.join(TOP, 'crates', crate, 'src', f'{module}.rt'), encoding='utf-8') as file:
+def text_of(path):
+    """The text of a file of the repository."""
+    with open(os.path.join(TOP, path), encoding='utf-8') as file:
         return file.read()
+
+
+def source_of(crate, module):
+    return text_of(f'crates/{crate}/src/{module}.rt')
 
 
 def headed(crate, module, plain):
@@ -889,8 +919,7 @@ def main():
         raise SystemExit(__doc__)
     files = made()
     for path, source in COPIES.items():
-        with open(os.path.join(TOP, source), encoding='utf-8') as file:
-            files[path] = file.read()
+        files[path] = text_of(source)
     there = {path for path in COPIES if os.path.exists(os.path.join(TOP, path))}
     for target in {crate.target for crate in CRATES}:
         for folder, _, names in os.walk(os.path.join(TOP, target)):
@@ -906,7 +935,7 @@ def main():
         return
     wrong = sorted(there - set(files))
     for path, text in files.items():
-        if path not in there or open(os.path.join(TOP, path), encoding='utf-8').read() != text:
+        if path not in there or text_of(path) != text:
             wrong.append(path)
     for path in wrong:
         print(f'{path} is not what tools/to_rust.py makes')
