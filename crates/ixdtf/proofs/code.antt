@@ -1,7 +1,6 @@
 -- What the functions of the code use.
 pub mod Chains
 pub mod EqualRecords
-pub mod EqualUnits
 pub mod FixedCores
 pub mod HandledForms
 pub mod HandsOn

@@ -1,5 +1,6 @@
 -- What the functions of the code use.
 pub mod DigitClasses
+pub mod EqualUnits
 pub mod FirstLetter
 pub mod FixedPlaces
 pub mod FractionLoop

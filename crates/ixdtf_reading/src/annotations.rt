@@ -2,7 +2,7 @@
 
 #![tactic(auto, unfolding(crate::specs::reading::Pairs::pair_readings))]
 
-ghost use Rattle.std.specs.Prelude.{◌≡◌, ◌+◌, ◌≤◌, ◌<◌, ◌*◌, map, length, drop, option_map, true, OnOk, IfOk, IsSome};
+ghost use Rattle.std.specs.Prelude.{◌≡◌, ◌+◌, ◌≤◌, ◌<◌, ◌*◌, map, length, drop, option_map, true, OnOk, IfOk, IfSome, IsSome};
 ghost use Rattle.ixdtf_grammar.specs.language.Letters.{key_char, value_char};
 ghost use Rattle.ixdtf_reading.specs.reading.Clauses.{Reads, Spends, SpendsOr, fault_of_stop};
 ghost use Rattle.ixdtf_reading.specs.reading.Looks.{error_of, mark_by};
@@ -100,7 +100,8 @@ pub fn parse_annotation_value<'a, T: EncodingType>(
     ensures value { Reads T.letter (λ units. map T.number units.now) cursor.old result cursor.new
         (value_run error_of AtStart) }
     ensures looks { SpendsOr 1 0 cursor.old result cursor.new }
-    ensures shorter { OnOk result (length cursor.new.rest < length cursor.old.rest) }
+    ensures shorter { IfOk result (λ value.
+        length value.now + length cursor.new.rest < length cursor.old.rest) }
 {
     let start = cursor.rest();
     start_component(cursor, Stop::AnnotationValueChar)?;
@@ -132,7 +133,8 @@ fn parse_pair<'a, T: EncodingType>(
     ensures pair { Reads T.letter (pair_of T.number) cursor.old result cursor.new
         (pair_at error_of critical) }
     ensures looks { SpendsOr 2 0 cursor.old result cursor.new }
-    ensures shorter { OnOk result (2 + length cursor.new.rest ≤ length cursor.old.rest) }
+    ensures shorter { IfOk result (λ pair.
+        length pair.value.now + 2 + length cursor.new.rest ≤ length cursor.old.rest) }
 {
     let key = parse_annotation_key(cursor)?;
     let value = parse_annotation_value(cursor)?;
@@ -151,7 +153,8 @@ fn parse_later_pair<'a, T: EncodingType>(
     ensures pair { Reads T.letter (pair_of T.number) cursor.old result cursor.new
         (later_pair_at error_of) }
     ensures looks { SpendsOr 4 2 cursor.old result cursor.new }
-    ensures shorter { OnOk result (2 + length cursor.new.rest ≤ length cursor.old.rest) }
+    ensures shorter { IfOk result (λ pair.
+        length pair.value.now + 2 + length cursor.new.rest ≤ length cursor.old.rest) }
 {
     match cursor.look()? {
         Some(byte) if is_a_key_leading_char(byte) => parse_pair(cursor, false),
@@ -171,7 +174,8 @@ fn parse_critical_pair<'a, T: EncodingType>(
     ensures pair { Reads T.letter (pair_of T.number) cursor.old result cursor.new
         (critical_pair_at error_of) }
     ensures looks { SpendsOr 3 1 cursor.old result cursor.new }
-    ensures shorter { OnOk result (2 + length cursor.new.rest ≤ length cursor.old.rest) }
+    ensures shorter { IfOk result (λ pair.
+        length pair.value.now + 2 + length cursor.new.rest ≤ length cursor.old.rest) }
 {
     match cursor.look()? {
         Some(byte) if is_a_key_leading_char(byte) => parse_pair(cursor, true),
@@ -187,9 +191,9 @@ pub fn next_annotation<'a, T: EncodingType>(
     ensures pair { Reads T.letter (option_map (pair_of T.number)) cursor.old result cursor.new
         (next_pair_at error_of) }
     ensures looks { Spends 6 cursor.old cursor.new }
-    ensures paid { IfOk result (λ next. IsSome next →
-        cursor.new.looks + 2 * length cursor.new.rest ≤
-        cursor.old.looks + 2 * length cursor.old.rest) }
+    ensures paid { IfOk result (λ next. IfSome next (λ pair.
+        cursor.new.looks + 3 * length cursor.new.rest + 2 * length pair.value.now + 4 ≤
+        cursor.old.looks + 3 * length cursor.old.rest)) }
     ensures shorter { IfOk result (λ next. IsSome next →
         length cursor.new.rest < length cursor.old.rest) }
 {

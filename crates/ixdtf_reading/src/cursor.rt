@@ -5,7 +5,7 @@
 
 #![tactic(auto, unfolding(crate::specs::reading::Looks::look_readings))]
 
-ghost use Rattle.std.specs.Prelude.{◌≡◌, ℕ, ◌+◌, ◌-◌, ◌<◌, ◌≤◌, map, length, drop, Option, Result, Ok, Err, Some, None, IfOk, IfErr, IfSome, OnOk, OnErr, IsTrue, IsFalse, nat_eq};
+ghost use Rattle.std.specs.Prelude.{◌≡◌, ℕ, ◌+◌, ◌-◌, ◌<◌, ◌≤◌, map, length, drop, Option, Result, Ok, Err, Some, None, IfOk, IfErr, IfSome, OnOk, OnErr, IsTrue, IsFalse, nat_eq, ◌*◌, ◌↔◌, min, codes};
 ghost use Rattle.ixdtf_grammar.specs.language.Letters.{digit};
 ghost use Rattle.ixdtf_grammar.specs.language.Digits.{decimal};
 ghost use Rattle.ixdtf_grammar.specs.table.Faults.{Fault};
@@ -297,6 +297,31 @@ impl<'a, T: EncodingType> Cursor<'a, T> {
         Some(number)
     }
 
+    /// Whether two slices have equal code units. At each index that both have, the code units of both are counted. This is
+    /// the only comparison of code units, but for that with the key of calendars.
+    #[inline(always)]
+    pub fn has_same_units(&mut self, left: &[T::CodeUnit], right: &[T::CodeUnit]) -> bool
+        ensures same { IsTrue result ↔ (map T.number left.now ≡ map T.number right.now) }
+        ensures rest { self.new.rest ≡ self.old.rest }
+        ensures looks { self.new.looks ≡
+            self.old.looks + 2 * min (length left.now) (length right.now) }
+    {
+        self.looks.tick_by(left.len().min(right.len()));
+        self.looks.tick_by(left.len().min(right.len()));
+        are_equal::<T>(left, right)
+    }
+
+    /// Whether a key is that of calendars. Four code units are counted. This is the only call of `check_calendar_key`.
+    #[inline(always)]
+    pub fn is_calendar_key(&mut self, key: &[T::CodeUnit]) -> bool
+        ensures calendar { IsTrue result ↔ (map T.number key.now ≡ codes "u-ca") }
+        ensures rest { self.new.rest ≡ self.old.rest }
+        ensures looks { self.new.looks ≡ self.old.looks + 4 }
+    {
+        self.looks.tick_by(4);
+        T::check_calendar_key(key)
+    }
+
     /// Expects the end of the input: any code unit is `InvalidEnd`.
     #[inline(always)]
     pub fn close(&mut self) -> Result<(), Stop>
@@ -309,6 +334,13 @@ impl<'a, T: EncodingType> Cursor<'a, T> {
             Some(_) => Err(Stop::InvalidEnd),
         }
     }
+}
+
+/// Whether two slices have equal code units. Only `has_same_units` calls this, and counts them.
+fn are_equal<T: EncodingType>(left: &[T::CodeUnit], right: &[T::CodeUnit]) -> bool
+    ensures { IsTrue result ↔ (map T.number left.now ≡ map T.number right.now) }
+{
+    left == right
 }
 
 /// The letter that a look found, as an ASCII byte, or 0 where it found none.

@@ -3,7 +3,8 @@ use Rattle.std.proofs.Common.{rules, refl}
 use Rattle.std.specs.Cmp.{booleans_Decides, unsigned_Decides}
 use Rattle.ixdtf_grammar.specs.table.ErrorEquality.{same_error-Decides}
 use Rattle.ixdtf.proofs.code.EqualRecords.{by_exact, on_part, on_both, on_option, on_option_itself, put_together, zones_exact, offsets_exact}
-use Rattle.ixdtf.proofs.code.{EqualRecords.{offsets_or_z_exact, time_durations_exact}, EqualUnits.equal_lists}
+use Rattle.ixdtf.proofs.code.EqualRecords.{offsets_or_z_exact, time_durations_exact}
+use Rattle.ixdtf_reading.proofs.code.EqualUnits.{equal_lists}
 
 pub returns-clause-units : goal.returns-clause-units
 returns-clause-units g c = by_exact (on_part (λ units. units.now) (λ xs ys. equal_lists g.T.EncodingType.number _ g.met.T.EncodingType.equal xs ys _ refl))
