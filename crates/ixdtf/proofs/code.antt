@@ -1,5 +1,6 @@
 -- What the functions of the code use.
 pub mod Chains
+pub mod Counted
 pub mod EqualRecords
 pub mod FixedCores
 pub mod HandledForms

@@ -1,16 +1,17 @@
 -- What the functions promise by which the readers of whole texts read, each as one clause. No clause of a public reader cites
 -- this.
-use Rattle.std.specs.Prelude.{◌≡◌, ℕ, map, Result, OnOk, IfErr}
-use Rattle.ixdtf_grammar.specs.{language.{Letters.Letter, Readers.Reader, Languages.Parsed}, table.{Faults.Fault, Outcomes.NoRowFits}, Handlers.Step}
+use Rattle.std.specs.Prelude.{◌≡◌, ℕ, ◌+◌, map, Result, OnOk, IfErr}
+use Rattle.ixdtf_grammar.specs.{language.{Letters.Letter, Readers.Reader, Languages.Parsed}, table.{Faults.Fault, Outcomes.NoRowFits}, Handlers.{Step, replies_of}}
 use Rattle.ixdtf_grammar.specs.{Laws.InNoOther, Places.{HandledToAt, UnhandledFaultAt, UnhandledOnlyPlace}}
-use Rattle.ixdtf_grammar.specs.Views.{UnreadUnder, unread_of, LeavesBehind, returned_by}
-use Rattle.ixdtf_reading.specs.{declared.stop.StopAt.StopAt, reading.{Chains.TextReadTo, Clauses.{UnhandledForm, fault_of_stop_at}}}
+use Rattle.ixdtf_grammar.specs.{Views.{UnreadUnder, unread_of, most_looks, LeavesBehind, returned_by}, Promises.most_looks_beside}
+use Rattle.ixdtf_reading.specs.{declared.stop.StopAt.StopAt, reading.{Chains.{Counting, TextReadTo}, Clauses.{UnhandledForm, fault_of_stop_at}}}
 
--- into a record, which is `found` after `Ok`, with a handler that is left in the state `last`
+-- into a record, which is `found` after `Ok`, with a handler that is left in the state `last`; its replies cost `spent` accesses
 pub record ReadsInto {T U F : Type 0} (letter : ℕ → Letter) (number : U → ℕ) (step : Step T U F) (handler last : F)
     (found : Parsed) (reader : Reader) (old : UnreadUnder) (result : Result Unit StopAt) (new : UnreadUnder) : Type 0 where
-  pub replied : TextReadTo number step handler last (λ _. found) reader (map letter old.rest) result
-  pub leaves : LeavesBehind fault_of_stop_at (unread_of old) result (unread_of new)
+  pub spent : ℕ
+  pub replied : TextReadTo number (Counting step) (handler, 0) (last, spent) (λ _. found) reader (map letter old.rest) result
+  pub leaves : LeavesBehind fault_of_stop_at (most_looks old.rest + spent) (unread_of old) result (unread_of new)
   pub profile : new.profile ≡ old.profile
 
 -- the same where each pair replies for itself
@@ -19,7 +20,7 @@ pub record ReadsUnhandled (letter : ℕ → Letter) (found : Parsed) (reader : R
   pub form : UnhandledForm reader (map letter old.rest) (returned_by fault_of_stop_at (λ _. found) result)
   pub err : IfErr result (λ why. UnhandledFaultAt reader (map letter old.rest) (fault_of_stop_at why) why.at)
   pub place : IfErr result (λ why. UnhandledOnlyPlace reader (map letter old.rest) (fault_of_stop_at why) why.at)
-  pub leaves : LeavesBehind fault_of_stop_at (unread_of old) result (unread_of new)
+  pub leaves : LeavesBehind fault_of_stop_at (most_looks old.rest) (unread_of old) result (unread_of new)
   pub profile : new.profile ≡ old.profile
 
 -- with a handler that was borrowed and is left in the state `last`: for the one chain of its calls, which ends there
@@ -32,5 +33,5 @@ pub record HandlesTextTo {T U F X E : Type 0} (letter : ℕ → Letter) (number 
   pub no_row : OnOk result (NoRowFits reader (map letter old.rest))
   pub no_other_reader : OnOk result (InNoOther old.profile reader (map letter old.rest))
   -- nothing to be read after `Ok`, and all of it after an error
-  pub leaves : LeavesBehind fault (unread_of old) result (unread_of new)
+  pub leaves : LeavesBehind fault (most_looks_beside old.rest (replies_of number handled.plain.calls)) (unread_of old) result (unread_of new)
   pub profile : new.profile ≡ old.profile

@@ -1,5 +1,5 @@
 -- Handlers: what the replies to the pairs of a text make of it.
-use Rattle.std.specs.Prelude.{◌≡◌, ◌≢◌, ◌↔◌, ◌⊎◌, ℕ, Bool, IsTrue, IsFalse, nat_eq, List, [], ◌∷◌, ◌++◌, map, find, filter_map, codes, Option, Some, None}
+use Rattle.std.specs.Prelude.{◌≡◌, ◌≢◌, ◌↔◌, ◌⊎◌, ℕ, ◌+◌, Bool, IsTrue, IsFalse, nat_eq, length, List, [], ◌∷◌, ◌++◌, map, find, filter_map, codes, Option, Some, None}
 use Rattle.std.specs.{Prelude.{option_map, Result, Ok, Err}, Cmp.Lexicographic.pointwise, List.FoldsTo}
 use Rattle.ixdtf_grammar.specs.{declared.records.Annotation.Annotation, language.{Letters.Text, Brackets.Pair, Readers.Reader, Languages.{Parsed, Derives}}}
 use Rattle.ixdtf_grammar.specs.{language.Languages.Found.parsed, table.Faults.{Fault, is_refusal, Fault.{UnrecognizedCritical, CriticalDuplicateCalendar}}}
@@ -21,6 +21,12 @@ is_calendar pair = pointwise nat_eq pair.key calendar_key
 -- the first calendar among the replies
 abbrev pub first_calendar : List Reply → Option Pair
 first_calendar replies = find is_calendar (filter_map (λ reply. reply) replies)
+
+-- how many code units the values of the replies have
+abbrev pub value_units : List Reply → ℕ
+value_units [] = 0
+value_units (None ∷ replies) = value_units replies
+value_units (Some pair ∷ replies) = length pair.value + value_units replies
 
 -- a reply is refused with the fault, where this is the first calendar among the replies before it
 abbrev pub RefusedBeside : Option Pair → Reply → Fault → Type 0

@@ -75,16 +75,15 @@ pub record IsEmptyRecord {T U : Type 0} (r : IxdtfParseRecord T U) : Type 0 wher
   pub tz : r.tz ≡ None
   pub calendar : r.calendar ≡ None
 
--- the most code unit accesses that a reader makes for a text
+-- the most code unit accesses that a reader without a handler makes for a text
 abbrev pub most_looks : List ℕ → ℕ
 most_looks rest = 4 * length rest + 64
 
 -- What a reader leaves, with its errors seen by their faults: no remaining input after `Ok`, and the same after an error, which
--- is none of those that no reader returns; and a count of accesses that did not decrease, and increased by at most
--- `most_looks`.
-pub record LeavesBehind {X E : Type 0} (fault : E → Fault) (old : Unread) (result : Result X E) (new : Unread) : Type 0 where
+-- is none of those that no reader returns; and a count of accesses that did not decrease, and increased by at most `most`.
+pub record LeavesBehind {X E : Type 0} (fault : E → Fault) (most : ℕ) (old : Unread) (result : Result X E) (new : Unread) : Type 0 where
   pub empty : OnOk result (new.rest ≡ [])
   pub unchanged : OnErr result (new.rest ≡ old.rest)
   pub comes : IfErr result (λ e. IsFalse (never_comes (fault e)))
-  pub looks : new.looks ≤ old.looks + most_looks old.rest
+  pub looks : new.looks ≤ old.looks + most
   pub counted : old.looks ≤ new.looks

@@ -1,13 +1,14 @@
 -- What a reader of whole texts promises, from what reading into a record does.
-use Rattle.std.proofs.Common.{◌≡◌, ℕ, map, Result, Ok, Err, refl}
+use Rattle.std.proofs.Common.{◌≡◌, ℕ, ◌+◌, ◌≤◌, map, Result, Ok, Err, refl, arith}
 use Rattle.ixdtf_grammar.specs.{declared.located.LocatedError.LocatedError, language.{Letters.{Letter, Text}, Languages.{Parsed, Found}}}
-use Rattle.ixdtf_grammar.specs.{language.Readers.{Reader, CoreKind, Reader.bracketed}, table.Faults.{Fault, fault_of_located}, Handlers.Step}
-use Rattle.ixdtf_grammar.specs.{Laws.IsTextReader, Promises.{ReadsText, ReadsTextAt, HandlesText, HandlesTextAt, ReadsPartAt}}
-use Rattle.ixdtf_grammar.specs.Views.{Unread, UnreadUnder, LeavesBehind}
-use Rattle.ixdtf_reading.specs.{declared.stop.StopAt.StopAt, reading.{Clauses.fault_of_stop_at, Looks.{Read, Placed}}}
-use Rattle.ixdtf_reading.proofs.{code.Located.Located, theorems.Handled.{OwnReplies, handled, handled_accepted, unhandled_form}}
+use Rattle.ixdtf_grammar.specs.{language.Readers.{Reader, CoreKind, Reader.bracketed}, table.Faults.{Fault, fault_of_located}, Handlers.{Step, replies_of}}
+use Rattle.ixdtf_grammar.specs.{Laws.IsTextReader, Promises.{ReadsText, ReadsTextAt, HandlesText, HandlesTextAt, ReadsPartAt, most_looks_beside}}
+use Rattle.ixdtf_grammar.specs.Views.{Unread, UnreadUnder, most_looks, LeavesBehind}
+use Rattle.ixdtf_reading.specs.{declared.stop.StopAt.StopAt, reading.{Clauses.fault_of_stop_at, Chains.{Counting, TextRead}, Looks.{Read, Placed}}}
+use Rattle.ixdtf_reading.proofs.{code.Located.Located, theorems.Handled.{OwnReplies, handled, handled_of, gives_result, handled_accepted, unhandled_form}}
 use Rattle.ixdtf_reading.proofs.theorems.HandledAt.{handled_at_ok, handled_at_err, handled_to_at_ok, handled_to_at_err, unhandled_at}
 use Rattle.ixdtf_reading.proofs.theorems.OnePlace.{one_unhandled_place}
+use Rattle.ixdtf.proofs.code.Counted.{cost_of, own_costs_nothing, text_of}
 use Rattle.ixdtf.specs.Readings.{ReadsInto, ReadsUnhandled, HandlesTextTo}
 
 -- a reading into a record that ended well, and one that was refused
@@ -17,14 +18,24 @@ ended = Ok tt
 abbrev stopped : StopAt → Result Unit StopAt
 stopped why = Err why
 
--- what it leaves, with another value and another error that has the same fault
-module _ {X E : Type 0} (fault : E → Fault) {old new : Unread} where
-  leaves_ok : (found : X) → LeavesBehind fault_of_stop_at old ended new → LeavesBehind fault old (Ok found) new
-  leaves_ok found leaves = record { empty = leaves.empty; unchanged = tt; comes = tt; looks = leaves.looks; counted = leaves.counted }
+-- what it leaves, with another value and another error that has the same fault, and with a wider bound
+module _ {X E : Type 0} (fault : E → Fault) {most more : ℕ} (fits : most ≤ more) {old new : Unread} where
+  leaves_ok : (found : X) → LeavesBehind fault_of_stop_at most old ended new → LeavesBehind fault more old (Ok found) new
+  leaves_ok found leaves = record { empty = leaves.empty; unchanged = tt; comes = tt; looks = omega (arith, fits, leaves.looks); counted = leaves.counted }
 
-  leaves_err : (e : E) (why : StopAt) → fault e ≡ fault_of_stop_at why → LeavesBehind fault_of_stop_at old (stopped why) new
-      → LeavesBehind {X = X} fault old (Err e) new
-  leaves_err e why same leaves = record { empty = tt; unchanged = leaves.unchanged; comes = rw same leaves.comes; looks = leaves.looks; counted = leaves.counted }
+  leaves_err : (e : E) (why : StopAt) → fault e ≡ fault_of_stop_at why → LeavesBehind fault_of_stop_at most old (stopped why) new
+      → LeavesBehind {X = X} fault more old (Err e) new
+  leaves_err e why same leaves = record {
+    empty = tt;
+    unchanged = leaves.unchanged;
+    comes = rw same leaves.comes;
+    looks = omega (arith, fits, leaves.looks);
+    counted = leaves.counted;
+  }
+
+-- a bound within itself
+at_most : {n : ℕ} → n ≤ n
+at_most = omega arith
 
 -- ---- without a handler
 
@@ -32,19 +43,24 @@ module _ {X E : Type 0} (fault : E → Fault) {old new : Unread} where
 pub unhandled : {T U F : Type 0} (letter : ℕ → Letter) (number : U → ℕ) (step : Step T U F) (handler last : F) (found : Parsed) (kind : CoreKind)
     (old new : UnreadUnder) (result : Result Unit StopAt) → OwnReplies step → ReadsInto letter number step handler last found (bracketed kind) old result new
     → ReadsUnhandled letter found (bracketed kind) old result new
-unhandled letter number step handler last found kind old new (Ok x) own read = record {
-  form = unhandled_form (handled number step handler (bracketed kind) (map letter old.rest) _ last read.replied) own;
-  err = tt;
-  place = tt;
-  leaves = read.leaves;
-  profile = read.profile;
-}
-unhandled letter number step handler last found kind old new (Err why) own read = let text = map letter old.rest in let stands =
-    unhandled_at number step handler last (bracketed kind) text own why read.replied in record {
-      form = unhandled_form (handled number step handler (bracketed kind) text _ last read.replied.2) own;
+unhandled letter number step handler last found kind old new (Ok x) own read =
+    let nothing = own_costs_nothing number step own read.replied.calls _ _ read.replied.chain in record {
+      form = unhandled_form (handled number step handler (bracketed kind) (map letter old.rest) _ last (text_of number step read.replied)) own;
+      err = tt;
+      place = tt;
+      leaves = leaves_ok fault_of_stop_at (omega (arith, nothing)) x read.leaves;
+      profile = read.profile;
+    }
+unhandled letter number step handler last found kind old new (Err why) own read =
+    let text = map letter old.rest in
+    let (left, lengths, counted) = read.replied in
+    let alone = text_of number step counted in
+    let stands = unhandled_at number step handler last (bracketed kind) text own why (left, lengths, alone) in
+    let nothing = own_costs_nothing number step own counted.calls _ _ counted.chain in record {
+      form = unhandled_form (handled number step handler (bracketed kind) text _ last alone) own;
       err = stands;
       place = one_unhandled_place kind text (fault_of_stop_at why) why.at stands;
-      leaves = read.leaves;
+      leaves = leaves_err fault_of_stop_at (omega (arith, nothing)) why why refl read.leaves;
       profile = read.profile;
     }
 
@@ -57,7 +73,7 @@ module _ {X : Type 0} (letter : ℕ → Letter) (view : X → Parsed) (reader : 
     no_row = read.form.no_row;
     no_other_reader = read.form.no_other_reader old.profile is;
     only = tt;
-    leaves = leaves_ok fault found read.leaves;
+    leaves = leaves_ok fault at_most found read.leaves;
     profile = read.profile;
   })
 
@@ -69,7 +85,7 @@ module _ {X : Type 0} (letter : ℕ → Letter) (view : X → Parsed) (reader : 
     no_row = tt;
     no_other_reader = tt;
     only = gives.only;
-    leaves = leaves_err fault e why same read.leaves;
+    leaves = leaves_err fault at_most e why same read.leaves;
     profile = read.profile;
   }
 
@@ -90,29 +106,43 @@ module _ {X : Type 0} (letter : ℕ → Letter) (view : X → Parsed) (reader : 
 
 module _ {T U F X E : Type 0} (letter : ℕ → Letter) (number : U → ℕ) (step : Step T U F) (handler last : F) (view : X → Parsed) (reader : Reader)
     (old new : UnreadUnder) (fault : E → Fault) where
+  -- what the replies cost is within the bound
+  within : {spent : ℕ} {text : Text} {result : Result Parsed Placed} (read : TextRead number (Counting step) (handler, 0) (last, spent) reader text result)
+      → most_looks old.rest + spent ≤ most_looks_beside old.rest (replies_of number read.calls)
+  within read = omega (arith, cost_of number step read.calls _ _ read.chain)
+
   pub handles_ok : IsTextReader old.profile reader → (found : X) → ReadsInto letter number step handler last (view found) reader old ended new
       → HandlesText letter number step handler fault view reader old (Ok found) new
   handles_ok is found read =
-      let gives = handled number step handler reader (map letter old.rest) (Ok (view found)) last read.replied in
-      let whole = handled_accepted number step handler reader (map letter old.rest) _ gives (view found) refl in
-      record { handled = gives; no_row = whole.no_row; no_other_reader = whole.no_other_reader old.profile is; leaves = leaves_ok fault found read.leaves; profile = read.profile }
+      let gives = handled number step handler reader (map letter old.rest) (Ok (view found)) last (text_of number step read.replied) in
+      let whole = handled_accepted number step handler reader (map letter old.rest) _ gives (view found) refl in record {
+        handled = gives;
+        no_row = whole.no_row;
+        no_other_reader = whole.no_other_reader old.profile is;
+        leaves = leaves_ok fault (within read.replied) found read.leaves;
+        profile = read.profile;
+      }
 
   pub handles_err : (found : Parsed) (e : E) (why : StopAt) → fault e ≡ fault_of_stop_at why
       → ReadsInto letter number step handler last found reader old (stopped why) new → HandlesText letter number step handler fault view reader old (Err e) new
-  handles_err found e why same read = record {
-    handled = rw same (handled number step handler reader (map letter old.rest) _ last read.replied.2);
-    no_row = tt;
-    no_other_reader = tt;
-    leaves = leaves_err fault e why same read.leaves;
-    profile = read.profile;
-  }
+  handles_err found e why same read =
+      let text = map letter old.rest in
+      let alone = text_of number step read.replied.2 in
+      let gives = gives_result reader text _ _ (Err (fault_of_stop_at why, read.replied.0)) alone.gives in record {
+        handled = handled_of number step handler reader text (Err (fault e)) alone.calls last alone.chain (rw same gives);
+        no_row = tt;
+        no_other_reader = tt;
+        leaves = leaves_err fault (within read.replied.2) e why same read.leaves;
+        profile = read.profile;
+      }
 
   -- with the place of an error, and then with the state that the handler is left in
   module _ (stands : ℕ → E → Type 0) where
     pub handles_ok_at : IsTextReader old.profile reader → (found : X) → ReadsInto letter number step handler last (view found) reader old ended new
         → HandlesTextAt letter number step handler fault stands view reader old (Ok found) new
+    unfolding handled_to_at_ok handles_ok
     handles_ok_at is found read = let plain = handles_ok is found read in record {
-      handled = handled_at_ok number step handler last reader (map letter old.rest) fault stands view found read.replied;
+      handled = handled_at_ok number step handler last reader (map letter old.rest) fault stands view found (text_of number step read.replied);
       no_row = plain.no_row;
       no_other_reader = plain.no_other_reader;
       leaves = plain.leaves;
@@ -122,34 +152,40 @@ module _ {T U F X E : Type 0} (letter : ℕ → Letter) (number : U → ℕ) (st
     pub handles_err_at : (found : Parsed) (e : E) (why : StopAt) → fault e ≡ fault_of_stop_at why → stands why.at e
         → ReadsInto letter number step handler last found reader old (stopped why) new
         → HandlesTextAt letter number step handler fault stands view reader old (Err e) new
-    handles_err_at found e why same there read = let plain = handles_err found e why same read in record {
-      handled = handled_at_err number step handler last reader (map letter old.rest) fault stands view why e same there read.replied;
-      no_row = tt;
-      no_other_reader = tt;
-      leaves = plain.leaves;
-      profile = plain.profile;
-    }
+    unfolding handled_to_at_err
+    handles_err_at found e why same there read =
+        let (left, lengths, counted) = read.replied in record {
+          handled = handled_at_err number step handler last reader (map letter old.rest) fault stands view why e same there
+              (left, lengths, text_of number step counted);
+          no_row = tt;
+          no_other_reader = tt;
+          leaves = leaves_err fault (within counted) e why same read.leaves;
+          profile = read.profile;
+        }
 
     pub handles_ok_to : IsTextReader old.profile reader → (found : X) → ReadsInto letter number step handler last (view found) reader old ended new
         → HandlesTextTo letter number step handler last fault stands view reader old (Ok found) new
+    unfolding handled_to_at_ok handles_ok
     handles_ok_to is found read =
         let plain = handles_ok is found read in
-        let to = handled_to_at_ok number step handler last reader (map letter old.rest) fault stands view found read.replied in
+        let to = handled_to_at_ok number step handler last reader (map letter old.rest) fault stands view found (text_of number step read.replied) in
         record { handled = to; no_row = plain.no_row; no_other_reader = plain.no_other_reader; leaves = plain.leaves; profile = plain.profile }
 
     pub handles_err_to : (found : Parsed) (e : E) (why : StopAt) → fault e ≡ fault_of_stop_at why → stands why.at e
         → ReadsInto letter number step handler last found reader old (stopped why) new
         → HandlesTextTo letter number step handler last fault stands view reader old (Err e) new
+    unfolding handled_to_at_err
     handles_err_to found e why same there read =
-        let plain = handles_err found e why same read in
-        let to = handled_to_at_err number step handler last reader (map letter old.rest) fault stands view why e same there read.replied in
-        record { handled = to; no_row = tt; no_other_reader = tt; leaves = plain.leaves; profile = plain.profile }
+        let (left, lengths, counted) = read.replied in
+        let alone = text_of number step counted in
+        let to = handled_to_at_err number step handler last reader (map letter old.rest) fault stands view why e same there (left, lengths, alone) in
+        record { handled = to; no_row = tt; no_other_reader = tt; leaves = leaves_err fault (within counted) e why same read.leaves; profile = read.profile }
 
 -- ---- of a part alone
 
 -- what a reader of a part alone promises, from what its reading gives and what it leaves
 pub part_at : {U A : Type 0} {letter : ℕ → Letter} {view : U → A} {reader : Reader} {found : A → Found} {same : _} {none : _} {reading : Text → Read Placed A}
     {old new left : Unread} {reads : _} {met : A → Text → Type 0} {gives : _} {result : Result U LocatedError}
-    → Located letter view reader found same none reading old new reads met gives result → LeavesBehind fault_of_located old result left
+    → Located letter view reader found same none reading old new reads met gives result → LeavesBehind fault_of_located (most_looks old.rest) old result left
     → ReadsPartAt letter view found reader old result left
 part_at gives leaves = let plain = gives.plain in record { ok = plain.ok; err = gives.err; place = gives.place; no_row = plain.no_row; only = plain.only; leaves = leaves }

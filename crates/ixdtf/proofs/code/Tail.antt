@@ -26,6 +26,14 @@ core_shortens kind letter units left core is =
     let h = core_is kind _ _ core is in
     omega (arith, split_shortens _ h.0 _ core.1 h.1, length-map units letter, length-map left letter)
 
+-- what is left after a core and a `[` is shorter than the text
+pub core_opens : (kind : CoreKind) (letter : ℕ → Letter) (units left : List ℕ) (core : Core)
+    → core_at error_of kind (map letter units) ≡ Ok ((core, true), map letter left) → suc (length left) ≤ length units
+core_opens kind letter units left core is =
+    let h = core_is kind _ _ (core, true) is in
+    let opens = ap (λ t. length t) h.1 in
+    omega (arith, opens, length-append h.0 (Plain 91 ∷ map letter left), length-map units letter, length-map left letter)
+
 -- nothing is left after a core without a bracket
 pub core_ends_text : (kind : CoreKind) (text rest : Text) (core : Core) → core_at error_of kind text ≡ Ok ((core, false), rest) → rest ≡ []
 core_ends_text kind text rest core is = (core_is kind text rest (core, false) is).1.1

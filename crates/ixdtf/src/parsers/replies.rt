@@ -2,12 +2,12 @@
 
 #![tactic(auto, unfolding(ixdtf_reading::specs::reading::Pairs::pair_readings))]
 
-ghost use Rattle.std.specs.Prelude.{◌≡◌, ◌+◌, ◌↔◌, [], ◌∷◌, map, length, option_map, IsTrue, OnOk, IfOk, IfErr};
+ghost use Rattle.std.specs.Prelude.{◌≡◌, ℕ, ◌+◌, ◌*◌, ◌≤◌, [], ◌∷◌, map, length, None, option_map, OnOk, IfOk, IfErr};
 ghost use Rattle.std.specs.Option.{option_or};
 ghost use Rattle.ixdtf_grammar.specs.table.Faults.{Fault};
 ghost use Rattle.ixdtf_reading.specs.reading.Clauses.{Spends, fault_of_stop, yielded_at};
 ghost use Rattle.ixdtf_grammar.specs.Handlers.{RefusedBeside, first_calendar, pair_of};
-ghost use Rattle.ixdtf_reading.specs.reading.Chains.{PairsRead, first_pairs};
+ghost use Rattle.ixdtf_reading.specs.reading.Chains.{PairsRead, Counting, reply_units, first_pairs};
 
 use ixdtf_grammar::encoding::EncodingType;
 use ixdtf_grammar::records::Annotation;
@@ -30,19 +30,13 @@ where
     handler(annotation)
 }
 
-/// Whether two slices have equal units.
-fn has_same_units<T: EncodingType>(left: &[T::CodeUnit], right: &[T::CodeUnit]) -> bool
-    ensures { IsTrue result ↔ (map T.number left.now ≡ map T.number right.now) }
-{
-    left == right
-}
-
 /// Keeps the calendar of a reply where it is the first one. A critical reply that is not a calendar is
 /// `UnrecognizedCritical`. A calendar with another value than the first is `CriticalDuplicateCalendar` where at least
-/// one of the two is critical.
+/// one of the two is critical. The cursor counts the units that are compared, and stays where it is.
 #[doc(hidden)]
 #[inline(always)]
 pub fn keep_first_calendar<'a, T: EncodingType>(
+    cursor: &mut Cursor<'a, T>,
     calendar: &mut Option<Annotation<'a, T>>,
     reply: Option<Annotation<'a, T>>,
 ) -> Result<(), Stop>
@@ -56,11 +50,15 @@ pub fn keep_first_calendar<'a, T: EncodingType>(
     ensures err { IfErr result (λ e.
         RefusedBeside (option_map (pair_of T.number) calendar.old)
         (option_map (pair_of T.number) reply.entry) (fault_of_stop e)) }
+    ensures rest { cursor.new.rest ≡ cursor.old.rest }
+    ensures counted { cursor.old.looks ≤ cursor.new.looks }
+    ensures few { cursor.new.looks ≤ cursor.old.looks + 4 + 2 * reply_units reply.entry }
+    ensures alone { calendar.old ≡ None → cursor.new.looks ≤ cursor.old.looks + 4 }
 {
     let Some(found) = reply else {
         return Ok(());
     };
-    if !T::check_calendar_key(found.key) {
+    if !cursor.is_calendar_key(found.key) {
         if found.critical {
             return Err(Stop::UnrecognizedCritical);
         }
@@ -72,7 +70,7 @@ pub fn keep_first_calendar<'a, T: EncodingType>(
             Ok(())
         }
         Some(first) => {
-            if !has_same_units::<T>(first.value, found.value)
+            if !cursor.has_same_units(first.value, found.value)
                 && (first.critical || found.critical)
             {
                 return Err(Stop::CriticalDuplicateCalendar);
@@ -93,21 +91,22 @@ pub fn parse_annotations<'a, T: EncodingType, F>(
 where
     F: FnMut(Annotation<'a, T>) -> Option<Annotation<'a, T>>,
     requires callable { F.IsAlwaysCallable handler.old }
-    ensures pairs { PairsRead T.number F.step handler.old handler.new
+    ensures pairs { (spent : ℕ) ×
+        PairsRead T.number (Counting F.step) (handler.old, 0) (handler.new, spent)
         (first_pairs (option_map (pair_of T.number) first.entry))
         (map T.letter cursor.old.rest)
-        (yielded_at (option_map (pair_of T.number)) result (map T.letter cursor.new.rest)) }
+        (yielded_at (option_map (pair_of T.number)) result (map T.letter cursor.new.rest)) ×
+        Spends (2 * length cursor.old.rest + 10 + spent) cursor.old cursor.new }
     ensures empty { OnOk result (cursor.new.rest ≡ []) }
-    ensures looks { Spends (length cursor.old.rest + 7) cursor.old cursor.new }
 {
     let mut calendar = None;
     if let Some(annotation) = first {
         let reply = ask::<T, F>(handler, annotation);
-        keep_first_calendar::<T>(&mut calendar, reply)?;
+        keep_first_calendar::<T>(cursor, &mut calendar, reply)?;
     }
     while let Some(annotation) = next_annotation(cursor)? {
         let reply = ask::<T, F>(handler, annotation);
-        keep_first_calendar::<T>(&mut calendar, reply)?;
+        keep_first_calendar::<T>(cursor, &mut calendar, reply)?;
     }
     Ok(calendar)
 }

@@ -1,12 +1,12 @@
 //! Reading whole texts: a core, a first bracket and the brackets after it.
 
-ghost use Rattle.std.specs.Prelude.{◌≡◌, ◌+◌, ◌*◌, ◌≤◌, [], true, map, length, OnOk, None, option_map};
+ghost use Rattle.std.specs.Prelude.{◌≡◌, ℕ, ◌+◌, ◌*◌, ◌≤◌, [], true, map, length, OnOk, None, option_map};
 ghost use Rattle.ixdtf_grammar.specs.language.Readers.Reader.{bracketed};
 ghost use Rattle.ixdtf_grammar.specs.language.Languages.{parsed_with};
 ghost use Rattle.ixdtf_grammar.specs.Handlers.{with_calendar, calendar_value, pair_of};
 ghost use Rattle.ixdtf_grammar.specs.Views.{IsEmptyRecord, parsed_of, most_looks};
 ghost use Rattle.ixdtf_reading.specs.reading.Brackets.{zone_in, pairs_in};
-ghost use Rattle.ixdtf_reading.specs.reading.Chains.{TextRead, TextReadAfter, first_pairs};
+ghost use Rattle.ixdtf_reading.specs.reading.Chains.{TextRead, TextReadAfter, Counting, first_pairs};
 ghost use Rattle.ixdtf_reading.specs.reading.Clauses.{Spends, HasNoBrackets, yielded_at, core_in};
 ghost use Rattle.ixdtf_brackets.specs.BracketTypes.{bracket_of};
 ghost use Rattle.ixdtf.specs.Readings.{ReadsInto};
@@ -66,11 +66,12 @@ where
     F: FnMut(Annotation<'a, T>) -> Option<Annotation<'a, T>>,
     requires empty { IsEmptyRecord found.old }
     requires callable { F.IsAlwaysCallable handler.old }
-    ensures replied { TextRead T.number F.step handler.old handler.new (bracketed (C.kind profile))
-        (map T.letter cursor.old.rest)
-        (yielded_at (λ _. parsed_of T.number found.new) result (map T.letter cursor.new.rest)) }
+    ensures replied { (spent : ℕ) ×
+        TextRead T.number (Counting F.step) (handler.old, 0) (handler.new, spent)
+        (bracketed (C.kind profile)) (map T.letter cursor.old.rest)
+        (yielded_at (λ _. parsed_of T.number found.new) result (map T.letter cursor.new.rest)) ×
+        (cursor.new.looks ≤ cursor.old.looks + (most_looks cursor.old.rest + spent)) }
     ensures empty { OnOk result (cursor.new.rest ≡ []) }
-    ensures looks { cursor.new.looks ≤ cursor.old.looks + most_looks cursor.old.rest }
     ensures counted { cursor.old.looks ≤ cursor.new.looks }
 {
     let mut here = cursor.fork();
@@ -93,11 +94,12 @@ where
     F: FnMut(Annotation<'a, T>) -> Option<Annotation<'a, T>>,
     requires callable { F.IsAlwaysCallable handler.old }
     requires unbracketed { HasNoBrackets found.old }
-    ensures replied { TextReadAfter T.number F.step handler.old handler.new (core_in found.old) true
-        (map T.letter cursor.old.rest)
-        (yielded_at (λ _. parsed_of T.number found.new) result (map T.letter cursor.new.rest)) }
+    ensures replied { (spent : ℕ) ×
+        TextReadAfter T.number (Counting F.step) (handler.old, 0) (handler.new, spent)
+        (core_in found.old) true (map T.letter cursor.old.rest)
+        (yielded_at (λ _. parsed_of T.number found.new) result (map T.letter cursor.new.rest)) ×
+        Spends (2 * length cursor.old.rest + 28 + spent) cursor.old cursor.new }
     ensures empty { OnOk result (cursor.new.rest ≡ []) }
-    ensures looks { Spends (2 * length cursor.old.rest + 24) cursor.old cursor.new }
 {
     let mut here = cursor.fork();
     let bracket = parse_first_bracket(&mut here);

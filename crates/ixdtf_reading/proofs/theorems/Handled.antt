@@ -42,10 +42,10 @@ module _ {T U F : Type 0} (number : U → ℕ) (step : Step T U F) (handler : F)
       }
 
   -- and one that takes it by value
-  by_value : (last : F) → HandledTo number step handler last reader text result → Handled number step handler reader text result
+  abbrev pub by_value : (last : F) → HandledTo number step handler last reader text result → Handled number step handler reader text result
   by_value last h = record { calls = h.calls; last = last; chain = h.chain; ok = h.ok; err = h.err; only = h.only }
 
-  pub handled_of : (calls : Calls T U) (last : F) → IsChain step handler calls last → GivesResult reader text (handed number calls) (replies_of number calls) result
+  abbrev pub handled_of : (calls : Calls T U) (last : F) → IsChain step handler calls last → GivesResult reader text (handed number calls) (replies_of number calls) result
       → Handled number step handler reader text result
   handled_of calls last chain gives = by_value last (handled_to_of calls last chain gives)
 
@@ -123,7 +123,7 @@ abbrev pub unplaced : {A : Type 0} → Result A Placed → Result A Fault
 unplaced (Ok x) = Ok x
 unplaced (Err placed) = Err placed.0
 
-gives_result : (reader : Reader) (text : Text) (pairs : List Pair) (replies : List Reply) (placed : Result Parsed Placed)
+pub gives_result : (reader : Reader) (text : Text) (pairs : List Pair) (replies : List Reply) (placed : Result Parsed Placed)
     → TextGives reader text pairs replies placed → GivesResult reader text pairs replies (unplaced placed)
 gives_result reader text pairs replies (Ok found) gives = gives
 gives_result reader text pairs replies (Err placed) gives = elim gives [
@@ -132,10 +132,10 @@ gives_result reader text pairs replies (Err placed) gives = elim gives [
 ]
 
 module _ {T U F : Type 0} (number : U → ℕ) (step : Step T U F) (handler : F) (reader : Reader) (text : Text) (placed : Result Parsed Placed) where
-  pub handled : (last : F) → TextRead number step handler last reader text placed → Handled number step handler reader text (unplaced placed)
+  abbrev pub handled : (last : F) → TextRead number step handler last reader text placed → Handled number step handler reader text (unplaced placed)
   handled last read = handled_of number step handler reader text (unplaced placed) read.calls last read.chain (gives_result reader text _ _ placed read.gives)
 
-  pub handled_to : (last : F) → TextRead number step handler last reader text placed → HandledTo number step handler last reader text (unplaced placed)
+  abbrev pub handled_to : (last : F) → TextRead number step handler last reader text placed → HandledTo number step handler last reader text (unplaced placed)
   handled_to last read = handled_to_of number step handler reader text (unplaced placed) read.calls last read.chain (gives_result reader text _ _ placed read.gives)
 
 -- what a form without a handler promises, where the handler returns each annotation

@@ -7,7 +7,7 @@ use Rattle.ixdtf_reading.proofs.code.Located.{left_fits as row_left_fits}
 use Rattle.ixdtf_reading.proofs.theorems.{Handled.{OwnReplies, replies_own, handled_to, handled_to_of}, OnePlace.{one_place, without_place}}
 
 -- as many replies as pairs
-as_many : {T U : Type 0} (number : U → ℕ) (calls : Calls T U) → length (replies_of number calls) ≡ length (handed number calls)
+pub as_many : {T U : Type 0} (number : U → ℕ) (calls : Calls T U) → length (replies_of number calls) ≡ length (handed number calls)
 as_many number calls = length-map calls _ ∙ sym (length-map calls _)
 
 -- a fault stands where so many code units are before it
@@ -22,14 +22,14 @@ stands_at reader text pairs replies fault left at is gives = elim gives [
 module _ {T U F X E : Type 0} (number : U → ℕ) (step : Step T U F) (handler last : F) (reader : Reader) (text : Text) (named : E → Fault) (stands : ℕ → E → Type 0)
     (view : X → Parsed) where
   -- one that takes the handler by reference
-  pub handled_to_at_ok : (x : X) → TextRead number step handler last reader text (Ok (view x)) → HandledToAt number step handler last reader text named stands view (Ok x)
+  unfoldable pub handled_to_at_ok : (x : X) → TextRead number step handler last reader text (Ok (view x)) → HandledToAt number step handler last reader text named stands view (Ok x)
   handled_to_at_ok x read = record {
     plain = handled_to number step handler reader text (Ok (view x)) last read;
     err = λ e is. absurd cc;
     place = λ e is. absurd cc;
   }
 
-  pub handled_to_at_err : (why : StopAt) (e : E) → named e ≡ fault_of_stop why.stop → stands why.at e
+  unfoldable pub handled_to_at_err : (why : StopAt) (e : E) → named e ≡ fault_of_stop why.stop → stands why.at e
       → (left : Text) × (why.at + length left ≡ length text) × TextRead number step handler last reader text (Err (fault_of_stop why.stop, left))
       → HandledToAt number step handler last reader text named stands view (Err e)
   handled_to_at_err why e is_named is_there (left, lengths, read) =
@@ -43,7 +43,7 @@ module _ {T U F X E : Type 0} (number : U → ℕ) (step : Step T U F) (handler 
       }
 
   -- and one that takes it by value
-  by_value : (result : Result X E) → HandledToAt number step handler last reader text named stands view result
+  abbrev pub by_value : (result : Result X E) → HandledToAt number step handler last reader text named stands view result
       → HandledAt number step handler reader text named stands view result
   by_value result h = record {
     calls = h.plain.calls;
@@ -55,10 +55,10 @@ module _ {T U F X E : Type 0} (number : U → ℕ) (step : Step T U F) (handler 
     place = h.place;
   }
 
-  pub handled_at_ok : (x : X) → TextRead number step handler last reader text (Ok (view x)) → HandledAt number step handler reader text named stands view (Ok x)
+  abbrev pub handled_at_ok : (x : X) → TextRead number step handler last reader text (Ok (view x)) → HandledAt number step handler reader text named stands view (Ok x)
   handled_at_ok x read = by_value (Ok x) (handled_to_at_ok x read)
 
-  pub handled_at_err : (why : StopAt) (e : E) → named e ≡ fault_of_stop why.stop → stands why.at e
+  abbrev pub handled_at_err : (why : StopAt) (e : E) → named e ≡ fault_of_stop why.stop → stands why.at e
       → (left : Text) × (why.at + length left ≡ length text) × TextRead number step handler last reader text (Err (fault_of_stop why.stop, left))
       → HandledAt number step handler reader text named stands view (Err e)
   handled_at_err why e is_named is_there read = by_value (Err e) (handled_to_at_err why e is_named is_there read)

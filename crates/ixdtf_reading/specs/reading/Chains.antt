@@ -1,6 +1,7 @@
 -- What the code returns for the pairs after whole brackets, and for a whole text, for the calls of the handler that it made.
 -- No public clause cites this.
-use Rattle.std.specs.Prelude.{◌≡◌, ◌⊎◌, true, ℕ, ◌+◌, length, Bool, List, ◌++◌, Option, Result, Ok, Err, [], Some, None, ◌∷◌}
+use Rattle.std.specs.Prelude.{◌≡◌, ◌⊎◌, true, ℕ, ◌+◌, ◌-◌, ◌*◌, length, Bool, List, ◌++◌, Option, Result, Ok, Err, [], Some, None, ◌∷◌}
+use Rattle.ixdtf_grammar.specs.{declared.records.Annotation.Annotation}
 use Rattle.ixdtf_grammar.specs.language.{Letters.Text, Shapes.some, Brackets.{Pair, ArePairs, Opens}, Cores.Core, Languages.{Parsed, Derives, Found.parsed}}
 use Rattle.ixdtf_grammar.specs.{language.Readers.{Reader, CoreKind, Reader.bracketed}, table.LineNames.{LineName, PairLine}}
 use Rattle.ixdtf_grammar.specs.table.LineNames.LineName.{of_core, of_clock, of_offset, of_zone, of_bracket, of_pair, of_duration}
@@ -59,6 +60,16 @@ TextGives reader text pairs replies (Err placed) =
 abbrev pub first_pairs : Option Pair → List Pair
 first_pairs None = []
 first_pairs (Some pair) = pair ∷ []
+
+-- how many code units the value of a reply has
+abbrev pub reply_units : {T U : Type 0} → Option (Annotation T U) → ℕ
+reply_units None = 0
+reply_units (Some reply) = length reply.value.now
+
+-- A step of a handler beside a count. Each reply adds two for each code unit that its value has more than that of the annotation.
+abbrev pub Counting : {T U F : Type 0} → Step T U F → Step T U (F × ℕ)
+Counting step here annotation reply next =
+    step here.0 annotation reply next.0 × (next.1 ≡ here.1 + 2 * (reply_units reply - length annotation.value.now))
 
 module _ {T U F : Type 0} (number : U → ℕ) (step : Step T U F) (handler last : F) where
   -- For a chain of calls on these first pairs and more of the text.

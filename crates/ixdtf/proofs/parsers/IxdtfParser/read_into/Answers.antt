@@ -8,14 +8,16 @@ returns-in-Err g c =
     let letter = g.T.EncodingType.letter in
     let left = c.parse_text.new.cursor.rest in
     let taken = c.fork-here.ensures.rest ∙ ap (λ (u : Unread). u.rest) (sym c.fork-here.ensures.same) in
-    let short = left_fits _ _ _ _ _ _ c.in-Err.ensures.replied.gives in
-    let comes = handled_comes _ _ _ _ _ _ (handled _ _ _ _ _ _ _ c.in-Err.ensures.replied) _ refl in
+    let (spent, replied, paid) = c.in-Err.ensures.replied in
+    let short = left_fits _ _ _ _ _ _ replied.gives in
+    let comes = handled_comes _ _ _ _ _ _ (handled _ _ _ _ _ _ _ replied) _ refl in
     record {
       reads = record {
+        spent = spent;
         replied = rw (← c.self.view_is, ← c.fork-here.ensures.same) (
           map letter left,
           omega (arith, short, ap (λ (t : List ℕ). length t) taken, length-map left letter, length-map c.fork-here.result.rest letter, c.saturating_sub-at.ensures, c.remaining.ensures, c.remaining-in-Err.ensures),
-          c.in-Err.ensures.replied,
+          replied,
         );
         leaves = search rules;
         profile = search rules;

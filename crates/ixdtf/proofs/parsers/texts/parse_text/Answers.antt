@@ -1,12 +1,14 @@
 use Rattle.ixdtf.proofs.parsers.texts.parse_text.Goals as goal
 use Rattle.std.proofs.{Common.{◌∙◌, sym, arith}, lemmas.Result.err_from_is_err_and}
 use Rattle.ixdtf_reading.proofs.code.Units.{no_units}
-use Rattle.ixdtf.proofs.code.{Tail.{core_shortens, core_ends_text, core_refused}, Placed.{no_brackets, placed_alone}}
+use Rattle.ixdtf.proofs.code.{Tail.{core_opens, core_ends_text, core_refused}, Placed.{no_brackets, placed_alone}}
 
 pub returns-in_err-read-clause-replied : goal.returns-in_err-read-clause-replied
 returns-in_err-read-clause-replied g c =
     let p = err_from_is_err_and c.from_residual.result c.from_residual.ensures.1 in
-    rw (p.1, p.2) (core_refused _ _ _ (g.C.CoreReader.kind c.args.profile) _ _ (rw c.fork-here.ensures.same at c.in_err-read.ensures.core))
+    let read = rw c.fork-here.ensures.same at c.in_err-read.ensures.core in
+    let looks = rw c.fork-here.ensures.same at c.in_err-read.ensures.looks in
+    rw (p.1, p.2) (0, core_refused _ _ _ (g.C.CoreReader.kind c.args.profile) _ _ read, omega (arith, looks))
 
 -- a core, and the end
 pub returns-clause-replied : goal.returns-clause-replied
@@ -15,7 +17,8 @@ returns-clause-replied g c =
     let read = rw (c.fork-here.ensures.same, ends) at c.in_ok-read.ensures.core in
     let kept = c.in_ok-read.ensures.kept in
     let none = no_brackets g.T.EncodingType.number c.parse_core-read.new.found (kept.0 ∙ c.requires.empty.tz) (kept.1 ∙ c.requires.empty.calendar) in
-    placed_alone _ _ _ _ _ _ none (g.C.CoreReader.kind c.args.profile) _ read
+    let looks = rw c.fork-here.ensures.same at c.in_ok-read.ensures.looks in
+    (0, placed_alone _ _ _ _ _ _ none (g.C.CoreReader.kind c.args.profile) _ read, omega (arith, looks))
 
 pub returns-clause-empty : goal.returns-clause-empty
 returns-clause-empty g c =
@@ -27,10 +30,10 @@ returns-clause-empty g c =
 pub returns-then-opens_bracket-clause-replied : goal.returns-then-opens_bracket-clause-replied
 returns-then-opens_bracket-clause-replied g c =
     let opens = sym c.opens_bracket.ensures ∙ c.if-opens_bracket.true in
-    c.parse_brackets.ensures.replied (g.C.CoreReader.kind c.args.profile) _ (rw (c.fork-here.ensures.same, opens) at c.in_ok-read.ensures.core)
-
-pub returns-then-opens_bracket-clause-looks : goal.returns-then-opens_bracket-clause-looks
-returns-then-opens_bracket-clause-looks g c =
-    let read = rw c.fork-here.ensures.same at c.in_ok-read.ensures.core in
+    let read = rw (c.fork-here.ensures.same, opens) at c.in_ok-read.ensures.core in
     let looks = rw c.fork-here.ensures.same at c.in_ok-read.ensures.looks in
-    omega (arith, core_shortens (g.C.CoreReader.kind c.args.profile) g.T.EncodingType.letter _ _ _ read, looks, c.parse_brackets.ensures.looks)
+    let (spent, replied, paid) = c.parse_brackets.ensures.replied in (
+      spent,
+      replied (g.C.CoreReader.kind c.args.profile) _ read,
+      omega (arith, core_opens (g.C.CoreReader.kind c.args.profile) g.T.EncodingType.letter _ _ _ read, looks, paid),
+    )
