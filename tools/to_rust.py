@@ -143,6 +143,7 @@ RESULTS = {'Result', 'ParserResult'}
 # the types with an equality that is a derived one, and the functions that it calls
 DERIVED = {('error', 'ParseError'): {'place', 'location'}, ('located', 'LocatedError'): set()}
 UNSEEN = [phrase.split() for phrase in ['use crate :: looks :: Looks ;', 'looks : Looks ,', 'looks : Looks :: none ( ) ,', 'self . looks . tick ( ) ;',
+                                        'let common = left . len ( ) . min ( right . len ( ) ) ;', 'self . looks . tick_by ( common ) ;', 'self . looks . tick_by ( 4 ) ;',
                                         'looks : std :: mem :: replace ( & mut self . looks , Looks :: none ( ) ) ,',
                                         'self . keep_looks ( here ) ;', 'self . cursor . keep_looks ( here ) ;', 'cursor . keep_looks ( again ) ;', 'cursor . keep_looks ( front ) ;',
                                         'use ixdtf_print :: canonical_fits ;', 'canonical_fits ( ) ;']]

@@ -19,9 +19,6 @@ mod unhandled;
 // Only for crates of this repository; not part of the public interface: what `read_lending_handler` is generic in.
 #[doc(hidden)]
 pub use self::cores::{CoreReader, DateTimes, MonthDays, Times, YearMonths};
-// The library for C keeps the calendar of replies by the same rule.
-#[doc(hidden)]
-pub use self::replies::keep_first_calendar;
 pub use self::time_zone_parser::TimeZoneParser;
 pub use ixdtf_durations::duration::IsoDurationParser;
 use ixdtf_grammar::encoding::{EncodingType, Utf8, Utf16};

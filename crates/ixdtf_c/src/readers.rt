@@ -14,9 +14,7 @@ use crate::errors::number_and_location;
 use crate::widths::{AnnotationOf, CalendarOf, RecordOf};
 use ixdtf::LocatedError;
 use ixdtf::encoding::EncodingType;
-use ixdtf::parsers::{
-    CoreReader, FromStop, IxdtfParser, Profile, TimeZoneParser, keep_first_calendar,
-};
+use ixdtf::parsers::{CoreReader, FromStop, IxdtfParser, Profile, TimeZoneParser};
 use ixdtf::records::{IxdtfParseRecord, TimeZoneAnnotation, TimeZoneRecord, UtcOffsetRecordOrZ};
 
 /// Reads as the reader of the kind does without a handler.
@@ -162,7 +160,9 @@ where
     ensures unchanged { result ≢ 0 → calendar.new ≡ calendar.old }
 {
     let mut kept = calendar.read();
-    match keep_first_calendar::<T>(&mut kept, Some(reply.read())) {
+    let found = reply.read();
+    let mut parser = IxdtfParser::<T>::new(found.key);
+    match parser.keep_first_calendar(&mut kept, Some(found)) {
         Ok(()) => {
             calendar.write(kept);
             0

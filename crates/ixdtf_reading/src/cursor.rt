@@ -306,8 +306,9 @@ impl<'a, T: EncodingType> Cursor<'a, T> {
         ensures looks { self.new.looks ≡
             self.old.looks + 2 * min (length left.now) (length right.now) }
     {
-        self.looks.tick_by(left.len().min(right.len()));
-        self.looks.tick_by(left.len().min(right.len()));
+        let common = left.len().min(right.len());
+        self.looks.tick_by(common);
+        self.looks.tick_by(common);
         are_equal::<T>(left, right)
     }
 

@@ -181,6 +181,19 @@ impl<'a, T: EncodingType> Cursor<'a, T> {
         Some(number)
     }
 
+    /// Whether two slices have equal code units. At each index that both have, the code units of both are counted. This is
+    /// the only comparison of code units, but for that with the key of calendars.
+    #[inline(always)]
+    pub fn has_same_units(&mut self, left: &[T::CodeUnit], right: &[T::CodeUnit]) -> bool {
+        are_equal::<T>(left, right)
+    }
+
+    /// Whether a key is that of calendars. Four code units are counted. This is the only call of `check_calendar_key`.
+    #[inline(always)]
+    pub fn is_calendar_key(&mut self, key: &[T::CodeUnit]) -> bool {
+        T::check_calendar_key(key)
+    }
+
     /// Expects the end of the input: any code unit is `InvalidEnd`.
     #[inline(always)]
     pub fn close(&mut self) -> Result<(), Stop> {
@@ -189,6 +202,11 @@ impl<'a, T: EncodingType> Cursor<'a, T> {
             Some(_) => Err(Stop::InvalidEnd),
         }
     }
+}
+
+/// Whether two slices have equal code units. Only `has_same_units` calls this, and counts them.
+fn are_equal<T: EncodingType>(left: &[T::CodeUnit], right: &[T::CodeUnit]) -> bool {
+    left == right
 }
 
 /// The letter that a look found, as an ASCII byte, or 0 where it found none.

@@ -1,6 +1,10 @@
 //! The forms of [`IxdtfParser`] with a handler.
 
-ghost use Rattle.ixdtf_grammar.specs.table.Faults.{fault_of, fault_of_located, stands_behind};
+ghost use Rattle.std.specs.Prelude.{◌≡◌, [], ◌∷◌, option_map, IfOk, IfErr};
+ghost use Rattle.std.specs.Option.{option_or};
+ghost use Rattle.ixdtf_grammar.specs.table.Faults.{Fault, fault_of, fault_of_located, stands_behind};
+ghost use Rattle.ixdtf_grammar.specs.Handlers.{RefusedBeside, first_calendar, pair_of};
+ghost use Rattle.ixdtf_reading.specs.reading.Clauses.{fault_of_stop};
 ghost use Rattle.ixdtf_grammar.specs.language.Readers.{parse as reader_parse, parse_year_month as reader_parse_year_month};
 ghost use Rattle.ixdtf_grammar.specs.language.Readers.{parse_month_day as reader_parse_month_day, parse_time as reader_parse_time};
 ghost use Rattle.ixdtf_grammar.specs.language.Readers.Reader.{bracketed};
@@ -12,7 +16,8 @@ use crate::parsers::{CoreReader, DateTimes, FromStop, IxdtfParser, MonthDays, Ti
 use crate::{LocatedError, ParseError, ParserResult};
 use ixdtf_grammar::encoding::EncodingType;
 use ixdtf_grammar::records::{Annotation, IxdtfParseRecord};
-use ixdtf_reading::stop::error_of_stop;
+use crate::parsers::replies::keep_first_calendar;
+use ixdtf_reading::stop::{Stop, error_of_stop};
 
 impl<'a, T: EncodingType> IxdtfParser<'a, T> {
     /// Reads as [`parse`](Self::parse) does, and calls the handler on each annotation of a key and a value.
@@ -338,5 +343,32 @@ impl<'a, T: EncodingType> IxdtfParser<'a, T> {
             Ok(()) => Ok(found),
             Err(refused) => return Err(error_of_stop(refused.stop, refused.at)),
         }
+    }
+
+    /// Keeps the calendar of a reply as the readers do: where it is the first one. Only for crates of this repository; not part
+    /// of the public interface.
+    ///
+    /// # Errors
+    ///
+    /// The two that only replies have.
+    #[doc(hidden)]
+    #[inline(always)]
+    pub fn keep_first_calendar(
+        &mut self,
+        calendar: &mut Option<Annotation<'a, T>>,
+        reply: Option<Annotation<'a, T>>,
+    ) -> Result<(), Stop>
+        ensures accepted { IfOk result (λ _. (fault : Fault) →
+            ¬ (RefusedBeside (option_map (pair_of T.number) calendar.old)
+            (option_map (pair_of T.number) reply.entry) fault)) }
+        ensures kept { IfOk result (λ _.
+            option_map (pair_of T.number) calendar.new ≡
+            option_or (option_map (pair_of T.number) calendar.old)
+            (first_calendar (option_map (pair_of T.number) reply.entry ∷ []))) }
+        ensures err { IfErr result (λ e.
+            RefusedBeside (option_map (pair_of T.number) calendar.old)
+            (option_map (pair_of T.number) reply.entry) (fault_of_stop e)) }
+    {
+        keep_first_calendar::<T>(&mut self.cursor, calendar, reply)
     }
 }

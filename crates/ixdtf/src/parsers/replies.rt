@@ -33,9 +33,8 @@ where
 /// Keeps the calendar of a reply where it is the first one. A critical reply that is not a calendar is
 /// `UnrecognizedCritical`. A calendar with another value than the first is `CriticalDuplicateCalendar` where at least
 /// one of the two is critical. The cursor counts the units that are compared, and stays where it is.
-#[doc(hidden)]
 #[inline(always)]
-pub fn keep_first_calendar<'a, T: EncodingType>(
+pub(crate) fn keep_first_calendar<'a, T: EncodingType>(
     cursor: &mut Cursor<'a, T>,
     calendar: &mut Option<Annotation<'a, T>>,
     reply: Option<Annotation<'a, T>>,

@@ -6,7 +6,8 @@ use crate::parsers::{CoreReader, DateTimes, FromStop, IxdtfParser, MonthDays, Ti
 use crate::{LocatedError, ParseError, ParserResult};
 use crate::encoding::EncodingType;
 use crate::records::{Annotation, IxdtfParseRecord};
-use crate::stop::error_of_stop;
+use crate::parsers::replies::keep_first_calendar;
+use crate::stop::{Stop, error_of_stop};
 
 impl<'a, T: EncodingType> IxdtfParser<'a, T> {
     /// Reads as [`parse`](Self::parse) does, and calls the handler on each annotation of a key and a value.
@@ -301,5 +302,21 @@ impl<'a, T: EncodingType> IxdtfParser<'a, T> {
             Ok(()) => Ok(found),
             Err(refused) => return Err(error_of_stop(refused.stop, refused.at)),
         }
+    }
+
+    /// Keeps the calendar of a reply as the readers do: where it is the first one. Only for crates of this repository; not part
+    /// of the public interface.
+    ///
+    /// # Errors
+    ///
+    /// The two that only replies have.
+    #[doc(hidden)]
+    #[inline(always)]
+    pub fn keep_first_calendar(
+        &mut self,
+        calendar: &mut Option<Annotation<'a, T>>,
+        reply: Option<Annotation<'a, T>>,
+    ) -> Result<(), Stop> {
+        keep_first_calendar::<T>(&mut self.cursor, calendar, reply)
     }
 }

@@ -20,24 +20,19 @@ where
     handler(annotation)
 }
 
-/// Whether two slices have equal units.
-fn has_same_units<T: EncodingType>(left: &[T::CodeUnit], right: &[T::CodeUnit]) -> bool {
-    left == right
-}
-
 /// Keeps the calendar of a reply where it is the first one. A critical reply that is not a calendar is
 /// `UnrecognizedCritical`. A calendar with another value than the first is `CriticalDuplicateCalendar` where at least
-/// one of the two is critical.
-#[doc(hidden)]
+/// one of the two is critical. The cursor counts the units that are compared, and stays where it is.
 #[inline(always)]
-pub fn keep_first_calendar<'a, T: EncodingType>(
+pub(crate) fn keep_first_calendar<'a, T: EncodingType>(
+    cursor: &mut Cursor<'a, T>,
     calendar: &mut Option<Annotation<'a, T>>,
     reply: Option<Annotation<'a, T>>,
 ) -> Result<(), Stop> {
     let Some(found) = reply else {
         return Ok(());
     };
-    if !T::check_calendar_key(found.key) {
+    if !cursor.is_calendar_key(found.key) {
         if found.critical {
             return Err(Stop::UnrecognizedCritical);
         }
@@ -49,7 +44,7 @@ pub fn keep_first_calendar<'a, T: EncodingType>(
             Ok(())
         }
         Some(first) => {
-            if !has_same_units::<T>(first.value, found.value)
+            if !cursor.has_same_units(first.value, found.value)
                 && (first.critical || found.critical)
             {
                 return Err(Stop::CriticalDuplicateCalendar);
@@ -73,11 +68,11 @@ where
     let mut calendar = None;
     if let Some(annotation) = first {
         let reply = ask::<T, F>(handler, annotation);
-        keep_first_calendar::<T>(&mut calendar, reply)?;
+        keep_first_calendar::<T>(cursor, &mut calendar, reply)?;
     }
     while let Some(annotation) = next_annotation(cursor)? {
         let reply = ask::<T, F>(handler, annotation);
-        keep_first_calendar::<T>(&mut calendar, reply)?;
+        keep_first_calendar::<T>(cursor, &mut calendar, reply)?;
     }
     Ok(calendar)
 }
