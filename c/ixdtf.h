@@ -36,6 +36,8 @@
  * read, and a length. It is not ended by a zero. It is valid while the text is there, unchanged.
  * The library keeps no pointer between calls. A location and an error's text are valid as long as
  * the program runs. No slice that a call writes is NULL, also where its length is 0.
+ * The name of a time zone is what the text has. It may have parts "." and "..", as
+ * ../../etc/passwd has. A name is never to be joined to a path as it is.
  *
  * THREADS. Any number of threads may call at one time, as long as none writes what another uses. No
  * call blocks, and each returns, in time linear in the length of its text, or of the slices of its
@@ -299,8 +301,9 @@ IXDTF_CHECKED_ uint32_t ixdtf_parse_duration_strict(const uint8_t *text, size_t 
  * and a value, keeps no calendar (has_calendar is false after 0), and lists the annotations.
  * `count` is how many stand before the end of the text, or before its error. It is written after an
  * error too. The first `room` of them are written to `annotations`, in order; the other places of
- * the array stay. Where `count` is more than `room`, call again with as much room. A text of n
- * units has at most n / 5 annotations. docs/C.md says what to do with the list ("Handlers"). */
+ * the array stay. So a loop over the array ends at the smaller of `count` and `room`. Where `count`
+ * is more than `room`, call again with an array of `count`. A text of n units has at most n / 5
+ * annotations. docs/C.md says what to do with the list ("Handlers"). */
 IXDTF_CHECKED_ uint32_t ixdtf_parse_with_annotations(const uint8_t *text, size_t length,
     ixdtf_annotation *annotations, size_t room, size_t *count, ixdtf_record *out);
 IXDTF_CHECKED_ uint32_t ixdtf_parse_year_month_with_annotations(const uint8_t *text, size_t length,

@@ -1,14 +1,14 @@
 -- A handler that is asked about annotations in turn, and whose replies are handed over.
 use Rattle.std.proofs.Common.{◌≡◌, ◌≢◌, ◌≤◌, ℕ, List, [], ◌∷◌, ◌++◌, length, map, take, drop, get_or, ◌<◌, ◌+◌, Option, None, Result, Ok, Err, refl, sym, ◌∙◌}
 use Rattle.std.proofs.{Common.{ap, inl, arith, option_map, Bool, true, false}, SliceLists.chained_more}
-use Rattle.std.proofs.lemmas.List.{map-append, append-nil, length-append, take_more, take-append-drop, length-map}
+use Rattle.std.proofs.lemmas.List.{map-append, length-append, take_more, take-append-drop, length-map}
 use Rattle.std.specs.Option.{option_or}
 use Rattle.ixdtf_grammar.specs.declared.{profile.Profile.Profile, records.Annotation.Annotation}
 use Rattle.ixdtf.specs.{language.{Brackets.Pair, Letters.Text, Readers.{CoreKind, Reader.bracketed}, Languages.Parsed}, table.Faults.Fault}
 use Rattle.ixdtf.specs.Handlers.{Reply, calendar_value, first_calendar, NoneRefused, LastRefused, Calls, IsChain, Step, handed, replies_of, pair_of, Handled}
 use Rattle.ixdtf_reading.proofs.theorems.{Handled.handled_of, Replies.{first_calendar-more, NoneRefused-nothing, NoneRefused-more}}
 use Rattle.ixdtf_c.specs.{Crossing.{Contents, Gives, units_for, is_there}, Listing.Lists, Located.{FaultAt, unplaced}, Replying.with_kept}
-use Rattle.ixdtf_c.specs.{Standing.where_there, Turns.{HandsOver, InTurn}, Numbers.number_for}
+use Rattle.ixdtf_c.specs.{Standing.where_there, Turns.{HandsOver, InTurn, place_in, StandsAs}, Numbers.number_for}
 use Rattle.ixdtf_c.proofs.{Numbers.{number_some, nowhere}, Replying.{overwritten-front, gives_all, front_of}}
 
 -- ---- annotations in turn
@@ -92,18 +92,6 @@ module _ {T U F : Type 0} (number : U → ℕ) (step : Step T U F) (handler : F)
       );
     }
 
-  -- it was asked about all
-  pub all_in_turn : {state : F} {pairs : List Pair} {kept : Option Pair} → SoFar state pairs kept → InTurn number step handler state pairs kept 0
-  all_in_turn {state} {pairs} so_far = record {
-    calls = so_far.calls;
-    chain = so_far.chain;
-    asked = ([], sym so_far.asked ∙ sym (append-nil _));
-    all = λ zeroed. so_far.asked;
-    accepted = λ zeroed. so_far.accepted;
-    first = λ zeroed. so_far.first;
-    refused = λ other. absurd (other refl);
-  }
-
 -- ---- the outcome
 
 -- a record gets the calendar that is kept
@@ -128,11 +116,21 @@ pub kept_refused : (number : ℕ) (old new : Contents) (listed : Result Parsed F
 kept_refused number old new (Ok found) kept given some = absurd (some given.0)
 kept_refused number old new (Err e) kept given some = given
 
--- the record of a refused reply has no location, and the place that it had
-pub refused_given : (number : ℕ) (old : Contents) (replies : List Reply) (fault : Fault) → number ≡ number_for fault → LastRefused replies fault
-    → Gives (λ found. found) (Err (record { fault = fault; at = old.place })) number old (record old { location = [] })
-refused_given number old replies fault named last =
-    (named, λ i. record old { location = sym (nowhere (first_calendar last.earlier) last.reply fault last.refused) i })
+-- the record of a refused reply has no location, and this place
+pub refused_given : (number at : ℕ) (old : Contents) (replies : List Reply) (fault : Fault) → number ≡ number_for fault → LastRefused replies fault
+    → Gives (λ found. found) (Err (record { fault = fault; at = at })) number old (record old { location = []; place = at })
+refused_given number at old replies fault named last =
+    (named, λ i. record old { location = sym (nowhere (first_calendar last.earlier) last.reply fault last.refused) i; place = at })
+
+-- the place that a reader wrote
+pub place_listed : (number : ℕ) (old new : Contents) (listed : Result Parsed FaultAt) → Gives (λ found. found) listed number old new
+    → new.place ≡ place_in listed
+place_listed number old new (Ok found) given = ap (λ it. it.place) given.1
+place_listed number old new (Err e) given = ap (λ it. it.place) given.1
+
+pub stands_kept : (kept : Option Pair) (listed : Result Parsed FaultAt) → StandsAs listed (with_kept kept listed)
+stands_kept kept (Ok found) = tt
+stands_kept kept (Err e) = refl
 
 -- where the annotations were listed with room for all, and the handler was asked about them in turn, this is what a form with a handler says
 module _ {T U F A : Type 0} {number : U → ℕ} {step : Step T U F} {handler last : F} {view : A → Pair} {profile : Profile} {kind : CoreKind}

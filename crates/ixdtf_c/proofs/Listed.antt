@@ -1,9 +1,9 @@
 -- From a chain of calls that list annotations to what a listing says of a text.
-use Rattle.std.proofs.Common.{◌≡◌, ◌↔◌, ℕ, ◌+◌, ◌≤◌, min, List, [], ◌∷◌, ◌++◌, length, slice_set, map, Option, None, option_map, Result, Ok, Err, OnOk, refl}
+use Rattle.std.proofs.Common.{◌≡◌, ◌↔◌, ℕ, ◌+◌, ◌*◌, ◌≤◌, min, List, [], ◌∷◌, ◌++◌, length, slice_set, map, Option, None, option_map, Result, Ok, Err, OnOk, refl}
 use Rattle.std.proofs.{Common.{sym, ◌∙◌, ap, subst, inl, inr, arith}, lemmas.List.{append-nil, append_assoc, length-append, length-map}}
 use Rattle.ixdtf_grammar.specs.declared.{profile.Profile.Profile, records.Annotation.Annotation}
-use Rattle.ixdtf_grammar.proofs.theorems.FewPairs.{derived_few, gives_few}
-use Rattle.ixdtf.specs.language.{Brackets.Pair, Letters.Text, Readers.{Reader, CoreKind, Reader.bracketed}, Languages.{Parsed, Derives, Derives.as_parsed}}
+use Rattle.ixdtf_grammar.proofs.theorems.FewPairs.{derived_few, fault_few, gives_few}
+use Rattle.ixdtf.specs.language.{Brackets.Pair, Letters.{Letter, Text}, Readers.{Reader, CoreKind, Reader.bracketed}, Languages.{Parsed, Derives, Derives.as_parsed}}
 use Rattle.ixdtf.specs.{language.Languages.Found.parsed, table.{Faults.Fault, Outcomes.{HasFaultAt, NoRowFits}}}
 use Rattle.ixdtf.specs.{Laws.InNoOther, Places.{GivesFaultAt, HandledToAt}, Handlers.{Reply, first_calendar, calendar_value, with_calendar, RefusedBeside}}
 use Rattle.ixdtf.specs.Handlers.{NoneRefused, LastRefused, GivesRecord, GivesFault, pair_of, Calls, handed, replies_of, Step, IsChain}
@@ -94,11 +94,11 @@ module _ (kind : CoreKind) (text : Text) where
     | inr p ↦ let (row, fits, has, there) = p.0 in inr ((row, fits, has), p.1)
   ]
 
-  -- no more pairs than code units
+  -- five code units for each pair
   few : {A : Type 0} (calls : List A) (pairs : List Pair) (outcome : Result Parsed FaultAt)
       → ((found : Parsed) → (outcome ≡ Ok found) ↔ GivesRecord (bracketed kind) text pairs (nones calls) found)
       → ((e : FaultAt) → outcome ≡ Err e → GivesFaultAt (bracketed kind) text pairs (nones calls) e.fault e.at)
-      → length pairs ≤ length text
+      → 5 * length pairs ≤ length text
   few calls pairs (Ok found) ok err = derived_few kind text (parsed found) pairs (given calls pairs found ((ok found).0 refl))
   few calls pairs (Err e) ok err = gives_few kind text pairs (nones calls) e.fault (without_place (err e refl))
 
@@ -113,6 +113,21 @@ pub slots_left : {A : Type 0} {view : A → Pair} {profile : Profile} {reader : 
     → slots ≡ new → (outcome : Result Parsed FaultAt) × Has outcome × Lists view profile reader text old new count outcome
     → (outcome : Result Parsed FaultAt) × Has outcome × Lists view profile reader text old slots count outcome
 slots_left same (outcome, has, listing) = (outcome, has, lists_left same refl listing)
+
+-- there are five code units for each pair that is passed over
+passed_few : (profile : Profile) (kind : CoreKind) (text : Text) (pairs : List Pair) (outcome : Result Parsed FaultAt)
+    → PassesOver profile (bracketed kind) text pairs outcome → 5 * length pairs ≤ length text
+passed_few profile kind text pairs (Ok found) passes = derived_few kind text (parsed found) pairs ((passes.ok found).0 refl)
+passed_few profile kind text pairs (Err e) passes = let (row, fits, has, there) = passes.err e refl in fault_few kind text pairs e.fault (row, fits, has)
+
+-- and for each annotation that is listed
+pub annotations_few : {A : Type 0} {view : A → Pair} {profile : Profile} {kind : CoreKind} {old new : List A} {count : ℕ}
+    {Has : Result Parsed FaultAt → Type 0} (letter : ℕ → Letter) (units : List ℕ)
+    → (outcome : Result Parsed FaultAt) × Has outcome × Lists view profile (bracketed kind) (map letter units) old new count outcome
+    → 5 * count ≤ length units
+annotations_few {view = view} {profile = profile} {kind = kind} letter units (outcome, has, listing) =
+    let few = passed_few profile kind (map letter units) (map view listing.annotations) outcome listing.read in
+    omega (arith, few, listing.counted, length-map units letter, length-map listing.annotations view)
 
 -- ---- a chain of calls that list
 
@@ -179,7 +194,7 @@ module _ {T U A F : Type 0} (number : U → ℕ) (view : A → Pair) (step : Ste
       listing h outcome ok err no_row no_other_reader =
           let calls = h.plain.calls in
           let pairs = handed number calls in
-          let shorter : length pairs ≤ length text = few kind text calls pairs outcome ok err in
+          let shorter : 5 * length pairs ≤ length text = few kind text calls pairs outcome ok err in
           let as_many : length pairs ≡ length calls = length-map calls _ in
           let (items, shown, counted, written) = listed (slots state) calls state last h.plain.chain [] zero (sym (overwritten-none (slots state)))
           (omega (arith, as_many, shorter, fits)) in

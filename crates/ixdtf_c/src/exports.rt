@@ -4,9 +4,10 @@
 //!   duration is 0 only where no other reader of dates, times and durations has the text.
 //! - `lists`: they are those of what the text gives where its annotations are passed over; these are counted, and the first of
 //!   them are written.
+//! - `few`: five times the number of the annotations is at most the length of the text, so a room of a fifth of its length is enough.
 //! - `unchanged`: after a refusal what `out` refers to is as it was, its slices too, but for the location and the place.
 
-ghost use Rattle.std.specs.Prelude.{◌≡◌, ◌≢◌, ◌+◌, ◌≤◌, length, map, IsSomeAnd};
+ghost use Rattle.std.specs.Prelude.{◌≡◌, ◌≢◌, ◌+◌, ◌*◌, ◌≤◌, length, map, IsSomeAnd};
 ghost use Rattle.ixdtf.specs.language.Languages.Found.{shifted, identified, named};
 ghost use Rattle.ixdtf.specs.language.Letters.{byte_letter, wide_letter};
 ghost use Rattle.ixdtf.specs.language.Readers.{parse, parse_year_month, parse_month_day, parse_time};
@@ -143,6 +144,7 @@ pub extern "C" fn ixdtf_parse_with_annotations<'a>(
 ) -> u32
     ensures lists { ListsRecord annotation_by Profile.Crate parse (map byte_letter text.now)
         annotations.old annotations.new count.new result (contents out.old) (contents out.new) }
+    ensures few { 5 * count.new ≤ length text.now }
     ensures unchanged { result ≢ 0 → SameButError out.old out.new }
 {
     narrow_annotations::list_into::<DateTimes>(text, Profile::Crate, annotations, count, out)
@@ -158,6 +160,7 @@ pub extern "C" fn ixdtf_parse_year_month_with_annotations<'a>(
 ) -> u32
     ensures lists { ListsRecord annotation_by Profile.Crate parse_year_month (map byte_letter text.now)
         annotations.old annotations.new count.new result (contents out.old) (contents out.new) }
+    ensures few { 5 * count.new ≤ length text.now }
     ensures unchanged { result ≢ 0 → SameButError out.old out.new }
 {
     narrow_annotations::list_into::<YearMonths>(text, Profile::Crate, annotations, count, out)
@@ -173,6 +176,7 @@ pub extern "C" fn ixdtf_parse_month_day_with_annotations<'a>(
 ) -> u32
     ensures lists { ListsRecord annotation_by Profile.Crate (parse_month_day Profile.Crate) (map byte_letter text.now)
         annotations.old annotations.new count.new result (contents out.old) (contents out.new) }
+    ensures few { 5 * count.new ≤ length text.now }
     ensures unchanged { result ≢ 0 → SameButError out.old out.new }
 {
     narrow_annotations::list_into::<MonthDays>(text, Profile::Crate, annotations, count, out)
@@ -188,6 +192,7 @@ pub extern "C" fn ixdtf_parse_time_with_annotations<'a>(
 ) -> u32
     ensures lists { ListsRecord annotation_by Profile.Crate (parse_time Profile.Crate) (map byte_letter text.now)
         annotations.old annotations.new count.new result (contents out.old) (contents out.new) }
+    ensures few { 5 * count.new ≤ length text.now }
     ensures unchanged { result ≢ 0 → SameButError out.old out.new }
 {
     narrow_annotations::list_into::<Times>(text, Profile::Crate, annotations, count, out)
@@ -203,6 +208,7 @@ pub extern "C" fn ixdtf_parse_month_day_with_annotations_strict<'a>(
 ) -> u32
     ensures lists { ListsRecord annotation_by Profile.Strict (parse_month_day Profile.Strict) (map byte_letter text.now)
         annotations.old annotations.new count.new result (contents out.old) (contents out.new) }
+    ensures few { 5 * count.new ≤ length text.now }
     ensures unchanged { result ≢ 0 → SameButError out.old out.new }
 {
     narrow_annotations::list_into::<MonthDays>(text, Profile::Strict, annotations, count, out)
@@ -218,6 +224,7 @@ pub extern "C" fn ixdtf_parse_time_with_annotations_strict<'a>(
 ) -> u32
     ensures lists { ListsRecord annotation_by Profile.Strict (parse_time Profile.Strict) (map byte_letter text.now)
         annotations.old annotations.new count.new result (contents out.old) (contents out.new) }
+    ensures few { 5 * count.new ≤ length text.now }
     ensures unchanged { result ≢ 0 → SameButError out.old out.new }
 {
     narrow_annotations::list_into::<Times>(text, Profile::Strict, annotations, count, out)
@@ -351,6 +358,7 @@ pub extern "C" fn ixdtf16_parse_with_annotations<'a>(
 ) -> u32
     ensures lists { ListsRecord wide_annotation_by Profile.Crate parse (map wide_letter text.now)
         annotations.old annotations.new count.new result (wide_contents out.old) (wide_contents out.new) }
+    ensures few { 5 * count.new ≤ length text.now }
     ensures unchanged { result ≢ 0 → SameWideButError out.old out.new }
 {
     wide_annotations::list_into::<DateTimes>(text, Profile::Crate, annotations, count, out)
@@ -366,6 +374,7 @@ pub extern "C" fn ixdtf16_parse_year_month_with_annotations<'a>(
 ) -> u32
     ensures lists { ListsRecord wide_annotation_by Profile.Crate parse_year_month (map wide_letter text.now)
         annotations.old annotations.new count.new result (wide_contents out.old) (wide_contents out.new) }
+    ensures few { 5 * count.new ≤ length text.now }
     ensures unchanged { result ≢ 0 → SameWideButError out.old out.new }
 {
     wide_annotations::list_into::<YearMonths>(text, Profile::Crate, annotations, count, out)
@@ -381,6 +390,7 @@ pub extern "C" fn ixdtf16_parse_month_day_with_annotations<'a>(
 ) -> u32
     ensures lists { ListsRecord wide_annotation_by Profile.Crate (parse_month_day Profile.Crate) (map wide_letter text.now)
         annotations.old annotations.new count.new result (wide_contents out.old) (wide_contents out.new) }
+    ensures few { 5 * count.new ≤ length text.now }
     ensures unchanged { result ≢ 0 → SameWideButError out.old out.new }
 {
     wide_annotations::list_into::<MonthDays>(text, Profile::Crate, annotations, count, out)
@@ -396,6 +406,7 @@ pub extern "C" fn ixdtf16_parse_time_with_annotations<'a>(
 ) -> u32
     ensures lists { ListsRecord wide_annotation_by Profile.Crate (parse_time Profile.Crate) (map wide_letter text.now)
         annotations.old annotations.new count.new result (wide_contents out.old) (wide_contents out.new) }
+    ensures few { 5 * count.new ≤ length text.now }
     ensures unchanged { result ≢ 0 → SameWideButError out.old out.new }
 {
     wide_annotations::list_into::<Times>(text, Profile::Crate, annotations, count, out)
@@ -411,6 +422,7 @@ pub extern "C" fn ixdtf16_parse_month_day_with_annotations_strict<'a>(
 ) -> u32
     ensures lists { ListsRecord wide_annotation_by Profile.Strict (parse_month_day Profile.Strict) (map wide_letter text.now)
         annotations.old annotations.new count.new result (wide_contents out.old) (wide_contents out.new) }
+    ensures few { 5 * count.new ≤ length text.now }
     ensures unchanged { result ≢ 0 → SameWideButError out.old out.new }
 {
     wide_annotations::list_into::<MonthDays>(text, Profile::Strict, annotations, count, out)
@@ -426,6 +438,7 @@ pub extern "C" fn ixdtf16_parse_time_with_annotations_strict<'a>(
 ) -> u32
     ensures lists { ListsRecord wide_annotation_by Profile.Strict (parse_time Profile.Strict) (map wide_letter text.now)
         annotations.old annotations.new count.new result (wide_contents out.old) (wide_contents out.new) }
+    ensures few { 5 * count.new ≤ length text.now }
     ensures unchanged { result ≢ 0 → SameWideButError out.old out.new }
 {
     wide_annotations::list_into::<Times>(text, Profile::Strict, annotations, count, out)

@@ -1,14 +1,16 @@
 //! A caller of the library for C who has a handler.
 
-ghost use Rattle.std.specs.Prelude.{◌≡◌, ◌≤◌, None, length, map, option_map, Result};
+ghost use Rattle.std.specs.Prelude.{◌≡◌, ◌≢◌, ◌≤◌, None, length, map, option_map, Result};
+ghost use Rattle.ixdtf_grammar.specs.declared.profile.Profile.TheVariants.{Crate};
 ghost use Rattle.ixdtf.specs.Handlers.{Handled, calendar_value, pair_of};
 ghost use Rattle.ixdtf.specs.language.Letters.{byte_letter};
 ghost use Rattle.ixdtf.specs.language.Readers.{parse};
 ghost use Rattle.ixdtf.specs.language.Languages.{Parsed};
-ghost use Rattle.ixdtf_c.specs.Crossing.{Contents, Gives, units_for};
+ghost use Rattle.ixdtf_c.specs.Crossing.{Gives, units_for};
+ghost use Rattle.ixdtf_c.specs.Listing.{Lists};
 ghost use Rattle.ixdtf_c.specs.Located.{FaultAt, unplaced};
-ghost use Rattle.ixdtf_c.specs.Narrow.{annotation_by, calendar_by, contents};
-ghost use Rattle.ixdtf_c.specs.Turns.{HandsOver, InTurn};
+ghost use Rattle.ixdtf_c.specs.Narrow.{annotation_by, calendar_by, contents, SameButError};
+ghost use Rattle.ixdtf_c.specs.Turns.{HandsOver, InTurn, StandsAs};
 
 use crate::exports::{ixdtf_parse_with_annotations, ixdtf_reply};
 use crate::narrow::{Annotation, Calendar, Record};
@@ -88,8 +90,8 @@ fn units_of<'a>(calendar: &Calendar<'a>) -> &'a [u8]
 
 /// Reads as [`ixdtf_parse_with_annotations`] does, asks the handler about each annotation, hands each of its replies to
 /// [`ixdtf_reply`], and stops at the first that is refused. With room for all annotations this is the library's
-/// `parse_with_annotation_handler`. Where a reply is refused, `place` of the record stays that of the reader, and is not the
-/// reply's.
+/// `parse_with_annotation_handler`. After a refusal the record is as it was, but for the location and the place. The place is
+/// that of the reader: where a reply is refused, it is not the reply's.
 pub fn parse_in_turn<'a, F>(
     text: &'a [u8],
     annotations: &mut [Annotation<'a>],
@@ -100,10 +102,14 @@ pub fn parse_in_turn<'a, F>(
 where
     F: FnMut(records::Annotation<'a, Utf8>) -> Option<records::Annotation<'a, Utf8>>,
     requires callable { F.IsAlwaysCallable handler }
-    ensures handled { count.new ≤ length annotations.old → (outcome : Result Parsed FaultAt)
+    ensures handled { count.new ≤ length annotations.old → (listed outcome : Result Parsed FaultAt)
+        × Lists annotation_by Crate parse (map byte_letter text.now) annotations.old annotations.new count.new listed
         × Handled (λ unit. unit) F.step handler parse (map byte_letter text.now) (unplaced outcome)
-        × (before : Contents) × Gives (λ found. found) outcome result before (contents out.new) }
+        × StandsAs listed outcome
+        × Gives (λ found. found) outcome result (contents out.old) (contents out.new) }
+    ensures unchanged { result ≢ 0 → SameButError out.old out.new }
 {
+    let before = *out;
     let read = ixdtf_parse_with_annotations(text, annotations, count, out);
     if *count > annotations.len() {
         return read;
@@ -115,7 +121,10 @@ where
     };
     let refused = reply_in_turn(&annotations[..*count], &mut calendar, &mut handler);
     if refused != 0 {
+        let place = out.place;
+        *out = before;
         out.location = &[];
+        out.place = place;
         return refused;
     }
     if read == 0 {

@@ -6,6 +6,7 @@
 //!   duration is 0 only where no other reader of dates, times and durations has the text.
 //! - `lists`: they are those of what the text gives where its annotations are passed over; these are counted, and the first of
 //!   them are written.
+//! - `few`: five times the number of the annotations is at most the length of the text, so a room of a fifth of its length is enough.
 //! - `unchanged`: after a refusal what `out` refers to is as it was, its slices too, but for the location and the place.
 
 use crate::durations::{Duration, duration_into};

@@ -65,7 +65,8 @@ before_few kind (of_zone zone_name_start) pairs before rest p = absurd p
 before_few kind (of_clock Time line) pairs before rest p = none_few pairs before p.1
 before_few kind name pairs before rest p = none_few pairs before p.1
 
-fault_few : (kind : CoreKind) (text : Text) (pairs : List Pair) (fault : Fault) → HasFault (bracketed kind) text pairs fault → 5 * length pairs ≤ length text
+-- the pairs before a fault of the text
+pub fault_few : (kind : CoreKind) (text : Text) (pairs : List Pair) (fault : Fault) → HasFault (bracketed kind) text pairs fault → 5 * length pairs ≤ length text
 fault_few kind text pairs fault (row, (before, rest, is, stands, here), has) =
     rw is (front_few before rest _ (before_few kind row.name pairs before rest stands))
 
@@ -74,7 +75,7 @@ pub derived_few : (kind : CoreKind) (text : Text) (found : Found) (pairs : List 
 derived_few kind text found pairs (as_parsed whole) = let tail = whole.is_tail in
     rw (whole.is, tail.2) (part_few whole.cores _ _ (part_few tail.0 tail.1 _ (are_few tail.1 pairs tail.4)))
 
--- the pairs before a fault
+-- the pairs before a fault of the text or of a reply
 pub gives_few : (kind : CoreKind) (text : Text) (pairs : List Pair) (replies : List Reply) (fault : Fault)
     → GivesFault (bracketed kind) text pairs replies fault → 5 * length pairs ≤ length text
 gives_few kind text pairs replies fault (inl ((front, rest, is, read, whole), last)) = rw is (front_few front rest _ (derived_few kind front _ pairs whole))
