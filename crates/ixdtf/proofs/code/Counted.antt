@@ -1,9 +1,9 @@
 -- What a chain of calls beside a count is: the chain alone, and what its replies cost.
-use Rattle.std.proofs.Common.{◌≡◌, ℕ, ◌+◌, ◌-◌, ◌*◌, ◌≤◌, List, [], ◌∷◌, length, map, Option, None, Some, option_map, Result, Ok, Err, refl, ap, arith}
+use Rattle.std.proofs.Common.{◌≡◌, ℕ, ◌+◌, ◌*◌, ◌≤◌, List, [], ◌∷◌, Option, None, Some, option_map, Result, ap, arith}
 use Rattle.std.proofs.lemmas.List.{length-map}
 use Rattle.ixdtf_grammar.specs.{declared.records.Annotation.Annotation, language.{Letters.Text, Languages.Parsed, Readers.Reader}}
 use Rattle.ixdtf_grammar.specs.Handlers.{Reply, value_units, pair_of, Calls, replies_of, Step, IsChain}
-use Rattle.ixdtf_reading.specs.{declared.stop.StopAt.StopAt, reading.{Chains.{Counting, reply_units, TextRead, TextReadTo}, Looks.Placed}}
+use Rattle.ixdtf_reading.specs.{reading.{Chains.{Counting, reply_units, TextRead}, Looks.Placed}}
 use Rattle.ixdtf_reading.proofs.theorems.Handled.{OwnReplies}
 
 -- the code units of the value of one more reply

@@ -12,11 +12,11 @@ ghost use Rattle.ixdtf_grammar.specs.Views.{parsed_of};
 ghost use Rattle.ixdtf_grammar.specs.Promises.{HandlesText, HandlesTextAt};
 ghost use Rattle.ixdtf.specs.Readings.{HandlesTextTo};
 
+use crate::parsers::replies::keep_first_calendar;
 use crate::parsers::{CoreReader, DateTimes, FromStop, IxdtfParser, MonthDays, Times, YearMonths};
 use crate::{LocatedError, ParseError, ParserResult};
 use ixdtf_grammar::encoding::EncodingType;
 use ixdtf_grammar::records::{Annotation, IxdtfParseRecord};
-use crate::parsers::replies::keep_first_calendar;
 use ixdtf_reading::stop::{Stop, error_of_stop};
 
 impl<'a, T: EncodingType> IxdtfParser<'a, T> {

@@ -2,11 +2,11 @@
 
 //! The forms of [`IxdtfParser`] with a handler.
 
+use crate::parsers::replies::keep_first_calendar;
 use crate::parsers::{CoreReader, DateTimes, FromStop, IxdtfParser, MonthDays, Times, YearMonths};
 use crate::{LocatedError, ParseError, ParserResult};
 use crate::encoding::EncodingType;
 use crate::records::{Annotation, IxdtfParseRecord};
-use crate::parsers::replies::keep_first_calendar;
 use crate::stop::{Stop, error_of_stop};
 
 impl<'a, T: EncodingType> IxdtfParser<'a, T> {

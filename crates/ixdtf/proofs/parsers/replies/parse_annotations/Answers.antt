@@ -1,5 +1,5 @@
 use Rattle.ixdtf.proofs.parsers.replies.parse_annotations.Goals as goal
-use Rattle.std.proofs.Common.{◌≡◌, ◌+◌, ◌-◌, ◌*◌, [], ◌∷◌, map, length, Option, Some, None, option_map, IfSome, refl, sym, subst, arith, rules, of_calls}
+use Rattle.std.proofs.Common.{◌≡◌, ◌+◌, ◌-◌, ◌*◌, [], ◌∷◌, map, length, Option, Some, None, option_map, IfSome, refl, subst, arith, rules, of_calls}
 use Rattle.std.proofs.lemmas.Result.{err_from_is_err_and}
 use Rattle.ixdtf_grammar.specs.Handlers.{pair_of}
 use Rattle.ixdtf_reading.specs.reading.Chains.{first_pairs, reply_units}
