@@ -2,3 +2,5 @@
 pub mod DisplayedText
 pub mod PrintableRecords
 pub mod ReadBack
+pub mod ShortCores
+pub mod ShortErrors

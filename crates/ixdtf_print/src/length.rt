@@ -14,6 +14,10 @@ use ixdtf::records::{
     UtcOffsetRecord, UtcOffsetRecordOrZ,
 };
 
+/// At least as many bytes as a canonical text has besides the name of its zone and its calendar: 543 of the date, the time and the
+/// offset, 9 of the bracket of a zone, and 7 of that of a calendar.
+const MOST_BESIDES_NAMES: usize = 560;
+
 /// How many bytes the fraction has, with its point.
 fn fraction_length(fraction: Option<Fraction>) -> u16
     ensures length { result ≡ length (fraction_text fraction) }
@@ -123,18 +127,18 @@ pub fn length_of(parsed: &IxdtfParseRecord<'_, Utf8>) -> u128
     u128::from(core_length(parsed)) + bracket_length(&parsed.tz) + calendar_length(parsed.calendar)
 }
 
-/// Whether so many bytes are plenty for the canonical text, as they are where they are more than 560 and each name takes less
-/// than half of the others. It is true only where the text fits, and saves a count of each part.
+/// Whether so many bytes are plenty for the canonical text of a record that has one, as they are where they are at least
+/// `MOST_BESIDES_NAMES`, and the zone and the calendar take at most half of the others each. It is true only where the text fits,
+/// and saves a count of each part.
 #[inline(always)]
 pub fn has_plenty(parsed: &IxdtfParseRecord<'_, Utf8>, room: usize) -> bool
+    requires { IsPrintable (record_of parsed.now) }
     ensures { IsTrue result → length (canonical_text (record_of parsed.now)) ≤ room }
 {
-    // Its bound alone is used: a compiler leaves the count out.
-    let _core = core_length(parsed);
-    if room < 560 {
+    if room < MOST_BESIDES_NAMES {
         return false;
     }
-    let half = (room - 560) / 2;
+    let half = (room - MOST_BESIDES_NAMES) / 2;
     is_short_bracket(&parsed.tz, half) && is_short_calendar(parsed.calendar, half)
 }
 

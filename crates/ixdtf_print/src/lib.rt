@@ -16,6 +16,7 @@ mod error;
 mod fields;
 mod laws;
 mod length;
+mod message;
 mod put;
 
 pub use canonical::Canonical;
@@ -30,6 +31,8 @@ use length::has_plenty;
 #[doc(hidden)]
 pub use length::length_of;
 pub use length::printed_length;
+#[doc(hidden)]
+pub use message::error_parts;
 
 /// Writes the canonical text of the record into the front of the slice, and returns how many bytes these are.
 ///

@@ -115,5 +115,5 @@ pub fn put_fraction(out: &mut [u8], at: usize, fraction: Option<Fraction>) -> us
     if count <= 18 {
         return zeros;
     }
-    put_digits(out, zeros, count.saturating_sub(18), 0)
+    put_digits(out, zeros, count - 18, 0)
 }

@@ -10,6 +10,7 @@ mod digits;
 mod error;
 mod fields;
 mod length;
+mod message;
 mod put;
 
 pub use canonical::Canonical;
@@ -23,6 +24,8 @@ use length::has_plenty;
 #[doc(hidden)]
 pub use length::length_of;
 pub use length::printed_length;
+#[doc(hidden)]
+pub use message::error_parts;
 
 /// Writes the canonical text of the record into the front of the slice, and returns how many bytes these are.
 ///

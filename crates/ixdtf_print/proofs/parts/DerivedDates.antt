@@ -28,7 +28,7 @@ first_digits (suc k) (suc n) text h d = rw d.2 (d.0, take k d.1, refl, d.3, firs
 
 -- ---- dates
 
-year_most : (year : ℤ) → length (year_text year) ≤ 7
+pub year_most : (year : ℤ) → length (year_text year) ≤ 7
 unfolding year_text
 year_most (pos n) = grind (arith, nat_tests)
 year_most (negsuc n) = omega arith

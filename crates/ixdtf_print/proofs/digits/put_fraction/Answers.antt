@@ -14,7 +14,7 @@ put_digits-requires c =
     let room = rw (c.in-Some.is, fraction_is c.in-Some.fraction) at c.requires in
     let count = c.from-count.ensures ∙ c.digit_count.ensures.count in
     let places = c.min.ensures ∙ ap (λ n. min n 18) count in
-    let more = c.saturating_sub.ensures ∙ ap (λ n. n - 18) count in
+    let more = ap (λ n. n - 18) count in
     let value = rw (places, c.leading_value.ensures.value) at c.put_digits-zeros.ensures in
     rw more (room_then value (room_then c.put_byte-value.ensures room))
 
@@ -23,7 +23,7 @@ returns c =
     let room = rw (c.in-Some.is, fraction_is c.in-Some.fraction) at c.requires in
     let count = c.from-count.ensures ∙ c.digit_count.ensures.count in
     let places = c.min.ensures ∙ ap (λ n. min n 18) count in
-    let more = c.saturating_sub.ensures ∙ ap (λ n. n - 18) count in
+    let more = ap (λ n. n - 18) count in
     let value = rw (places, c.leading_value.ensures.value) at c.put_digits-zeros.ensures in
     let zeros = rw more at c.put_digits.ensures in
     rw (c.in-Some.is, fraction_is c.in-Some.fraction) (puts_then room c.put_byte-value.ensures
