@@ -1,9 +1,10 @@
 -- What answering puts.
-use Rattle.std.proofs.Common.{◌≡◌, ℕ, Bool, List, [], ◌∷◌, ◌++◌, Option, Some, None, Result, codes, inl, inr, refl, ap, append_assoc}
+use Rattle.std.proofs.Common.{◌≡◌, ℕ, ◌≤◌, length, Bool, List, [], ◌∷◌, ◌++◌, Option, Some, None, Result, codes, inl, inr, refl, ap, append_assoc}
 use Rattle.std.proofs.lemmas.List.{append-nil}
-use Rattle.ixdtf.specs.{table.Faults.Fault, language.{Languages.{Parsed, Found}, Brackets.ZoneNote, ZoneNames.{Zone, Zone.{Name, Offset}}}}
+use Rattle.ixdtf.specs.{table.{ErrorTexts.message_of, Faults.Fault}, language.{Languages.{Parsed, Found}, Brackets.ZoneNote, ZoneNames.{Zone, Zone.{Name, Offset}}}}
 use Rattle.ixdtf_buffers.specs.declared.{error.RunError.RunError, output.Output.Output}
 use Rattle.ixdtf_buffers.specs.{Lines.newline, Output.Puts}
+use Rattle.ixdtf_print.proofs.theorems.ShortErrors.{message_short}
 use Rattle.ixdtf_answers.specs.{Answer.{Gives, Refuses, letters, ok_answer_of, error_answer_of}}
 use Rattle.ixdtf_answers.specs.{Word.{reader_of}, declared.word.Word.Word, Parts.{PutsOutcome, zone_front_of, zone_name_of, zone_field_front_of, zone_field_name_of}}
 use Rattle.ixdtf_answers.specs.Fields.{zone_text_of, zone_field_of, date_field_of, time_field_of, offset_field_of, calendar_field_of, record_fields_of}
@@ -18,6 +19,10 @@ module _ {W : Type 0} {contents : W → Option (List ℕ)} {x y : Output W} {r :
   pub puts_refused : (word : Word) (text : List ℕ) (fault : Fault) → Refuses (reader_of word) (letters text) fault
       → Puts contents x y r (error_answer_of fault ++ newline ∷ []) → PutsOutcome contents x y r word text
   puts_refused word text fault refused puts = record { answer = error_answer_of fault; is = inr (fault, refused, refl); puts = puts }
+
+-- what is written of an error that the word's reader returns
+pub refused_short : (word : Word) (text : List ℕ) (fault : Fault) → Refuses (reader_of word) (letters text) fault → length (message_of fault) ≤ 69
+refused_short word text fault refused = message_short (reader_of word) (letters text) fault refused
 
 module _ {W : Type 0} {contents : W → Option (List ℕ)} {x y : Output W} {r : Result (Unit {0}) RunError} where
   -- the same bytes were put

@@ -1,21 +1,14 @@
 -- A record that was read from a line is printed into the array of an answer.
-use Rattle.std.proofs.{Common.{◌≡◌, ◌<◌, ◌≤◌, ◌+◌, ◌↔◌, ◌∙◌, ℕ, List, [], ◌∷◌, length, map, Result, Err, refl, sym, ap, arith}, lemmas.List.length-map}
+use Rattle.std.proofs.{Common.{◌≡◌, ◌≤◌, ◌+◌, ◌∙◌, ℕ, List, [], ◌∷◌, length, map, refl, sym, ap, arith}, lemmas.List.length-map}
 use Rattle.ixdtf.specs.{Handlers.UnhandledRecord, language.{Languages.Parsed, Letters.{Text, Letter, byte_letter}, Readers.parse}}
 use Rattle.ixdtf_answers.specs.{Fields.byte_of, Printed.FitsArray}
-use Rattle.ixdtf_print.specs.{Canonical.canonical_text, Printable.IsPrintable, Laws.CanonicalFits, declared.error.PrintError.PrintError}
-use Rattle.ixdtf_print.specs.declared.error.PrintError.TheVariants.{NotPrintable, TooShort}
+use Rattle.ixdtf_print.specs.{Canonical.canonical_text, Laws.CanonicalFits}
 
 pub read_fits : (text : List ℕ) (found : Parsed) → CanonicalFits → UnhandledRecord parse (map byte_letter text) found → length text ≤ 4096 → FitsArray found
 read_fits text found fits given short =
     let spell : ℕ → Letter = λ n. byte_letter n in
     let most : length (canonical_text found) ≤ length (map byte_letter text) + 14 = fits (map byte_letter text) found given in
-    (λ no. no (map byte_letter text, given), omega (arith, most, length-map text spell))
-
--- neither refusal comes
-pub no_refusal : (error : PrintError) (result : Result ℕ PrintError) (found : Parsed) (room : ℕ) → FitsArray found → 4352 ≤ room → result ≡ Err error
-    → (result ≡ Err NotPrintable) ↔ ¬ (IsPrintable found) → (result ≡ Err TooShort) ↔ (IsPrintable found × (room < length (canonical_text found))) → ⊥
-no_refusal NotPrintable result found room fits wide is not_printable too_short = fits.0 (not_printable.0 is)
-no_refusal TooShort result found room fits wide is not_printable too_short = omega (arith, fits.1, (too_short.0 is).1)
+    omega (arith, most, length-map text spell)
 
 -- the bytes of a text that bytes spell
 pub spelled_bytes : (bytes : List ℕ) (text : Text) → map byte_letter bytes ≡ text → map byte_of text ≡ bytes

@@ -178,8 +178,8 @@ fn answer_canonical<W: Write>(output: &mut Output<'_, W>, text: &[u8]) -> Result
     ensures { PutsOutcome W.contents output.old output.new result Word.Canonical text.now }
 {
     canonical_fits();
-    let outcome = IxdtfParser::from_utf8(text).parse();
-    match &outcome {
+    let read = IxdtfParser::from_utf8(text).parse();
+    match &read {
         Ok(parts) => put_canonical(output, parts),
         Err(error) => put_error(output, *error),
     }

@@ -1,9 +1,10 @@
 //! What is put for what a reader found, or for why it refuses a text.
-ghost use Rattle.std.specs.Prelude.{◌≡◌, ◌+◌, ◌≤◌, false, [], ◌∷◌, ◌++◌, codes, option_map, take};
+ghost use Rattle.std.specs.Prelude.{◌≡◌, ◌+◌, ◌<◌, ◌≤◌, ◌^◌, false, [], ◌∷◌, ◌++◌, codes, length, option_map, take};
 ghost use Rattle.ixdtf.specs.Views.{parsed_of, note_of, zone_of};
 ghost use Rattle.ixdtf.specs.language.Languages.Found.{parsed};
 ghost use Rattle.ixdtf.specs.table.ErrorTexts.{message_of};
 ghost use Rattle.ixdtf.specs.table.Faults.{fault_of};
+ghost use Rattle.ixdtf_print.specs.Canonical.{canonical_text};
 ghost use Rattle.ixdtf_print.specs.Printable.{record_of};
 ghost use Rattle.ixdtf_buffers.specs.Adding.{Adds};
 ghost use Rattle.ixdtf_answers.specs.Answer.{error_answer_of};
@@ -26,14 +27,11 @@ use ixdtf::records::{
 use ixdtf_buffers::adding::{ROOM, add_byte, add_bytes};
 use ixdtf_buffers::error::RunError;
 use ixdtf_buffers::output::Output;
-use ixdtf_print::print;
+use ixdtf_print::{error_parts, length_of, print_with_room};
 use std::io::Write;
 
 /// At least as many bytes as the canonical text of a record that was read from a line has.
 const MOST_BYTES: usize = 4352;
-
-/// At least as many bytes as each part of the text of an error has.
-const MOST_OF_A_PART: usize = 80;
 
 /// As many bytes as the canonical text of a record without a long name has.
 const USUAL_BYTES: usize = 256;
@@ -173,7 +171,7 @@ pub fn put_duration<W: Write>(
 
 /// Puts the canonical text of the record.
 ///
-/// Nearly all texts are short. A short array is tried first, since each array is cleared before it is written.
+/// Nearly all texts are short, and are printed into a short array, since each array is cleared before it is written.
 pub fn put_canonical<W: Write>(
     output: &mut Output<'_, W>,
     parts: &IxdtfParseRecord<'_, Utf8>,
@@ -182,11 +180,10 @@ pub fn put_canonical<W: Write>(
     ensures { Puts W.contents output.old output.new result
         (codes "ok" ++ canonical_field_of (parsed (record_of parts.now)) ++ newline ∷ []) }
 {
-    let mut text = [0; USUAL_BYTES];
-    match print(parts, &mut text) {
-        Ok(count) => output.put_all(&[b"ok ".as_slice(), &text[..count], b"\n".as_slice()]),
-        Err(_) => put_long_canonical(output, parts),
+    if length_of(parts) > USUAL_BYTES as u128 {
+        return put_long_canonical(output, parts);
     }
+    put_printed::<W, USUAL_BYTES>(output, parts)
 }
 
 /// Puts the canonical text of a record with a long name.
@@ -200,58 +197,38 @@ fn put_long_canonical<W: Write>(
     ensures { Puts W.contents output.old output.new result
         (codes "ok" ++ canonical_field_of (parsed (record_of parts.now)) ++ newline ∷ []) }
 {
-    let mut text = [0; MOST_BYTES];
-    match print(parts, &mut text) {
-        Ok(count) => output.put_all(&[b"ok ".as_slice(), &text[..count], b"\n".as_slice()]),
-        Err(_) => unreachable!(),
-    }
+    put_printed::<W, MOST_BYTES>(output, parts)
+}
+
+/// Puts the canonical text of the record, which is printed into an array of so many bytes.
+fn put_printed<W: Write, const MOST: usize>(
+    output: &mut Output<'_, W>,
+    parts: &IxdtfParseRecord<'_, Utf8>,
+) -> Result<(), RunError>
+    requires fits { length (canonical_text (record_of parts.now)) ≤ MOST }
+    requires array { MOST < 2 ^ 63 }
+    ensures { Puts W.contents output.old output.new result
+        (codes "ok" ++ canonical_field_of (parsed (record_of parts.now)) ++ newline ∷ []) }
+{
+    let mut text = [0; MOST];
+    let count = print_with_room(parts, &mut text);
+    output.put_all(&[b"ok ".as_slice(), &text[..count], b"\n".as_slice()])
 }
 
 /// Puts the answer to a text that is refused, and a newline.
 ///
-/// Each text of an error is short, so that the answer is made in an array and put at once.
+/// Each text of an error that a reader returns is short, so that the answer is made in an array and put at once.
 #[inline(never)]
 pub fn put_error<W: Write>(output: &mut Output<'_, W>, error: ParseError) -> Result<(), RunError>
+    requires { length (message_of (fault_of error)) ≤ 69 }
     ensures { Puts W.contents output.old output.new result
         (error_answer_of (fault_of error) ++ newline ∷ []) }
 {
     let (text, location) = error_parts(error);
-    if text.len() > MOST_OF_A_PART || location.len() > MOST_OF_A_PART {
-        return put_long_error(output, text, location);
-    }
     let mut room = [0; ROOM];
     let first = add_bytes(&mut room, 0, b"error ");
     let second = add_bytes(&mut room, first, text.as_bytes());
     let newline = add_bytes(&mut room, second, location.as_bytes());
     let end = add_byte(&mut room, newline, b'\n');
     output.put(&room[..end])
-}
-
-/// Puts the answer of an error with a long text.
-#[cold]
-#[inline(never)]
-fn put_long_error<W: Write>(
-    output: &mut Output<'_, W>,
-    text: &'static str,
-    location: &'static str,
-) -> Result<(), RunError>
-    ensures { Puts W.contents output.old output.new result
-        (codes "error " ++ ((text.now ++ location.now) ++ newline ∷ [])) }
-{
-    output.put_all(&[
-        b"error ".as_slice(),
-        text.as_bytes(),
-        location.as_bytes(),
-        b"\n".as_slice(),
-    ])
-}
-
-/// The two parts of what Display writes.
-fn error_parts(error: ParseError) -> (&'static str, &'static str)
-    ensures { message_of (fault_of error) ≡ result.0.now ++ result.1.now }
-{
-    match error {
-        ParseError::AbruptEnd { location } => ("Parsing ended abruptly while parsing ", location),
-        _ => (error.to_static_string(), ""),
-    }
 }

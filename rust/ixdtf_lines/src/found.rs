@@ -148,8 +148,8 @@ fn answer_strict_duration<W: Write>(output: &mut Output<'_, W>, text: &[u8]) -> 
 /// Puts the answer of `canonical`.
 #[inline(never)]
 fn answer_canonical<W: Write>(output: &mut Output<'_, W>, text: &[u8]) -> Result<(), RunError> {
-    let outcome = IxdtfParser::from_utf8(text).parse();
-    match &outcome {
+    let read = IxdtfParser::from_utf8(text).parse();
+    match &read {
         Ok(parts) => put_canonical(output, parts),
         Err(error) => put_error(output, *error),
     }
