@@ -156,3 +156,22 @@ fn asks_a_handler_in_turn(rt: HostRuntime) {
         (2, true, 6)
     );
 }
+
+#[test]
+fn leaves_the_record_after_a_refused_reply(rt: HostRuntime) {
+    let mut record = RECORD;
+    let mut slots = [ANNOTATION, ANNOTATION];
+    let mut count = 0;
+    let text = b"2024-03-02[a=b][!c=de]".as_slice();
+    let refused = parse_in_turn(text, &mut slots, &mut count, &mut record, |it| Some(it));
+    assert_eq!(rt; (refused, count), (32, 2));
+    assert_eq!(rt;
+        (
+            record.date.year,
+            record.calendar.len(),
+            record.location.len(),
+            record.place
+        ),
+        (RECORD.date.year, 1, 0, 0)
+    );
+}
