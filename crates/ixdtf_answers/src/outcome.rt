@@ -224,9 +224,9 @@ pub fn put_error<W: Write>(output: &mut Output<'_, W>, error: ParseError) -> Res
     ensures { Puts W.contents output.old output.new result
         (error_answer_of (fault_of error) ++ newline ∷ []) }
 {
-    let (text, location) = error_parts(error);
     let mut room = [0; ROOM];
     let first = add_bytes(&mut room, 0, b"error ");
+    let (text, location) = error_parts(error);
     let second = add_bytes(&mut room, first, text.as_bytes());
     let newline = add_bytes(&mut room, second, location.as_bytes());
     let end = add_byte(&mut room, newline, b'\n');

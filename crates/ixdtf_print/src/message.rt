@@ -9,6 +9,7 @@ use ixdtf::ParseError;
 /// where it makes a line, without the way of Display.
 // For crates of this repository, and no part of the interface.
 #[doc(hidden)]
+#[inline(always)]
 pub fn error_parts(error: ParseError) -> (&'static str, &'static str)
     ensures { result.0.now ++ result.1.now ≡ message_of (fault_of error) }
 {

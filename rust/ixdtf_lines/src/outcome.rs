@@ -167,9 +167,9 @@ fn put_printed<W: Write, const MOST: usize>(
 /// Each text of an error that a reader returns is short, so that the answer is made in an array and put at once.
 #[inline(never)]
 pub fn put_error<W: Write>(output: &mut Output<'_, W>, error: ParseError) -> Result<(), RunError> {
-    let (text, location) = error_parts(error);
     let mut room = [0; ROOM];
     let first = add_bytes(&mut room, 0, b"error ");
+    let (text, location) = error_parts(error);
     let second = add_bytes(&mut room, first, text.as_bytes());
     let newline = add_bytes(&mut room, second, location.as_bytes());
     let end = add_byte(&mut room, newline, b'\n');

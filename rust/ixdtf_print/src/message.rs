@@ -8,6 +8,7 @@ use ixdtf::ParseError;
 /// where it makes a line, without the way of Display.
 // For crates of this repository, and no part of the interface.
 #[doc(hidden)]
+#[inline(always)]
 pub fn error_parts(error: ParseError) -> (&'static str, &'static str) {
     match error {
         ParseError::AbruptEnd { location } => ("Parsing ended abruptly while parsing ", location),
