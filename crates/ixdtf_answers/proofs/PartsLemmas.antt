@@ -9,24 +9,24 @@ use Rattle.ixdtf_answers.specs.{Answer.{Gives, Refuses, letters, ok_answer_of, e
 use Rattle.ixdtf_answers.specs.{Word.{reader_of}, declared.word.Word.Word, Parts.{PutsOutcome, zone_front_of, zone_name_of, zone_field_front_of, zone_field_name_of}}
 use Rattle.ixdtf_answers.specs.Fields.{zone_text_of, zone_field_of, date_field_of, time_field_of, offset_field_of, calendar_field_of, record_fields_of}
 
-module _ {W : Type 0} {contents : W → Option (List ℕ)} {x y : Output W} {r : Result (Unit {0}) RunError} where
+module _ {K : Type 0} {contents : K → Option (List ℕ)} {failed : K → Type 0} {x y : Output K} {r : Result (Unit {0}) RunError} where
   -- the answer to a text that is read
   pub puts_found : (word : Word) (text : List ℕ) (found : Found) → Gives (reader_of word) (letters text) found
-      → Puts contents x y r (ok_answer_of word found ++ newline ∷ []) → PutsOutcome contents x y r word text
+      → Puts contents failed x y r (ok_answer_of word found ++ newline ∷ []) → PutsOutcome contents failed x y r word text
   puts_found word text found given puts = record { answer = ok_answer_of word found; is = inl (found, given, refl); puts = puts }
 
   -- the answer to a text that is refused
   pub puts_refused : (word : Word) (text : List ℕ) (fault : Fault) → Refuses (reader_of word) (letters text) fault
-      → Puts contents x y r (error_answer_of fault ++ newline ∷ []) → PutsOutcome contents x y r word text
+      → Puts contents failed x y r (error_answer_of fault ++ newline ∷ []) → PutsOutcome contents failed x y r word text
   puts_refused word text fault refused puts = record { answer = error_answer_of fault; is = inr (fault, refused, refl); puts = puts }
 
 -- what is written of an error that the word's reader returns
 pub refused_short : (word : Word) (text : List ℕ) (fault : Fault) → Refuses (reader_of word) (letters text) fault → length (message_of fault) ≤ 69
 refused_short word text fault refused = message_short (reader_of word) (letters text) fault refused
 
-module _ {W : Type 0} {contents : W → Option (List ℕ)} {x y : Output W} {r : Result (Unit {0}) RunError} where
+module _ {K : Type 0} {contents : K → Option (List ℕ)} {failed : K → Type 0} {x y : Output K} {r : Result (Unit {0}) RunError} where
   -- the same bytes were put
-  pub puts_same : {xs ys : List ℕ} → xs ≡ ys → Puts contents x y r xs → Puts contents x y r ys
+  pub puts_same : {xs ys : List ℕ} → xs ≡ ys → Puts contents failed x y r xs → Puts contents failed x y r ys
   puts_same e puts = rw (← e) puts
 
 -- a zone is what stands before its name, and its name

@@ -2,6 +2,5 @@ pub mod Answer
 pub mod Fields
 pub mod Parts
 pub mod Printed
-pub mod Progress
 pub mod Run
 pub mod Word

@@ -6,16 +6,16 @@ use Rattle.ixdtf.specs.language.{Brackets.ZoneNote, ZoneNames.{Zone, Zone.{Name,
 use Rattle.ixdtf_answers.specs.{Answer.{IsAnswer, IsOutcome}, Fields.{minute_offset_text_of, zone_label_of}, declared.word.Word.Word}
 
 -- the answer of the word's reader to the text, and a newline, were put
-pub record PutsOutcome {W : Type 0} (contents : W → Option (List ℕ)) (before after : Output W) (result : Result (Unit {0}) RunError) (word : Word) (text : List ℕ) : Type 0 where
+pub record PutsOutcome {K : Type 0} (contents : K → Option (List ℕ)) (failed : K → Type 0) (before after : Output K) (result : Result (Unit {0}) RunError) (word : Word) (text : List ℕ) : Type 0 where
   pub answer : List ℕ
   pub is : IsOutcome word text answer
-  pub puts : Puts contents before after result (answer ++ newline ∷ [])
+  pub puts : Puts contents failed before after result (answer ++ newline ∷ [])
 
 -- the answer to the line, and a newline, were put
-pub record PutsAnswer {W : Type 0} (contents : W → Option (List ℕ)) (before after : Output W) (result : Result (Unit {0}) RunError) (line : List ℕ) : Type 0 where
+pub record PutsAnswer {K : Type 0} (contents : K → Option (List ℕ)) (failed : K → Type 0) (before after : Output K) (result : Result (Unit {0}) RunError) (line : List ℕ) : Type 0 where
   pub answer : List ℕ
   pub is : IsAnswer line answer
-  pub puts : Puts contents before after result (answer ++ newline ∷ [])
+  pub puts : Puts contents failed before after result (answer ++ newline ∷ [])
 
 -- what stands before the name of a zone: of a zone without a name all of it
 abbrev pub zone_front_of : Bool → Zone → List ℕ

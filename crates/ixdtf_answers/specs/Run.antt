@@ -3,6 +3,10 @@ use Rattle.std.specs.{Prelude.{◌≡◌, ℕ, List, [], ◌∷◌, ◌++◌, Op
 use Rattle.ixdtf_answers.specs.Answer.{IsAnswer}
 use Rattle.ixdtf_buffers.specs.Lines.{newline}
 
+-- the bytes are the answer to the line, and a newline
+abbrev pub Answers : List ℕ → List ℕ → Type 0
+Answers line bytes = (answer : List ℕ) × IsAnswer line answer × (bytes ≡ answer ++ newline ∷ [])
+
 -- the bytes are the answers to the lines, each with a newline
 abbrev pub AreAnswers : List (List ℕ) → List ℕ → Type 0
 AreAnswers [] bytes = bytes ≡ []

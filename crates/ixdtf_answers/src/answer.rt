@@ -1,51 +1,47 @@
 //! The answer to a line.
-ghost use Rattle.std.specs.Prelude.{◌≡◌, ℕ, List, [], ◌∷◌, ◌++◌, ◌≤◌, length};
+ghost use Rattle.std.specs.Prelude.{[], ◌∷◌, ◌++◌, ◌≤◌, length};
 ghost use Rattle.ixdtf_answers.specs.Answer.{too_long, unknown_reader};
 ghost use Rattle.ixdtf_answers.specs.Parts.{PutsAnswer};
-ghost use Rattle.ixdtf_buffers.specs.Line.{Holds};
 ghost use Rattle.ixdtf_buffers.specs.Lines.{newline};
 ghost use Rattle.ixdtf_buffers.specs.Output.{Puts};
 
 use crate::found::answer_text;
 use crate::word::Word;
+use ixdtf_buffers::driver::LineTask;
 use ixdtf_buffers::error::RunError;
-use ixdtf_buffers::line::Line;
 use ixdtf_buffers::output::Output;
 use ixdtf_buffers::place::place_of;
-use std::io::Write;
+use ixdtf_buffers::sink::Sink;
 
 /// The longest line that is read, in bytes.
 pub const LINE_LIMIT: usize = 4096;
 
-/// Puts the answer to the line, and a newline.
-pub fn answer_line<W: Write>(
-    output: &mut Output<'_, W>,
-    line: &Line<LINE_LIMIT>,
-) -> Result<(), RunError>
-    ensures same { output.new.writer.ghost_name ≡ output.old.writer.ghost_name }
-    ensures answers { (text : List ℕ) → Holds line.now text
-        → PutsAnswer W.contents output.old output.new result text }
-{
-    match line.as_slice() {
-        None => put_too_long(output),
-        Some(text) => answer_short(output, text),
-    }
-}
+/// Answers each line.
+#[derive(Drop)]
+pub struct Answering;
 
-/// Puts the answer to a line that lies whole in what was read, and a newline.
-pub fn answer_whole_line<W: Write>(output: &mut Output<'_, W>, line: &[u8]) -> Result<(), RunError>
-    ensures { PutsAnswer W.contents output.old output.new result line.now }
-{
-    if line.len() > LINE_LIMIT {
-        return put_too_long(output);
+impl LineTask<LINE_LIMIT> for Answering {
+    ghost use Rattle.ixdtf_answers.specs.Run.{Answers};
+
+    ghost step = { λ _ line bytes _. Answers line bytes };
+
+    /// Puts the answer to the line, and a newline.
+    fn take_line<K: Sink>(
+        &mut self,
+        output: &mut Output<'_, K>,
+        line: Option<&[u8]>,
+    ) -> Result<(), RunError> {
+        match line {
+            None => put_too_long(output),
+            Some(line) => answer_short(output, line),
+        }
     }
-    answer_short(output, line)
 }
 
 /// Puts the answer to a line that is not too long.
-fn answer_short<W: Write>(output: &mut Output<'_, W>, line: &[u8]) -> Result<(), RunError>
+fn answer_short<K: Sink>(output: &mut Output<'_, K>, line: &[u8]) -> Result<(), RunError>
     requires { length line.now ≤ 4096 }
-    ensures { PutsAnswer W.contents output.old output.new result line.now }
+    ensures { PutsAnswer K.contents K.failed output.old output.new result line.now }
 {
     let Some(place) = place_of(b' ', line) else {
         return put_no_such_reader(output);
@@ -57,15 +53,15 @@ fn answer_short<W: Write>(output: &mut Output<'_, W>, line: &[u8]) -> Result<(),
 }
 
 /// Puts the answer to a line that is too long to be read.
-fn put_too_long<W: Write>(output: &mut Output<'_, W>) -> Result<(), RunError>
-    ensures { Puts W.contents output.old output.new result (too_long ++ newline ∷ []) }
+fn put_too_long<K: Sink>(output: &mut Output<'_, K>) -> Result<(), RunError>
+    ensures { Puts K.contents K.failed output.old output.new result (too_long ++ newline ∷ []) }
 {
     output.put(b"error line too long\n")
 }
 
 /// Puts the answer to a line that names no reader.
-fn put_no_such_reader<W: Write>(output: &mut Output<'_, W>) -> Result<(), RunError>
-    ensures { Puts W.contents output.old output.new result (unknown_reader ++ newline ∷ []) }
+fn put_no_such_reader<K: Sink>(output: &mut Output<'_, K>) -> Result<(), RunError>
+    ensures { Puts K.contents K.failed output.old output.new result (unknown_reader ++ newline ∷ []) }
 {
     output.put(b"error unknown reader\n")
 }

@@ -12,17 +12,17 @@ use ixdtf::parsers::{IsoDurationParser, IxdtfParser, Profile, TimeZoneParser};
 use ixdtf::records::TimeZoneRecord;
 use ixdtf_buffers::error::RunError;
 use ixdtf_buffers::output::Output;
+use ixdtf_buffers::sink::Sink;
 use ixdtf_print::canonical_fits;
-use std::io::Write;
 
 /// Puts the answer to the text by the reader that the word names.
-pub fn answer_text<W: Write>(
-    output: &mut Output<'_, W>,
+pub fn answer_text<K: Sink>(
+    output: &mut Output<'_, K>,
     word: Word,
     text: &[u8],
 ) -> Result<(), RunError>
     requires { length text.now ≤ 4096 }
-    ensures { PutsOutcome W.contents output.old output.new result word text.now }
+    ensures { PutsOutcome K.contents K.failed output.old output.new result word text.now }
 {
     match word {
         Word::Parse => answer_parse(output, text),
@@ -42,8 +42,8 @@ pub fn answer_text<W: Write>(
 
 /// Puts the answer of `parse`.
 #[inline(never)]
-fn answer_parse<W: Write>(output: &mut Output<'_, W>, text: &[u8]) -> Result<(), RunError>
-    ensures { PutsOutcome W.contents output.old output.new result Word.Parse text.now }
+fn answer_parse<K: Sink>(output: &mut Output<'_, K>, text: &[u8]) -> Result<(), RunError>
+    ensures { PutsOutcome K.contents K.failed output.old output.new result Word.Parse text.now }
 {
     let outcome = IxdtfParser::from_utf8(text).parse();
     match &outcome {
@@ -54,8 +54,8 @@ fn answer_parse<W: Write>(output: &mut Output<'_, W>, text: &[u8]) -> Result<(),
 
 /// Puts the answer of `year-month`.
 #[inline(never)]
-fn answer_year_month<W: Write>(output: &mut Output<'_, W>, text: &[u8]) -> Result<(), RunError>
-    ensures { PutsOutcome W.contents output.old output.new result Word.YearMonth text.now }
+fn answer_year_month<K: Sink>(output: &mut Output<'_, K>, text: &[u8]) -> Result<(), RunError>
+    ensures { PutsOutcome K.contents K.failed output.old output.new result Word.YearMonth text.now }
 {
     let outcome = IxdtfParser::from_utf8(text).parse_year_month();
     match &outcome {
@@ -66,8 +66,8 @@ fn answer_year_month<W: Write>(output: &mut Output<'_, W>, text: &[u8]) -> Resul
 
 /// Puts the answer of `month-day`.
 #[inline(never)]
-fn answer_month_day<W: Write>(output: &mut Output<'_, W>, text: &[u8]) -> Result<(), RunError>
-    ensures { PutsOutcome W.contents output.old output.new result Word.MonthDay text.now }
+fn answer_month_day<K: Sink>(output: &mut Output<'_, K>, text: &[u8]) -> Result<(), RunError>
+    ensures { PutsOutcome K.contents K.failed output.old output.new result Word.MonthDay text.now }
 {
     let outcome = IxdtfParser::from_utf8(text).parse_month_day();
     match &outcome {
@@ -78,8 +78,8 @@ fn answer_month_day<W: Write>(output: &mut Output<'_, W>, text: &[u8]) -> Result
 
 /// Puts the answer of `time`.
 #[inline(never)]
-fn answer_time<W: Write>(output: &mut Output<'_, W>, text: &[u8]) -> Result<(), RunError>
-    ensures { PutsOutcome W.contents output.old output.new result Word.Time text.now }
+fn answer_time<K: Sink>(output: &mut Output<'_, K>, text: &[u8]) -> Result<(), RunError>
+    ensures { PutsOutcome K.contents K.failed output.old output.new result Word.Time text.now }
 {
     let outcome = IxdtfParser::from_utf8(text).parse_time();
     match &outcome {
@@ -90,8 +90,8 @@ fn answer_time<W: Write>(output: &mut Output<'_, W>, text: &[u8]) -> Result<(), 
 
 /// Puts the answer of `offset`.
 #[inline(never)]
-fn answer_offset<W: Write>(output: &mut Output<'_, W>, text: &[u8]) -> Result<(), RunError>
-    ensures { PutsOutcome W.contents output.old output.new result Word.Offset text.now }
+fn answer_offset<K: Sink>(output: &mut Output<'_, K>, text: &[u8]) -> Result<(), RunError>
+    ensures { PutsOutcome K.contents K.failed output.old output.new result Word.Offset text.now }
 {
     match TimeZoneParser::from_utf8(text).parse_offset() {
         Ok(offset) => put_offset(output, offset),
@@ -101,8 +101,8 @@ fn answer_offset<W: Write>(output: &mut Output<'_, W>, text: &[u8]) -> Result<()
 
 /// Puts the answer of `zone`.
 #[inline(never)]
-fn answer_zone<W: Write>(output: &mut Output<'_, W>, text: &[u8]) -> Result<(), RunError>
-    ensures { PutsOutcome W.contents output.old output.new result Word.Zone text.now }
+fn answer_zone<K: Sink>(output: &mut Output<'_, K>, text: &[u8]) -> Result<(), RunError>
+    ensures { PutsOutcome K.contents K.failed output.old output.new result Word.Zone text.now }
 {
     let outcome = TimeZoneParser::from_utf8(text).parse_identifier();
     match &outcome {
@@ -113,8 +113,8 @@ fn answer_zone<W: Write>(output: &mut Output<'_, W>, text: &[u8]) -> Result<(), 
 
 /// Puts the answer of `iana`.
 #[inline(never)]
-fn answer_iana<W: Write>(output: &mut Output<'_, W>, text: &[u8]) -> Result<(), RunError>
-    ensures { PutsOutcome W.contents output.old output.new result Word.Iana text.now }
+fn answer_iana<K: Sink>(output: &mut Output<'_, K>, text: &[u8]) -> Result<(), RunError>
+    ensures { PutsOutcome K.contents K.failed output.old output.new result Word.Iana text.now }
 {
     match TimeZoneParser::from_utf8(text).parse_iana_identifier() {
         Ok(name) => put_zone(output, &TimeZoneRecord::Name(name)),
@@ -124,8 +124,8 @@ fn answer_iana<W: Write>(output: &mut Output<'_, W>, text: &[u8]) -> Result<(), 
 
 /// Puts the answer of `duration`.
 #[inline(never)]
-fn answer_duration<W: Write>(output: &mut Output<'_, W>, text: &[u8]) -> Result<(), RunError>
-    ensures { PutsOutcome W.contents output.old output.new result Word.Duration text.now }
+fn answer_duration<K: Sink>(output: &mut Output<'_, K>, text: &[u8]) -> Result<(), RunError>
+    ensures { PutsOutcome K.contents K.failed output.old output.new result Word.Duration text.now }
 {
     match IsoDurationParser::<Utf8>::from_utf8(text).parse() {
         Ok(duration) => put_duration(output, duration),
@@ -135,11 +135,8 @@ fn answer_duration<W: Write>(output: &mut Output<'_, W>, text: &[u8]) -> Result<
 
 /// Puts the answer of `strict-month-day`.
 #[inline(never)]
-fn answer_strict_month_day<W: Write>(
-    output: &mut Output<'_, W>,
-    text: &[u8],
-) -> Result<(), RunError>
-    ensures { PutsOutcome W.contents output.old output.new result Word.StrictMonthDay text.now }
+fn answer_strict_month_day<K: Sink>(output: &mut Output<'_, K>, text: &[u8]) -> Result<(), RunError>
+    ensures { PutsOutcome K.contents K.failed output.old output.new result Word.StrictMonthDay text.now }
 {
     let outcome = strict(text).parse_month_day();
     match &outcome {
@@ -150,8 +147,8 @@ fn answer_strict_month_day<W: Write>(
 
 /// Puts the answer of `strict-time`.
 #[inline(never)]
-fn answer_strict_time<W: Write>(output: &mut Output<'_, W>, text: &[u8]) -> Result<(), RunError>
-    ensures { PutsOutcome W.contents output.old output.new result Word.StrictTime text.now }
+fn answer_strict_time<K: Sink>(output: &mut Output<'_, K>, text: &[u8]) -> Result<(), RunError>
+    ensures { PutsOutcome K.contents K.failed output.old output.new result Word.StrictTime text.now }
 {
     let outcome = strict(text).parse_time();
     match &outcome {
@@ -162,8 +159,8 @@ fn answer_strict_time<W: Write>(output: &mut Output<'_, W>, text: &[u8]) -> Resu
 
 /// Puts the answer of `strict-duration`.
 #[inline(never)]
-fn answer_strict_duration<W: Write>(output: &mut Output<'_, W>, text: &[u8]) -> Result<(), RunError>
-    ensures { PutsOutcome W.contents output.old output.new result Word.StrictDuration text.now }
+fn answer_strict_duration<K: Sink>(output: &mut Output<'_, K>, text: &[u8]) -> Result<(), RunError>
+    ensures { PutsOutcome K.contents K.failed output.old output.new result Word.StrictDuration text.now }
 {
     match strict_duration(text).parse() {
         Ok(duration) => put_duration(output, duration),
@@ -173,9 +170,9 @@ fn answer_strict_duration<W: Write>(output: &mut Output<'_, W>, text: &[u8]) -> 
 
 /// Puts the answer of `canonical`.
 #[inline(never)]
-fn answer_canonical<W: Write>(output: &mut Output<'_, W>, text: &[u8]) -> Result<(), RunError>
+fn answer_canonical<K: Sink>(output: &mut Output<'_, K>, text: &[u8]) -> Result<(), RunError>
     requires { length text.now ≤ 4096 }
-    ensures { PutsOutcome W.contents output.old output.new result Word.Canonical text.now }
+    ensures { PutsOutcome K.contents K.failed output.old output.new result Word.Canonical text.now }
 {
     canonical_fits();
     let read = IxdtfParser::from_utf8(text).parse();

@@ -8,6 +8,7 @@ mod answer;
 pub mod arguments;
 mod fields;
 mod found;
+pub mod laws;
 pub mod number;
 mod outcome;
 pub mod runner;

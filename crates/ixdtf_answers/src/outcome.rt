@@ -27,8 +27,8 @@ use ixdtf::records::{
 use ixdtf_buffers::adding::{ROOM, add_byte, add_bytes};
 use ixdtf_buffers::error::RunError;
 use ixdtf_buffers::output::Output;
+use ixdtf_buffers::sink::Sink;
 use ixdtf_print::{error_parts, length_of, print_with_room};
-use std::io::Write;
 
 /// At least as many bytes as the canonical text of a record that was read from a line has.
 const MOST_BYTES: usize = 4352;
@@ -37,11 +37,11 @@ const MOST_BYTES: usize = 4352;
 const USUAL_BYTES: usize = 256;
 
 /// Puts each field that the record has.
-pub fn put_record<W: Write>(
-    output: &mut Output<'_, W>,
+pub fn put_record<K: Sink>(
+    output: &mut Output<'_, K>,
     parts: &IxdtfParseRecord<'_, Utf8>,
 ) -> Result<(), RunError>
-    ensures { Puts W.contents output.old output.new result
+    ensures { Puts K.contents K.failed output.old output.new result
         (codes "ok" ++ record_fields_of (parsed_of (λ byte. byte) parts.now) ++ newline ∷ []) }
 {
     let mut room = [0; ROOM];
@@ -71,14 +71,14 @@ fn add_record_front(room: &mut [u8; ROOM], parts: &IxdtfParseRecord<'_, Utf8>) -
 }
 
 /// Puts what was added to the front of an answer, a name that goes behind it, and a newline.
-fn put_front_and_name<W: Write>(
-    output: &mut Output<'_, W>,
+fn put_front_and_name<K: Sink>(
+    output: &mut Output<'_, K>,
     room: &mut [u8; ROOM],
     front: usize,
     name: &[u8],
 ) -> Result<(), RunError>
     requires { front + 1 ≤ 192 }
-    ensures { Puts W.contents output.old output.new result
+    ensures { Puts K.contents K.failed output.old output.new result
         (take front room.old ++ (name.now ++ newline ∷ [])) }
 {
     if name.is_empty() {
@@ -91,12 +91,12 @@ fn put_front_and_name<W: Write>(
 }
 
 /// Puts a name, where there is one, a calendar behind it, and a newline.
-fn put_name_and_calendar<W: Write>(
-    output: &mut Output<'_, W>,
+fn put_name_and_calendar<K: Sink>(
+    output: &mut Output<'_, K>,
     name: &[u8],
     calendar: &[u8],
 ) -> Result<(), RunError>
-    ensures { Puts W.contents output.old output.new result
+    ensures { Puts K.contents K.failed output.old output.new result
         (name.now ++ (calendar_text_of calendar.now ++ newline ∷ [])) }
 {
     output.put(name)?;
@@ -126,11 +126,11 @@ fn zone_name<'a>(zone: &TimeZoneRecord<'a, Utf8>) -> &'a [u8]
 }
 
 /// Puts an offset.
-pub fn put_offset<W: Write>(
-    output: &mut Output<'_, W>,
+pub fn put_offset<K: Sink>(
+    output: &mut Output<'_, K>,
     offset: UtcOffsetRecord,
 ) -> Result<(), RunError>
-    ensures { Puts W.contents output.old output.new result
+    ensures { Puts K.contents K.failed output.old output.new result
         (codes "ok" ++ offset_text_of offset ++ newline ∷ []) }
 {
     let mut room = [0; ROOM];
@@ -141,11 +141,11 @@ pub fn put_offset<W: Write>(
 }
 
 /// Puts a zone, which is not critical.
-pub fn put_zone<W: Write>(
-    output: &mut Output<'_, W>,
+pub fn put_zone<K: Sink>(
+    output: &mut Output<'_, K>,
     zone: &TimeZoneRecord<'_, Utf8>,
 ) -> Result<(), RunError>
-    ensures { Puts W.contents output.old output.new result
+    ensures { Puts K.contents K.failed output.old output.new result
         (codes "ok" ++ zone_text_of false (zone_of (λ byte. byte) zone.now) ++ newline ∷ []) }
 {
     let mut room = [0; ROOM];
@@ -155,11 +155,11 @@ pub fn put_zone<W: Write>(
 }
 
 /// Puts a duration.
-pub fn put_duration<W: Write>(
-    output: &mut Output<'_, W>,
+pub fn put_duration<K: Sink>(
+    output: &mut Output<'_, K>,
     duration: DurationParseRecord,
 ) -> Result<(), RunError>
-    ensures { Puts W.contents output.old output.new result
+    ensures { Puts K.contents K.failed output.old output.new result
         (codes "ok" ++ duration_text_of duration ++ newline ∷ []) }
 {
     let mut room = [0; ROOM];
@@ -172,42 +172,42 @@ pub fn put_duration<W: Write>(
 /// Puts the canonical text of the record.
 ///
 /// Nearly all texts are short, and are printed into a short array, since each array is cleared before it is written.
-pub fn put_canonical<W: Write>(
-    output: &mut Output<'_, W>,
+pub fn put_canonical<K: Sink>(
+    output: &mut Output<'_, K>,
     parts: &IxdtfParseRecord<'_, Utf8>,
 ) -> Result<(), RunError>
     requires { FitsArray (parsed_of (λ byte. byte) parts.now) }
-    ensures { Puts W.contents output.old output.new result
+    ensures { Puts K.contents K.failed output.old output.new result
         (codes "ok" ++ canonical_field_of (parsed (record_of parts.now)) ++ newline ∷ []) }
 {
     if length_of(parts) > USUAL_BYTES as u128 {
         return put_long_canonical(output, parts);
     }
-    put_printed::<W, USUAL_BYTES>(output, parts)
+    put_printed::<K, USUAL_BYTES>(output, parts)
 }
 
 /// Puts the canonical text of a record with a long name.
 #[cold]
 #[inline(never)]
-fn put_long_canonical<W: Write>(
-    output: &mut Output<'_, W>,
+fn put_long_canonical<K: Sink>(
+    output: &mut Output<'_, K>,
     parts: &IxdtfParseRecord<'_, Utf8>,
 ) -> Result<(), RunError>
     requires { FitsArray (parsed_of (λ byte. byte) parts.now) }
-    ensures { Puts W.contents output.old output.new result
+    ensures { Puts K.contents K.failed output.old output.new result
         (codes "ok" ++ canonical_field_of (parsed (record_of parts.now)) ++ newline ∷ []) }
 {
-    put_printed::<W, MOST_BYTES>(output, parts)
+    put_printed::<K, MOST_BYTES>(output, parts)
 }
 
 /// Puts the canonical text of the record, which is printed into an array of so many bytes.
-fn put_printed<W: Write, const MOST: usize>(
-    output: &mut Output<'_, W>,
+fn put_printed<K: Sink, const MOST: usize>(
+    output: &mut Output<'_, K>,
     parts: &IxdtfParseRecord<'_, Utf8>,
 ) -> Result<(), RunError>
     requires fits { length (canonical_text (record_of parts.now)) ≤ MOST }
     requires array { MOST < 2 ^ 63 }
-    ensures { Puts W.contents output.old output.new result
+    ensures { Puts K.contents K.failed output.old output.new result
         (codes "ok" ++ canonical_field_of (parsed (record_of parts.now)) ++ newline ∷ []) }
 {
     let mut text = [0; MOST];
@@ -219,9 +219,9 @@ fn put_printed<W: Write, const MOST: usize>(
 ///
 /// Each text of an error that a reader returns is short, so that the answer is made in an array and put at once.
 #[inline(never)]
-pub fn put_error<W: Write>(output: &mut Output<'_, W>, error: ParseError) -> Result<(), RunError>
+pub fn put_error<K: Sink>(output: &mut Output<'_, K>, error: ParseError) -> Result<(), RunError>
     requires { length (message_of (fault_of error)) ≤ 69 }
-    ensures { Puts W.contents output.old output.new result
+    ensures { Puts K.contents K.failed output.old output.new result
         (error_answer_of (fault_of error) ++ newline ∷ []) }
 {
     let mut room = [0; ROOM];

@@ -1,5 +1,5 @@
 -- More bytes at the end of what was split into lines.
-use Rattle.std.proofs.Common.{◌≡◌, ◌≢◌, ◌↔◌, ℕ, suc, ◌+◌, ◌-◌, ◌<◌, Bool, true, false, IsTrue, if◌then◌else◌, ◌==◌, List, [], ◌∷◌, ◌++◌, length, take, drop, get_or}
+use Rattle.std.proofs.Common.{◌≡◌, ◌≢◌, ◌↔◌, ℕ, suc, ◌+◌, ◌-◌, ◌<◌, ◌≤◌, Bool, true, false, IsTrue, if◌then◌else◌, ◌==◌, List, [], ◌∷◌, ◌++◌, length, take, drop, get_or}
 use Rattle.std.proofs.Common.{Some, None, position, cond, nat_lt, refl, sym, ap, ◌∙◌, true≢false, arith, append_assoc}
 use Rattle.std.proofs.lemmas.List.{append-nil, length-take-le, get_or-take, take_all, take_more, length-drop, take-append-drop}
 use Rattle.std.proofs.lemmas.{List.{Quantifiers.position-Some, Sums.fails_before_first}, Option.none-some, Bool.{eqb-true, ltb-false}}
@@ -112,3 +112,21 @@ module _ (bytes : List ℕ) {test : Bool} (tells : IsTrue test ↔ (unended_of b
   pub lines_of-last : test ≡ false → lines_of bytes ≡ ended_lines_of bytes ++ unended_of bytes ∷ []
   lines_of-last is =
       ap (λ (lines : List (List ℕ)). ended_lines_of bytes ++ lines) (nonempty_last (unended_of bytes) (λ none. true≢false (sym (tells.1 none) ∙ is)))
+
+-- there are no more lines than bytes
+pub lines_most : (bytes : List ℕ) → length (lines_of bytes) ≤ length bytes
+unfolding split_of
+lines_most [] = omega arith
+lines_most (byte ∷ bytes) = one (byte == newline) (split_of bytes) (lines_most bytes)
+  where
+    counts : Split → ℕ
+    counts s = length (s.ended ++ last_line_of s.unended)
+
+    one : (test : Bool) (s : Split) → counts s ≤ length bytes → counts (step test byte s) ≤ length (byte ∷ bytes)
+    one true s few = omega (arith, few)
+    one false s few = before s.ended s.unended few
+      where
+        before : (ended : List (List ℕ)) (unended : List ℕ) → length (ended ++ last_line_of unended) ≤ length bytes
+            → counts (before_split byte ended unended) ≤ length (byte ∷ bytes)
+        before [] unended few = omega arith
+        before (line ∷ lines) unended few = omega (arith, few)

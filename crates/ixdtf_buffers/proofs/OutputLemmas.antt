@@ -1,8 +1,8 @@
 -- What calls, one after the other, do to what is written and to what waits.
-use Rattle.std.proofs.Common.{◌≡◌, ℕ, ◌+◌, ◌-◌, ◌<◌, List, [], ◌++◌, length, take, drop, get_or, Option, Some, None, Result, Ok, Err, OnOk, IfSome}
-use Rattle.std.proofs.{Common.{IsErrAnd, Bor, refl, sym, ap, subst, ◌∙◌, append_assoc}, lemmas.Fmt.contents_after_writes}
+use Rattle.std.proofs.Common.{◌≡◌, ℕ, ◌+◌, ◌-◌, ◌<◌, List, [], ◌++◌, length, take, drop, get_or, Option, Result, Ok, Err}
+use Rattle.std.proofs.Common.{IsErrAnd, Bor, refl, sym, ap, subst, ◌∙◌, append_assoc}
 use Rattle.std.proofs.{lemmas.{Grind.flat_map-append, List.{append-nil, take_more, take-append-drop}}, KnownBytes.Appends-trans}
-use Rattle.std.specs.{Fmt.WritesText, Io.KnownBytes.Appends}
+use Rattle.std.specs.Io.KnownBytes.{Appends}
 use Rattle.ixdtf_buffers.proofs.LinesLemmas.{taken_on}
 use Rattle.ixdtf_buffers.specs.{declared.{error.RunError.RunError, output.Output.Output}, Output.{AppendsFront, Writes, Sent, written, Puts, joined}}
 
@@ -40,48 +40,48 @@ Sent-written {taken = taken} appended = record { front = taken; whole = sym (app
 pub AppendsFront-more : {a b : Option (List ℕ)} {xs : List ℕ} (ys : List ℕ) → AppendsFront a b xs → AppendsFront a b (xs ++ ys)
 AppendsFront-more ys p = record { front = p.front; rest = p.rest ++ ys; whole = rw (p.whole, append_assoc) refl; appended = p.appended }
 
-module _ {W : Type 0} {contents : W → Option (List ℕ)} where
+module _ {K : Type 0} {contents : K → Option (List ℕ)} {failed : K → Type 0} where
   -- nothing waits, and the bytes are written past the array
-  pub Puts-through : {x y : Output W} {r : Result (Unit {0}) RunError} {bytes : List ℕ} → y.writer.ghost_name ≡ x.writer.ghost_name → x.waiting ≡ []
-      → y.waiting ≡ [] → Writes (written contents x) (written contents y) r bytes → Puts contents x y r bytes
+  pub Puts-through : {x y : Output K} {r : Result (Unit {0}) RunError} {bytes : List ℕ} → y.sink.ghost_name ≡ x.sink.ghost_name → x.waiting ≡ []
+      → y.waiting ≡ [] → Writes (written contents x) (written contents y) (failed y.sink.now) r bytes → Puts contents failed x y r bytes
   Puts-through {r = Ok t} same none still p = record { same = same; ok = rw (none, still) (Sent-written p.ok); err = tt }
   Puts-through {r = Err e} same none still p = record { same = same; ok = tt; err = rw none p.err }
 
   -- the first bytes were put, and then the others
-  pub Puts-after : {x y z : Output W} {r : Result (Unit {0}) RunError} {xs ys : List ℕ} → Puts contents x y (Ok tt) xs → Puts contents y z r ys
-      → Puts contents x z r (xs ++ ys)
+  pub Puts-after : {x y z : Output K} {r : Result (Unit {0}) RunError} {xs ys : List ℕ} → Puts contents failed x y (Ok tt) xs → Puts contents failed y z r ys
+      → Puts contents failed x z r (xs ++ ys)
   Puts-after {r = Ok t} {ys = ys} p q = record { same = q.same ∙ p.same; ok = rw (← append_assoc) (Sent-trans ys p.ok q.ok); err = tt }
   Puts-after {r = Err e} {ys = ys} p q = record {
     same = q.same ∙ p.same;
     ok = tt;
-    err = (q.err.0, rw (← append_assoc) (Sent-front ys p.ok q.err.1));
+    err = (q.err.0, q.err.1, rw (← append_assoc) (Sent-front ys p.ok q.err.2));
   }
 
   -- the exit of a `?`: putting the first bytes failed
-  pub Puts-exit : {x y : Output W} {r : Result (Unit {0}) RunError} {e : RunError} {xs : List ℕ} (ys : List ℕ) → Puts contents x y (Err e) xs
-      → IsErrAnd r (λ y. y ≡ e) → Puts contents x y r (xs ++ ys)
-  Puts-exit {r = Ok t} ys failed same = absurd same
-  Puts-exit {r = Err e} ys failed same = record {
-    same = failed.same;
+  pub Puts-exit : {x y : Output K} {r : Result (Unit {0}) RunError} {e : RunError} {xs : List ℕ} (ys : List ℕ) → Puts contents failed x y (Err e) xs
+      → IsErrAnd r (λ y. y ≡ e) → Puts contents failed x y r (xs ++ ys)
+  Puts-exit {r = Ok t} ys stopped same = absurd same
+  Puts-exit {r = Err e} ys stopped same = record {
+    same = stopped.same;
     ok = tt;
-    err = (same ∙ failed.err.0, rw (← append_assoc) (AppendsFront-more ys failed.err.1));
+    err = (same ∙ stopped.err.0, stopped.err.1, rw (← append_assoc) (AppendsFront-more ys stopped.err.2));
   }
 
-module _ {W : Type 0} {contents : W → Option (List ℕ)} where
+module _ {K : Type 0} {contents : K → Option (List ℕ)} {failed : K → Type 0} where
   -- the bytes were put, and of what waits some were written, or that failed
-  pub Puts-written : {x y z : Output W} {r : Result (Unit {0}) RunError} (xs : List ℕ) → Puts contents x y (Ok tt) xs → Puts contents y z r []
-      → Puts contents x z r xs
-  Puts-written {x = x} {z = z} {r = r} xs first written = subst (λ (text : List ℕ). Puts contents x z r text) (append-nil xs) (Puts-after first written)
+  pub Puts-written : {x y z : Output K} {r : Result (Unit {0}) RunError} (xs : List ℕ) → Puts contents failed x y (Ok tt) xs → Puts contents failed y z r []
+      → Puts contents failed x z r xs
+  Puts-written {x = x} {z = z} {r = r} xs first written = subst (λ (text : List ℕ). Puts contents failed x z r text) (append-nil xs) (Puts-after first written)
 
 filled : (front back bytes : List ℕ) → front ++ back ≡ bytes → (front ++ []) ++ back ≡ bytes
 filled front back bytes whole = ap (λ (text : List ℕ). text ++ back) (append-nil front) ∙ whole
 
-module _ {W : Type 0} {contents : W → Option (List ℕ)} where
+module _ {K : Type 0} {contents : K → Option (List ℕ)} {failed : K → Type 0} where
   -- the exit of a `?`: the first bytes were put, and writing what waited failed
-  pub Puts-filled-exit : {x y z : Output W} {r : Result (Unit {0}) RunError} {e : RunError} (front back bytes : List ℕ) → front ++ back ≡ bytes
-      → Puts contents x y (Ok tt) front → Puts contents y z (Err e) [] → IsErrAnd r (λ y. y ≡ e) → Puts contents x z r bytes
-  Puts-filled-exit {x = x} {z = z} {r = r} front back bytes whole first failed same =
-      subst (λ (text : List ℕ). Puts contents x z r text) (filled front back bytes whole) (Puts-exit back (Puts-after first failed) same)
+  pub Puts-filled-exit : {x y z : Output K} {r : Result (Unit {0}) RunError} {e : RunError} (front back bytes : List ℕ) → front ++ back ≡ bytes
+      → Puts contents failed x y (Ok tt) front → Puts contents failed y z (Err e) [] → IsErrAnd r (λ y. y ≡ e) → Puts contents failed x z r bytes
+  Puts-filled-exit {x = x} {z = z} {r = r} front back bytes whole first stopped same =
+      subst (λ (text : List ℕ). Puts contents failed x z r text) (filled front back bytes whole) (Puts-exit back (Puts-after first stopped) same)
 
 joined-parts : (pieces : List (Bor (List ℕ))) (n : ℕ) → joined (take n pieces) ++ joined (drop n pieces) ≡ joined pieces
 joined-parts pieces n = sym (flat_map-append _ (take n pieces) (drop n pieces)) ∙ ap joined (take-append-drop n pieces)
@@ -90,21 +90,13 @@ joined-next : (pieces : List (Bor (List ℕ))) (i : ℕ) (d : Bor (List ℕ)) �
     → joined (take (i + 1) pieces) ≡ joined (take i pieces) ++ (get_or pieces i d).now
 joined-next pieces i d inside = ap joined (take_more pieces i d inside) ∙ simp (flat_map-append, append-nil)
 
-module _ {W : Type 0} {contents : W → Option (List ℕ)} {x y z : Output W} {r : Result (Unit {0}) RunError} (pieces : List (Bor (List ℕ))) (i : ℕ)
-    (d : Bor (List ℕ)) (inside : i < length pieces) (before : Puts contents x y (Ok tt) (joined (take i pieces))) where
+module _ {K : Type 0} {contents : K → Option (List ℕ)} {failed : K → Type 0} {x y z : Output K} {r : Result (Unit {0}) RunError} (pieces : List (Bor (List ℕ))) (i : ℕ)
+    (d : Bor (List ℕ)) (inside : i < length pieces) (before : Puts contents failed x y (Ok tt) (joined (take i pieces))) where
   -- one more piece was put
-  pub Puts-next : Puts contents y z r (get_or pieces i d).now → Puts contents x z r (joined (take (i + 1) pieces))
+  pub Puts-next : Puts contents failed y z r (get_or pieces i d).now → Puts contents failed x z r (joined (take (i + 1) pieces))
   Puts-next next = rw (joined-next pieces i d inside) (Puts-after before next)
 
   -- the exit of a `?` at a piece of a list, after the pieces before it
-  pub Puts-piece : {e : RunError} → IsErrAnd r (λ y. y ≡ e) → Puts contents y z (Err e) (get_or pieces i d).now → Puts contents x z r (joined pieces)
-  Puts-piece same failed =
-      rw (← joined-parts pieces (i + 1), joined-next pieces i d inside) (Puts-exit (joined (drop (i + 1) pieces)) (Puts-after before failed) same)
-
--- what was displayed in several calls was appended
-pub displayed : {T E : Type 0} (r : Result T E) (text : Option (List ℕ)) (old new : List ℕ)
-    → OnOk r (WritesText (λ before bytes after. after ≡ before ++ bytes) old text new) → OnOk r (IfSome text (λ bytes. new ≡ old ++ bytes))
-displayed (Err e) text old new p = tt
-displayed (Ok t) None old new p = tt
-displayed (Ok t) (Some bytes) old new p =
-    contents_after_writes (λ (before bytes after : List ℕ). after ≡ before ++ bytes) (λ (w : List ℕ). w) (λ w bs v is. is) old bytes new p
+  pub Puts-piece : {e : RunError} → IsErrAnd r (λ y. y ≡ e) → Puts contents failed y z (Err e) (get_or pieces i d).now → Puts contents failed x z r (joined pieces)
+  Puts-piece same stopped =
+      rw (← joined-parts pieces (i + 1), joined-next pieces i d inside) (Puts-exit (joined (drop (i + 1) pieces)) (Puts-after before stopped) same)

@@ -1,4 +1,4 @@
--- What a writer holds after a call, and what waits to be written to it.
+-- What a sink holds after a call, and what waits to be written to it.
 use Rattle.std.specs.{Prelude.{◌≡◌, ◌≤◌, ℕ, List, ◌++◌, length, take, Option, Result, OnOk, IfOk, IfErr}, Io.KnownBytes.Appends, List.flat_map}
 use Rattle.ixdtf_buffers.specs.declared.{error.RunError.{RunError, TheVariants.Write}, output.Output.Output}
 use denote.Bor.{Bor}
@@ -10,15 +10,15 @@ pub record AppendsFront (old new : Option (List ℕ)) (bytes : List ℕ) : Type 
   pub whole : bytes ≡ front ++ rest
   pub appended : Appends old new front
 
--- all the bytes were appended, or writing failed after a prefix of them
-pub record Writes (old new : Option (List ℕ)) (result : Result (Unit {0}) RunError) (bytes : List ℕ) : Type 0 where
+-- all the bytes were appended, or writing failed after a prefix of them, and then this holds
+pub record Writes (old new : Option (List ℕ)) (failed : Type 0) (result : Result (Unit {0}) RunError) (bytes : List ℕ) : Type 0 where
   pub ok : OnOk result (Appends old new bytes)
-  pub err : IfErr result (λ error. (error ≡ Write) × AppendsFront old new bytes)
+  pub err : IfErr result (λ error. (error ≡ Write) × failed × AppendsFront old new bytes)
 
--- at least so many of the bytes were appended, as many as is told, or writing failed after a prefix of them
-pub record TakesLeast (old new : Option (List ℕ)) (result : Result ℕ RunError) (bytes : List ℕ) (least : ℕ) : Type 0 where
+-- at least so many of the bytes were appended, as many as is told, or writing failed after a prefix of them, and then this holds
+pub record TakesLeast (old new : Option (List ℕ)) (failed : Type 0) (result : Result ℕ RunError) (bytes : List ℕ) (least : ℕ) : Type 0 where
   pub ok : IfOk result (λ count. (least ≤ count) × (count ≤ length bytes) × Appends old new (take count bytes))
-  pub err : IfErr result (λ error. (error ≡ Write) × AppendsFront old new bytes)
+  pub err : IfErr result (λ error. (error ≡ Write) × failed × AppendsFront old new bytes)
 
 -- of the bytes that were taken all were appended but those that wait
 pub record Sent (old new : Option (List ℕ)) (waiting taken : List ℕ) : Type 0 where
@@ -26,15 +26,15 @@ pub record Sent (old new : Option (List ℕ)) (waiting taken : List ℕ) : Type 
   pub whole : taken ≡ front ++ waiting
   pub appended : Appends old new front
 
--- what the writer of an output holds
-abbrev pub written : {W : Type 0} → (W → Option (List ℕ)) → Output W → Option (List ℕ)
-written contents output = contents output.writer.now
+-- what the sink of an output holds
+abbrev pub written : {K : Type 0} → (K → Option (List ℕ)) → Output K → Option (List ℕ)
+written contents output = contents output.sink.now
 
--- the bytes were taken behind those that waited before, or writing failed after a prefix of them all; the writer is the same
-pub record Puts {W : Type 0} (contents : W → Option (List ℕ)) (before after : Output W) (result : Result (Unit {0}) RunError) (bytes : List ℕ) : Type 0 where
-  pub same : after.writer.ghost_name ≡ before.writer.ghost_name
+-- the bytes were taken behind those that waited before, or a write failed after a prefix of them all; the sink is the same
+pub record Puts {K : Type 0} (contents : K → Option (List ℕ)) (failed : K → Type 0) (before after : Output K) (result : Result (Unit {0}) RunError) (bytes : List ℕ) : Type 0 where
+  pub same : after.sink.ghost_name ≡ before.sink.ghost_name
   pub ok : OnOk result (Sent (written contents before) (written contents after) after.waiting (before.waiting ++ bytes))
-  pub err : IfErr result (λ error. (error ≡ Write) × AppendsFront (written contents before) (written contents after) (before.waiting ++ bytes))
+  pub err : IfErr result (λ error. (error ≡ Write) × failed after.sink.now × AppendsFront (written contents before) (written contents after) (before.waiting ++ bytes))
 
 -- the bytes of the slices, one after the other
 abbrev pub joined : List (Bor (List ℕ)) → List ℕ

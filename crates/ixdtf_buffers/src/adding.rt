@@ -2,19 +2,19 @@
 //!
 //! The text of an answer or of a report is made there, and put at once. A place goes from call to call in a register, where a count in
 //! memory would be read and written for each byte.
-ghost use Rattle.std.specs.Prelude.{◌≡◌, ◌+◌, ◌<◌, ◌≤◌, [], ◌∷◌, length};
+ghost use Rattle.std.specs.Prelude.{◌≡◌, ◌+◌, ◌<◌, ◌≤◌, ◌^◌, [], ◌∷◌, length};
 ghost use Rattle.std.specs.Fmt.{decimal, signed_decimal};
 ghost use Rattle.ixdtf_buffers.specs.Adding.{Adds, pair_of};
 
 use crate::decimal::Decimal;
 
-/// How many bytes the array has: at least as many as an answer without names.
+/// How many bytes the array of an answer has: at least as many as an answer without names.
 pub const ROOM: usize = 192;
 
 /// Adds the byte at the place, and returns the place behind it.
 #[inline(always)]
-pub fn add_byte(room: &mut [u8; ROOM], at: usize, byte: u8) -> usize
-    requires { at < 192 }
+pub fn add_byte<const SIZE: usize>(room: &mut [u8; SIZE], at: usize, byte: u8) -> usize
+    requires { at < SIZE }
     ensures place { result ≡ at + 1 }
     ensures text { Adds room.old room.new at result (byte ∷ []) }
 {
@@ -24,20 +24,21 @@ pub fn add_byte(room: &mut [u8; ROOM], at: usize, byte: u8) -> usize
 
 /// Adds the bytes at the place, and returns the place behind them.
 #[inline(always)]
-pub fn add_bytes(room: &mut [u8; ROOM], at: usize, bytes: &[u8]) -> usize
-    requires { at + length bytes.now ≤ 192 }
+pub fn add_bytes<const SIZE: usize>(room: &mut [u8; SIZE], at: usize, bytes: &[u8]) -> usize
+    requires { at + length bytes.now ≤ SIZE }
     ensures place { result ≡ at + length bytes.now }
     ensures text { Adds room.old room.new at result bytes.now }
 {
     let end = at + bytes.len();
-    room[at..end].copy_from_slice(bytes);
+    let whole = &mut room[..];
+    whole[at..end].copy_from_slice(bytes);
     end
 }
 
 /// Adds a number below 256 at the place, and returns the place behind it.
 #[inline(always)]
-pub fn add_small(room: &mut [u8; ROOM], at: usize, number: u8) -> usize
-    requires { at + 3 ≤ 192 }
+pub fn add_small<const SIZE: usize>(room: &mut [u8; SIZE], at: usize, number: u8) -> usize
+    requires { at + 3 ≤ SIZE }
     ensures place { result ≤ at + 3 }
     ensures text { Adds room.old room.new at result (decimal number) }
 {
@@ -50,8 +51,8 @@ pub fn add_small(room: &mut [u8; ROOM], at: usize, number: u8) -> usize
 
 /// Adds the number at the place, and returns the place behind it.
 #[inline(always)]
-pub fn add_number(room: &mut [u8; ROOM], at: usize, number: u64) -> usize
-    requires { at + 20 ≤ 192 }
+pub fn add_number<const SIZE: usize>(room: &mut [u8; SIZE], at: usize, number: u64) -> usize
+    requires { at + 20 ≤ SIZE }
     ensures place { result ≤ at + 20 }
     ensures text { Adds room.old room.new at result (decimal number) }
 {
@@ -66,9 +67,9 @@ pub fn add_number(room: &mut [u8; ROOM], at: usize, number: u64) -> usize
 
 /// Adds a number below 100,000,000 at the place, and returns the place behind it.
 #[inline(never)]
-fn add_below_100_000_000(room: &mut [u8; ROOM], at: usize, number: u32) -> usize
+fn add_below_100_000_000<const SIZE: usize>(room: &mut [u8; SIZE], at: usize, number: u32) -> usize
     requires small { number < 100000000 }
-    requires room { at + 8 ≤ 192 }
+    requires room { at + 8 ≤ SIZE }
     ensures place { result ≤ at + 8 }
     ensures text { Adds room.old room.new at result (decimal number) }
 {
@@ -82,9 +83,9 @@ fn add_below_100_000_000(room: &mut [u8; ROOM], at: usize, number: u32) -> usize
 
 /// Adds a number below 10,000 at the place, and returns the place behind it.
 #[inline(always)]
-fn add_below_10_000(room: &mut [u8; ROOM], at: usize, number: u32) -> usize
+fn add_below_10_000<const SIZE: usize>(room: &mut [u8; SIZE], at: usize, number: u32) -> usize
     requires small { number < 10000 }
-    requires room { at + 4 ≤ 192 }
+    requires room { at + 4 ≤ SIZE }
     ensures place { result ≤ at + 4 }
     ensures text { Adds room.old room.new at result (decimal number) }
 {
@@ -97,9 +98,9 @@ fn add_below_10_000(room: &mut [u8; ROOM], at: usize, number: u32) -> usize
 
 /// Adds two digits at the place, and returns the place behind them.
 #[inline(always)]
-fn add_two_digits(room: &mut [u8; ROOM], at: usize, number: u8) -> usize
+fn add_two_digits<const SIZE: usize>(room: &mut [u8; SIZE], at: usize, number: u8) -> usize
     requires small { number < 100 }
-    requires room { at + 2 ≤ 192 }
+    requires room { at + 2 ≤ SIZE }
     ensures place { result ≡ at + 2 }
     ensures text { Adds room.old room.new at result (pair_of number) }
 {
@@ -110,8 +111,8 @@ fn add_two_digits(room: &mut [u8; ROOM], at: usize, number: u8) -> usize
 
 /// Adds a signed number, as a year, at the place, and returns the place behind it. Nearly all years have four digits.
 #[inline(always)]
-pub fn add_signed(room: &mut [u8; ROOM], at: usize, number: i32) -> usize
-    requires { at + 11 ≤ 192 }
+pub fn add_signed<const SIZE: usize>(room: &mut [u8; SIZE], at: usize, number: i32) -> usize
+    requires { at + 11 ≤ SIZE }
     ensures place { result ≤ at + 11 }
     ensures text { Adds room.old room.new at result (signed_decimal number) }
 {
@@ -125,8 +126,8 @@ pub fn add_signed(room: &mut [u8; ROOM], at: usize, number: i32) -> usize
 /// Adds a number that has not four digits.
 #[cold]
 #[inline(never)]
-fn add_other_signed(room: &mut [u8; ROOM], at: usize, number: i32) -> usize
-    requires { at + 11 ≤ 192 }
+fn add_other_signed<const SIZE: usize>(room: &mut [u8; SIZE], at: usize, number: i32) -> usize
+    requires { at + 11 ≤ SIZE }
     ensures place { result ≤ at + 11 }
     ensures text { Adds room.old room.new at result (signed_decimal number) }
 {
@@ -143,9 +144,9 @@ fn add_other_signed(room: &mut [u8; ROOM], at: usize, number: i32) -> usize
 /// The digit of the tens is written in any case, and that of the ones over it where the number is below 10: no branch hangs
 /// on the number.
 #[inline(always)]
-fn add_below_100(room: &mut [u8; ROOM], at: usize, number: u8) -> usize
+fn add_below_100<const SIZE: usize>(room: &mut [u8; SIZE], at: usize, number: u8) -> usize
     requires small { number < 100 }
-    requires room { at + 2 ≤ 192 }
+    requires room { at + 2 ≤ SIZE }
     ensures place { result ≤ at + 2 }
     ensures text { Adds room.old room.new at result (decimal number) }
 {
@@ -158,7 +159,7 @@ fn add_below_100(room: &mut [u8; ROOM], at: usize, number: u8) -> usize
 /// The place of the last digit of a number below 100.
 #[inline(always)]
 fn last_place(at: usize, number: u8) -> usize
-    requires { at + 2 ≤ 192 }
+    requires { at + 1 < 2 ^ 64 }
     ensures one { number < 10 → result ≡ at }
     ensures two { 10 ≤ number → result ≡ at + 1 }
 {
@@ -167,9 +168,9 @@ fn last_place(at: usize, number: u8) -> usize
 
 /// Adds a number of four digits at the place, and returns the place behind it.
 #[inline(always)]
-fn add_four_digits(room: &mut [u8; ROOM], at: usize, number: u16) -> usize
+fn add_four_digits<const SIZE: usize>(room: &mut [u8; SIZE], at: usize, number: u16) -> usize
     requires four { (1000 ≤ number) × (number < 10000) }
-    requires room { at + 4 ≤ 192 }
+    requires room { at + 4 ≤ SIZE }
     ensures place { result ≡ at + 4 }
     ensures text { Adds room.old room.new at result (decimal number) }
 {
@@ -185,8 +186,8 @@ fn add_four_digits(room: &mut [u8; ROOM], at: usize, number: u16) -> usize
 /// Adds any number at the place, and returns the place behind it.
 #[cold]
 #[inline(never)]
-fn add_long(room: &mut [u8; ROOM], at: usize, number: u64) -> usize
-    requires { at + length (decimal number) ≤ 192 }
+fn add_long<const SIZE: usize>(room: &mut [u8; SIZE], at: usize, number: u64) -> usize
+    requires { at + length (decimal number) ≤ SIZE }
     ensures place { result ≡ at + length (decimal number) }
     ensures text { Adds room.old room.new at result (decimal number) }
 {

@@ -1,6 +1,6 @@
 //! Numbers in plain decimal.
-ghost use Rattle.std.specs.Prelude.{◌≡◌, ◌++◌, ◌<◌, ℕ, List, drop, unsigned_abs};
-ghost use Rattle.std.specs.Fmt.{decimal, signed_decimal};
+ghost use Rattle.std.specs.Prelude.{◌≡◌, ◌<◌, ℕ, List, drop};
+ghost use Rattle.std.specs.Fmt.{decimal};
 
 use std::marker::Model;
 
@@ -54,15 +54,4 @@ fn put_decimal(number: u64, digits: &mut [u8; MOST_DIGITS]) -> usize
     }
     digits[start] = b'0' + left as u8;
     start
-}
-
-/// What stands before the digits of a signed number.
-pub fn sign_of(number: i32) -> &'static [u8]
-    ensures { signed_decimal number ≡ result.now ++ decimal (unsigned_abs number) }
-{
-    if number < 0 {
-        b"-".as_slice()
-    } else {
-        b"".as_slice()
-    }
 }

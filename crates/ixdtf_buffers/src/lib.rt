@@ -6,9 +6,12 @@
 
 pub mod adding;
 pub mod decimal;
+pub mod driver;
 pub mod error;
-pub mod input;
 pub mod line;
+pub mod memory;
 pub mod output;
 pub mod place;
+pub mod sink;
+pub mod source;
 mod waiting;

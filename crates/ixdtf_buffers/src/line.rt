@@ -1,5 +1,5 @@
 //! The line that is being read.
-ghost use Rattle.std.specs.Prelude.{◌≡◌, ◌<◌, ◌≤◌, ◌↔◌, ℕ, List, [], ◌++◌, length, IsTrue, MatchOption};
+ghost use Rattle.std.specs.Prelude.{◌≡◌, ◌≤◌, ◌↔◌, ℕ, List, [], ◌++◌, length, IsTrue, IfSome};
 
 /// The bytes of a line so far, or that there were more than fit.
 #[derive(Drop)]
@@ -11,7 +11,7 @@ pub struct Line<const LIMIT: usize> {
 }
 
 impl<const LIMIT: usize> Line<LIMIT> {
-    ghost use Rattle.ixdtf_buffers.specs.Line.{Holds};
+    ghost use Rattle.ixdtf_buffers.specs.Line.{Holds, IsLine};
 
     /// An empty line.
     pub fn new() -> Line<LIMIT>
@@ -56,9 +56,8 @@ impl<const LIMIT: usize> Line<LIMIT> {
 
     /// The line, unless it is too long.
     pub fn as_slice(&self) -> Option<&[u8]>
-        ensures { (text : List ℕ) → Holds self.now text
-            → MatchOption result (LIMIT < length text)
-            (λ bytes. (bytes.now ≡ text) × (length text ≤ LIMIT)) }
+        ensures short { IfSome result (λ bytes. length bytes.now ≤ LIMIT) }
+        ensures line { (text : List ℕ) → Holds self.now text → IsLine LIMIT result text }
     {
         if self.is_too_long {
             None

@@ -1,48 +1,49 @@
-//! A writer, and what waits to be written to it.
-ghost use Rattle.std.specs.Prelude.{◌≡◌, ◌+◌, ◌<◌, ◌≤◌, [], ◌++◌, length, Ok, IfSome, OnOk};
+//! A sink, and what waits to be written to it.
+ghost use Rattle.std.specs.Prelude.{◌≡◌, ◌+◌, ◌<◌, ◌≤◌, [], ◌++◌, length, Ok, OnOk, true, false};
 ghost use Rattle.ixdtf_buffers.specs.Output.{Puts, TakesLeast, Writes, joined};
 
 use crate::error::RunError;
+use crate::sink::Sink;
 use crate::waiting::{WAITING_LIMIT, Waiting};
-use std::fmt;
-use std::io::Write;
 
-/// A writer, and the bytes that wait to be written to it.
+/// A sink, and the bytes that wait to be written to it.
 #[derive(Drop)]
-pub struct Output<'w, W> {
-    writer: &'w mut W,
+pub struct Output<'k, K> {
+    sink: &'k mut K,
     waiting: Waiting,
     // Whether what waits is filled before it is written.
     fills: bool,
 }
 
-impl<'w, W: Write> Output<'w, W> {
-    /// An output to the writer. No byte waits. What waits is written whole as soon as a piece does not fit behind it.
-    pub fn new(writer: &'w mut W) -> Output<'w, W>
-        ensures same { result.writer.ghost_name ≡ writer.entry.ghost_name }
-        ensures writer { result.writer.now ≡ writer.old }
+impl<'k, K: Sink> Output<'k, K> {
+    /// An output to the sink. No byte waits. What waits is written whole as soon as a piece does not fit behind it.
+    pub fn new(sink: &'k mut K) -> Output<'k, K>
+        ensures same { result.sink.ghost_name ≡ sink.entry.ghost_name }
+        ensures sink { result.sink.now ≡ sink.old }
         ensures none { result.waiting ≡ [] }
+        ensures whole { result.fills ≡ false }
     {
         Output {
-            writer,
+            sink,
             waiting: Waiting::new(),
             fills: false,
         }
     }
 
-    /// An output to the writer whose writes are full. No byte waits. Where a piece does not fit behind what waits, that is filled
+    /// An output to the sink whose writes are full. No byte waits. Where a piece does not fit behind what waits, that is filled
     /// with the first of its bytes, and as much of it is written as makes room for the others.
     ///
     /// So short pieces may be gathered, up to 2,048 bytes: of these a writer that takes up to some number of bytes at each write has
     /// no less after as many writes than of the pieces by themselves. But bytes may wait longer than with `new`, until `hand_on`
     /// or `finish`.
-    pub fn filling(writer: &'w mut W) -> Output<'w, W>
-        ensures same { result.writer.ghost_name ≡ writer.entry.ghost_name }
-        ensures writer { result.writer.now ≡ writer.old }
+    pub fn filling(sink: &'k mut K) -> Output<'k, K>
+        ensures same { result.sink.ghost_name ≡ sink.entry.ghost_name }
+        ensures sink { result.sink.now ≡ sink.old }
         ensures none { result.waiting ≡ [] }
+        ensures full { result.fills ≡ true }
     {
         Output {
-            writer,
+            sink,
             waiting: Waiting::new(),
             fills: true,
         }
@@ -50,7 +51,7 @@ impl<'w, W: Write> Output<'w, W> {
 
     /// Puts the bytes behind those that wait.
     pub fn put(&mut self, bytes: &[u8]) -> Result<(), RunError>
-        ensures { Puts W.contents self.old self.new result bytes.now }
+        ensures { Puts K.contents K.failed self.old self.new result bytes.now }
     {
         if bytes.len() > self.waiting.room() {
             return self.put_after(bytes);
@@ -64,14 +65,17 @@ impl<'w, W: Write> Output<'w, W> {
     #[inline(never)]
     fn put_after(&mut self, bytes: &[u8]) -> Result<(), RunError>
         requires { 4096 < length self.old.waiting + length bytes.now }
-        ensures { Puts W.contents self.old self.new result bytes.now }
+        ensures puts { Puts K.contents K.failed self.old self.new result bytes.now }
+
+        // Where what waits is written whole, only these bytes wait then.
+        ensures whole { self.old.fills ≡ false → length bytes.now ≤ 4096 → OnOk result (self.new.waiting ≡ bytes.now) }
     {
         if self.fills && bytes.len() <= WAITING_LIMIT {
             return self.fill_with(bytes);
         }
         self.hand_on()?;
         if bytes.len() > WAITING_LIMIT {
-            return write_whole(self.writer, bytes);
+            return write_whole(self.sink, bytes);
         }
         self.push(bytes);
         Ok(())
@@ -81,7 +85,7 @@ impl<'w, W: Write> Output<'w, W> {
     fn fill_with(&mut self, bytes: &[u8]) -> Result<(), RunError>
         requires over { 4096 < length self.old.waiting + length bytes.now }
         requires short { length bytes.now ≤ 4096 }
-        ensures { Puts W.contents self.old self.new result bytes.now }
+        ensures { Puts K.contents K.failed self.old self.new result bytes.now }
     {
         let (front, back) = bytes.split_at(self.waiting.room());
         self.push(front);
@@ -93,10 +97,10 @@ impl<'w, W: Write> Output<'w, W> {
     /// Writes of the bytes that wait at least so many, and further as far as the writes take them.
     fn make_room(&mut self, room: usize) -> Result<(), RunError>
         requires { room ≤ length self.old.waiting }
-        ensures puts { Puts W.contents self.old self.new result [] }
+        ensures puts { Puts K.contents K.failed self.old self.new result [] }
         ensures room { OnOk result (length self.new.waiting + room ≤ length self.old.waiting) }
     {
-        let taken = write_least(self.writer, self.waiting.as_slice(), room)?;
+        let taken = write_least(self.sink, self.waiting.as_slice(), room)?;
         self.waiting.drop_front(taken);
         Ok(())
     }
@@ -105,14 +109,14 @@ impl<'w, W: Write> Output<'w, W> {
     fn push(&mut self, bytes: &[u8])
         requires { length self.old.waiting + length bytes.now ≤ 4096 }
         ensures waiting { self.new.waiting ≡ self.old.waiting ++ bytes.now }
-        ensures puts { Puts W.contents self.old self.new (Ok tt) bytes.now }
+        ensures puts { Puts K.contents K.failed self.old self.new (Ok tt) bytes.now }
     {
         self.waiting.push_all(bytes);
     }
 
     /// Puts the pieces in turn.
     pub fn put_all(&mut self, pieces: &[&[u8]]) -> Result<(), RunError>
-        ensures { Puts W.contents self.old self.new result (joined pieces.now) }
+        ensures { Puts K.contents K.failed self.old self.new result (joined pieces.now) }
     {
         for piece in pieces {
             self.put(piece)?;
@@ -120,66 +124,45 @@ impl<'w, W: Write> Output<'w, W> {
         Ok(())
     }
 
-    /// Puts what the value displays. A text of more than 4,096 bytes counts as a write that failed.
-    pub fn put_display<D: fmt::Display>(&mut self, value: &D) -> Result<(), RunError>
-        ensures { IfSome (D.output value.now) (λ bytes.
-            Puts W.contents self.old self.new result bytes) }
-    {
-        let mut text = Waiting::new();
-        match text.push_display(value) {
-            Ok(()) => self.put(text.as_slice()),
-            Err(fmt::Error) => Err(RunError::Write),
-        }
-    }
-
-    /// Writes the waiting bytes to the writer.
+    /// Writes the waiting bytes to the sink.
     pub fn hand_on(&mut self) -> Result<(), RunError>
         ensures empty { OnOk result (self.new.waiting ≡ []) }
-        ensures puts { Puts W.contents self.old self.new result [] }
+        ensures puts { Puts K.contents K.failed self.old self.new result [] }
     {
-        write_whole(self.writer, self.waiting.as_slice())?;
+        write_whole(self.sink, self.waiting.as_slice())?;
         self.waiting.clear();
         Ok(())
     }
 
-    /// Writes the waiting bytes to the writer, and flushes it.
+    /// Writes the waiting bytes to the sink, and flushes it.
     pub fn finish(&mut self) -> Result<(), RunError>
         ensures empty { OnOk result (self.new.waiting ≡ []) }
-        ensures puts { Puts W.contents self.old self.new result [] }
+        ensures flushed { OnOk result (K.flushed self.new.sink.now) }
+        ensures puts { Puts K.contents K.failed self.old self.new result [] }
     {
         self.hand_on()?;
-        match self.writer.flush() {
-            Ok(()) => Ok(()),
-            Err(_) => Err(RunError::Write),
-        }
+        self.sink.flush_all()
     }
 }
 
 /// Writes all the bytes, or fails after a prefix of them.
-fn write_whole<W: Write>(writer: &mut W, bytes: &[u8]) -> Result<(), RunError>
-    ensures { Writes (W.contents writer.old) (W.contents writer.new) result bytes.now }
+fn write_whole<K: Sink>(sink: &mut K, bytes: &[u8]) -> Result<(), RunError>
+    ensures { Writes (K.contents sink.old) (K.contents sink.new) (K.failed sink.new) result bytes.now }
 {
-    let mut rest = bytes;
-    'writes: while !rest.is_empty() {
-        match writer.write(rest) {
-            Ok(0) | Err(_) => return Err(RunError::Write),
-            Ok(count) => rest = &rest[count..],
-        }
-    }
+    write_least(sink, bytes, bytes.len())?;
     Ok(())
 }
 
 /// Writes at least so many of the bytes, and returns how many the writes took, or fails after a prefix of them.
-fn write_least<W: Write>(writer: &mut W, bytes: &[u8], least: usize) -> Result<usize, RunError>
+fn write_least<K: Sink>(sink: &mut K, bytes: &[u8], least: usize) -> Result<usize, RunError>
     requires { least ≤ length bytes.now }
-    ensures { TakesLeast (W.contents writer.old) (W.contents writer.new) result bytes.now least }
+    ensures { TakesLeast (K.contents sink.old) (K.contents sink.new) (K.failed sink.new) result
+        bytes.now least }
 {
     let mut rest = bytes;
     'writes: while bytes.len() - rest.len() < least {
-        match writer.write(rest) {
-            Ok(count) if count > 0 => rest = &rest[count..],
-            Ok(_) | Err(_) => return Err(RunError::Write),
-        }
+        let count = sink.write_some(rest)?;
+        rest = &rest[count..];
     }
     Ok(bytes.len() - rest.len())
 }

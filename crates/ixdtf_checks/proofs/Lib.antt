@@ -1,5 +1,6 @@
+pub mod CharactersLemmas
+pub mod MaskedLemmas
 pub mod PartsLemmas
-pub mod PlainLemmas
+pub mod PointedLemmas
 pub mod VerdictLemmas
 pub mod ReportLemmas
-pub mod ProgressLemmas

@@ -1,46 +1,106 @@
--- One more line behind others.
-use Rattle.std.proofs.{Common.{◌≡◌, ℕ, ◌+◌, ◌≤◌, List, [], ◌∷◌, ◌++◌, length, refl, sym, ap, ◌∙◌, arith, append_assoc}, lemmas.List.append-nil}
-use Rattle.ixdtf_checks.specs.{declared.request.Request.Request, Reports.{AreVerdicts, report_of, reports_of, refusal_count, refusals_of}}
-use Rattle.ixdtf_checks.specs.Verdicts.{Verdict, IsVerdict, Verdict.{accepted, printed, refused}}
+-- What a run over lines puts are their reports.
+use Rattle.std.proofs.Common.{◌≡◌, ℕ, ◌+◌, ◌≤◌, ◌<◌, ◌^◌, List, [], ◌∷◌, ◌++◌, length, Option, Result, Ok, Err, OnOk, ap, subst, ◌∙◌, arith}
+use Rattle.std.specs.Io.KnownBytes.{Appends}
+use Rattle.std.proofs.Common.{length-append}
+use Rattle.ixdtf_buffers.specs.{declared.error.RunError.RunError, Lines.{ended_lines_of, last_line_of, unended_of}, Output.AppendsFront}
+use Rattle.ixdtf_buffers.specs.Tasks.{Steps, Does, DoesFront}
+use Rattle.ixdtf_buffers.proofs.LinesLemmas.{lines_most}
+use Rattle.ixdtf_checks.specs.{declared.{request.Request.Request, tally.Tally.Tally, checking.Checking.Checking}, Checks.{Counts, Reports, ReportsFront, ReportsLine}}
+use Rattle.ixdtf_checks.specs.Reports.{AreVerdicts, report_of, reports_of, refusal_count, refusals_of}
+use Rattle.ixdtf_checks.specs.Verdicts.{Verdict, Verdict.{accepted, printed, refused}}
 
-pub AreVerdicts-more : (request : Request) (lines : List (List ℕ)) (verdicts : List Verdict) (line : List ℕ) (verdict : Verdict)
-    → AreVerdicts request lines verdicts → IsVerdict request line verdict → AreVerdicts request (lines ++ line ∷ []) (verdicts ++ verdict ∷ [])
-AreVerdicts-more request [] [] line verdict none is = (is, tt)
-AreVerdicts-more request [] (v ∷ verdicts) line verdict none is = absurd none
-AreVerdicts-more request (l ∷ lines) [] line verdict none is = absurd none
-AreVerdicts-more request (l ∷ lines) (v ∷ verdicts) line verdict (first, others) is =
-    (first, AreVerdicts-more request lines verdicts line verdict others is)
+-- at most this line is refused
+one_most : (verdict : Verdict) → refusal_count verdict ≤ 1
+one_most = elim [
+  | accepted ↦ omega arith
+  | printed canonical ↦ omega arith
+  | refused column message lines ↦ omega arith
+]
 
-pub reports_of-more : (request : Request) (number : ℕ) (verdicts : List Verdict) (verdict : Verdict)
-    → reports_of request number (verdicts ++ verdict ∷ []) ≡ reports_of request number verdicts ++ report_of request (number + length verdicts) verdict
-reports_of-more request number [] verdict =
-    let same : number ≡ number + 0 = omega arith in
-    append-nil (report_of request number verdict) ∙ ap (λ (n : ℕ). report_of request n verdict) same
-reports_of-more request number (v ∷ verdicts) verdict =
-    let next : number + 1 + length verdicts ≡ number + length (v ∷ verdicts) = omega arith in
-    ap (λ (t : List ℕ). report_of request number v ++ t) (reports_of-more request (number + 1) verdicts verdict)
-    ∙ sym (append_assoc (report_of request number v) (reports_of request (number + 1) verdicts) _)
-    ∙ ap (λ (n : ℕ). (report_of request number v ++ reports_of request (number + 1) verdicts) ++ report_of request n verdict) next
+-- a step of a check
+abbrev Checks : Checking → List ℕ → List ℕ → Checking → Type 0
+Checks old line bytes new = (new.request ≡ old.request) × ReportsLine old.request old.tally new.tally line bytes
 
-pub refusals_of-more : (verdicts : List Verdict) (verdict : Verdict) → refusals_of (verdicts ++ verdict ∷ []) ≡ refusals_of verdicts + refusal_count verdict
-refusals_of-more [] verdict = omega arith
-refusals_of-more (v ∷ verdicts) verdict = omega (arith, refusals_of-more verdicts verdict)
+-- the bytes are the reports of the lines from this number on, and so many more were counted
+record AllReported (request : Request) (old new : Tally) (lines : List (List ℕ)) (bytes : List ℕ) : Type 0 where
+  verdicts : List Verdict
+  are : AreVerdicts request lines verdicts
+  reports : bytes ≡ reports_of request (old.lines + 1) verdicts
+  count : new.lines ≡ old.lines + length verdicts
+  refusals : new.refused ≡ old.refused + refusals_of verdicts
 
--- at most so many lines are refused as there are
-pub refusals_of-most : (verdicts : List Verdict) → refusals_of verdicts ≤ length verdicts
-refusals_of-most [] = omega arith
-refusals_of-most (verdict ∷ verdicts) = omega (arith, refusals_of-most verdicts, one verdict)
-  where
-    one : (verdict : Verdict) → refusal_count verdict ≤ 1
-    one = elim [
-      | accepted ↦ omega arith
-      | printed canonical ↦ omega arith
-      | refused column message lines ↦ omega arith
-    ]
+-- so many more lines can be counted
+abbrev HasRoom : Tally → ℕ → Type 0
+HasRoom tally count = (tally.lines + count < 2 ^ 64) × (tally.refused + count < 2 ^ 64)
 
-pub AreVerdicts-length : (request : Request) (lines : List (List ℕ)) (verdicts : List Verdict) → AreVerdicts request lines verdicts
-    → length verdicts ≡ length lines
-AreVerdicts-length request [] [] none = refl
-AreVerdicts-length request [] (v ∷ verdicts) none = absurd none
-AreVerdicts-length request (l ∷ lines) [] none = absurd none
-AreVerdicts-length request (l ∷ lines) (v ∷ verdicts) (first, others) = omega (arith, AreVerdicts-length request lines verdicts others)
+-- one more line before the others
+one_more : {request asked : Request} {old next new : Tally} {line put : List ℕ} {lines : List (List ℕ)} {others bytes : List ℕ} → bytes ≡ put ++ others
+    → asked ≡ request → (one : ReportsLine request old next line put) → next.lines ≡ old.lines + 1
+    → next.refused ≡ old.refused + refusal_count one.verdict → AllReported asked next new lines others → AllReported request old new (line ∷ lines) bytes
+one_more {request = request} {asked = asked} {old = old} {next = next} {put = put} {lines = lines} whole same one number count more =
+    let first = one.verdict in
+    let rest = more.verdicts in
+    record {
+      verdicts = first ∷ rest;
+      are = (one.is, subst (λ r. AreVerdicts r lines rest) same more.are);
+      reports = whole ∙ ap (λ t. put ++ t) more.reports ∙ ap (λ t. t ++ reports_of asked (next.lines + 1) rest) one.report
+          ∙ ap (λ n. report_of request n first ++ reports_of asked (n + 1) rest) number
+          ∙ ap (λ r. report_of request (old.lines + 1) first ++ reports_of r (old.lines + 1 + 1) rest) same;
+      count = omega (arith, more.count, number);
+      refusals = omega (arith, more.refusals, count);
+    }
+
+all_reported : (old new : Checking) (lines : List (List ℕ)) (bytes : List ℕ) → HasRoom old.tally (length lines) → Steps Checks old lines bytes new
+    → AllReported old.request old.tally new.tally lines bytes
+all_reported old new [] bytes room (none, same) =
+    record { verdicts = []; are = tt; reports = none; count = rw same (omega arith); refusals = rw same (omega arith) }
+all_reported old new (line ∷ lines) bytes room (put, others, next, whole, (same, one), rest) =
+    let number : next.tally.lines ≡ old.tally.lines + 1 = omega (arith, one.lines, room.0) in
+    let count : next.tally.refused ≡ old.tally.refused + refusal_count one.verdict = omega (arith, one.refused, room.1, one_most one.verdict) in
+    one_more whole same one number count
+    (all_reported next new lines others (omega (arith, number, room.0), omega (arith, count, room.1, one_most one.verdict)) rest)
+
+module _ (old new : Checking) (request : Request) (tally : Tally) (lines : List (List ℕ)) (asked : old.request ≡ request)
+    (none : old.tally.lines ≡ 0) (zero : old.tally.refused ≡ 0) (few : length lines < 2 ^ 64) (count : tally.lines ≡ new.tally.lines)
+    (refusals : tally.refused ≡ new.tally.refused) where
+  -- all that was put of some of the lines
+  some_reported : (first : List (List ℕ)) (bytes : List ℕ) → length first ≤ length lines → Steps Checks old first bytes new
+      → (verdicts : List Verdict) × AreVerdicts request first verdicts × (bytes ≡ reports_of request 1 verdicts) × Counts tally verdicts
+  some_reported first bytes fewer steps =
+      let all = all_reported old new first bytes (omega (arith, none, few, fewer), omega (arith, zero, few, fewer)) steps in
+      let one : old.tally.lines + 1 ≡ 1 = omega (arith, none) in (
+        all.verdicts,
+        subst (λ r. AreVerdicts r first all.verdicts) asked all.are,
+        all.reports ∙ ap (λ k. reports_of old.request k all.verdicts) one ∙ ap (λ r. reports_of r 1 all.verdicts) asked,
+        record { lines = omega (arith, count, all.count, none); refused = omega (arith, refusals, all.refusals, zero) },
+      )
+
+  -- all that was put was written
+  pub reports : {s n : Option (List ℕ)} → Does Checks s n old new lines → Reports s n request tally lines
+  reports {s = s} {n = n} p =
+      let (verdicts, are, is, counts) = some_reported lines p.bytes (omega arith) p.steps in
+      record { verdicts = verdicts; are = are; appended = subst (λ t. Appends s n t) is p.appended; counts = counts }
+
+  -- a prefix of what was put of the first lines was written
+  pub reports_front : {s n : Option (List ℕ)} → DoesFront Checks s n old new lines → ReportsFront s n request tally lines
+  reports_front {s = s} {n = n} p =
+      let fewer : length p.first ≤ length lines = omega (arith, ap length p.whole, length-append p.first p.others) in
+      let (verdicts, are, is, counts) = some_reported p.first p.bytes fewer p.steps in
+      record {
+        first = p.first;
+        others = p.others;
+        whole = p.whole;
+        verdicts = verdicts;
+        are = are;
+        front = subst (λ t. AppendsFront s n t) is p.front;
+        counts = counts;
+      }
+
+-- there are no more ended lines than bytes
+pub ended_most : (bytes : List ℕ) → length (ended_lines_of bytes) ≤ length bytes
+ended_most bytes = omega (arith, lines_most bytes, length-append (ended_lines_of bytes) (last_line_of (unended_of bytes)))
+
+-- what follows after a call that went well
+pub on_ok : (A B : Type 0) (r : Result (Unit {0}) RunError) → (A → B) → OnOk r A → OnOk r B
+on_ok A B (Ok t) follows p = follows p
+on_ok A B (Err e) follows p = tt

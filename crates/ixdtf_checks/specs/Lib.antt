@@ -1,12 +1,10 @@
 pub mod Checks
 pub mod Kinds
 pub mod Parts
-pub mod Plain
+pub mod Pointed
 pub mod Printed
-pub mod Progress
 pub mod Refusals
 pub mod Reports
-pub mod Rooms
 pub mod Seen
 pub mod Statuses
 pub mod Verdicts

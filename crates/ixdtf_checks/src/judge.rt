@@ -1,10 +1,10 @@
 //! Which verdict a line gets.
-ghost use Rattle.std.specs.Prelude.{◌≤◌, ◌+◌, ℕ, List, length};
+ghost use Rattle.std.specs.Prelude.{◌≤◌, ◌+◌, ℕ, List, length, IfSome};
 ghost use Rattle.ixdtf_grammar.specs.Places.{HasUnhandledFaultAt};
 ghost use Rattle.ixdtf_grammar.specs.Widths.{byte_text};
 ghost use Rattle.ixdtf_grammar.specs.language.Readers.{Reader};
 ghost use Rattle.ixdtf_grammar.specs.table.Faults.{fault_of_located};
-ghost use Rattle.ixdtf_buffers.specs.Line.{Holds};
+ghost use Rattle.ixdtf_buffers.specs.Line.{IsLine};
 ghost use Rattle.ixdtf_checks.specs.Parts.{seen_part};
 ghost use Rattle.ixdtf_checks.specs.Seen.{seen};
 ghost use Rattle.ixdtf_checks.specs.Verdicts.{IsVerdict, IsLineVerdict, IsTextVerdict};
@@ -16,19 +16,19 @@ use crate::reading::{read, read_to_print};
 use crate::request::{Request, Task};
 use crate::verdict::{LINE_LIMIT, Reason, Refusal, Verdict};
 use ixdtf::LocatedError;
-use ixdtf_buffers::line::Line;
 
-/// The verdict on the line. Where the line is refused, where and why is written into `refusal`.
+/// The verdict on the line, which is `None` where it is too long. Where the line is refused, where and why is written into `refusal`.
 pub fn verdict_on<'a>(
     request: &Request<'_>,
-    line: &'a Line<LINE_LIMIT>,
+    line: Option<&'a [u8]>,
     printed: &mut PrintedText,
     refusal: &mut Refusal<'a>,
 ) -> Verdict
-    ensures { (text : List ℕ) → Holds line.now text
+    requires { IfSome line (λ bytes. length bytes.now ≤ 65536) }
+    ensures { (text : List ℕ) → IsLine 65536 line.entry text
         → IsVerdict request.now text (seen printed.new refusal.new result) }
 {
-    match line.as_slice() {
+    match line {
         None => {
             *refusal = Refusal {
                 column: LINE_LIMIT + 1,
@@ -36,21 +36,8 @@ pub fn verdict_on<'a>(
             };
             Verdict::Refused
         }
-        Some(bytes) => verdict_on_short(request, bytes, printed, refusal),
+        Some(bytes) => verdict_on_line(request, without_return(bytes), printed, refusal),
     }
-}
-
-/// The verdict on a line that is not too long.
-pub fn verdict_on_short<'a>(
-    request: &Request<'_>,
-    line: &'a [u8],
-    printed: &mut PrintedText,
-    refusal: &mut Refusal<'a>,
-) -> Verdict
-    requires { length line.now ≤ 65536 }
-    ensures { IsVerdict request.now line.now (seen printed.new refusal.new result) }
-{
-    verdict_on_line(request, without_return(line), printed, refusal)
 }
 
 /// The verdict on a line that is not too long, without its carriage return.

@@ -6,10 +6,12 @@
 
 pub mod arguments;
 pub mod checker;
+mod checking;
 mod judge;
-mod kept;
 pub mod kind;
+pub mod laws;
 mod part;
+mod pointed;
 mod printed;
 mod reading;
 mod report;

@@ -13,8 +13,6 @@ pub struct Tally {
 }
 
 impl Tally {
-    ghost use Rattle.ixdtf_checks.specs.Rooms.{HasRoom};
-
     /// No line and no byte.
     pub fn new() -> Tally
         ensures lines { result.lines ≡ 0 }
@@ -28,17 +26,14 @@ impl Tally {
         }
     }
 
-    /// Counts one more line.
+    /// Counts one more line. A number that overflows stays the greatest.
     pub fn add_line(&mut self, is_refused: bool)
-        requires { HasRoom self.old 1 }
-        ensures lines { self.new.lines ≡ self.old.lines + 1 }
-        ensures refused { self.new.refused ≡ self.old.refused + (if is_refused then 1 else 0) }
-        ensures bytes { self.new.bytes ≡ self.old.bytes }
+        ensures lines { self.new.lines ≡ min (self.old.lines + 1) (2 ^ 64 - 1) }
+        ensures refused { self.new.refused
+            ≡ min (self.old.refused + (if is_refused then 1 else 0)) (2 ^ 64 - 1) }
     {
-        self.lines += 1;
-        if is_refused {
-            self.refused += 1;
-        }
+        self.lines = self.lines.saturating_add(1);
+        self.refused = self.refused.saturating_add(u64::from(is_refused));
     }
 
     /// Adds the counts of another file. A number that overflows stays the greatest.

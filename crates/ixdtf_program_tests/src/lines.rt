@@ -6,7 +6,7 @@ mod words;
 use ixdtf_answers::arguments::arguments_allowed;
 use ixdtf_answers::number::nine_digits;
 use ixdtf_answers::runner::run;
-use ixdtf_buffers::decimal::{Decimal, sign_of};
+use ixdtf_buffers::decimal::Decimal;
 use ixdtf_buffers::error::RunError;
 use std::alloc::{AllocError, Global};
 use std::process::Abort;
@@ -197,8 +197,6 @@ fn shows_numbers(rt: HostRuntime) {
     assert_eq!(rt; most.as_slice(), b"18446744073709551615".as_slice());
     let zero = Decimal::new(0);
     assert_eq!(rt; zero.as_slice(), b"0".as_slice());
-    assert_eq!(rt; sign_of(-1), b"-".as_slice());
-    assert_eq!(rt; sign_of(0), b"".as_slice());
     let quarter = nine_digits(250_000_000);
     assert_eq!(rt; quarter.as_slice(), b"250000000".as_slice());
     let short = nine_digits(7);

@@ -7,27 +7,28 @@
 
 use crate::decimal::Decimal;
 
-/// How many bytes the array has: at least as many as an answer without names.
+/// How many bytes the array of an answer has: at least as many as an answer without names.
 pub const ROOM: usize = 192;
 
 /// Adds the byte at the place, and returns the place behind it.
 #[inline(always)]
-pub fn add_byte(room: &mut [u8; ROOM], at: usize, byte: u8) -> usize {
+pub fn add_byte<const SIZE: usize>(room: &mut [u8; SIZE], at: usize, byte: u8) -> usize {
     room[at] = byte;
     at + 1
 }
 
 /// Adds the bytes at the place, and returns the place behind them.
 #[inline(always)]
-pub fn add_bytes(room: &mut [u8; ROOM], at: usize, bytes: &[u8]) -> usize {
+pub fn add_bytes<const SIZE: usize>(room: &mut [u8; SIZE], at: usize, bytes: &[u8]) -> usize {
     let end = at + bytes.len();
-    room[at..end].copy_from_slice(bytes);
+    let whole = &mut room[..];
+    whole[at..end].copy_from_slice(bytes);
     end
 }
 
 /// Adds a number below 256 at the place, and returns the place behind it.
 #[inline(always)]
-pub fn add_small(room: &mut [u8; ROOM], at: usize, number: u8) -> usize {
+pub fn add_small<const SIZE: usize>(room: &mut [u8; SIZE], at: usize, number: u8) -> usize {
     if number < 100 {
         add_below_100(room, at, number)
     } else {
@@ -37,7 +38,7 @@ pub fn add_small(room: &mut [u8; ROOM], at: usize, number: u8) -> usize {
 
 /// Adds the number at the place, and returns the place behind it.
 #[inline(always)]
-pub fn add_number(room: &mut [u8; ROOM], at: usize, number: u64) -> usize {
+pub fn add_number<const SIZE: usize>(room: &mut [u8; SIZE], at: usize, number: u64) -> usize {
     if number < 100 {
         add_below_100(room, at, number as u8)
     } else if number < 100_000_000 {
@@ -49,7 +50,7 @@ pub fn add_number(room: &mut [u8; ROOM], at: usize, number: u64) -> usize {
 
 /// Adds a number below 100,000,000 at the place, and returns the place behind it.
 #[inline(never)]
-fn add_below_100_000_000(room: &mut [u8; ROOM], at: usize, number: u32) -> usize {
+fn add_below_100_000_000<const SIZE: usize>(room: &mut [u8; SIZE], at: usize, number: u32) -> usize {
     if number < 10_000 {
         return add_below_10_000(room, at, number);
     }
@@ -60,7 +61,7 @@ fn add_below_100_000_000(room: &mut [u8; ROOM], at: usize, number: u32) -> usize
 
 /// Adds a number below 10,000 at the place, and returns the place behind it.
 #[inline(always)]
-fn add_below_10_000(room: &mut [u8; ROOM], at: usize, number: u32) -> usize {
+fn add_below_10_000<const SIZE: usize>(room: &mut [u8; SIZE], at: usize, number: u32) -> usize {
     if number < 100 {
         return add_below_100(room, at, number as u8);
     }
@@ -70,7 +71,7 @@ fn add_below_10_000(room: &mut [u8; ROOM], at: usize, number: u32) -> usize {
 
 /// Adds two digits at the place, and returns the place behind them.
 #[inline(always)]
-fn add_two_digits(room: &mut [u8; ROOM], at: usize, number: u8) -> usize {
+fn add_two_digits<const SIZE: usize>(room: &mut [u8; SIZE], at: usize, number: u8) -> usize {
     room[at] = b'0' + number / 10;
     room[at + 1] = b'0' + number % 10;
     at + 2
@@ -78,7 +79,7 @@ fn add_two_digits(room: &mut [u8; ROOM], at: usize, number: u8) -> usize {
 
 /// Adds a signed number, as a year, at the place, and returns the place behind it. Nearly all years have four digits.
 #[inline(always)]
-pub fn add_signed(room: &mut [u8; ROOM], at: usize, number: i32) -> usize {
+pub fn add_signed<const SIZE: usize>(room: &mut [u8; SIZE], at: usize, number: i32) -> usize {
     if number >= 1000 && number <= 9999 {
         add_four_digits(room, at, number as u16)
     } else {
@@ -89,7 +90,7 @@ pub fn add_signed(room: &mut [u8; ROOM], at: usize, number: i32) -> usize {
 /// Adds a number that has not four digits.
 #[cold]
 #[inline(never)]
-fn add_other_signed(room: &mut [u8; ROOM], at: usize, number: i32) -> usize {
+fn add_other_signed<const SIZE: usize>(room: &mut [u8; SIZE], at: usize, number: i32) -> usize {
     if number < 0 {
         let digits = add_byte(room, at, b'-');
         add_long(room, digits, u64::from(number.unsigned_abs()))
@@ -103,7 +104,7 @@ fn add_other_signed(room: &mut [u8; ROOM], at: usize, number: i32) -> usize {
 /// The digit of the tens is written in any case, and that of the ones over it where the number is below 10: no branch hangs
 /// on the number.
 #[inline(always)]
-fn add_below_100(room: &mut [u8; ROOM], at: usize, number: u8) -> usize {
+fn add_below_100<const SIZE: usize>(room: &mut [u8; SIZE], at: usize, number: u8) -> usize {
     let last = last_place(at, number);
     room[at] = b'0' + number / 10;
     room[last] = b'0' + number % 10;
@@ -118,7 +119,7 @@ fn last_place(at: usize, number: u8) -> usize {
 
 /// Adds a number of four digits at the place, and returns the place behind it.
 #[inline(always)]
-fn add_four_digits(room: &mut [u8; ROOM], at: usize, number: u16) -> usize {
+fn add_four_digits<const SIZE: usize>(room: &mut [u8; SIZE], at: usize, number: u16) -> usize {
     let front = number / 100;
     let back = number % 100;
     room[at] = b'0' + (front / 10) as u8;
@@ -131,7 +132,7 @@ fn add_four_digits(room: &mut [u8; ROOM], at: usize, number: u16) -> usize {
 /// Adds any number at the place, and returns the place behind it.
 #[cold]
 #[inline(never)]
-fn add_long(room: &mut [u8; ROOM], at: usize, number: u64) -> usize {
+fn add_long<const SIZE: usize>(room: &mut [u8; SIZE], at: usize, number: u64) -> usize {
     let digits = Decimal::new(number);
     add_bytes(room, at, digits.as_slice())
 }

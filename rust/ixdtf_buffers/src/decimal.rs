@@ -37,12 +37,3 @@ fn put_decimal(number: u64, digits: &mut [u8; MOST_DIGITS]) -> usize {
     digits[start] = b'0' + left as u8;
     start
 }
-
-/// What stands before the digits of a signed number.
-pub fn sign_of(number: i32) -> &'static [u8] {
-    if number < 0 {
-        b"-".as_slice()
-    } else {
-        b"".as_slice()
-    }
-}

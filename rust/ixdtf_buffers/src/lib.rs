@@ -9,9 +9,11 @@
 
 pub mod adding;
 pub mod decimal;
+pub mod driver;
 pub mod error;
-pub mod input;
 pub mod line;
 pub mod output;
 pub mod place;
+pub mod sink;
+pub mod source;
 mod waiting;

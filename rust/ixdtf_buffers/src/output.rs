@@ -1,39 +1,38 @@
 // Made by tools/to_rust.py of crates/ixdtf_buffers/src/output.rt. Do not edit.
 
-//! A writer, and what waits to be written to it.
+//! A sink, and what waits to be written to it.
 
 use crate::error::RunError;
+use crate::sink::Sink;
 use crate::waiting::{WAITING_LIMIT, Waiting};
-use std::fmt;
-use std::io::Write;
 
-/// A writer, and the bytes that wait to be written to it.
-pub struct Output<'w, W> {
-    writer: &'w mut W,
+/// A sink, and the bytes that wait to be written to it.
+pub struct Output<'k, K> {
+    sink: &'k mut K,
     waiting: Waiting,
     // Whether what waits is filled before it is written.
     fills: bool,
 }
 
-impl<'w, W: Write> Output<'w, W> {
-    /// An output to the writer. No byte waits. What waits is written whole as soon as a piece does not fit behind it.
-    pub fn new(writer: &'w mut W) -> Output<'w, W> {
+impl<'k, K: Sink> Output<'k, K> {
+    /// An output to the sink. No byte waits. What waits is written whole as soon as a piece does not fit behind it.
+    pub fn new(sink: &'k mut K) -> Output<'k, K> {
         Output {
-            writer,
+            sink,
             waiting: Waiting::new(),
             fills: false,
         }
     }
 
-    /// An output to the writer whose writes are full. No byte waits. Where a piece does not fit behind what waits, that is filled
+    /// An output to the sink whose writes are full. No byte waits. Where a piece does not fit behind what waits, that is filled
     /// with the first of its bytes, and as much of it is written as makes room for the others.
     ///
     /// So short pieces may be gathered, up to 2,048 bytes: of these a writer that takes up to some number of bytes at each write has
     /// no less after as many writes than of the pieces by themselves. But bytes may wait longer than with `new`, until `hand_on`
     /// or `finish`.
-    pub fn filling(writer: &'w mut W) -> Output<'w, W> {
+    pub fn filling(sink: &'k mut K) -> Output<'k, K> {
         Output {
-            writer,
+            sink,
             waiting: Waiting::new(),
             fills: true,
         }
@@ -57,7 +56,7 @@ impl<'w, W: Write> Output<'w, W> {
         }
         self.hand_on()?;
         if bytes.len() > WAITING_LIMIT {
-            return write_whole(self.writer, bytes);
+            return write_whole(self.sink, bytes);
         }
         self.push(bytes);
         Ok(())
@@ -74,7 +73,7 @@ impl<'w, W: Write> Output<'w, W> {
 
     /// Writes of the bytes that wait at least so many, and further as far as the writes take them.
     fn make_room(&mut self, room: usize) -> Result<(), RunError> {
-        let taken = write_least(self.writer, self.waiting.as_slice(), room)?;
+        let taken = write_least(self.sink, self.waiting.as_slice(), room)?;
         self.waiting.drop_front(taken);
         Ok(())
     }
@@ -92,52 +91,32 @@ impl<'w, W: Write> Output<'w, W> {
         Ok(())
     }
 
-    /// Puts what the value displays. A text of more than 4,096 bytes counts as a write that failed.
-    pub fn put_display<D: fmt::Display>(&mut self, value: &D) -> Result<(), RunError> {
-        let mut text = Waiting::new();
-        match text.push_display(value) {
-            Ok(()) => self.put(text.as_slice()),
-            Err(fmt::Error) => Err(RunError::Write),
-        }
-    }
-
-    /// Writes the waiting bytes to the writer.
+    /// Writes the waiting bytes to the sink.
     pub fn hand_on(&mut self) -> Result<(), RunError> {
-        write_whole(self.writer, self.waiting.as_slice())?;
+        write_whole(self.sink, self.waiting.as_slice())?;
         self.waiting.clear();
         Ok(())
     }
 
-    /// Writes the waiting bytes to the writer, and flushes it.
+    /// Writes the waiting bytes to the sink, and flushes it.
     pub fn finish(&mut self) -> Result<(), RunError> {
         self.hand_on()?;
-        match self.writer.flush() {
-            Ok(()) => Ok(()),
-            Err(_) => Err(RunError::Write),
-        }
+        self.sink.flush_all()
     }
 }
 
 /// Writes all the bytes, or fails after a prefix of them.
-fn write_whole<W: Write>(writer: &mut W, bytes: &[u8]) -> Result<(), RunError> {
-    let mut rest = bytes;
-    'writes: while !rest.is_empty() {
-        match writer.write(rest) {
-            Ok(0) | Err(_) => return Err(RunError::Write),
-            Ok(count) => rest = &rest[count..],
-        }
-    }
+fn write_whole<K: Sink>(sink: &mut K, bytes: &[u8]) -> Result<(), RunError> {
+    write_least(sink, bytes, bytes.len())?;
     Ok(())
 }
 
 /// Writes at least so many of the bytes, and returns how many the writes took, or fails after a prefix of them.
-fn write_least<W: Write>(writer: &mut W, bytes: &[u8], least: usize) -> Result<usize, RunError> {
+fn write_least<K: Sink>(sink: &mut K, bytes: &[u8], least: usize) -> Result<usize, RunError> {
     let mut rest = bytes;
     'writes: while bytes.len() - rest.len() < least {
-        match writer.write(rest) {
-            Ok(count) if count > 0 => rest = &rest[count..],
-            Ok(_) | Err(_) => return Err(RunError::Write),
-        }
+        let count = sink.write_some(rest)?;
+        rest = &rest[count..];
     }
     Ok(bytes.len() - rest.len())
 }

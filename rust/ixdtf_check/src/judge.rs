@@ -8,16 +8,15 @@ use crate::reading::{read, read_to_print};
 use crate::request::{Request, Task};
 use crate::verdict::{LINE_LIMIT, Reason, Refusal, Verdict};
 use ixdtf::LocatedError;
-use ixdtf_buffers::line::Line;
 
-/// The verdict on the line. Where the line is refused, where and why is written into `refusal`.
+/// The verdict on the line, which is `None` where it is too long. Where the line is refused, where and why is written into `refusal`.
 pub fn verdict_on<'a>(
     request: &Request<'_>,
-    line: &'a Line<LINE_LIMIT>,
+    line: Option<&'a [u8]>,
     printed: &mut PrintedText,
     refusal: &mut Refusal<'a>,
 ) -> Verdict {
-    match line.as_slice() {
+    match line {
         None => {
             *refusal = Refusal {
                 column: LINE_LIMIT + 1,
@@ -25,18 +24,8 @@ pub fn verdict_on<'a>(
             };
             Verdict::Refused
         }
-        Some(bytes) => verdict_on_short(request, bytes, printed, refusal),
+        Some(bytes) => verdict_on_line(request, without_return(bytes), printed, refusal),
     }
-}
-
-/// The verdict on a line that is not too long.
-pub fn verdict_on_short<'a>(
-    request: &Request<'_>,
-    line: &'a [u8],
-    printed: &mut PrintedText,
-    refusal: &mut Refusal<'a>,
-) -> Verdict {
-    verdict_on_line(request, without_return(line), printed, refusal)
 }
 
 /// The verdict on a line that is not too long, without its carriage return.

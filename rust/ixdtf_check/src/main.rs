@@ -3,10 +3,11 @@
 
 mod arguments;
 mod checker;
+mod checking;
 mod judge;
-mod kept;
 mod kind;
 mod part;
+mod pointed;
 mod printed;
 mod reading;
 mod report;

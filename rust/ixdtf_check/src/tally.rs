@@ -23,12 +23,10 @@ impl Tally {
         }
     }
 
-    /// Counts one more line.
+    /// Counts one more line. A number that overflows stays the greatest.
     pub fn add_line(&mut self, is_refused: bool) {
-        self.lines += 1;
-        if is_refused {
-            self.refused += 1;
-        }
+        self.lines = self.lines.saturating_add(1);
+        self.refused = self.refused.saturating_add(u64::from(is_refused));
     }
 
     /// Adds the counts of another file. A number that overflows stays the greatest.

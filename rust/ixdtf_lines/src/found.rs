@@ -12,11 +12,11 @@ use ixdtf::parsers::{IsoDurationParser, IxdtfParser, Profile, TimeZoneParser};
 use ixdtf::records::TimeZoneRecord;
 use ixdtf_buffers::error::RunError;
 use ixdtf_buffers::output::Output;
-use std::io::Write;
+use ixdtf_buffers::sink::Sink;
 
 /// Puts the answer to the text by the reader that the word names.
-pub fn answer_text<W: Write>(
-    output: &mut Output<'_, W>,
+pub fn answer_text<K: Sink>(
+    output: &mut Output<'_, K>,
     word: Word,
     text: &[u8],
 ) -> Result<(), RunError> {
@@ -38,7 +38,7 @@ pub fn answer_text<W: Write>(
 
 /// Puts the answer of `parse`.
 #[inline(never)]
-fn answer_parse<W: Write>(output: &mut Output<'_, W>, text: &[u8]) -> Result<(), RunError> {
+fn answer_parse<K: Sink>(output: &mut Output<'_, K>, text: &[u8]) -> Result<(), RunError> {
     let outcome = IxdtfParser::from_utf8(text).parse();
     match &outcome {
         Ok(parts) => put_record(output, parts),
@@ -48,7 +48,7 @@ fn answer_parse<W: Write>(output: &mut Output<'_, W>, text: &[u8]) -> Result<(),
 
 /// Puts the answer of `year-month`.
 #[inline(never)]
-fn answer_year_month<W: Write>(output: &mut Output<'_, W>, text: &[u8]) -> Result<(), RunError> {
+fn answer_year_month<K: Sink>(output: &mut Output<'_, K>, text: &[u8]) -> Result<(), RunError> {
     let outcome = IxdtfParser::from_utf8(text).parse_year_month();
     match &outcome {
         Ok(parts) => put_record(output, parts),
@@ -58,7 +58,7 @@ fn answer_year_month<W: Write>(output: &mut Output<'_, W>, text: &[u8]) -> Resul
 
 /// Puts the answer of `month-day`.
 #[inline(never)]
-fn answer_month_day<W: Write>(output: &mut Output<'_, W>, text: &[u8]) -> Result<(), RunError> {
+fn answer_month_day<K: Sink>(output: &mut Output<'_, K>, text: &[u8]) -> Result<(), RunError> {
     let outcome = IxdtfParser::from_utf8(text).parse_month_day();
     match &outcome {
         Ok(parts) => put_record(output, parts),
@@ -68,7 +68,7 @@ fn answer_month_day<W: Write>(output: &mut Output<'_, W>, text: &[u8]) -> Result
 
 /// Puts the answer of `time`.
 #[inline(never)]
-fn answer_time<W: Write>(output: &mut Output<'_, W>, text: &[u8]) -> Result<(), RunError> {
+fn answer_time<K: Sink>(output: &mut Output<'_, K>, text: &[u8]) -> Result<(), RunError> {
     let outcome = IxdtfParser::from_utf8(text).parse_time();
     match &outcome {
         Ok(parts) => put_record(output, parts),
@@ -78,7 +78,7 @@ fn answer_time<W: Write>(output: &mut Output<'_, W>, text: &[u8]) -> Result<(), 
 
 /// Puts the answer of `offset`.
 #[inline(never)]
-fn answer_offset<W: Write>(output: &mut Output<'_, W>, text: &[u8]) -> Result<(), RunError> {
+fn answer_offset<K: Sink>(output: &mut Output<'_, K>, text: &[u8]) -> Result<(), RunError> {
     match TimeZoneParser::from_utf8(text).parse_offset() {
         Ok(offset) => put_offset(output, offset),
         Err(error) => put_error(output, error),
@@ -87,7 +87,7 @@ fn answer_offset<W: Write>(output: &mut Output<'_, W>, text: &[u8]) -> Result<()
 
 /// Puts the answer of `zone`.
 #[inline(never)]
-fn answer_zone<W: Write>(output: &mut Output<'_, W>, text: &[u8]) -> Result<(), RunError> {
+fn answer_zone<K: Sink>(output: &mut Output<'_, K>, text: &[u8]) -> Result<(), RunError> {
     let outcome = TimeZoneParser::from_utf8(text).parse_identifier();
     match &outcome {
         Ok(zone) => put_zone(output, zone),
@@ -97,7 +97,7 @@ fn answer_zone<W: Write>(output: &mut Output<'_, W>, text: &[u8]) -> Result<(), 
 
 /// Puts the answer of `iana`.
 #[inline(never)]
-fn answer_iana<W: Write>(output: &mut Output<'_, W>, text: &[u8]) -> Result<(), RunError> {
+fn answer_iana<K: Sink>(output: &mut Output<'_, K>, text: &[u8]) -> Result<(), RunError> {
     match TimeZoneParser::from_utf8(text).parse_iana_identifier() {
         Ok(name) => put_zone(output, &TimeZoneRecord::Name(name)),
         Err(error) => put_error(output, error),
@@ -106,7 +106,7 @@ fn answer_iana<W: Write>(output: &mut Output<'_, W>, text: &[u8]) -> Result<(), 
 
 /// Puts the answer of `duration`.
 #[inline(never)]
-fn answer_duration<W: Write>(output: &mut Output<'_, W>, text: &[u8]) -> Result<(), RunError> {
+fn answer_duration<K: Sink>(output: &mut Output<'_, K>, text: &[u8]) -> Result<(), RunError> {
     match IsoDurationParser::<Utf8>::from_utf8(text).parse() {
         Ok(duration) => put_duration(output, duration),
         Err(error) => put_error(output, error),
@@ -115,10 +115,7 @@ fn answer_duration<W: Write>(output: &mut Output<'_, W>, text: &[u8]) -> Result<
 
 /// Puts the answer of `strict-month-day`.
 #[inline(never)]
-fn answer_strict_month_day<W: Write>(
-    output: &mut Output<'_, W>,
-    text: &[u8],
-) -> Result<(), RunError> {
+fn answer_strict_month_day<K: Sink>(output: &mut Output<'_, K>, text: &[u8]) -> Result<(), RunError> {
     let outcome = strict(text).parse_month_day();
     match &outcome {
         Ok(parts) => put_record(output, parts),
@@ -128,7 +125,7 @@ fn answer_strict_month_day<W: Write>(
 
 /// Puts the answer of `strict-time`.
 #[inline(never)]
-fn answer_strict_time<W: Write>(output: &mut Output<'_, W>, text: &[u8]) -> Result<(), RunError> {
+fn answer_strict_time<K: Sink>(output: &mut Output<'_, K>, text: &[u8]) -> Result<(), RunError> {
     let outcome = strict(text).parse_time();
     match &outcome {
         Ok(parts) => put_record(output, parts),
@@ -138,7 +135,7 @@ fn answer_strict_time<W: Write>(output: &mut Output<'_, W>, text: &[u8]) -> Resu
 
 /// Puts the answer of `strict-duration`.
 #[inline(never)]
-fn answer_strict_duration<W: Write>(output: &mut Output<'_, W>, text: &[u8]) -> Result<(), RunError> {
+fn answer_strict_duration<K: Sink>(output: &mut Output<'_, K>, text: &[u8]) -> Result<(), RunError> {
     match strict_duration(text).parse() {
         Ok(duration) => put_duration(output, duration),
         Err(error) => put_error(output, error),
@@ -147,7 +144,7 @@ fn answer_strict_duration<W: Write>(output: &mut Output<'_, W>, text: &[u8]) -> 
 
 /// Puts the answer of `canonical`.
 #[inline(never)]
-fn answer_canonical<W: Write>(output: &mut Output<'_, W>, text: &[u8]) -> Result<(), RunError> {
+fn answer_canonical<K: Sink>(output: &mut Output<'_, K>, text: &[u8]) -> Result<(), RunError> {
     let read = IxdtfParser::from_utf8(text).parse();
     match &read {
         Ok(parts) => put_canonical(output, parts),

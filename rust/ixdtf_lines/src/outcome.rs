@@ -14,8 +14,8 @@ use ixdtf::records::{
 use ixdtf_buffers::adding::{ROOM, add_byte, add_bytes};
 use ixdtf_buffers::error::RunError;
 use ixdtf_buffers::output::Output;
+use ixdtf_buffers::sink::Sink;
 use ixdtf_print::{error_parts, length_of, print_with_room};
-use std::io::Write;
 
 /// At least as many bytes as the canonical text of a record that was read from a line has.
 const MOST_BYTES: usize = 4352;
@@ -24,8 +24,8 @@ const MOST_BYTES: usize = 4352;
 const USUAL_BYTES: usize = 256;
 
 /// Puts each field that the record has.
-pub fn put_record<W: Write>(
-    output: &mut Output<'_, W>,
+pub fn put_record<K: Sink>(
+    output: &mut Output<'_, K>,
     parts: &IxdtfParseRecord<'_, Utf8>,
 ) -> Result<(), RunError> {
     let mut room = [0; ROOM];
@@ -50,8 +50,8 @@ fn add_record_front(room: &mut [u8; ROOM], parts: &IxdtfParseRecord<'_, Utf8>) -
 }
 
 /// Puts what was added to the front of an answer, a name that goes behind it, and a newline.
-fn put_front_and_name<W: Write>(
-    output: &mut Output<'_, W>,
+fn put_front_and_name<K: Sink>(
+    output: &mut Output<'_, K>,
     room: &mut [u8; ROOM],
     front: usize,
     name: &[u8],
@@ -66,8 +66,8 @@ fn put_front_and_name<W: Write>(
 }
 
 /// Puts a name, where there is one, a calendar behind it, and a newline.
-fn put_name_and_calendar<W: Write>(
-    output: &mut Output<'_, W>,
+fn put_name_and_calendar<K: Sink>(
+    output: &mut Output<'_, K>,
     name: &[u8],
     calendar: &[u8],
 ) -> Result<(), RunError> {
@@ -95,8 +95,8 @@ fn zone_name<'a>(zone: &TimeZoneRecord<'a, Utf8>) -> &'a [u8] {
 }
 
 /// Puts an offset.
-pub fn put_offset<W: Write>(
-    output: &mut Output<'_, W>,
+pub fn put_offset<K: Sink>(
+    output: &mut Output<'_, K>,
     offset: UtcOffsetRecord,
 ) -> Result<(), RunError> {
     let mut room = [0; ROOM];
@@ -107,8 +107,8 @@ pub fn put_offset<W: Write>(
 }
 
 /// Puts a zone, which is not critical.
-pub fn put_zone<W: Write>(
-    output: &mut Output<'_, W>,
+pub fn put_zone<K: Sink>(
+    output: &mut Output<'_, K>,
     zone: &TimeZoneRecord<'_, Utf8>,
 ) -> Result<(), RunError> {
     let mut room = [0; ROOM];
@@ -118,8 +118,8 @@ pub fn put_zone<W: Write>(
 }
 
 /// Puts a duration.
-pub fn put_duration<W: Write>(
-    output: &mut Output<'_, W>,
+pub fn put_duration<K: Sink>(
+    output: &mut Output<'_, K>,
     duration: DurationParseRecord,
 ) -> Result<(), RunError> {
     let mut room = [0; ROOM];
@@ -132,29 +132,29 @@ pub fn put_duration<W: Write>(
 /// Puts the canonical text of the record.
 ///
 /// Nearly all texts are short, and are printed into a short array, since each array is cleared before it is written.
-pub fn put_canonical<W: Write>(
-    output: &mut Output<'_, W>,
+pub fn put_canonical<K: Sink>(
+    output: &mut Output<'_, K>,
     parts: &IxdtfParseRecord<'_, Utf8>,
 ) -> Result<(), RunError> {
     if length_of(parts) > USUAL_BYTES as u128 {
         return put_long_canonical(output, parts);
     }
-    put_printed::<W, USUAL_BYTES>(output, parts)
+    put_printed::<K, USUAL_BYTES>(output, parts)
 }
 
 /// Puts the canonical text of a record with a long name.
 #[cold]
 #[inline(never)]
-fn put_long_canonical<W: Write>(
-    output: &mut Output<'_, W>,
+fn put_long_canonical<K: Sink>(
+    output: &mut Output<'_, K>,
     parts: &IxdtfParseRecord<'_, Utf8>,
 ) -> Result<(), RunError> {
-    put_printed::<W, MOST_BYTES>(output, parts)
+    put_printed::<K, MOST_BYTES>(output, parts)
 }
 
 /// Puts the canonical text of the record, which is printed into an array of so many bytes.
-fn put_printed<W: Write, const MOST: usize>(
-    output: &mut Output<'_, W>,
+fn put_printed<K: Sink, const MOST: usize>(
+    output: &mut Output<'_, K>,
     parts: &IxdtfParseRecord<'_, Utf8>,
 ) -> Result<(), RunError> {
     let mut text = [0; MOST];
@@ -166,7 +166,7 @@ fn put_printed<W: Write, const MOST: usize>(
 ///
 /// Each text of an error that a reader returns is short, so that the answer is made in an array and put at once.
 #[inline(never)]
-pub fn put_error<W: Write>(output: &mut Output<'_, W>, error: ParseError) -> Result<(), RunError> {
+pub fn put_error<K: Sink>(output: &mut Output<'_, K>, error: ParseError) -> Result<(), RunError> {
     let mut room = [0; ROOM];
     let first = add_bytes(&mut room, 0, b"error ");
     let (text, location) = error_parts(error);

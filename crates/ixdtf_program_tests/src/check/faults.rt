@@ -75,6 +75,37 @@ fn stops_at_a_read_that_fails(rt: HostRuntime) -> Result<(), Fail> {
 fn stops_at_a_write_that_fails(rt: HostRuntime) {
     let mut reader = TWO_LINES;
     let checked = check(&mut reader, &mut ClosedWriter, &DATE_TIMES);
+    assert_eq!(rt;
+        checked,
+        Checked {
+            tally: Tally {
+                lines: 2,
+                refused: 2,
+                bytes: 22,
+            },
+            end: Err(RunError::Write),
+        }
+    );
+}
+
+/// A writer that takes everything, and fails to flush.
+#[derive(Drop)]
+struct UnflushedWriter;
+
+impl Write for UnflushedWriter {
+    fn write(&mut self, buf: &[u8]) -> io::Result<usize> {
+        Ok(buf.len())
+    }
+
+    fn flush(&mut self) -> io::Result<()> {
+        Err(io::Error::from(ErrorKind::Other))
+    }
+}
+
+#[test]
+fn tells_that_the_flush_failed(rt: HostRuntime) {
+    let mut reader = TWO_LINES;
+    let checked = check(&mut reader, &mut UnflushedWriter, &DATE_TIMES);
     assert_eq!(rt; checked.end, Err(RunError::Write));
 }
 
@@ -188,6 +219,50 @@ fn writes_what_waits_whole_or_full(rt: HostRuntime) -> Result<(), Fail> {
     assert_eq!(rt; writer.taken, 4200);
     put_pieces(&mut Output::filling(&mut writer))?;
     assert_eq!(rt; writer.taken, 4200 + 4096);
+    Ok(())
+}
+
+/// A writer that takes a byte at each write, and keeps it.
+#[derive(Drop)]
+struct ByteWriter {
+    bytes: Vec<u8>,
+}
+
+impl Write for ByteWriter {
+    fn write(&mut self, buf: &[u8]) -> io::Result<usize> {
+        let taken = buf.len().min(1);
+        match self.bytes.extend_from_slice(&buf[..taken]) {
+            Ok(()) => Ok(taken),
+            Err(_) => Err(io::Error::from(ErrorKind::OutOfMemory)),
+        }
+    }
+
+    fn flush(&mut self) -> io::Result<()> {
+        Ok(())
+    }
+}
+
+/// Puts pieces of seven bytes, as many as fill what waits several times over, and hands them on.
+fn put_sevens(output: &mut Output<'_, ByteWriter>) -> Result<(), RunError> {
+    for _ in 0..SEVENS {
+        output.put(b"a piece".as_slice())?;
+    }
+    output.hand_on()
+}
+
+/// How many pieces of seven bytes are put.
+const SEVENS: usize = 2000;
+
+#[test]
+fn writes_byte_by_byte(rt: HostRuntime) -> Result<(), Fail> {
+    let mut writer = ByteWriter {
+        bytes: Vec::new(rt.alloc()),
+    };
+    put_sevens(&mut Output::filling(&mut writer))?;
+    assert_eq!(rt; writer.bytes.len(), SEVENS * 7);
+    for piece in writer.bytes.as_slice().chunks(7) {
+        assert_eq!(rt; piece, b"a piece".as_slice());
+    }
     Ok(())
 }
 

@@ -126,35 +126,47 @@ fn passes_over_sixteen_bytes(rt: HostRuntime) {
     assert_eq!(rt; stayed.left, 8);
 }
 
-/// Names of files of 48 and 49 bytes, and the front of a report that has them.
-const NAMES: [(&str, &str); 2] = [
-    (
-        "a-file-of-a-name-that-is-as-long-as-an-array-has",
-        "a-file-of-a-name-that-is-as-long-as-an-array-has:1:8: ",
-    ),
-    (
-        "a-file-of-a-name-that-is-longer-than-an-array-has",
-        "a-file-of-a-name-that-is-longer-than-an-array-has:1:8: ",
-    ),
-];
+/// A long name of a file, and the front of a report that has it.
+const LONG_NAME: &str =
+    "a-file-of-a-name-that-is-longer-than-the-room-of-many-a-report-and-goes-on-and-on-and-on-and-on";
+
+const LONG_FRONT: &str =
+    "a-file-of-a-name-that-is-longer-than-the-room-of-many-a-report-and-goes-on-and-on-and-on-and-on:1:8: ";
 
 #[test]
 fn reports_lines_of_files_with_long_names(rt: HostRuntime) -> Result<(), Fail> {
-    for (name, front) in NAMES {
-        let mut request = DATE_TIMES;
-        request.name = name;
-        let mut report = front.as_bytes().to_vec(rt.alloc())?;
-        report.extend_from_slice(
-            b"Parsed month value not in a valid range.\n2020-13-01\n       ^\n",
-        )?;
-        check_written(
-            &rt,
-            rt.alloc(),
-            &request,
-            b"2020-13-01",
-            report.as_slice(),
-            (1, 1),
-        )?;
+    let mut request = DATE_TIMES;
+    request.name = LONG_NAME;
+    let mut report = LONG_FRONT.as_bytes().to_vec(rt.alloc())?;
+    report.extend_from_slice(b"Parsed month value not in a valid range.\n2020-13-01\n       ^\n")?;
+    check_written(
+        &rt,
+        rt.alloc(),
+        &request,
+        b"2020-13-01",
+        report.as_slice(),
+        (1, 1),
+    )
+}
+
+/// Texts with characters outside printable ASCII, and what is written of them.
+#[rattlefmt::skip]
+const SHOWN: &[(&str, &str)] = &[
+    ("2024-03-02\t08:48", "f:1:11: Unexpected character found after parsing was completed.\n2024-03-02.08:48\n          ^\n"),
+    ("2024-03-02 \u{80}\u{9f}\u{a0}\u{7f}\u{bf}x", "f:1:12: Invalid character while parsing hour value.\n2024-03-02 ..\u{a0}.\u{bf}x\n           ^\n"),
+    ("2024-03-02 um acht Uhr über dem Main", "f:1:12: Invalid character while parsing hour value.\n2024-03-02 um acht Uhr über dem Mai..\n           ^\n"),
+    ("2024-03-02 um acht Uhr an der Brücke", "f:1:12: Invalid character while parsing hour value.\n2024-03-02 um acht Uhr an der Brück..\n           ^\n"),
+    ("2024-03-02 an den Stufen am Tor über dem Main", "f:1:12: Invalid character while parsing hour value.\n2024-03-02 an den Stufen am Tor übe..\n           ^\n"),
+    ("2024-03-02 an den Stufen am alten Tor ü", "f:1:12: Invalid character while parsing hour value.\n2024-03-02 an den Stufen am alten T..\n           ^\n"),
+    ("\u{1f600}\u{1f600}\u{1f600}\u{1f600}\u{1f600}\u{1f600}\u{1f600}\u{1f600}\u{1f600}\u{1f600}\u{1f600}\u{1f600}\u{1f600}\u{1f600}\u{1f600}\u{1f600}\u{1f600}\u{1f600}\u{1f600}\u{1f600}\u{1f600}\u{1f600}\u{1f600}\u{1f600}\u{1f600}", "f:1:1: Invalid chracter while parsing year value.\n\u{1f600}\u{1f600}\u{1f600}\u{1f600}\u{1f600}\u{1f600}\u{1f600}\u{1f600}\u{1f600}\u{1f600}\u{1f600}\u{1f600}\u{1f600}\u{1f600}\u{1f600}\u{1f600}\u{1f600}\u{1f600}\u{1f600}\u{1f600}\u{1f600}\u{1f600}\u{1f600}\u{1f600}..\n^\n"),
+    ("2024-03-02[America/New_York][u-ca=hebrew][u-co=standard][key=ü", "f:1:62: Invalid annotation value character.\n..erica/New_York][u-ca=hebrew][u-co=standard][key=ü\n                                                  ^\n"),
+];
+
+#[test]
+fn shows_characters_outside_ascii(rt: HostRuntime) -> Result<(), Fail> {
+    for (text, report) in SHOWN {
+        let bytes = report.as_bytes();
+        check_written(&rt, rt.alloc(), &DATE_TIMES, text.as_bytes(), bytes, (1, 1))?;
     }
     Ok(())
 }
@@ -191,6 +203,15 @@ fn shows_no_line_that_is_not_utf8(rt: HostRuntime) -> Result<(), Fail> {
         &DATE_TIMES,
         b"2020-01-01\xff",
         b"f:1:11: Unexpected character found after parsing was completed.\n",
+        (1, 1),
+    )?;
+    // Nor one that is plain as far as it would be shown.
+    check_written(
+        &rt,
+        rt.alloc(),
+        &DATE_TIMES,
+        b"2020-13-01, and so on, as far as it is not shown any more \xff",
+        b"f:1:8: Parsed month value not in a valid range.\n",
         (1, 1),
     )
 }

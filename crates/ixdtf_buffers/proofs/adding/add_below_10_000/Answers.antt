@@ -4,5 +4,5 @@ use Rattle.std.proofs.Common.{arith}
 use Rattle.ixdtf_buffers.proofs.AddingLemmas.{adds_then, decimal_hundreds}
 
 pub returns-clause-text : goal.returns-clause-text
-returns-clause-text c =
+returns-clause-text g c =
     rw (decimal_hundreds c.args.number (omega arith) (omega arith)) (adds_then c.add_below_100-last.ensures.text c.add_two_digits.ensures.text)

@@ -4,7 +4,7 @@ use Rattle.std.proofs.Common.{arith}
 use Rattle.ixdtf_buffers.proofs.DecimalLemmas.{length-decimal_u64}
 
 pub add_long-requires : goal.add_long-requires
-add_long-requires c = omega (arith, length-decimal_u64 c.args.number (omega arith))
+add_long-requires g c = omega (arith, length-decimal_u64 c.args.number (omega arith))
 
 pub returns-else-number-lt100000000-clause-place : goal.returns-else-number-lt100000000-clause-place
-returns-else-number-lt100000000-clause-place c = omega (arith, length-decimal_u64 c.args.number (omega arith), c.add_long.ensures.place)
+returns-else-number-lt100000000-clause-place g c = omega (arith, length-decimal_u64 c.args.number (omega arith), c.add_long.ensures.place)

@@ -6,7 +6,7 @@ use Rattle.std.specs.Io.KnownBytes.{Appends}
 -- the prefix that was written, and the rest, are the bytes
 abbrev pub invariant-writes : goal.invariant-writes
 invariant-writes g l = (front : List ℕ) × (l.bytes ≡ front ++ l.rest)
-    × Appends (g.W.Write.contents l.fn.writer) (g.W.Write.contents l.writer) front
+    × Appends (g.K.Sink.contents l.fn.sink) (g.K.Sink.contents l.sink) front
 
 abbrev pub decreases-writes : goal.decreases-writes
 decreases-writes g l = length l.rest

@@ -5,4 +5,4 @@ use Rattle.ixdtf_buffers.specs.Output.{Puts, joined}
 
 -- the pieces so far were put
 abbrev pub invariant-loop-piece : goal.invariant-loop-piece
-invariant-loop-piece g l = Puts g.W.Write.contents l.fn.self l.self (Ok tt) (joined (take l.piece-index l.pieces))
+invariant-loop-piece g l = Puts g.K.Sink.contents g.K.Sink.failed l.fn.self l.self (Ok tt) (joined (take l.piece-index l.pieces))

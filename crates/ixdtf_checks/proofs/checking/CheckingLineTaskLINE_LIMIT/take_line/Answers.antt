@@ -1,0 +1,25 @@
+-- A line is reported and counted.
+use Rattle.ixdtf_checks.proofs.checking.CheckingLineTaskLINE_LIMIT.take_line.Goals as goal
+use Rattle.std.proofs.Common.{refl}
+use Rattle.ixdtf_checks.specs.Reports.{report_of}
+use Rattle.ixdtf_checks.specs.Seen.{seen}
+
+pub returns-clause-takes : goal.returns-clause-takes
+returns-clause-takes g c = λ text is.
+    let printed = c.verdict_on-verdict.new.printed in
+    let refusal = c.verdict_on-verdict.new.refusal in
+    let verdict = seen printed refusal c.verdict_on-verdict.result in
+    record {
+      bytes = report_of c.args.self.now.request c.add_line.new.self.lines verdict;
+      steps = (
+        refl,
+        record {
+          verdict = verdict;
+          is = c.verdict_on-verdict.ensures text is;
+          lines = c.add_line.ensures.lines;
+          refused = rw (c.is_refused.ensures printed refusal) c.add_line.ensures.refused;
+          report = refl;
+        },
+      );
+      puts = c.put_report.ensures;
+    }

@@ -1,0 +1,12 @@
+-- A text, and what is none.
+use Rattle.ixdtf_checks.proofs.pointed.add_any.Goals as goal
+use Rattle.std.proofs.Common.{sym}
+use Rattle.ixdtf_checks.proofs.PointedLemmas.{adds_none, adds_same, lines_hidden, lines_masked}
+
+pub returns-in-Ok-clause-text : goal.returns-in-Ok-clause-text
+returns-in-Ok-clause-text c =
+    adds_same (lines_masked c.args.bytes.now c.args.place c.window_of.result c.in-Ok.ensures.cases.1 c.window_of.ensures.characters) c.add_shown.ensures.text
+
+pub returns-in-Err-clause-text : goal.returns-in-Err-clause-text
+returns-in-Err-clause-text c =
+    adds_same (sym (lines_hidden c.args.bytes.now c.args.place c.in-Err.ensures.cases.0)) (adds_none c.args.room.now c.args.at)

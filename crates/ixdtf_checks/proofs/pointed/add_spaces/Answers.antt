@@ -1,0 +1,23 @@
+-- The first of the spaces.
+use Rattle.ixdtf_checks.proofs.pointed.add_spaces.Goals as goal
+use Rattle.std.proofs.Common.{◌≡◌, ℕ, ◌+◌, ◌≤◌, suc, zero, List, take, replicate, refl, ap, ◌∷◌, arith}
+use Rattle.ixdtf_buffers.proofs.AddingLemmas.{adds_front}
+
+front_of_spaces : (m n c : ℕ) → m ≤ n → take m (replicate n c) ≡ replicate m c
+front_of_spaces zero n c within = refl
+front_of_spaces (suc m) zero c within = absurd (omega (arith, within))
+front_of_spaces (suc m) (suc n) c within = ap (λ t. c ∷ t) (front_of_spaces m n c (omega (arith, within)))
+
+behind_newline : (m n l c : ℕ) → m ≤ n → take (m + 1) (l ∷ replicate n c) ≡ l ∷ replicate m c
+behind_newline m n l c within =
+    let next : m + 1 ≡ suc m = omega arith in
+    rw (next, front_of_spaces m n c within) refl
+
+pub returns-clause-text : goal.returns-clause-text
+returns-clause-text c =
+    let many = c.args.indent in
+    let few = c.requires.few in
+    let spaces : List ℕ = 10 ∷ replicate 50 32 in
+    let added = adds_front c.args.room.now c.add_bytes-end.new.room c.args.at c.add_bytes-end.result (c.args.at + many + 1) (many + 1) spaces
+    (omega arith) c.add_bytes-end.ensures.place (omega arith) (omega (arith, few)) c.add_bytes-end.ensures.text in
+    record { is = rw (← behind_newline many 50 10 32 few) added.is }

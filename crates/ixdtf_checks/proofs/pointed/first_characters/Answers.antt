@@ -1,0 +1,46 @@
+-- Over the first characters.
+use Rattle.ixdtf_checks.proofs.pointed.first_characters.Goals as goal
+use Rattle.std.proofs.Common.{◌≡◌, take, get_or, subst, sym, arith}
+use Rattle.std.proofs.lemmas.{List.take_all, Str.{IsUtf8-take, IsUtf8-drop}}
+use Rattle.std.specs.Str.{IsUtf8}
+use Rattle.ixdtf_checks.proofs.CharactersLemmas.{begun, begun_counted, begun_most, lead_begun, starts_chars, starts_more}
+
+pub loop-end-preserved : goal.loop-end-preserved
+loop-end-preserved c =
+    let bs = c.args.bytes.now in
+    let byte = get_or bs c.loop-end.end 0 in
+    let one : c.from-count.result ≡ begun byte = begun_counted byte _ c.begins_character.result c.begins_character.ensures c.from-count.ensures in
+    let (within, few, counted) = c.loop-end.invariant in
+    (omega arith, omega arith, omega (arith, one, counted, starts_more bs c.loop-end.end (omega arith)))
+
+pub returns-then-count-gt-FROM_PLACE-clause-front : goal.returns-then-count-gt-FROM_PLACE-clause-front
+returns-then-count-gt-FROM_PLACE-clause-front c =
+    let bs = c.args.bytes.now in
+    let byte = get_or bs c.loop-end.end 0 in
+    let one : c.from-count.result ≡ begun byte = begun_counted byte _ c.begins_character.result c.begins_character.ensures c.from-count.ensures in
+    IsUtf8-take bs c.loop-end.end c.requires (omega arith, λ _. lead_begun byte (omega (arith, one, begun_most byte)))
+
+pub returns-then-count-gt-FROM_PLACE-clause-rest : goal.returns-then-count-gt-FROM_PLACE-clause-rest
+returns-then-count-gt-FROM_PLACE-clause-rest c =
+    let bs = c.args.bytes.now in
+    let byte = get_or bs c.loop-end.end 0 in
+    let one : c.from-count.result ≡ begun byte = begun_counted byte _ c.begins_character.result c.begins_character.ensures c.from-count.ensures in
+    IsUtf8-drop bs c.loop-end.end c.requires (omega arith, λ _. lead_begun byte (omega (arith, one, begun_most byte)))
+
+pub returns-then-count-gt-FROM_PLACE-clause-few : goal.returns-then-count-gt-FROM_PLACE-clause-few
+returns-then-count-gt-FROM_PLACE-clause-few c =
+    let front = take c.loop-end.end c.args.bytes.now in
+    omega (arith, c.loop-end.invariant, starts_chars front (returns-then-count-gt-FROM_PLACE-clause-front c))
+
+pub returns-then-count-gt-FROM_PLACE-clause-cut : goal.returns-then-count-gt-FROM_PLACE-clause-cut
+returns-then-count-gt-FROM_PLACE-clause-cut c = λ more.
+    let bs = c.args.bytes.now in
+    let byte = get_or bs c.loop-end.end 0 in
+    let one : c.from-count.result ≡ begun byte = begun_counted byte _ c.begins_character.result c.begins_character.ensures c.from-count.ensures in
+    omega (arith, c.loop-end.invariant, one, begun_most byte, starts_chars (take c.loop-end.end bs) (returns-then-count-gt-FROM_PLACE-clause-front c))
+
+pub returns-clause-few : goal.returns-clause-few
+returns-clause-few c =
+    let bs = c.args.bytes.now in
+    let all = take_all c.loop-end.end bs (omega arith) in
+    omega (arith, c.loop-end.invariant, starts_chars (take c.loop-end.end bs) (subst IsUtf8 (sym all) c.requires))

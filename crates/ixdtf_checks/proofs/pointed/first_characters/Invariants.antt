@@ -1,0 +1,11 @@
+-- Over the first characters.
+use Rattle.ixdtf_checks.proofs.pointed.first_characters.Given as goal
+use Rattle.std.proofs.Common.{◌≡◌, ◌-◌, ◌≤◌, length, take}
+use Rattle.ixdtf_checks.proofs.CharactersLemmas.{starts}
+
+-- as many characters begin up to there as were counted
+abbrev pub invariant-loop-end : goal.invariant-loop-end
+invariant-loop-end l = (l.end ≤ length l.bytes) × (l.count ≤ 24) × (starts (take l.end l.bytes) ≡ l.count)
+
+abbrev pub decreases-loop-end : goal.decreases-loop-end
+decreases-loop-end l = length l.bytes - l.end

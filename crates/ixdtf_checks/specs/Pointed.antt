@@ -1,0 +1,68 @@
+-- The lines under a message as the code makes them. No clause of `check` cites this module.
+use Rattle.std.specs.Prelude.{◌≡◌, ℕ, Bool, true, ◌+◌, ◌-◌, ◌<◌, ◌≤◌, ◌==◌, ◌&&◌, if◌then◌else◌, List, [], ◌∷◌, ◌++◌, length, take, drop, replicate, codes, nat_lt, slice_index, IsUtf8}
+use Rattle.std.specs.{Fmt.decimal, Str.chars}
+use Rattle.ixdtf_grammar.specs.LocatedTexts.{shown, column_of, cut_mark, indent_of}
+use Rattle.ixdtf_buffers.specs.Lines.{newline}
+use Rattle.ixdtf_checks.specs.declared.pointed.Window.{Window}
+
+-- what stands behind the name of the file
+abbrev pub place_behind_name : ℕ → ℕ → List ℕ
+place_behind_name number column = codes ":" ++ (decimal number ++ (codes ":" ++ (decimal column ++ codes ": ")))
+
+-- each byte is a printable character of ASCII
+abbrev pub IsPlain : List ℕ → Type 0
+IsPlain bytes = (place : ℕ) → place < length bytes → (32 ≤ slice_index bytes place) × (slice_index bytes place < 127)
+
+-- a character begins with the byte: it is not inside one
+abbrev pub begins_character : ℕ → Bool
+begins_character byte = if nat_lt byte 128 then true else nat_lt 191 byte
+
+-- a byte of ASCII as it is shown, and any other
+abbrev pub mask : ℕ → ℕ
+mask byte = if nat_lt byte 128 then shown byte else byte
+
+-- a text as it is shown: `.` for a control character, which is one byte, or 0xC2 and one from 0x80 to 0x9F
+unfoldable pub masked : List ℕ → List ℕ
+masked [] = []
+masked (byte ∷ []) = mask byte ∷ []
+masked (byte ∷ (next ∷ bytes)) = if (byte == 194) && nat_lt next 160 then 46 ∷ masked bytes else mask byte ∷ masked (next ∷ bytes)
+
+-- the bytes of a window
+abbrev pub bytes_in : Window → List ℕ → List ℕ
+bytes_in window bytes = drop window.start (take window.end bytes)
+
+-- the window has at most 288 bytes, and at most 50 columns stand before the mark
+pub record Fits (bytes : List ℕ) (window : Window) : Type 0 where
+  pub order : window.start ≤ window.end
+  pub within : window.end ≤ length bytes
+  pub few : window.end ≤ window.start + 288
+  pub narrow : window.indent ≤ 50
+
+-- the window has 48 bytes before the place and 24 from it on, as far as there are so many
+pub record IsNear (bytes : List ℕ) (place : ℕ) (window : Window) : Type 0 where
+  pub mark : ℕ
+  pub inside : place < length bytes → mark ≡ place
+  pub beyond : length bytes ≤ place → mark ≡ length bytes
+  pub start : window.start ≡ mark - 48
+  pub after : mark ≤ window.end
+  pub far : window.end ≤ mark + 24
+  pub end : window.end < length bytes → window.end ≡ mark + 24
+  pub indent : window.indent ≡ indent_of mark
+
+-- the window has the characters that are shown
+pub record IsWindow (bytes : List ℕ) (place : ℕ) (window : Window) : Type 0 where
+  pub before : nat_lt 0 window.start ≡ nat_lt 48 (column_of (chars bytes) place)
+  pub behind : nat_lt window.end (length bytes) ≡ nat_lt (column_of (chars bytes) place + 24) (length (chars bytes))
+  pub indent : window.indent ≡ indent_of (column_of (chars bytes) place)
+  pub valid : IsUtf8 (bytes_in window bytes)
+  pub characters : chars (bytes_in window bytes)
+      ≡ drop (column_of (chars bytes) place - 48) (take (column_of (chars bytes) place + 24) (chars bytes))
+
+-- what stands behind the part of a text that is shown
+abbrev pub behind_shown : List ℕ → Window → List ℕ
+behind_shown bytes window =
+    cut_mark (nat_lt window.end (length bytes)) ++ ((newline ∷ replicate window.indent 32) ++ (codes "^" ++ newline ∷ []))
+
+-- the lines of a window, where this is what is shown of its bytes
+abbrev pub window_lines : List ℕ → Window → List ℕ → List ℕ
+window_lines bytes window part = cut_mark (nat_lt 0 window.start) ++ (part ++ behind_shown bytes window)

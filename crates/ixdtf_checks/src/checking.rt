@@ -1,0 +1,72 @@
+//! What a check does with a line.
+ghost use Rattle.std.specs.Prelude.{◌≡◌};
+
+use crate::judge::verdict_on;
+use crate::pointed::ROOM;
+use crate::printed::PrintedText;
+use crate::report::put_report;
+use crate::request::Request;
+use crate::tally::Tally;
+use crate::verdict::{LINE_LIMIT, Refusal};
+use ixdtf_buffers::driver::LineTask;
+use ixdtf_buffers::error::RunError;
+use ixdtf_buffers::output::Output;
+use ixdtf_buffers::sink::Sink;
+
+/// What is asked of a check, and what it keeps from one line to the next.
+#[derive(Drop)]
+pub struct Checking<'n> {
+    /// What is asked of it.
+    pub request: Request<'n>,
+    /// The canonical text that was printed last.
+    pub printed: PrintedText,
+    /// The room in which a report is made. It stands here, since to clear it for each report takes as long as to fill it.
+    pub room: [u8; ROOM],
+    /// What was counted. Its bytes are counted elsewhere.
+    pub tally: Tally,
+}
+
+impl<'n> Checking<'n> {
+    /// No line was checked.
+    pub fn new(request: Request<'n>) -> Checking<'n>
+        ensures request { result.request ≡ request.entry }
+        ensures lines { result.tally.lines ≡ 0 }
+        ensures refused { result.tally.refused ≡ 0 }
+    {
+        Checking {
+            request,
+            printed: PrintedText::new(),
+            room: [0; ROOM],
+            tally: Tally::new(),
+        }
+    }
+}
+
+impl LineTask<LINE_LIMIT> for Checking<'_> {
+    ghost use Rattle.std.specs.Prelude.{◌≡◌};
+    ghost use Rattle.ixdtf_checks.specs.Checks.{ReportsLine};
+
+    ghost step = { λ old line bytes new. (new.request ≡ old.request)
+        × ReportsLine old.request old.tally new.tally line bytes };
+
+    /// Puts the report of the line, and counts it.
+    fn take_line<K: Sink>(
+        &mut self,
+        output: &mut Output<'_, K>,
+        line: Option<&[u8]>,
+    ) -> Result<(), RunError> {
+        let mut refusal = Refusal::new();
+        let verdict = verdict_on(&self.request, line, &mut self.printed, &mut refusal);
+        self.tally.add_line(verdict.is_refused());
+        let number = self.tally.lines;
+        put_report(
+            output,
+            &mut self.room,
+            &self.request,
+            number,
+            &self.printed,
+            &refusal,
+            verdict,
+        )
+    }
+}

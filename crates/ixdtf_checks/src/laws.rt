@@ -1,0 +1,24 @@
+//! Laws of the check.
+ghost use Rattle.std.specs.Prelude.{◌≡◌, [], length, OnOk, IfErr};
+ghost use Rattle.ixdtf_buffers.specs.Lines.{lines_of};
+ghost use Rattle.ixdtf_checks.specs.Checks.{ReportsWhole};
+
+use crate::checker::{Checked, check_lines};
+use crate::request::Request;
+use ixdtf_buffers::error::RunError;
+use ixdtf_buffers::memory::{Memory, Room};
+
+/// Checks each line of the bytes, and writes its report into the room, where no byte was written. Nothing fails but a write, and
+/// that only where the room is full.
+pub fn check_in_memory<const SIZE: usize>(
+    bytes: &[u8],
+    room: &mut Room<SIZE>,
+    request: &Request<'_>,
+) -> Checked
+    requires { room.old ≡ [] }
+    ensures ok { OnOk result.end (ReportsWhole room.new request.now result.tally (lines_of bytes.now)
+        × (result.tally.bytes ≡ length bytes.now)) }
+    ensures err { IfErr result.end (λ error. (error ≡ RunError.Write) × (length room.new ≡ SIZE)) }
+{
+    check_lines(&mut Memory { rest: bytes }, room, request)
+}
