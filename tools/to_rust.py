@@ -111,9 +111,9 @@ CRATES = [
     Crate('crates/ixdtf_callers/src', 'rust/ixdtf/src', ['lib'], root='callers', tests=True),
     Crate('crates/ixdtf_tests/src', 'rust/ixdtf/src', ['lib', 'tests/laws', 'tests/printing'], root='tests', tests=True),
     Crate('crates/ixdtf_print/src', 'rust/ixdtf_print/src', ['laws'], ends=PRINTER, above=True),
-    Crate('crates/ixdtf_buffers/src', 'rust/ixdtf_buffers/src', ['place'], ends=PROGRAM, above=True),
-    Crate('crates/ixdtf_answers/src', 'rust/ixdtf_lines/src', ['lib'], ends=PROGRAM, above=True),
-    Crate('crates/ixdtf_checks/src', 'rust/ixdtf_check/src', ['lib'], ends=PROGRAM, above=True),
+    Crate('crates/ixdtf_buffers/src', 'rust/ixdtf_buffers/src', ['memory', 'place'], ends=PROGRAM, above=True),
+    Crate('crates/ixdtf_answers/src', 'rust/ixdtf_lines/src', ['laws', 'lib'], ends=PROGRAM, above=True),
+    Crate('crates/ixdtf_checks/src', 'rust/ixdtf_check/src', ['laws', 'lib'], ends=PROGRAM, above=True),
     Crate('crates/ixdtf_c/src', 'rust/ixdtf_c/src', ['laws', 'turns', 'tests', 'slices'], ends=FOR_C, above=True, exports=True),
 ]
 WRITTEN_BY_HAND = {'rust/ixdtf/src/runtime.rs', 'rust/ixdtf/src/tests/printing.rs', 'rust/ixdtf_lines/src/main.rs', 'rust/ixdtf_check/src/main.rs',
