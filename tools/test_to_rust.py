@@ -109,7 +109,7 @@ def phrase(text):
 
 
 REMOVED = [phrase(t) for t in ['#![tactic(auto)]', '#[rattlefmt::skip]', 'use std::marker::Model;', '#[derive(Drop)]', 'pub mod laws;', 'mod laws;',
-                               '#[cfg(test)] mod tests;', '#[cfg(test)]', 'pub mod turns;', 'pub use laws::{canonical_fits, canonical_is_read_back};', 'use ixdtf_print::canonical_fits;', 'canonical_fits();', 'use crate::looks::Looks;', 'looks: Looks,', 'looks: Looks::none(),', 'self.looks.tick();',
+                               '#[cfg(test)] mod tests;', '#[cfg(test)]', 'pub mod turns;', 'pub mod memory;', 'pub use laws::{canonical_fits, canonical_is_read_back};', 'use ixdtf_print::canonical_fits;', 'canonical_fits();', 'use crate::looks::Looks;', 'looks: Looks,', 'looks: Looks::none(),', 'self.looks.tick();',
                                'let common = left.len().min(right.len());', 'self.looks.tick_by(common);', 'self.looks.tick_by(4);',
                                'looks: std::mem::replace(&mut self.looks, Looks::none()),', 'self.keep_looks(here);', 'self.cursor.keep_looks(here);',
                                'cursor.keep_looks(again);', 'cursor.keep_looks(front);', '#[inline(always)] pub fn keep_looks(&mut self, here: Self) { self.looks = here.looks; }',
@@ -123,7 +123,7 @@ CHANGED = [(phrase(a), phrase(b)) for a, b in [
     ('<W: fmt::Write>(', '('), ('fmt::Formatter<W>', "fmt::Formatter<'_>"),
     ('#[derive_where(', '#[derive('), ('Drop,', ''), (', Drop', ''), ('const _: () = prove!(', 'const _: () = assert!('),
     ('(rt: HostRuntime)', '()'), ('.clone()', '.try_clone()'), ('use std::process::Abort;', 'use crate::runtime::Abort;'),
-    ('use std::test::Fail;', 'use crate::runtime::Fail;'), ('match str::from_utf8(', 'match std::str::from_utf8('),
+    ('use std::test::Fail;', 'use crate::runtime::Fail;'), ('match str::from_utf8(', 'match std::str::from_utf8('), ('str::from_utf8(bytes).is_ok()', 'std::str::from_utf8(bytes).is_ok()'),
     ('use std::alloc::{AllocError, Global};', 'use crate::runtime::{AllocError, Global, String};'),
     ('use std::alloc::Global;', 'use crate::runtime::Global;')]]
 ADDED = [phrase(t) for t in [
