@@ -59,8 +59,10 @@ def library(checkout, name, program):
     """The root of a library of the files that a plain program has. All its modules are public."""
     root = read(os.path.join(checkout, 'crates', name, 'src', 'lib.rt'))
     folder = os.path.join(checkout, 'rust', program, 'src')
+    # the plain program leaves out some modules, such as the laws
+    modules = [it for it in re.findall(r'^(?:pub )?mod (\w+);$', root, re.M) if os.path.exists(os.path.join(folder, f'{it}.rs'))]
     return '#![forbid(unsafe_code)]\n#![allow(unused_labels)]\n\n' + ''.join(
-        f'#[path = "{folder}/{module}.rs"]\npub mod {module};\n' for module in re.findall(r'^(?:pub )?mod (\w+);$', root, re.M))
+        f'#[path = "{folder}/{module}.rs"]\npub mod {module};\n' for module in modules)
 
 
 def workloads():

@@ -6,7 +6,7 @@ use Rattle.ixdtf_grammar.specs.{Laws.InNoOther, Places.{HandledToAt, UnhandledFa
 use Rattle.ixdtf_grammar.specs.{Views.{UnreadUnder, unread_of, most_looks, LeavesBehind, returned_by}, Promises.most_looks_beside}
 use Rattle.ixdtf_reading.specs.{declared.stop.StopAt.StopAt, reading.{Chains.{Counting, TextReadTo}, Clauses.{UnhandledForm, fault_of_stop_at}}}
 
--- into a record, which is `found` after `Ok`, with a handler that is left in the state `last`; its replies cost `spent` accesses
+-- into a record, which is `found` after `Ok`, with a handler that is left in the state `last`; its replies may cost `spent` accesses beyond those of a reader without one
 pub record ReadsInto {T U F : Type 0} (letter : ℕ → Letter) (number : U → ℕ) (step : Step T U F) (handler last : F)
     (found : Parsed) (reader : Reader) (old : UnreadUnder) (result : Result Unit StopAt) (new : UnreadUnder) : Type 0 where
   pub spent : ℕ

@@ -2,7 +2,7 @@
 use Rattle.std.specs.{Prelude.{◌≡◌, ℕ, List, [], ◌∷◌, ◌++◌, length, Option, Result}, Io.KnownBytes.{Appends, Consumes}}
 use Rattle.ixdtf_buffers.specs.{declared.{error.RunError.RunError, output.Output.Output}, Output.{AppendsFront, Puts}}
 
--- a task took the line: what it put of it is a step of it
+-- a task took the line and put some bytes for it, and these are a step of the task
 pub record Takes {T K : Type 0} (step : T → List ℕ → List ℕ → T → Type 0) (contents : K → Option (List ℕ)) (failed : K → Type 0) (old new : T)
     (before after : Output K) (result : Result (Unit {0}) RunError) (line : List ℕ) : Type 0 where
   pub bytes : List ℕ

@@ -33,9 +33,9 @@ impl<'k, K: Sink> Output<'k, K> {
     /// An output to the sink whose writes are full. No byte waits. Where a piece does not fit behind what waits, that is filled
     /// with the first of its bytes, and as much of it is written as makes room for the others.
     ///
-    /// So short pieces may be gathered, up to 2,048 bytes: of these a writer that takes up to some number of bytes at each write has
-    /// no less after as many writes than of the pieces by themselves. But bytes may wait longer than with `new`, until `hand_on`
-    /// or `finish`.
+    /// So short pieces may be gathered, up to 2,048 bytes. A writer that takes up to some number of bytes at each write then has no
+    /// less of them after as many writes than it has of the pieces by themselves. That is tested, and no clause says it. But bytes
+    /// may wait longer than with `new`, until `hand_on` or `finish`.
     pub fn filling(sink: &'k mut K) -> Output<'k, K>
         ensures same { result.sink.ghost_name ≡ sink.entry.ghost_name }
         ensures sink { result.sink.now ≡ sink.old }

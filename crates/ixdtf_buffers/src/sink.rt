@@ -25,7 +25,7 @@ pub trait Sink {
         ensures err { IfErr result (λ error. (error ≡ RunError.Write) × failed self.new
             × Keeps (contents self.old) (contents self.new)) };
 
-    /// Has what was written go on to where it goes. It fails with `RunError::Write`.
+    /// Flushes what was written. It fails with `RunError::Write`.
     fn flush_all(&mut self) -> Result<(), RunError>
         ensures ok { OnOk result (flushed self.new) }
         ensures keeps { Keeps (contents self.old) (contents self.new) }

@@ -161,6 +161,7 @@ where
 {
     let mut kept = calendar.read();
     let found = reply.read();
+    // This parser reads nothing. It counts the code units that are compared.
     let mut parser = IxdtfParser::<T>::new(found.key);
     match parser.keep_first_calendar(&mut kept, Some(found)) {
         Ok(()) => {

@@ -1,7 +1,7 @@
 //! Laws of the check.
-ghost use Rattle.std.specs.Prelude.{◌≡◌, [], length, OnOk, IfErr};
+ghost use Rattle.std.specs.Prelude.{◌≡◌, ℕ, List, [], ◌++◌, length, Some, Err, OnOk, IfErr};
 ghost use Rattle.ixdtf_buffers.specs.Lines.{lines_of};
-ghost use Rattle.ixdtf_checks.specs.Checks.{ReportsWhole};
+ghost use Rattle.ixdtf_checks.specs.Checks.{ReportsFront, ReportsWhole};
 
 use crate::checker::{Checked, check_lines};
 use crate::request::Request;
@@ -9,7 +9,7 @@ use ixdtf_buffers::error::RunError;
 use ixdtf_buffers::memory::{Memory, Room};
 
 /// Checks each line of the bytes, and writes its report into the room, where no byte was written. Nothing fails but a write, and
-/// that only where the room is full.
+/// that only where the room is full of the beginning of the reports.
 pub fn check_in_memory<const SIZE: usize>(
     bytes: &[u8],
     room: &mut Room<SIZE>,
@@ -19,6 +19,9 @@ pub fn check_in_memory<const SIZE: usize>(
     ensures ok { OnOk result.end (ReportsWhole room.new request.now result.tally (lines_of bytes.now)
         × (result.tally.bytes ≡ length bytes.now)) }
     ensures err { IfErr result.end (λ error. (error ≡ RunError.Write) × (length room.new ≡ SIZE)) }
+    ensures front { result.end ≡ Err RunError.Write → (read : List ℕ) × (rest : List ℕ)
+        × (bytes.now ≡ read ++ rest)
+        × ReportsFront (Some []) (Some room.new) request.now result.tally (lines_of read) }
 {
     check_lines(&mut Memory { rest: bytes }, room, request)
 }

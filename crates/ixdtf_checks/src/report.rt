@@ -1,7 +1,7 @@
 //! The report of a line.
 ghost use Rattle.std.specs.Prelude.{◌≡◌, ◌≤◌, ◌+◌, ◌++◌, ◌∷◌, [], length};
 ghost use Rattle.ixdtf_grammar.specs.table.ErrorTexts.{message_of};
-ghost use Rattle.ixdtf_grammar.specs.table.Faults.{fault_of, fault_of_located};
+ghost use Rattle.ixdtf_grammar.specs.table.Faults.{fault_of_located};
 ghost use Rattle.ixdtf_buffers.specs.Adding.{Adds};
 ghost use Rattle.ixdtf_buffers.specs.Lines.{newline};
 ghost use Rattle.ixdtf_buffers.specs.Output.{Puts};
@@ -13,11 +13,12 @@ use crate::pointed::{ROOM, add_lines};
 use crate::printed::PrintedText;
 use crate::request::Request;
 use crate::verdict::{Reason, Refusal, Verdict};
-use ixdtf::{LocatedError, ParseError};
+use ixdtf::LocatedError;
 use ixdtf_buffers::adding::{add_byte, add_bytes, add_number};
 use ixdtf_buffers::error::RunError;
 use ixdtf_buffers::output::Output;
 use ixdtf_buffers::sink::Sink;
+use ixdtf_print::error_parts;
 
 /// The most bytes of a line that are put at once.
 const MOST_AT_ONCE: usize = 4096;
@@ -212,14 +213,4 @@ fn put_lines<K: Sink>(
     let lines = add_byte(room, 0, b'\n');
     let end = add_lines(room, lines, text, at);
     output.put(&room[..end])
-}
-
-/// The two parts of what Display writes of an error, which are its own text and where the input ended.
-fn error_parts(error: ParseError) -> (&'static str, &'static str)
-    ensures { message_of (fault_of error) ≡ result.0.now ++ result.1.now }
-{
-    match error {
-        ParseError::AbruptEnd { location } => ("Parsing ended abruptly while parsing ", location),
-        _ => (error.to_static_string(), ""),
-    }
 }

@@ -31,6 +31,7 @@ impl Tally {
         ensures lines { self.new.lines ≡ min (self.old.lines + 1) (2 ^ 64 - 1) }
         ensures refused { self.new.refused
             ≡ min (self.old.refused + (if is_refused then 1 else 0)) (2 ^ 64 - 1) }
+        ensures bytes { self.new.bytes ≡ self.old.bytes }
     {
         self.lines = self.lines.saturating_add(1);
         self.refused = self.refused.saturating_add(u64::from(is_refused));

@@ -6,7 +6,7 @@ ghost use Rattle.ixdtf.specs.table.Faults.{fault_of};
 use ixdtf::ParseError;
 
 /// The two parts of what Display writes of an error: its own text, and of an `AbruptEnd` its location. So a program puts them
-/// where it makes a line, without the way of Display.
+/// where it makes a line, without going through Display.
 // For crates of this repository, and no part of the interface.
 #[doc(hidden)]
 #[inline(always)]

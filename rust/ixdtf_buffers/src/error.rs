@@ -5,7 +5,7 @@
 /// What failed.
 #[derive(Clone, Copy, Debug, PartialEq)]
 pub enum RunError {
-    /// A read returned an error.
+    /// A read returned an error, or there were more bytes than are counted.
     Read = 1,
     /// A write or a flush returned an error, or a write took no byte.
     Write = 2,

@@ -10,7 +10,7 @@ pub trait Sink {
     /// Writes some of the bytes, at least one of any, and returns how many. It fails with `RunError::Write`.
     fn write_some(&mut self, bytes: &[u8]) -> Result<usize, RunError>;
 
-    /// Has what was written go on to where it goes. It fails with `RunError::Write`.
+    /// Flushes what was written. It fails with `RunError::Write`.
     fn flush_all(&mut self) -> Result<(), RunError>;
 }
 

@@ -45,8 +45,8 @@ impl Waiting {
 
     /// The first of the bytes wait no longer, as many as these.
     ///
-    /// The others stay where they stand, until what waits begins in the second half of the array. So a byte is moved at most once
-    /// for each that is dropped, however few of them are dropped at a time.
+    /// The others stay where they stand. They are moved to the front of the array only when they would begin in its second half. So
+    /// they are moved at most once for every 4,096 bytes that are dropped, however few bytes are dropped at a time.
     pub fn drop_front(&mut self, count: usize) {
         let start = self.start + count;
         if start == self.end {

@@ -6,11 +6,12 @@ use crate::pointed::{ROOM, add_lines};
 use crate::printed::PrintedText;
 use crate::request::Request;
 use crate::verdict::{Reason, Refusal, Verdict};
-use ixdtf::{LocatedError, ParseError};
+use ixdtf::LocatedError;
 use ixdtf_buffers::adding::{add_byte, add_bytes, add_number};
 use ixdtf_buffers::error::RunError;
 use ixdtf_buffers::output::Output;
 use ixdtf_buffers::sink::Sink;
+use ixdtf_print::error_parts;
 
 /// The most bytes of a line that are put at once.
 const MOST_AT_ONCE: usize = 4096;
@@ -175,12 +176,4 @@ fn put_lines<K: Sink>(
     let lines = add_byte(room, 0, b'\n');
     let end = add_lines(room, lines, text, at);
     output.put(&room[..end])
-}
-
-/// The two parts of what Display writes of an error, which are its own text and where the input ended.
-fn error_parts(error: ParseError) -> (&'static str, &'static str) {
-    match error {
-        ParseError::AbruptEnd { location } => ("Parsing ended abruptly while parsing ", location),
-        _ => (error.to_static_string(), ""),
-    }
 }

@@ -24,6 +24,7 @@ use length::has_plenty;
 #[doc(hidden)]
 pub use length::length_of;
 pub use length::printed_length;
+// For crates of this repository, and no part of the interface.
 #[doc(hidden)]
 pub use message::error_parts;
 

@@ -1,6 +1,6 @@
 //! Reading cores into a record. A core is what stands before the brackets of a text.
 
-ghost use Rattle.std.specs.Prelude.{◌≡◌, ◌+◌, ◌≤◌, List, map, length, Ok, OnOk, Some, None, refl};
+ghost use Rattle.std.specs.Prelude.{◌≡◌, ◌+◌, map, length, Ok, OnOk, Some, None, refl};
 ghost use Rattle.ixdtf_grammar.specs.Laws.{IsKindUnder};
 ghost use Rattle.ixdtf_grammar.specs.declared.profile.Profile.{Profile};
 ghost use Rattle.ixdtf_grammar.specs.declared.records.TimeRecord.{TimeRecord};
@@ -14,7 +14,7 @@ ghost use Rattle.ixdtf_reading.specs.reading.Clauses.{Reads, Spends, SpendsOr, Y
 ghost use Rattle.ixdtf_times.specs.TimeTypes.{open_time_of, opens_bracket};
 ghost use Rattle.ixdtf_reading.specs.reading.Looks.{error_of};
 ghost use Rattle.ixdtf_reading.specs.reading.Times.{clock_at};
-ghost use Rattle.ixdtf_reading.specs.reading.Cores.{ClosedCore, core_end_at, offset_core_at, after_time_at, whole_time_core_at, after_date_at, unfronted, core_at};
+ghost use Rattle.ixdtf_reading.specs.reading.Cores.{ClosedCore, core_end_at, offset_core_at, after_time_at, whole_time_core_at, unfronted, core_at};
 
 use ixdtf_grammar::encoding::EncodingType;
 use ixdtf_grammar::profile::Profile;

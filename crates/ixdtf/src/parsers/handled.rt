@@ -368,6 +368,8 @@ impl<'a, T: EncodingType> IxdtfParser<'a, T> {
         ensures err { IfErr result (λ e.
             RefusedBeside (option_map (pair_of T.number) calendar.old)
             (option_map (pair_of T.number) reply.entry) (fault_of_stop e)) }
+        ensures rest { self.new.rest ≡ self.old.rest }
+        ensures profile { self.new.profile ≡ self.old.profile }
     {
         keep_first_calendar::<T>(&mut self.cursor, calendar, reply)
     }

@@ -101,7 +101,7 @@ impl<'a, T: EncodingType> IxdtfParser<'a, T> {
         ensures reads { ReadsText T.letter fault_of (parsed_of T.number) reader_parse self.old result self.new }
     {
         // A refusal returns in an arm of its own. Where both arms met, a caller that takes the record apart would read all
-        // its fields before it knows that there is none: 188 instructions for 132 on refused texts of 16-bit units.
+        // its fields before it knows that there is none (docs/PERF.md).
         let mut found = IxdtfParseRecord::default();
         match self.read_unhandled::<DateTimes>(&mut found) {
             Ok(()) => Ok(found),
