@@ -12,8 +12,9 @@ that its tables name. Each line of a table begins and ends with a bar.
 example, a text with its place, has this error at this place in the model, and in the row of `places.tsv`, whose place was counted by
 hand. The errors have the texts of the code and of the model, and the readers that the model has them in.
 
-(c) Snippets. Each block of Rattle in README.md and docs/CALLING.md stands in a crate of tests, which compiles it: its items word by
-word, and what it imports among the imports there. Those of the READMEs of `rust/` are tests of their crates.
+(c) Snippets. Each block of Rattle or Rust in README.md and docs/CALLING.md stands in a crate of tests or in an example of rust/ixdtf,
+which are compiled: its items word by word, and what it imports among the imports there. Those of the READMEs of `rust/` are tests of
+their crates.
 
 It prints what it finds, one finding a line, and ends with status 1 where there is one."""
 import fnmatch
@@ -522,7 +523,9 @@ COUNTS = [(re.compile(pattern, re.I), counted) for pattern, counted in [
     (rf'{A_COUNT} of the \d+ errors', lambda tree: len(never_come(tree))),
     (rf'the {A_COUNT} with "none"', lambda tree: len(never_come(tree))),
     (rf'is each of the {A_COUNT}:', lambda tree: len(members('each reader'))),
-    (rf'{A_COUNT} wrong bodies(?! that)', lambda tree: len([it for it in edits(tree) if not is_of_a_definition(tree, it)])),
+    (rf'{A_COUNT} mutations of function bodies', lambda tree: len([it for it in edits(tree) if not is_of_a_definition(tree, it)])),
+    (rf'mutations of function bodies, and {A_COUNT} of definitions',
+     lambda tree: len([it for it in edits(tree) if is_of_a_definition(tree, it)])),
     (rf'{A_COUNT} edits turn definitions', lambda tree: len([it for it in edits(tree) if is_of_a_definition(tree, it)])),
     (rf'have {A_COUNT} lines, of which', lambda tree: len(lines_of_definitions(tree))),
     (rf'of which {A_COUNT} are definitions',
@@ -565,7 +568,7 @@ def findings_in_contracts_to_read(document: Document) -> Iterator[Finding]:
 # Snippets
 
 WITH_SNIPPETS = ('README.md', 'docs/CALLING.md')
-COMPILING = ('crates/ixdtf_callers/src/', 'crates/ixdtf_tests/src/')
+COMPILING = ('crates/ixdtf_callers/src/', 'crates/ixdtf_tests/src/', 'rust/ixdtf/examples/')
 BLOCK = re.compile(r'^```rust\n(.*?)^```', re.M | re.S)
 USE = re.compile(r'^use ([^;]+);\n?', re.M)
 
@@ -585,8 +588,8 @@ def in_one_line(source: str) -> str:
 
 
 def findings_in_snippets(document: Document) -> Iterator[Finding]:
-    """The blocks of Rattle that no crate of tests compiles."""
-    compiled = [document.tree.read(it) for it in document.tree.files if it.startswith(COMPILING) and it.endswith('.rt')]
+    """The blocks of Rattle or Rust that no crate of tests and no example has."""
+    compiled = [document.tree.read(it) for it in document.tree.files if it.startswith(COMPILING) and it.endswith(('.rt', '.rs'))]
     imports = set().union(*map(imported, compiled))
     for block in BLOCK.finditer(document.text):
         line = document.text.count('\n', 0, block.start()) + 1

@@ -1,16 +1,29 @@
 #!/usr/bin/env python3
-"""test_examples.py: runs the examples of README.md and docs/PROGRAM.md by the programs of plain Rust, which cargo builds, and compares
-what they print with what the documents show."""
+"""test_examples.py: runs the examples of README.md and docs/PROGRAM.md, which cargo and a C compiler build, and compares what they print
+with what the documents show."""
 import os
 import re
+import shutil
 import subprocess
 import tempfile
 import unittest
 
 ROOT = os.path.dirname(os.path.dirname(os.path.abspath(__file__)))
 
-# the file of the example of `ixdtf_check`, which the document names and does not show
+# the file of the example of `ixdtf_check`: the document names it, but does not show it
 MONTHS = '2020-11\n2020\n2021-12\n2021-13\n'
+
+# the word of `ixdtf_lines` for each method of the library
+WORDS = {
+    'IxdtfParser::parse': 'parse',
+    'IxdtfParser::parse_year_month': 'year-month',
+    'IxdtfParser::parse_month_day': 'month-day',
+    'IxdtfParser::parse_time': 'time',
+    'TimeZoneParser::parse_offset': 'offset',
+    'TimeZoneParser::parse_identifier': 'zone',
+    'TimeZoneParser::parse_iana_identifier': 'iana',
+    'IsoDurationParser::parse': 'duration',
+}
 
 
 def read(path: str) -> str:
@@ -19,9 +32,9 @@ def read(path: str) -> str:
         return file.read()
 
 
-def blocks(path: str) -> list[str]:
-    """What the blocks of plain text of a document have, in order."""
-    return re.findall(r'^```text\n(.*?)^```$', read(path), re.M | re.S)
+def blocks(path: str, language: str = 'text') -> list[str]:
+    """The contents of the blocks of a language in a document, in order. Without a language, these are the blocks of plain text."""
+    return re.findall(rf'^```{language}\n(.*?)^```$', read(path), re.M | re.S)
 
 
 def program(name: str) -> str:
@@ -39,7 +52,7 @@ def printed(name: str, arguments: list[str], given: str, folder: str) -> str:
 
 class Examples(unittest.TestCase):
     def test_answers(self):
-        """Each line of the table is answered as it stands behind it."""
+        """Each line of the block has the answer that the document shows after it."""
         rows = next(it for it in blocks('docs/PROGRAM.md') if it.startswith('parse ')).splitlines()
         given, answers = zip(*(re.fullmatch(r'(.*?) {2,}(.*)', row).groups() for row in rows))
         self.assertGreater(len(rows), 5)
@@ -54,14 +67,45 @@ class Examples(unittest.TestCase):
                 file.write(MONTHS)
             self.assertEqual(printed(name, arguments, '', folder), wanted)
 
-    def test_front_page(self):
-        """The two commands of the README print what it shows; there are two by `cargo` and the same two by `rt`."""
-        commands = dict(re.findall(r"\(cd rust/(\w+) && echo '([^']*)' \| cargo run --release\)", read('README.md')))
-        self.assertEqual(commands, dict(re.findall(r"\(cd crates/(\w+) && echo '([^']*)' \| rt run\)", read('README.md'))))
-        shown = {'ixdtf_check': blocks('README.md')[0], 'ixdtf_lines': re.search(r'answers each line; here `([^`]*)`', read('README.md'))[1] + '\n'}
+    def test_first_example(self):
+        """The example of the README prints what the README shows first."""
+        ran = subprocess.run(['cargo', 'run', '--quiet', '--offline', '--example', 'first'], cwd=os.path.join(ROOT, 'rust', 'ixdtf'),
+                             capture_output=True, text=True, check=True)
+        self.assertIn('cargo run --example first', read('README.md'))
+        self.assertEqual(ran.stdout, blocks('README.md')[0])
+
+    def test_programs_of_the_front_page(self):
+        """The two commands of the README print what the README shows. It has them by `cargo`, and the same ones by `rt`."""
+        page = read('README.md')
+        commands = dict(re.findall(r"\(cd rust/(\w+) && echo '([^']*)' \| cargo run --release\)", page))
+        self.assertEqual(commands, dict(re.findall(r"\(cd crates/(\w+) && echo '([^']*)' \| rt run\)", page)))
+        report = next(it for it in blocks('README.md') if it.startswith('-:'))
+        shown = {'ixdtf_check': report, 'ixdtf_lines': re.search(r'The second program prints `([^`]*)`', page)[1] + '\n'}
         self.assertEqual(set(commands), set(shown))
         for name, given in commands.items():
             self.assertTrue(printed(name, [], given + '\n', ROOT).startswith(shown[name]), name)
+
+    def test_c_of_the_front_page(self):
+        """The commands of the README for C print what the README shows. They build into another folder here."""
+        commands = next(it for it in blocks('README.md', 'sh') if it.startswith('c/build'))
+        wanted = next(it for it in blocks('README.md') if ': valid\n' in it)
+        if shutil.which('cc') is None:
+            self.skipTest('there is no C compiler here')
+        with tempfile.TemporaryDirectory() as folder:
+            commands = commands.replace('c/build --plain', f'c/build --plain {folder} > {folder}/built').replace('c/out', folder)
+            ran = subprocess.run(['bash', '-c', commands], cwd=ROOT, capture_output=True, text=True)
+        self.assertEqual(ran.stdout, wanted, ran.stderr)
+
+    def test_texts_of_the_front_page(self):
+        """Each text in the table of the README is accepted by the method of its row."""
+        method, lines = '', []
+        for row in re.findall(r'^\| (`\w+Parser::\w+`)? ?\| (.*) \|$', read('README.md'), re.M):
+            method = row[0].strip('`') or method
+            lines += [f'{WORDS[method]} {text}' for text in re.findall('`([^`]*)`', row[1].rpartition(': ')[2])]
+        self.assertEqual({it.split(' ')[0] for it in lines}, set(WORDS.values()))
+        answers = printed('ixdtf_lines', [], ''.join(it + '\n' for it in lines), ROOT).splitlines()
+        self.assertEqual(len(answers), len(lines))
+        self.assertEqual([line for line, answer in zip(lines, answers) if not answer.startswith('ok')], [])
 
 
 if __name__ == '__main__':
