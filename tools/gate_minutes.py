@@ -1,13 +1,15 @@
 #!/usr/bin/env python3
-"""gate_minutes.py [COMMAND..]: runs a command, `rt ci --anew` if none is given, and prints how many processor minutes each part of the gate took.
+"""gate_minutes.py [COMMAND..]: runs a command, and prints how many processor minutes each part of it took.
 
-    tools/gate_minutes.py rt ci --anew
-    taskset -c 0,1 tools/gate_minutes.py rt ci --anew
+    tools/gate_minutes.py                           runs `rt ci`
+    taskset -c 0,1 tools/gate_minutes.py rt ci      runs `rt ci` on two processors
 
-It looks at all processes below the command every two seconds. A prover's process belongs to the crate that its command line names. It checks the crate
-itself, the crate with its tests, the crate as its edits begin with it, or one edit. What a process used between the last look and its end is not seen, so
-the sums are a little too low. The table has one row for each crate. The last lines have the sum of all, what was no prover, and the minutes by the clock.
-The command's output goes to standard error."""
+Every two seconds, the tool reads the times of all processes that the command started. A process of the prover belongs to the crate that its command
+line names. It checks one of four things: the crate itself, the crate with its tests, the crate before its mutations, or the crate with one mutation.
+The tool does not see what a process used between the last reading and its end. So the sums are a little too low.
+
+The tool prints a table with one row for each crate. Below the table, it prints the sum of all rows, the time of all other processes, and the minutes
+that passed. The output of the command goes to standard error."""
 import collections
 import os
 import re
@@ -16,18 +18,18 @@ import sys
 import time
 
 TICKS = os.sysconf('SC_CLK_TCK')
-SECONDS_BETWEEN_LOOKS = 2
-PARTS = ('proof', 'tests', 'start of edits', 'edits')
+SECONDS_BETWEEN_READINGS = 2
+PARTS = ('proof', 'with tests', 'start of mutations', 'mutations')
 
 
 def children():
-    """The processes that run now, by the process that began them."""
+    """The processes that run now, grouped by the process that started each of them."""
     found = collections.defaultdict(list)
     for name in os.listdir('/proc'):
         if name.isdigit():
             try:
                 with open(f'/proc/{name}/stat', encoding='utf-8', errors='replace') as file:
-                    # the name of a program stands in brackets, and may have spaces in it
+                    # The name of the program is in parentheses, and may contain spaces.
                     fields = file.read().rpartition(')')[2].split()
             except OSError:
                 continue
@@ -36,7 +38,7 @@ def children():
 
 
 def below(root):
-    """All processes below this one, each with the processor seconds that it used so far."""
+    """All processes that this one started, directly or not, each with the processor seconds that it has used."""
     began = children()
     left, found = [root], []
     while left:
@@ -47,7 +49,7 @@ def below(root):
 
 
 def part_of(process):
-    """The crate and the part of the gate that a process works for, or None if it is no prover or has ended."""
+    """The crate and the part that a process works for. None if it is not a prover, or has ended."""
     try:
         with open(f'/proc/{process}/cmdline', encoding='utf-8', errors='replace') as file:
             words = file.read().split('\0')
@@ -58,15 +60,15 @@ def part_of(process):
         return None
     crate = words[words.index('--crate-name') + 1]
     if '--test' in words:
-        return crate, 'tests'
+        return crate, 'with tests'
     if not re.match(r'rt-edit-', os.path.basename(folder)):
         return crate, 'proof'
     kept = words[words.index('--incremental') + 1] if '--incremental' in words else ''
-    return crate, 'start of edits' if os.path.basename(kept) == 'seed' else 'edits'
+    return crate, 'start of mutations' if os.path.basename(kept) == 'seed' else 'mutations'
 
 
 def watch(command):
-    """Runs the command. Returns its status, the seconds by the clock, and of each process its part and its processor seconds."""
+    """Runs the command. Returns its status, the seconds that passed, and for each process its part and its processor seconds."""
     begin = time.monotonic()
     running = subprocess.Popen(command, stdin=subprocess.DEVNULL, stdout=sys.stderr)
     seen, parts = {}, {}
@@ -75,12 +77,12 @@ def watch(command):
             if parts.get(process) is None:
                 parts[process] = part_of(process)
             seen[process] = seconds
-        time.sleep(SECONDS_BETWEEN_LOOKS)
+        time.sleep(SECONDS_BETWEEN_READINGS)
     return running.returncode, time.monotonic() - begin, [(parts[it], seconds) for it, seconds in seen.items()]
 
 
 def main():
-    command = sys.argv[1:] or ['rt', 'ci', '--anew']
+    command = sys.argv[1:] or ['rt', 'ci']
     status, seconds, processes = watch(command)
     minutes, counts, others = collections.Counter(), collections.Counter(), 0.0
     for part, used in processes:
@@ -89,14 +91,14 @@ def main():
         else:
             minutes[part] += used / 60
             counts[part] += 1
-    print(f'| Crate | {" | ".join(it.capitalize() for it in PARTS)} | Number of edits | Seconds of one edit |')
+    print(f'| Crate | {" | ".join(it.capitalize() for it in PARTS)} | Number of mutations | Seconds of one mutation |')
     print('|---|---|---|---|---|---|---|')
     for crate in sorted({crate for crate, _ in minutes}):
         cells = [f'{minutes[crate, part]:.1f}' if minutes[crate, part] else '' for part in PARTS]
-        number = counts[crate, 'edits']
-        each = f'{60 * minutes[crate, "edits"] / number:.0f}' if number else ''
+        number = counts[crate, 'mutations']
+        each = f'{60 * minutes[crate, "mutations"] / number:.0f}' if number else ''
         print(f'| `{crate}` | {" | ".join(cells)} | {number or ""} | {each} |')
-    print(f'all provers: {sum(minutes.values()):.1f} processor minutes; other processes: {others:.1f}; by the clock: {seconds / 60:.1f} minutes')
+    print(f'all provers: {sum(minutes.values()):.1f} processor minutes; other processes: {others:.1f} processor minutes; time that passed: {seconds / 60:.1f} minutes')
     return status
 
 
