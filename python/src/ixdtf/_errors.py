@@ -1,0 +1,34 @@
+"""The error of a text that is refused."""
+
+
+class IxdtfError(ValueError):
+    """Says why a text is refused, and where.
+
+    text      the text, as str or bytes
+    name      the name of the error, such as "DATE_MONTH"
+    reason    the error in words
+    position  how many code points of a str, or bytes of bytes, stand before the position of the error
+    within    what the text broke off in, such as "digit", if it ended too early, and else ""
+
+    str() has the reason, the text and a mark under the position.
+    """
+
+    __module__ = "ixdtf"
+
+    def __init__(self, text, name, reason, position, within):
+        self.text = text
+        self.name = name.removeprefix("IXDTF_")
+        self.reason = f"{reason.rstrip('.')} while parsing {within}" if within else reason
+        self.position = position
+        self.within = within
+        super().__init__(text, name, reason, position, within)
+
+    def __str__(self):
+        return f"{self.reason}\n{_shown(self.text)}\n{' ' * len(_shown(self.text[:self.position]))}^"
+
+
+def _shown(text):
+    """A text in one line: each character that cannot be printed is written as in a Python string."""
+    characters = text if isinstance(text, str) else text.decode("latin-1")
+    is_plain = str.isprintable if isinstance(text, str) else lambda it: " " <= it <= "~"
+    return "".join(it if is_plain(it) else ascii(it)[1:-1] for it in characters)

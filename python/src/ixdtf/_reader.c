@@ -1,0 +1,1050 @@
+/* The readers of the library for C, and the record that they return, for Python. Everything that is not needed for speed is written in
+ * Python, in the other modules of this package. */
+#define PY_SSIZE_T_CLEAN
+#include <Python.h>
+#include <datetime.h>
+#include <ixdtf.h>
+#include <string.h>
+
+/* Of Python 3.10 and later. */
+#if PY_VERSION_HEX < 0x030A0000
+static inline PyObject *Py_NewRef(PyObject *object) {
+    Py_INCREF(object);
+    return object;
+}
+#endif
+
+/* Texts of more bytes than this are read while other threads run. Below it, letting them run takes longer than reading. */
+#define LONG_TEXT 4096
+
+typedef struct {
+    PyObject *error;       /* IxdtfError, of _errors.py */
+    PyObject *make_date;   /* the functions of _records.py that make a part of a record */
+    PyObject *make_time;
+    PyObject *make_offset;
+    PyObject *make_zone;
+    PyObject *make_duration;
+    PyObject *to_datetime; /* of _datetimes.py */
+    PyObject *describe;    /* of _records.py: what repr() shows */
+    PyObject *record_type;
+    PyObject *last_zone;   /* the tzinfo that was made last, of `last_seconds`, or NULL */
+    int32_t last_seconds;
+} module_state;
+
+typedef struct {
+    PyObject_HEAD
+    ixdtf_record fields; /* its slices are parts of `source` */
+    PyObject *source;    /* a str that is ASCII, or bytes; it never changes */
+} record_object;
+
+static struct PyModuleDef module_definition;
+
+static module_state *state_of(PyObject *module) {
+    return (module_state *)PyModule_GetState(module);
+}
+
+/* The type cannot have subclasses, so its own module is the one. */
+static module_state *state_of_record(PyObject *self) {
+    return (module_state *)PyType_GetModuleState(Py_TYPE(self));
+}
+
+/* ---- Texts ---- */
+
+/* Before Python 3.12 a str may be there without its characters. */
+static int is_ready(PyObject *text) {
+#if PY_VERSION_HEX < 0x030C0000
+    return PyUnicode_READY(text) == 0;
+#else
+    (void)text;
+    return 1;
+#endif
+}
+
+/* The bytes of a text, and the object that keeps them. */
+typedef struct {
+    const uint8_t *at;
+    Py_ssize_t length;
+    PyObject *owner;
+} text_bytes;
+
+/* The bytes of a str, bytes or other object with a buffer. An object that can change is copied. */
+static int take_text(PyObject *text, text_bytes *out) {
+    if (PyUnicode_Check(text)) {
+        if (!is_ready(text)) {
+            return -1;
+        }
+        if (PyUnicode_IS_ASCII(text)) {
+            out->at = PyUnicode_1BYTE_DATA(text);
+            out->length = PyUnicode_GET_LENGTH(text);
+            out->owner = Py_NewRef(text);
+            return 0;
+        }
+        /* No reader accepts such a text. A surrogate that stands alone has bytes too, so that the error has a position. */
+        out->owner = PyUnicode_AsEncodedString(text, "utf-8", "surrogatepass");
+    } else if (PyBytes_Check(text)) {
+        out->owner = Py_NewRef(text);
+    } else if (PyObject_CheckBuffer(text)) {
+        out->owner = PyBytes_FromObject(text);
+    } else {
+        PyErr_Format(PyExc_TypeError, "a text is str or bytes, and not %.100s", Py_TYPE(text)->tp_name);
+        return -1;
+    }
+    if (out->owner == NULL) {
+        return -1;
+    }
+    out->at = (const uint8_t *)PyBytes_AS_STRING(out->owner);
+    out->length = PyBytes_GET_SIZE(out->owner);
+    return 0;
+}
+
+/* ---- Kinds ---- */
+
+typedef uint32_t read_record(const uint8_t *text, size_t length, ixdtf_record *out);
+typedef uint32_t list_record(const uint8_t *text, size_t length, ixdtf_annotation *annotations, size_t room, size_t *count, ixdtf_record *out);
+
+/* A kind of text, with its readers in both profiles. `list` is NULL where a text of the kind has no annotations. */
+typedef struct {
+    const char *name;
+    read_record *read, *read_strict;
+    list_record *list, *list_strict;
+} kind;
+
+enum { DATE_TIME, YEAR_MONTH, MONTH_DAY, TIME, OFFSET, ZONE, ZONE_NAME, RECORD_KINDS };
+
+static const kind KINDS[RECORD_KINDS] = {
+    { "date-time", ixdtf_parse, ixdtf_parse, ixdtf_parse_with_annotations, ixdtf_parse_with_annotations },
+    { "year-month", ixdtf_parse_year_month, ixdtf_parse_year_month, ixdtf_parse_year_month_with_annotations,
+      ixdtf_parse_year_month_with_annotations },
+    { "month-day", ixdtf_parse_month_day, ixdtf_parse_month_day_strict, ixdtf_parse_month_day_with_annotations,
+      ixdtf_parse_month_day_with_annotations_strict },
+    { "time", ixdtf_parse_time, ixdtf_parse_time_strict, ixdtf_parse_time_with_annotations, ixdtf_parse_time_with_annotations_strict },
+    { "offset", ixdtf_parse_offset, ixdtf_parse_offset, NULL, NULL },
+    { "zone", ixdtf_parse_identifier, ixdtf_parse_identifier, NULL, NULL },
+    { "zone-name", ixdtf_parse_iana_identifier, ixdtf_parse_iana_identifier, NULL, NULL },
+};
+
+static const char KIND_OF_DURATION[] = "duration";
+
+static uint32_t run_reader(read_record *read, const text_bytes *text, ixdtf_record *out) {
+    uint32_t error;
+    if (text->length <= LONG_TEXT) {
+        return read(text->at, (size_t)text->length, out);
+    }
+    Py_BEGIN_ALLOW_THREADS
+    error = read(text->at, (size_t)text->length, out);
+    Py_END_ALLOW_THREADS
+    return error;
+}
+
+static uint32_t run_duration(int strict, const text_bytes *text, ixdtf_duration *out) {
+    uint32_t (*read)(const uint8_t *, size_t, ixdtf_duration *) = strict ? ixdtf_parse_duration_strict : ixdtf_parse_duration;
+    uint32_t error;
+    if (text->length <= LONG_TEXT) {
+        return read(text->at, (size_t)text->length, out);
+    }
+    Py_BEGIN_ALLOW_THREADS
+    error = read(text->at, (size_t)text->length, out);
+    Py_END_ALLOW_THREADS
+    return error;
+}
+
+/* ---- Errors ---- */
+
+/* Raises the IxdtfError of a text. Its position is counted in code points of a str, and in bytes of any other text. */
+static PyObject *raise_error(module_state *state, PyObject *text, const text_bytes *bytes, uint32_t number, size_t place, ixdtf_text location) {
+    Py_ssize_t position = (Py_ssize_t)place;
+    if (PyUnicode_Check(text) && !PyUnicode_IS_ASCII(text)) {
+        position = 0;
+        for (size_t i = 0; i < place; i++) {
+            position += (bytes->at[i] & 0xC0) != 0x80;
+        }
+    }
+    PyObject *shown = PyUnicode_Check(text) || PyBytes_Check(text) ? text : bytes->owner;
+    PyObject *error = PyObject_CallFunction(state->error, "Ossns#", shown, ixdtf_error_name(number), ixdtf_error_message(number), position,
+        location.at == NULL ? "" : location.at, (Py_ssize_t)location.length);
+    if (error != NULL) {
+        PyErr_SetObject(state->error, error);
+        Py_DECREF(error);
+    }
+    return NULL;
+}
+
+/* ---- The record ---- */
+
+static PyObject *new_record(module_state *state, const ixdtf_record *fields, PyObject *owner) {
+    PyTypeObject *type = (PyTypeObject *)state->record_type;
+    record_object *self = (record_object *)type->tp_alloc(type, 0);
+    if (self != NULL) {
+        self->fields = *fields;
+        self->source = Py_NewRef(owner);
+    }
+    return (PyObject *)self;
+}
+
+static void record_dealloc(PyObject *self) {
+    PyTypeObject *type = Py_TYPE(self);
+    Py_XDECREF(((record_object *)self)->source);
+    type->tp_free(self);
+    Py_DECREF(type);
+}
+
+static PyObject *units_as_str(ixdtf_units units) {
+    return PyUnicode_DecodeASCII((const char *)units.at, (Py_ssize_t)units.length, NULL);
+}
+
+static PyObject *get_date(PyObject *self, void *closure) {
+    (void)closure;
+    const ixdtf_date *date = &((record_object *)self)->fields.date;
+    if (!date->is_there) {
+        Py_RETURN_NONE;
+    }
+    return PyObject_CallFunction(state_of_record(self)->make_date, "iii", (int)date->year, (int)date->month, (int)date->day);
+}
+
+static PyObject *get_time(PyObject *self, void *closure) {
+    (void)closure;
+    const ixdtf_time *time = &((record_object *)self)->fields.time;
+    if (!time->is_there) {
+        Py_RETURN_NONE;
+    }
+    return PyObject_CallFunction(state_of_record(self)->make_time, "iiiiK", (int)time->hour, (int)time->minute, (int)time->second,
+        (int)time->fraction_digits, (unsigned long long)time->fraction);
+}
+
+static PyObject *offset_object(module_state *state, const ixdtf_offset *offset) {
+    if (offset->form == IXDTF_NO_OFFSET) {
+        Py_RETURN_NONE;
+    }
+    return PyObject_CallFunction(state->make_offset, "iiiiiiK", (int)offset->form, (int)offset->is_negative, (int)offset->hour, (int)offset->minute,
+        (int)offset->second, (int)offset->fraction_digits, (unsigned long long)offset->fraction);
+}
+
+static PyObject *get_offset(PyObject *self, void *closure) {
+    (void)closure;
+    return offset_object(state_of_record(self), &((record_object *)self)->fields.offset);
+}
+
+static PyObject *zone_object(module_state *state, const ixdtf_zone *zone) {
+    if (zone->form == IXDTF_NO_ZONE) {
+        Py_RETURN_NONE;
+    }
+    if (zone->form == IXDTF_ZONE_OFFSET) {
+        return PyObject_CallFunction(state->make_zone, "iOiii", (int)zone->is_critical, Py_None, (int)zone->is_negative, (int)zone->hour, (int)zone->minute);
+    }
+    return PyObject_CallFunction(state->make_zone, "iNiii", (int)zone->is_critical, units_as_str(zone->name), 0, 0, 0);
+}
+
+static PyObject *get_zone(PyObject *self, void *closure) {
+    (void)closure;
+    return zone_object(state_of_record(self), &((record_object *)self)->fields.zone);
+}
+
+static PyObject *get_calendar(PyObject *self, void *closure) {
+    (void)closure;
+    const ixdtf_record *fields = &((record_object *)self)->fields;
+    if (!fields->has_calendar) {
+        Py_RETURN_NONE;
+    }
+    return units_as_str(fields->calendar);
+}
+
+static int same_units(ixdtf_units left, ixdtf_units right) {
+    return left.length == right.length && memcmp(left.at, right.at, left.length) == 0;
+}
+
+static int same_date(const ixdtf_date *left, const ixdtf_date *right) {
+    return left->is_there == right->is_there && left->year == right->year && left->month == right->month && left->day == right->day;
+}
+
+static int same_time(const ixdtf_time *left, const ixdtf_time *right) {
+    return left->is_there == right->is_there && left->hour == right->hour && left->minute == right->minute && left->second == right->second
+        && left->fraction_digits == right->fraction_digits && left->fraction == right->fraction;
+}
+
+static int same_offset(const ixdtf_offset *left, const ixdtf_offset *right) {
+    return left->form == right->form && left->is_negative == right->is_negative && left->hour == right->hour && left->minute == right->minute
+        && left->second == right->second && left->fraction_digits == right->fraction_digits && left->fraction == right->fraction;
+}
+
+static int same_zone(const ixdtf_zone *left, const ixdtf_zone *right) {
+    return left->form == right->form && left->is_critical == right->is_critical && left->is_negative == right->is_negative && left->hour == right->hour
+        && left->minute == right->minute && same_units(left->name, right->name);
+}
+
+static int same_record(const ixdtf_record *left, const ixdtf_record *right) {
+    return same_date(&left->date, &right->date) && same_time(&left->time, &right->time) && same_offset(&left->offset, &right->offset)
+        && same_zone(&left->zone, &right->zone) && left->has_calendar == right->has_calendar && same_units(left->calendar, right->calendar);
+}
+
+static PyObject *record_compare(PyObject *left, PyObject *right, int operation) {
+    if ((operation != Py_EQ && operation != Py_NE) || Py_TYPE(left) != Py_TYPE(right)) {
+        Py_RETURN_NOTIMPLEMENTED;
+    }
+    int same = same_record(&((record_object *)left)->fields, &((record_object *)right)->fields);
+    return PyBool_FromLong(operation == Py_EQ ? same : !same);
+}
+
+/* The parts of a record, in the order of the constructor's arguments. */
+static PyObject *record_parts(PyObject *self) {
+    PyObject *parts = PyTuple_New(5);
+    PyObject *(*get[5])(PyObject *, void *) = { get_date, get_time, get_offset, get_zone, get_calendar };
+    for (int i = 0; parts != NULL && i < 5; i++) {
+        PyObject *part = get[i](self, NULL);
+        if (part == NULL) {
+            Py_CLEAR(parts);
+        } else {
+            PyTuple_SET_ITEM(parts, i, part);
+        }
+    }
+    return parts;
+}
+
+static Py_hash_t record_hash(PyObject *self) {
+    PyObject *parts = record_parts(self);
+    if (parts == NULL) {
+        return -1;
+    }
+    Py_hash_t hash = PyObject_Hash(parts);
+    Py_DECREF(parts);
+    return hash;
+}
+
+static PyObject *record_repr(PyObject *self) {
+    PyObject *parts = record_parts(self);
+    if (parts == NULL) {
+        return NULL;
+    }
+    PyObject *shown = PyObject_CallObject(state_of_record(self)->describe, parts);
+    Py_DECREF(parts);
+    return shown;
+}
+
+static PyObject *record_reduce(PyObject *self, PyObject *nothing) {
+    (void)nothing;
+    PyObject *parts = record_parts(self);
+    return parts == NULL ? NULL : Py_BuildValue("ON", (PyObject *)Py_TYPE(self), parts);
+}
+
+/* ---- A record of its parts ---- */
+
+static int number_of(PyObject *object, const char *name, long long least, long long most, long long *out) {
+    PyObject *value = PyObject_GetAttrString(object, name);
+    if (value == NULL) {
+        return -1;
+    }
+    int overflow = 0;
+    *out = PyLong_AsLongLongAndOverflow(value, &overflow);
+    Py_DECREF(value);
+    if (*out == -1 && overflow == 0 && PyErr_Occurred()) {
+        return -1;
+    }
+    if (overflow != 0 || *out < least || *out > most) {
+        PyErr_Format(PyExc_ValueError, "%s is a number from %lld to %lld", name, least, most);
+        return -1;
+    }
+    return 0;
+}
+
+/* The number and the count of digits of a part's fraction; both are 0 where the fraction is None. */
+static int fraction_of(PyObject *part, uint64_t *number, uint8_t *digits) {
+    PyObject *fraction = PyObject_GetAttrString(part, "fraction");
+    if (fraction == NULL) {
+        return -1;
+    }
+    long long value = 0, count = 0;
+    int failed = 0;
+    if (fraction != Py_None) {
+        failed = number_of(fraction, "value", 0, 999999999999999999LL, &value) < 0 || number_of(fraction, "digits", 1, 255, &count) < 0;
+    }
+    Py_DECREF(fraction);
+    *number = (uint64_t)value;
+    *digits = (uint8_t)count;
+    return failed ? -1 : 0;
+}
+
+static int set_date(ixdtf_record *out, PyObject *part) {
+    long long year, month, day;
+    if (part == Py_None) {
+        return 0;
+    }
+    if (number_of(part, "year", -999999, 999999, &year) < 0 || number_of(part, "month", 1, 12, &month) < 0 || number_of(part, "day", 0, 31, &day) < 0) {
+        return -1;
+    }
+    out->date.year = (int32_t)year;
+    out->date.month = (uint8_t)month;
+    out->date.day = (uint8_t)day;
+    out->date.is_there = true;
+    return 0;
+}
+
+static int set_time(ixdtf_record *out, PyObject *part) {
+    long long hour, minute, second;
+    if (part == Py_None) {
+        return 0;
+    }
+    if (number_of(part, "hour", 0, 23, &hour) < 0 || number_of(part, "minute", 0, 59, &minute) < 0 || number_of(part, "second", 0, 60, &second) < 0
+        || fraction_of(part, &out->time.fraction, &out->time.fraction_digits) < 0) {
+        return -1;
+    }
+    out->time.hour = (uint8_t)hour;
+    out->time.minute = (uint8_t)minute;
+    out->time.second = (uint8_t)second;
+    out->time.is_there = true;
+    return 0;
+}
+
+/* The sign, hour and minute of an offset. */
+static int minutes_of(PyObject *part, bool *is_negative, uint8_t *hour, uint8_t *minute) {
+    long long sign, hours, minutes;
+    if (number_of(part, "sign", -1, 1, &sign) < 0 || number_of(part, "hour", 0, 23, &hours) < 0 || number_of(part, "minute", 0, 59, &minutes) < 0) {
+        return -1;
+    }
+    if (sign == 0) {
+        PyErr_SetString(PyExc_ValueError, "sign is 1 or -1");
+        return -1;
+    }
+    *is_negative = sign < 0;
+    *hour = (uint8_t)hours;
+    *minute = (uint8_t)minutes;
+    return 0;
+}
+
+static int set_offset(ixdtf_record *out, PyObject *part) {
+    if (part == Py_None) {
+        return 0;
+    }
+    PyObject *is_utc = PyObject_GetAttrString(part, "is_utc");
+    if (is_utc == NULL) {
+        return -1;
+    }
+    Py_DECREF(is_utc);
+    if (is_utc == Py_True) {
+        out->offset.form = IXDTF_UTC;
+        return 0;
+    }
+    PyObject *second = PyObject_GetAttrString(part, "second");
+    if (second == NULL) {
+        return -1;
+    }
+    Py_DECREF(second);
+    out->offset.form = second == Py_None ? IXDTF_MINUTES : IXDTF_SECONDS;
+    long long seconds = 0;
+    if (minutes_of(part, &out->offset.is_negative, &out->offset.hour, &out->offset.minute) < 0
+        || (second != Py_None && number_of(part, "second", 0, 59, &seconds) < 0)
+        || (second != Py_None && fraction_of(part, &out->offset.fraction, &out->offset.fraction_digits) < 0)) {
+        return -1;
+    }
+    out->offset.second = (uint8_t)seconds;
+    return 0;
+}
+
+/* The bytes of a name or a calendar, which is an ASCII str. */
+static int name_bytes(PyObject *name, const char *what, const char **at, Py_ssize_t *length) {
+    if (!PyUnicode_Check(name) || !is_ready(name) || !PyUnicode_IS_ASCII(name)) {
+        PyErr_Format(PyExc_ValueError, "%s is a str of ASCII characters", what);
+        return -1;
+    }
+    *at = (const char *)PyUnicode_1BYTE_DATA(name);
+    *length = PyUnicode_GET_LENGTH(name);
+    return 0;
+}
+
+/* The zone, and its name in `name`, a new reference or NULL. */
+static int set_zone(ixdtf_record *out, PyObject *part, PyObject **name) {
+    *name = NULL;
+    if (part == Py_None) {
+        return 0;
+    }
+    PyObject *is_critical = PyObject_GetAttrString(part, "is_critical");
+    PyObject *offset = is_critical == NULL ? NULL : PyObject_GetAttrString(part, "offset");
+    int critical = offset == NULL ? -1 : PyObject_IsTrue(is_critical);
+    Py_XDECREF(is_critical);
+    if (critical < 0) {
+        Py_XDECREF(offset);
+        return -1;
+    }
+    out->zone.is_critical = critical;
+    if (offset != Py_None) {
+        out->zone.form = IXDTF_ZONE_OFFSET;
+        int failed = minutes_of(offset, &out->zone.is_negative, &out->zone.hour, &out->zone.minute);
+        Py_DECREF(offset);
+        return failed;
+    }
+    Py_DECREF(offset);
+    out->zone.form = IXDTF_NAME;
+    *name = PyObject_GetAttrString(part, "name");
+    return *name == NULL ? -1 : 0;
+}
+
+/* Puts the slices of the zone's name and of the calendar into bytes that the record keeps. */
+static PyObject *joined_names(ixdtf_record *out, PyObject *name, PyObject *calendar) {
+    const char *name_at = "", *calendar_at = "";
+    Py_ssize_t name_length = 0, calendar_length = 0;
+    if ((name != NULL && name_bytes(name, "the name of a zone", &name_at, &name_length) < 0)
+        || (calendar != Py_None && name_bytes(calendar, "a calendar", &calendar_at, &calendar_length) < 0)) {
+        return NULL;
+    }
+    PyObject *source = PyBytes_FromStringAndSize(NULL, name_length + calendar_length);
+    if (source == NULL) {
+        return NULL;
+    }
+    char *bytes = PyBytes_AS_STRING(source);
+    memcpy(bytes, name_at, (size_t)name_length);
+    memcpy(bytes + name_length, calendar_at, (size_t)calendar_length);
+    out->zone.name.at = (const uint8_t *)bytes;
+    out->zone.name.length = (size_t)name_length;
+    out->calendar.at = (const uint8_t *)bytes + name_length;
+    out->calendar.length = (size_t)calendar_length;
+    out->has_calendar = calendar != Py_None;
+    return source;
+}
+
+static PyObject *record_new(PyTypeObject *type, PyObject *arguments, PyObject *keywords) {
+    static char *names[] = { "date", "time", "offset", "zone", "calendar", NULL };
+    PyObject *date = Py_None, *time = Py_None, *offset = Py_None, *zone = Py_None, *calendar = Py_None;
+    if (!PyArg_ParseTupleAndKeywords(arguments, keywords, "|OOOOO:Record", names, &date, &time, &offset, &zone, &calendar)) {
+        return NULL;
+    }
+    ixdtf_record fields = IXDTF_RECORD;
+    PyObject *name = NULL, *source = NULL, *made = NULL;
+    if (set_date(&fields, date) == 0 && set_time(&fields, time) == 0 && set_offset(&fields, offset) == 0 && set_zone(&fields, zone, &name) == 0) {
+        source = joined_names(&fields, name, calendar);
+    }
+    if (source != NULL) {
+        made = new_record((module_state *)PyType_GetModuleState(type), &fields, source);
+        Py_DECREF(source);
+    }
+    Py_XDECREF(name);
+    return made;
+}
+
+/* ---- datetime ---- */
+
+/* The microseconds of a fraction of a second, or -1 where it has digits other than 0 behind the sixth. */
+static long microseconds_of(uint64_t fraction, uint8_t digits) {
+    unsigned known = digits < 18 ? digits : 18;
+    if (known == 0) {
+        return 0;
+    }
+    for (; known < 6; known++) {
+        fraction *= 10;
+    }
+    for (; known > 6; known--) {
+        if (fraction % 10 != 0) {
+            return -1;
+        }
+        fraction /= 10;
+    }
+    return digits > 18 ? -1 : (long)fraction;
+}
+
+/* The tzinfo of an offset of whole seconds, or of Z. That of the last call is kept, since most texts of a list have one offset. */
+static PyObject *fixed_zone(module_state *state, const ixdtf_offset *offset) {
+    int32_t seconds = ixdtf_offset_seconds(offset);
+    if (seconds == 0) {
+        return Py_NewRef(PyDateTime_TimeZone_UTC);
+    }
+    if (state->last_zone != NULL && state->last_seconds == seconds) {
+        return Py_NewRef(state->last_zone);
+    }
+    PyObject *delta = PyDelta_FromDSU(0, seconds, 0);
+    if (delta == NULL) {
+        return NULL;
+    }
+    PyObject *zone = PyTimeZone_FromOffset(delta);
+    Py_DECREF(delta);
+    if (zone != NULL) {
+        Py_XSETREF(state->last_zone, Py_NewRef(zone));
+        state->last_seconds = seconds;
+    }
+    return zone;
+}
+
+/* to_datetime() of the records that need no decision: in range, without a zone, exact in microseconds. Else NULL without an error. */
+static PyObject *plain_datetime(module_state *state, const ixdtf_record *fields) {
+    const ixdtf_date *date = &fields->date;
+    const ixdtf_time *time = &fields->time;
+    long microseconds = microseconds_of(time->fraction, time->fraction_digits);
+    if (!date->is_there || !time->is_there || date->year < 1 || date->year > 9999 || date->day == 0 || time->second > 59 || microseconds < 0
+        || fields->zone.form != IXDTF_NO_ZONE || fields->offset.fraction != 0 || fields->offset.fraction_digits > 18) {
+        return NULL;
+    }
+    PyObject *zone = fields->offset.form == IXDTF_NO_OFFSET ? Py_NewRef(Py_None) : fixed_zone(state, &fields->offset);
+    if (zone == NULL) {
+        return NULL;
+    }
+    PyObject *made = PyDateTimeAPI->DateTime_FromDateAndTime(date->year, date->month, date->day, time->hour, time->minute, time->second,
+        (int)microseconds, zone, PyDateTimeAPI->DateTimeType);
+    Py_DECREF(zone);
+    return made;
+}
+
+/* Without arguments most records need nothing of Python; the others go to _datetimes.py, which checks the arguments too. */
+static PyObject *record_to_datetime(PyObject *self, PyObject *const *arguments, Py_ssize_t count, PyObject *keywords) {
+    if (count == 0 && keywords == NULL) {
+        PyObject *made = plain_datetime(state_of_record(self), &((record_object *)self)->fields);
+        if (made != NULL || PyErr_Occurred()) {
+            return made;
+        }
+    }
+    Py_ssize_t named = keywords == NULL ? 0 : PyTuple_GET_SIZE(keywords);
+    PyObject **all = PyMem_Malloc((size_t)(1 + count + named) * sizeof *all);
+    if (all == NULL) {
+        return PyErr_NoMemory();
+    }
+    all[0] = self;
+    memcpy(all + 1, arguments, (size_t)(count + named) * sizeof *all);
+    PyObject *made = PyObject_Vectorcall(state_of_record(self)->to_datetime, all, (size_t)(1 + count), keywords);
+    PyMem_Free(all);
+    return made;
+}
+
+static PyGetSetDef record_getters[] = {
+    { "date", get_date, NULL, "The Date, or None.", NULL },
+    { "time", get_time, NULL, "The Time, or None.", NULL },
+    { "offset", get_offset, NULL, "The Offset, Z, or None.", NULL },
+    { "zone", get_zone, NULL, "The Zone, or None.", NULL },
+    { "calendar", get_calendar, NULL, "The calendar as a str, or None.", NULL },
+    { NULL, NULL, NULL, NULL, NULL },
+};
+
+static PyMethodDef record_methods[] = {
+    { "to_datetime", (PyCFunction)(void (*)(void))record_to_datetime, METH_FASTCALL | METH_KEYWORDS,
+      "to_datetime($self, /, on_conflict='error', truncate=False)\n--\n\n"
+      "Returns the datetime.datetime of a record that has a date and a time.\n\n"
+      "Without an offset and a zone it has no tzinfo. With an offset alone its tzinfo is a datetime.timezone, with a zone a\n"
+      "zoneinfo.ZoneInfo. If the offset and the zone do not fit, on_conflict says what counts: 'error' raises\n"
+      "ZoneConflictError, 'offset' takes the instant that the offset gives, 'zone' takes the local time in the zone.\n\n"
+      "ValueError is raised if a part is missing, if the year is not 1 to 9999, and, unless truncate is true, if the second is\n"
+      "60 or a fraction has more than six digits. With truncate the second 60 becomes 59, and further digits are dropped." },
+    { "__reduce__", record_reduce, METH_NOARGS, NULL },
+    { NULL, NULL, 0, NULL },
+};
+
+static PyType_Slot record_slots[] = {
+    { Py_tp_doc, "Record(date=None, time=None, offset=None, zone=None, calendar=None)\n--\n\nWhat a text says. It never changes.\n\n"
+                 "Each part is None where the text does not have it." },
+    { Py_tp_new, record_new },
+    { Py_tp_dealloc, record_dealloc },
+    { Py_tp_repr, record_repr },
+    { Py_tp_hash, record_hash },
+    { Py_tp_richcompare, record_compare },
+    { Py_tp_getset, record_getters },
+    { Py_tp_methods, record_methods },
+    { 0, NULL },
+};
+
+static PyType_Spec record_spec = { "ixdtf.Record", sizeof(record_object), 0, Py_TPFLAGS_DEFAULT, record_slots };
+
+/* ---- Handlers ---- */
+
+/* The units of an attribute of a reply, which has to be an ASCII str. */
+static int reply_units(PyObject *reply, const char *name, ixdtf_units *out, PyObject **kept) {
+    const char *at;
+    Py_ssize_t length;
+    *kept = PyObject_GetAttrString(reply, name);
+    if (*kept == NULL || name_bytes(*kept, name, &at, &length) < 0) {
+        return -1;
+    }
+    out->at = (const uint8_t *)at;
+    out->length = (size_t)length;
+    return 0;
+}
+
+/* Hands one annotation to the handler and its reply to the library. The calendar's units are kept in `kept`, where it is a reply's. 1: go on,
+ * 0: the reply is refused with `error`, -1: an exception. */
+static int ask(PyObject *handler, PyObject *make, const ixdtf_annotation *listed, ixdtf_calendar *calendar, PyObject *kept, uint32_t *error) {
+    PyObject *annotation = PyObject_CallFunction(make, "NNO", units_as_str(listed->key), units_as_str(listed->value), listed->is_critical ? Py_True : Py_False);
+    PyObject *reply = annotation == NULL ? NULL : PyObject_CallFunctionObjArgs(handler, annotation, NULL);
+    Py_XDECREF(annotation);
+    if (reply == NULL) {
+        return -1;
+    }
+    if (reply == Py_None) {
+        Py_DECREF(reply);
+        return 1;
+    }
+    ixdtf_annotation given = IXDTF_ANNOTATION;
+    PyObject *key = NULL, *value = NULL, *is_critical = NULL;
+    int critical = -1, went = -1;
+    if (reply_units(reply, "key", &given.key, &key) == 0 && reply_units(reply, "value", &given.value, &value) == 0
+        && (is_critical = PyObject_GetAttrString(reply, "is_critical")) != NULL) {
+        critical = PyObject_IsTrue(is_critical);
+    }
+    if (critical >= 0 && PyList_Append(kept, value) == 0) {
+        given.is_critical = critical;
+        *error = ixdtf_reply(calendar, &given);
+        went = *error == IXDTF_OK;
+    }
+    Py_XDECREF(key);
+    Py_XDECREF(value);
+    Py_XDECREF(is_critical);
+    Py_DECREF(reply);
+    return went;
+}
+
+/* Reads a text with a handler: lists the annotations, asks about each in order, and keeps the calendar. */
+static PyObject *read_handled(module_state *state, const kind *what, int strict, PyObject *text, const text_bytes *bytes, PyObject *handler) {
+    size_t room = (size_t)bytes->length / 5 + 1, count = 0;
+    ixdtf_annotation *list = PyMem_Calloc(room, sizeof *list);
+    PyObject *kept = PyList_New(0), *records = PyImport_ImportModule("ixdtf._records"), *make = NULL, *result = NULL;
+    ixdtf_record fields = IXDTF_RECORD;
+    ixdtf_calendar calendar = IXDTF_CALENDAR;
+    if (list == NULL || kept == NULL || records == NULL || (make = PyObject_GetAttrString(records, "Annotation")) == NULL) {
+        if (list == NULL) {
+            PyErr_NoMemory();
+        }
+        goto end;
+    }
+    uint32_t error = (strict ? what->list_strict : what->list)(bytes->at, (size_t)bytes->length, list, room, &count, &fields);
+    for (size_t i = 0; i < count; i++) {
+        uint32_t refused = IXDTF_OK;
+        int went = ask(handler, make, &list[i], &calendar, kept, &refused);
+        if (went < 0) {
+            goto end;
+        }
+        if (went == 0) {
+            ixdtf_text none = { "", 0 };
+            raise_error(state, text, bytes, refused, ixdtf_reply_place(bytes->at, &list[i]), none);
+            goto end;
+        }
+    }
+    if (error != IXDTF_OK) {
+        raise_error(state, text, bytes, error, fields.place, fields.location);
+        goto end;
+    }
+    ixdtf_keep_calendar(&fields, &calendar);
+    if (!calendar.is_there) {
+        result = new_record(state, &fields, bytes->owner);
+    } else {
+        /* the calendar is a slice of a reply, so the record gets a copy of both names */
+        PyObject *name = fields.zone.form == IXDTF_NAME ? units_as_str(fields.zone.name) : NULL;
+        PyObject *value = units_as_str(fields.calendar);
+        PyObject *source = value == NULL || PyErr_Occurred() ? NULL : joined_names(&fields, name, value);
+        result = source == NULL ? NULL : new_record(state, &fields, source);
+        Py_XDECREF(name);
+        Py_XDECREF(value);
+        Py_XDECREF(source);
+    }
+end:
+    PyMem_Free(list);
+    Py_XDECREF(kept);
+    Py_XDECREF(records);
+    Py_XDECREF(make);
+    return result;
+}
+
+/* ---- Calls ---- */
+
+static PyObject *read_kind(PyObject *module, const kind *what, PyObject *text, int strict, PyObject *handler) {
+    module_state *state = state_of(module);
+    text_bytes bytes;
+    if (take_text(text, &bytes) < 0) {
+        return NULL;
+    }
+    PyObject *result;
+    if (handler != NULL && handler != Py_None) {
+        result = read_handled(state, what, strict, text, &bytes, handler);
+    } else {
+        ixdtf_record fields = IXDTF_RECORD;
+        uint32_t error = run_reader(strict ? what->read_strict : what->read, &bytes, &fields);
+        result = error == IXDTF_OK ? new_record(state, &fields, bytes.owner) : raise_error(state, text, &bytes, error, fields.place, fields.location);
+    }
+    Py_DECREF(bytes.owner);
+    return result;
+}
+
+/* A call of one positional text, and perhaps the keywords strict and handler. Without keywords nothing is parsed. */
+static PyObject *call_kind(PyObject *module, PyObject *const *arguments, Py_ssize_t count, PyObject *keywords, const kind *what, const char *name,
+    int has_strict, int has_handler) {
+    PyObject *handler = NULL;
+    int strict = 0;
+    if (count != 1) {
+        return PyErr_Format(PyExc_TypeError, "%s() takes one text, and was given %zd arguments by position", name, count);
+    }
+    for (Py_ssize_t i = 0; keywords != NULL && i < PyTuple_GET_SIZE(keywords); i++) {
+        PyObject *keyword = PyTuple_GET_ITEM(keywords, i);
+        if (has_strict && PyUnicode_CompareWithASCIIString(keyword, "strict") == 0) {
+            strict = PyObject_IsTrue(arguments[count + i]);
+        } else if (has_handler && PyUnicode_CompareWithASCIIString(keyword, "handler") == 0) {
+            handler = arguments[count + i];
+        } else {
+            return PyErr_Format(PyExc_TypeError, "%s() has no keyword %R", name, keyword);
+        }
+        if (strict < 0) {
+            return NULL;
+        }
+    }
+    return read_kind(module, what, arguments[0], strict, handler);
+}
+
+#define READER(function, number, has_strict, has_handler) \
+    static PyObject *function(PyObject *module, PyObject *const *arguments, Py_ssize_t count, PyObject *keywords) { \
+        return call_kind(module, arguments, count, keywords, &KINDS[number], #function, has_strict, has_handler); \
+    }
+READER(parse, DATE_TIME, 0, 1)
+READER(parse_year_month, YEAR_MONTH, 0, 1)
+READER(parse_month_day, MONTH_DAY, 1, 1)
+READER(parse_time, TIME, 1, 1)
+
+/* The offset or the zone of a text that is nothing else. */
+static PyObject *read_part(PyObject *module, PyObject *text, const kind *what) {
+    module_state *state = state_of(module);
+    text_bytes bytes;
+    if (take_text(text, &bytes) < 0) {
+        return NULL;
+    }
+    ixdtf_record fields = IXDTF_RECORD;
+    uint32_t error = run_reader(what->read, &bytes, &fields);
+    PyObject *result;
+    if (error != IXDTF_OK) {
+        result = raise_error(state, text, &bytes, error, fields.place, fields.location);
+    } else if (what == &KINDS[OFFSET]) {
+        result = offset_object(state, &fields.offset);
+    } else {
+        result = zone_object(state, &fields.zone);
+    }
+    Py_DECREF(bytes.owner);
+    return result;
+}
+
+static PyObject *parse_offset(PyObject *module, PyObject *text) {
+    return read_part(module, text, &KINDS[OFFSET]);
+}
+
+static PyObject *parse_zone(PyObject *module, PyObject *text) {
+    return read_part(module, text, &KINDS[ZONE]);
+}
+
+static PyObject *parse_zone_name(PyObject *module, PyObject *text) {
+    return read_part(module, text, &KINDS[ZONE_NAME]);
+}
+
+static PyObject *parse_duration(PyObject *module, PyObject *arguments, PyObject *keywords) {
+    static char *names[] = { "", "strict", NULL };
+    PyObject *text;
+    int strict = 0;
+    if (!PyArg_ParseTupleAndKeywords(arguments, keywords, "O|$p:parse_duration", names, &text, &strict)) {
+        return NULL;
+    }
+    text_bytes bytes;
+    if (take_text(text, &bytes) < 0) {
+        return NULL;
+    }
+    module_state *state = state_of(module);
+    ixdtf_duration fields = IXDTF_DURATION;
+    uint32_t error = run_duration(strict, &bytes, &fields);
+    PyObject *result;
+    if (error != IXDTF_OK) {
+        result = raise_error(state, text, &bytes, error, fields.place, fields.location);
+    } else {
+        result = PyObject_CallFunction(state->make_duration, "iiIIIKiKKKiK", (int)fields.is_negative, (int)fields.has_date, (unsigned)fields.years,
+            (unsigned)fields.months, (unsigned)fields.weeks, (unsigned long long)fields.days, (int)fields.time_form, (unsigned long long)fields.hours,
+            (unsigned long long)fields.minutes, (unsigned long long)fields.seconds, (int)fields.fraction_digits, (unsigned long long)fields.fraction);
+    }
+    Py_DECREF(bytes.owner);
+    return result;
+}
+
+/* Which kind a name is, RECORD_KINDS for a duration, or -1 with an exception. */
+static int kind_number(PyObject *name) {
+    if (PyUnicode_Check(name)) {
+        for (int i = 0; i < RECORD_KINDS; i++) {
+            if (PyUnicode_CompareWithASCIIString(name, KINDS[i].name) == 0) {
+                return i;
+            }
+        }
+        if (PyUnicode_CompareWithASCIIString(name, KIND_OF_DURATION) == 0) {
+            return RECORD_KINDS;
+        }
+    }
+    PyErr_Format(PyExc_ValueError, "%R is no kind of text: the kinds are date-time, year-month, month-day, time, offset, zone, zone-name and duration", name);
+    return -1;
+}
+
+static PyObject *valid_of_kind(PyObject *text, int number, int strict) {
+    text_bytes bytes;
+    if (take_text(text, &bytes) < 0) {
+        return NULL;
+    }
+    uint32_t error;
+    if (number == RECORD_KINDS) {
+        ixdtf_duration fields = IXDTF_DURATION;
+        error = run_duration(strict, &bytes, &fields);
+    } else {
+        ixdtf_record fields = IXDTF_RECORD;
+        error = run_reader(strict ? KINDS[number].read_strict : KINDS[number].read, &bytes, &fields);
+    }
+    Py_DECREF(bytes.owner);
+    return PyBool_FromLong(error == IXDTF_OK);
+}
+
+static PyObject *is_valid(PyObject *module, PyObject *const *arguments, Py_ssize_t count, PyObject *keywords) {
+    (void)module;
+    int number = DATE_TIME, strict = 0;
+    if (count < 1 || count > 2) {
+        return PyErr_Format(PyExc_TypeError, "is_valid() takes a text and a kind, and was given %zd arguments by position", count);
+    }
+    if (count == 2 && (number = kind_number(arguments[1])) < 0) {
+        return NULL;
+    }
+    for (Py_ssize_t i = 0; keywords != NULL && i < PyTuple_GET_SIZE(keywords); i++) {
+        PyObject *keyword = PyTuple_GET_ITEM(keywords, i);
+        if (count == 1 && PyUnicode_CompareWithASCIIString(keyword, "kind") == 0) {
+            number = kind_number(arguments[count + i]);
+        } else if (PyUnicode_CompareWithASCIIString(keyword, "strict") == 0) {
+            strict = PyObject_IsTrue(arguments[count + i]);
+        } else {
+            return PyErr_Format(PyExc_TypeError, "is_valid() has no keyword %R", keyword);
+        }
+        if (number < 0 || strict < 0) {
+            return NULL;
+        }
+    }
+    return valid_of_kind(arguments[0], number, strict);
+}
+
+static PyObject *canonical(PyObject *module, PyObject *record) {
+    if (!PyObject_TypeCheck(record, (PyTypeObject *)state_of(module)->record_type)) {
+        return PyErr_Format(PyExc_TypeError, "canonical() takes a Record, and not %.100s", Py_TYPE(record)->tp_name);
+    }
+    const ixdtf_record *fields = &((record_object *)record)->fields;
+    uint8_t few[128];
+    size_t count = 0;
+    uint32_t error = ixdtf_print(fields, few, sizeof few, &count);
+    if (error == IXDTF_OK) {
+        return PyUnicode_DecodeASCII((const char *)few, (Py_ssize_t)count, NULL);
+    }
+    if (error == IXDTF_NOT_PRINTABLE) {
+        PyErr_SetString(PyExc_ValueError, "no text that parse() accepts gives this record, so it has no canonical text");
+        return NULL;
+    }
+    PyObject *made = PyUnicode_New((Py_ssize_t)count, 127);
+    if (made != NULL && ixdtf_print(fields, PyUnicode_1BYTE_DATA(made), count, &count) != IXDTF_OK) {
+        Py_CLEAR(made);
+        PyErr_SetString(PyExc_SystemError, "the canonical text has another length than was counted");
+    }
+    return made;
+}
+
+#define FAST(function) (PyCFunction)(void (*)(void))function, METH_FASTCALL | METH_KEYWORDS
+
+static PyMethodDef module_methods[] = {
+    { "parse", FAST(parse),
+      "parse(text, /, *, handler=None)\n--\n\n"
+      "Returns the Record of a date, or of a date and a time, with an offset, a zone and annotations.\n\n"
+      "The text is str or bytes, such as '2024-03-02T08:48:00-05:00[America/New_York][u-ca=hebrew]'. If it is refused, IxdtfError is\n"
+      "raised. A handler is called with each Annotation in order. It returns this annotation, another one, or None to drop it." },
+    { "parse_year_month", FAST(parse_year_month), "parse_year_month(text, /, *, handler=None)\n--\n\nReturns the Record of a year and a month, such as '2020-11'. Its day is 1." },
+    { "parse_month_day", FAST(parse_month_day),
+      "parse_month_day(text, /, *, strict=False, handler=None)\n--\n\nReturns the Record of a month and a day, such as '11-07'. Its year is 0. The strict profile refuses the day 00." },
+    { "parse_time", FAST(parse_time),
+      "parse_time(text, /, *, strict=False, handler=None)\n--\n\nReturns the Record of a time, such as 'T12:30'. Without T a time that could be a month and a day, or a year and a month, is\n"
+      "refused. In the strict profile there is no day 00, so that '1200' is a time." },
+    { "parse_offset", parse_offset, METH_O, "parse_offset(text, /)\n--\n\nReturns the Offset of a text such as '+05:30'." },
+    { "parse_zone", parse_zone, METH_O, "parse_zone(text, /)\n--\n\nReturns the Zone of a name or an offset, such as 'Europe/Berlin' or '+05:30'." },
+    { "parse_zone_name", parse_zone_name, METH_O, "parse_zone_name(text, /)\n--\n\nReturns the Zone of a name, such as 'Europe/Berlin'." },
+    { "parse_duration", (PyCFunction)(void (*)(void))parse_duration, METH_VARARGS | METH_KEYWORDS,
+      "parse_duration(text, /, *, strict=False)\n--\n\nReturns the Duration of a text such as '-P1Y2M3W4DT5H6M7.5S'. The strict profile refuses a unit that stands twice." },
+    { "is_valid", FAST(is_valid),
+      "is_valid(text, /, kind='date-time', *, strict=False)\n--\n\n"
+      "Returns whether a text is accepted. The kinds are date-time, year-month, month-day, time, offset, zone, zone-name and duration." },
+    { "canonical", canonical, METH_O,
+      "canonical(record, /)\n--\n\nReturns the one canonical text of a Record: parse() reads it back as an equal record. ValueError is raised if parse() returns this\nrecord for no text." },
+    { NULL, NULL, 0, NULL },
+};
+
+/* ---- The module ---- */
+
+static int take_names(PyObject *module, const char *from, const char *const *names, PyObject **out[], int count) {
+    PyObject *other = PyImport_ImportModule(from);
+    for (int i = 0; other != NULL && i < count; i++) {
+        *out[i] = PyObject_GetAttrString(other, names[i]);
+        if (*out[i] == NULL) {
+            Py_CLEAR(other);
+        }
+    }
+    (void)module;
+    if (other == NULL) {
+        return -1;
+    }
+    Py_DECREF(other);
+    return 0;
+}
+
+static int execute(PyObject *module) {
+    module_state *state = state_of(module);
+    static const char *const records[] = { "make_date", "make_time", "make_offset", "make_zone", "make_duration", "describe" };
+    PyObject **places[] = { &state->make_date, &state->make_time, &state->make_offset, &state->make_zone, &state->make_duration, &state->describe };
+    static const char *const errors[] = { "IxdtfError" };
+    static const char *const datetimes[] = { "to_datetime" };
+    if (ixdtf_interface_version() != IXDTF_INTERFACE_VERSION) {
+        PyErr_SetString(PyExc_ImportError, "the library for C has another version than its header");
+        return -1;
+    }
+    PyDateTime_IMPORT;
+    if (PyDateTimeAPI == NULL || take_names(module, "ixdtf._records", records, places, 6) < 0
+        || take_names(module, "ixdtf._errors", errors, (PyObject **[]){ &state->error }, 1) < 0
+        || take_names(module, "ixdtf._datetimes", datetimes, (PyObject **[]){ &state->to_datetime }, 1) < 0) {
+        return -1;
+    }
+    state->record_type = PyType_FromModuleAndSpec(module, &record_spec, NULL);
+    if (state->record_type == NULL) {
+        return -1;
+    }
+    PyObject *arguments = Py_BuildValue("(sssss)", "date", "time", "offset", "zone", "calendar");
+    int failed = arguments == NULL || PyObject_SetAttrString(state->record_type, "__match_args__", arguments) < 0;
+    Py_XDECREF(arguments);
+    if (failed) {
+        return -1;
+    }
+    Py_INCREF(state->record_type);
+    if (PyModule_AddObject(module, "Record", state->record_type) < 0) {
+        Py_DECREF(state->record_type);
+        return -1;
+    }
+    return 0;
+}
+
+static int traverse(PyObject *module, visitproc visit, void *arg) {
+    module_state *state = state_of(module);
+    Py_VISIT(state->error);
+    Py_VISIT(state->make_date);
+    Py_VISIT(state->make_time);
+    Py_VISIT(state->make_offset);
+    Py_VISIT(state->make_zone);
+    Py_VISIT(state->make_duration);
+    Py_VISIT(state->to_datetime);
+    Py_VISIT(state->describe);
+    Py_VISIT(state->record_type);
+    Py_VISIT(state->last_zone);
+    return 0;
+}
+
+static int clear(PyObject *module) {
+    module_state *state = state_of(module);
+    Py_CLEAR(state->error);
+    Py_CLEAR(state->make_date);
+    Py_CLEAR(state->make_time);
+    Py_CLEAR(state->make_offset);
+    Py_CLEAR(state->make_zone);
+    Py_CLEAR(state->make_duration);
+    Py_CLEAR(state->to_datetime);
+    Py_CLEAR(state->describe);
+    Py_CLEAR(state->record_type);
+    Py_CLEAR(state->last_zone);
+    return 0;
+}
+
+static PyModuleDef_Slot module_slots[] = {
+    { Py_mod_exec, execute },
+    { 0, NULL },
+};
+
+static struct PyModuleDef module_definition = {
+    PyModuleDef_HEAD_INIT, "ixdtf._reader", "The readers, over the library for C.", sizeof(module_state), module_methods, module_slots, traverse, clear, NULL,
+};
+
+PyMODINIT_FUNC PyInit__reader(void) {
+    return PyModuleDef_Init(&module_definition);
+}

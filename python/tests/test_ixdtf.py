@@ -1,0 +1,459 @@
+"""The tests of the package. Run them with the package on the path: python3 -m unittest discover -s python/tests"""
+import copy
+import csv
+import datetime
+import doctest
+import gc
+import pathlib
+import pickle
+import sys
+import threading
+import unittest
+import zoneinfo
+
+import ixdtf
+from ixdtf import Annotation, Date, Duration, Fraction, IxdtfError, Offset, Record, Time, Z, Zone
+
+TOP = pathlib.Path(__file__).resolve().parents[2]
+READERS = {
+    "parse": ixdtf.parse,
+    "parse_year_month": ixdtf.parse_year_month,
+    "parse_month_day": ixdtf.parse_month_day,
+    "parse_time": ixdtf.parse_time,
+    "parse_offset": ixdtf.parse_offset,
+    "parse_identifier": ixdtf.parse_zone,
+    "parse_iana_identifier": ixdtf.parse_zone_name,
+    "duration": ixdtf.parse_duration,
+}
+KINDS = {
+    "parse": "date-time",
+    "parse_year_month": "year-month",
+    "parse_month_day": "month-day",
+    "parse_time": "time",
+    "parse_offset": "offset",
+    "parse_identifier": "zone",
+    "parse_iana_identifier": "zone-name",
+    "duration": "duration",
+}
+WITH_PROFILES = ("parse_month_day", "parse_time", "duration")
+UTC = datetime.timezone.utc
+
+
+def refusal(call, *arguments, **keywords):
+    """The error that a call raises."""
+    try:
+        call(*arguments, **keywords)
+    except IxdtfError as error:
+        return error
+    raise AssertionError(f"{arguments} is accepted")
+
+
+class Rows(unittest.TestCase):
+    """Each row of the fault table, with its error and its position, as they were counted by hand."""
+
+    def test_rows(self):
+        seen = 0
+        with open(TOP / "tools" / "places.tsv", encoding="utf-8", newline="") as file:
+            for row in csv.DictReader(file, delimiter="\t", quoting=csv.QUOTE_NONE):
+                if row["bits"] != "8":
+                    continue
+                text = row["text"].encode("utf-8").decode("unicode_escape").encode("latin-1")
+                keywords = {"strict": True} if row["profile"] == "strict" and row["reader"] in WITH_PROFILES else {}
+                with self.subTest(reader=row["reader"], text=text):
+                    error = refusal(READERS[row["reader"]], text, **keywords)
+                    name, _, within = row["error"].partition(" ")
+                    self.assertEqual(error.name.replace("_", "").lower(), name.lower())
+                    self.assertEqual((error.position, error.within), (int(row["place"]), within))
+                    self.assertFalse(ixdtf.is_valid(text, KINDS[row["reader"]], **keywords))
+                seen += 1
+        self.assertGreater(seen, 200)
+
+
+class Texts(unittest.TestCase):
+    """A text is str or bytes, of any characters, and is kept as long as it is needed."""
+
+    def test_positions_are_code_points(self):
+        for front in ("", "\u00e9", "\u20ac", "\U0001f600", "\ud800"):
+            error = refusal(ixdtf.parse, f"2024-03-02[a={front}]" if front else "2024-03-02[a=]")
+            self.assertEqual(error.position, 13)
+            self.assertEqual(str(error).splitlines()[-1], " " * 13 + "^")
+        self.assertEqual(refusal(ixdtf.parse_duration, "P1D\u00e9").position, 3)
+
+    def test_positions_of_bytes(self):
+        error = refusal(ixdtf.parse, b"2024-03-02[a=\xff]")
+        self.assertEqual((error.position, error.text), (13, b"2024-03-02[a=\xff]"))
+        self.assertIn("\\xff", str(error))
+
+    def test_each_width_of_a_str(self):
+        for character in ("\u00e9", "\u20ac", "\U0001f600"):
+            self.assertFalse(ixdtf.is_valid("2024-03-02" + character))
+            self.assertEqual(refusal(ixdtf.parse, character + "2024").position, 0)
+            self.assertEqual(refusal(ixdtf.parse, "2024-03-02" + character).position, 10)
+
+    def test_zero(self):
+        self.assertEqual(refusal(ixdtf.parse, "2024-03-02\0").position, 10)
+        self.assertEqual(refusal(ixdtf.parse, "\0").position, 0)
+
+    def test_buffers_that_change(self):
+        buffer = bytearray(b"2024-03-02[Europe/Paris][u-ca=hebrew]")
+        record = ixdtf.parse(buffer)
+        buffer[:] = b"x" * len(buffer)
+        del buffer
+        gc.collect()
+        self.assertEqual((record.zone.name, record.calendar), ("Europe/Paris", "hebrew"))
+        self.assertEqual(ixdtf.parse(memoryview(b"2024-03-02")).date, Date(2024, 3, 2))
+
+    def test_text_that_is_gone(self):
+        records = [ixdtf.parse("2024-03-02[Area/" + "a" * number + "]") for number in range(1, 200)]
+        gc.collect()
+        self.assertEqual([len(it.zone.name) for it in records], [5 + number for number in range(1, 200)])
+
+    def test_no_text(self):
+        for value in (None, 2024, ["2024-03-02"], 1.5):
+            with self.assertRaises(TypeError):
+                ixdtf.parse(value)
+            with self.assertRaises(TypeError):
+                ixdtf.is_valid(value)
+
+    def test_long_texts(self):
+        long = "2024-03-02[A" + "a" * 9_999_999 + "]"
+        self.assertEqual(len(ixdtf.parse(long).zone.name), 10_000_000)
+        self.assertEqual(refusal(ixdtf.parse, long[:-1] + "\u00e9").position, len(long) - 1)
+        self.assertEqual(len(ixdtf.canonical(ixdtf.parse(long))), len(long))
+        self.assertTrue(ixdtf.is_valid("P" + "0" * 10_000_000 + "1D", "duration"))
+
+
+class Records(unittest.TestCase):
+    """What a record is as a Python value."""
+
+    FULL = "2024-03-02T08:48:00.25-05:00[!America/New_York][u-ca=hebrew]"
+
+    def test_parts(self):
+        record = ixdtf.parse(self.FULL)
+        self.assertEqual(record.date, Date(2024, 3, 2))
+        self.assertEqual(record.time, Time(8, 48, 0, Fraction(2, 25)))
+        self.assertEqual(record.time.nanosecond, 250_000_000)
+        self.assertEqual(record.offset, Offset(-1, 5, 0))
+        self.assertEqual(record.zone, Zone("America/New_York", None, True))
+        self.assertEqual(record.calendar, "hebrew")
+        self.assertIs(ixdtf.parse("2024-03-02T08Z").offset, Z)
+        self.assertEqual(ixdtf.parse("2024-03-02T08-00:00:01,5").offset, Offset(-1, 0, 0, 1, Fraction(1, 5)))
+        self.assertEqual(ixdtf.parse("2024-03-02[-05]").zone, Zone(None, Offset(-1, 5, 0)))
+
+    def test_parts_that_are_not_there(self):
+        record = ixdtf.parse("-000001-02-03")
+        self.assertEqual((record.date, record.time, record.offset, record.zone, record.calendar), (Date(-1, 2, 3), None, None, None, None))
+
+    def test_values(self):
+        texts = [self.FULL, "2024-03-02", "2024-03-02T08", "2024-03-02T08:48:00Z", "2024-03-02[UTC]", "2024-03-02[+05:30]", "2024-03-02[u-ca=a]"]
+        records = [ixdtf.parse(text) for text in texts]
+        self.assertEqual(len(set(records)), len(texts))
+        for text, record in zip(texts, records):
+            same = ixdtf.parse(text.encode())
+            self.assertEqual((record, hash(record)), (same, hash(same)))
+            self.assertEqual(eval(repr(record), vars(ixdtf)), record)
+            self.assertEqual(pickle.loads(pickle.dumps(record)), record)
+            self.assertEqual(copy.deepcopy(record), record)
+            self.assertNotEqual(record, text)
+        with self.assertRaises(AttributeError):
+            records[0].date = None
+
+    def test_match(self):
+        if sys.version_info < (3, 10):
+            self.skipTest("match is of Python 3.10")
+        names = {"record": ixdtf.parse(self.FULL), "Record": Record, "Date": Date, "Zone": Zone}
+        exec("match record:\n case Record(date=Date(year, 3), zone=Zone(name=str(name))): found = year, name", names)
+        self.assertEqual(names["found"], (2024, "America/New_York"))
+
+    def test_made_records(self):
+        record = Record(Date(2024, 2, 30))
+        with self.assertRaises(ValueError):
+            ixdtf.canonical(record)
+        self.assertEqual(ixdtf.canonical(Record(Date(12345, 2, 1), Time(1, 2, 60), Z, Zone("Etc/UTC"), "iso8601")),
+                         "+012345-02-01T01:02:60Z[Etc/UTC][u-ca=iso8601]")
+        for wrong in (dict(date=Date(2024, 13, 1)), dict(date=Date(2024, 1, 300)), dict(date=Date(1000000, 1, 1)), dict(time=Time(24, 0, 0)),
+                      dict(offset=Offset(0, 1, 0)), dict(offset=Offset(1, 1, 60)), dict(calendar="h\u00e9brew"), dict(zone=Zone("\u00e9"))):
+            with self.assertRaises(ValueError):
+                Record(**wrong)
+        for wrong in (dict(date="2024-03-02"), dict(zone=5), dict(offset=object())):
+            with self.assertRaises(AttributeError):
+                Record(**wrong)
+
+    def test_round_trips(self):
+        for text in (self.FULL, "20240302 084800,250z[!etc/utc][u-ca=hebrew][a=b]", "+002024-02-29t23:59:60-05", "2024-03-02T08:48:00." + "123456789" * 3):
+            printed = ixdtf.canonical(ixdtf.parse(text))
+            self.assertLessEqual(len(printed), len(text) + 14)
+            self.assertEqual(ixdtf.canonical(ixdtf.parse(printed)), printed)
+
+
+class Durations(unittest.TestCase):
+    def test_parts(self):
+        self.assertEqual(ixdtf.parse_duration("-P1Y2M3W4DT5H6M7.5S"), Duration(-1, 1, 2, 3, 4, 5, 6, 7, Fraction(1, 5)))
+        self.assertEqual(ixdtf.parse_duration("PT1.5H"), Duration(1, None, None, None, None, 1, None, None, Fraction(1, 5)))
+        self.assertEqual(ixdtf.parse_duration("P1D"), Duration(1, 0, 0, 0, 1))
+        duration = ixdtf.parse_duration("PT5M")
+        self.assertEqual((pickle.loads(pickle.dumps(duration)), hash(duration)), (duration, hash(duration)))
+
+    def test_profiles(self):
+        self.assertTrue(ixdtf.is_valid("P1Y2Y", "duration"))
+        self.assertFalse(ixdtf.is_valid("P1Y2Y", "duration", strict=True))
+        refusal(ixdtf.parse_duration, "P1Y2Y", strict=True)
+
+    def test_timedelta(self):
+        for text, seconds in (("P1W", 604800), ("-P1DT1H", -90000), ("PT1.5H", 5400), ("PT1.5M", 90), ("PT0.000001S", 1e-6), ("PT0.0000010S", 1e-6)):
+            self.assertEqual(ixdtf.parse_duration(text).to_timedelta().total_seconds(), seconds)
+        for text in ("P1Y", "P1M", "PT0.0000001S", "PT0.333333333H", "PT0." + "1" * 19 + "S"):
+            with self.assertRaises(ValueError):
+                ixdtf.parse_duration(text).to_timedelta()
+        with self.assertRaises(OverflowError):
+            ixdtf.parse_duration("P18446744073709551615D").to_timedelta()
+
+
+class Handlers(unittest.TestCase):
+    TEXT = "2024-03-02[Europe/Paris][u-ca=hebrew][!x-note=a-b][u-ca=iso8601]"
+
+    def test_calls(self):
+        seen = []
+        record = ixdtf.parse(self.TEXT, handler=lambda it: seen.append(it))
+        self.assertEqual(seen, [Annotation("u-ca", "hebrew"), Annotation("x-note", "a-b", True), Annotation("u-ca", "iso8601")])
+        self.assertEqual((record.calendar, record.zone.name), (None, "Europe/Paris"))
+
+    def test_replies(self):
+        kept = ixdtf.parse(self.TEXT, handler=lambda it: None if it.key == "x-note" else it)
+        self.assertEqual(kept.calendar, "hebrew")
+        made = ixdtf.parse(self.TEXT, handler=lambda it: Annotation("u-ca", "of-a-reply") if it.is_critical else None)
+        gc.collect()
+        self.assertEqual((made.calendar, made.zone.name), ("of-a-reply", "Europe/Paris"))
+        self.assertEqual(ixdtf.parse_time("T12[u-ca=a]", handler=lambda it: it).calendar, "a")
+
+    def test_refused(self):
+        error = refusal(ixdtf.parse, self.TEXT, handler=lambda it: it)
+        self.assertEqual((error.name, error.position), ("UNRECOGNIZED_CRITICAL", self.TEXT.index("[u-ca=iso")))
+        error = refusal(ixdtf.parse, self.TEXT + "x", handler=lambda it: None)
+        self.assertEqual((error.name, error.position), ("INVALID_END", len(self.TEXT)))
+
+    def test_exceptions(self):
+        class Stopped(Exception):
+            pass
+
+        def stop(annotation):
+            raise Stopped(annotation.key)
+
+        with self.assertRaises(Stopped):
+            ixdtf.parse(self.TEXT, handler=stop)
+        with self.assertRaises(AttributeError):
+            ixdtf.parse(self.TEXT, handler=lambda it: 5)
+        with self.assertRaises(TypeError):
+            ixdtf.parse(self.TEXT, handler=5)
+        with self.assertRaises(TypeError):
+            ixdtf.parse_year_month("2020-11", strict=True)
+
+
+class Datetimes(unittest.TestCase):
+    def test_without_zone(self):
+        self.assertEqual(ixdtf.parse("2024-03-02T08:48:00.25").to_datetime(), datetime.datetime(2024, 3, 2, 8, 48, 0, 250000))
+        self.assertIs(ixdtf.parse("2024-03-02T08:48Z").to_datetime().tzinfo, UTC)
+        for text in ("2024-03-02T08:48:00.123456-05:00", "0001-01-01T00:00:00+00:00", "9999-12-31T23:59:59.999999-23:59"):
+            self.assertEqual(ixdtf.parse(text).to_datetime(), datetime.datetime.fromisoformat(text))
+            self.assertEqual(ixdtf.parse(text).to_datetime(on_conflict="zone"), datetime.datetime.fromisoformat(text))
+        offset = ixdtf.parse("2024-03-02T08:48:00-00:00:01.5").to_datetime().utcoffset()
+        self.assertEqual(offset, -datetime.timedelta(seconds=1.5))
+
+    def test_what_a_datetime_has_not(self):
+        for text in ("2024-03-02", "+010000-01-01T00:00", "0000-01-01T00:00", "2016-12-31T23:59:60Z", "2024-03-02T00:00:00.1234567",
+                     "2024-03-02T00:00:00+00:00:00.1234567"):
+            with self.assertRaises(ValueError):
+                ixdtf.parse(text).to_datetime()
+        self.assertEqual(ixdtf.parse("2024-03-02T00:00:00.1234560").to_datetime().microsecond, 123456)
+        self.assertEqual(ixdtf.parse("2024-03-02T00:00:00.1234567").to_datetime(truncate=True).microsecond, 123456)
+        self.assertEqual(ixdtf.parse("2016-12-31T23:59:60Z").to_datetime(truncate=True), datetime.datetime(2016, 12, 31, 23, 59, 59, tzinfo=UTC))
+        for text in ("2024-03-02", "+010000-01-01T00:00"):
+            with self.assertRaises(ValueError):
+                ixdtf.parse(text).to_datetime(truncate=True)
+        with self.assertRaises(ValueError):
+            ixdtf.parse("2024-03-02T00:00").to_datetime(on_conflict="both")
+        with self.assertRaises(TypeError):
+            ixdtf.parse("2024-03-02T00:00").to_datetime(conflict="error")
+
+    def test_zone(self):
+        new_york = zoneinfo.ZoneInfo("America/New_York")
+        for text, fold in (("2024-11-03T01:30:00-04:00[America/New_York]", 0), ("2024-11-03T01:30:00-05:00[America/New_York]", 1)):
+            found = ixdtf.parse(text).to_datetime()
+            self.assertEqual((found.tzinfo, found.fold, found.isoformat()), (new_york, fold, text[:25]))
+        for text in ("2024-07-01T00:00:00Z[America/New_York]", "2024-07-01T00:00:00-00:00[America/New_York]"):
+            self.assertEqual(ixdtf.parse(text).to_datetime().isoformat(), "2024-06-30T20:00:00-04:00")
+        self.assertEqual(ixdtf.parse("2024-07-01T00:00[America/New_York]").to_datetime().isoformat(), "2024-07-01T00:00:00-04:00")
+        self.assertEqual(ixdtf.parse("2024-07-01T00:00+05:30[+05:30]").to_datetime().isoformat(), "2024-07-01T00:00:00+05:30")
+        with self.assertRaises(zoneinfo.ZoneInfoNotFoundError):
+            ixdtf.parse("2024-07-01T00:00[No/Where]").to_datetime()
+
+    def test_conflict(self):
+        record = ixdtf.parse("2024-07-01T00:00:00-05:00[America/New_York]")
+        with self.assertRaises(ixdtf.ZoneConflictError) as caught:
+            record.to_datetime()
+        self.assertIn("-04:00", str(caught.exception))
+        self.assertEqual(record.to_datetime("offset").isoformat(), "2024-07-01T01:00:00-04:00")
+        self.assertEqual(record.to_datetime(on_conflict="zone").isoformat(), "2024-07-01T00:00:00-04:00")
+        gap = ixdtf.parse("2024-03-10T02:30:00-05:00[America/New_York]")
+        with self.assertRaises(ixdtf.ZoneConflictError):
+            gap.to_datetime()
+        self.assertEqual(gap.to_datetime("offset").isoformat(), "2024-03-10T03:30:00-04:00")
+
+    def test_offset_rounded_to_minutes(self):
+        text = "1970-01-01T00:00:00-00:45[Africa/Monrovia]"
+        self.assertEqual(ixdtf.parse(text).to_datetime().utcoffset(), -datetime.timedelta(minutes=44, seconds=30))
+        with self.assertRaises(ixdtf.ZoneConflictError):
+            ixdtf.parse("1970-01-01T00:00:00-00:44:29[Africa/Monrovia]").to_datetime()
+
+    ZONES = ("Africa/Cairo", "Africa/Casablanca", "America/New_York", "America/Sao_Paulo", "America/St_Johns", "America/Caracas", "Antarctica/Troll",
+             "Asia/Kathmandu", "Asia/Pyongyang", "Asia/Tehran", "Asia/Tokyo", "Australia/Lord_Howe", "Europe/Berlin", "Europe/Dublin", "Europe/London",
+             "Europe/Moscow", "Pacific/Apia", "Pacific/Auckland", "Pacific/Kiritimati", "America/Santiago")
+
+    def test_each_change_of_offset(self):
+        """Two hours before and behind each change from 1950 to 2035: the offset that the zone has is taken, and another one is refused."""
+        changes = 0
+        for name in self.ZONES:
+            zone = zoneinfo.ZoneInfo(name)
+            for change in changes_of(zone):
+                changes += 1
+                for minutes in range(-120, 121, 30):
+                    instant = change + datetime.timedelta(minutes=minutes)
+                    self.one_instant(instant.astimezone(zone), name)
+        self.assertGreater(changes, 1500)
+
+    def one_instant(self, local, name):
+        text = f"{local.isoformat()}[{name}]"
+        found = ixdtf.parse(text).to_datetime()
+        self.assertEqual((found.astimezone(UTC), found.fold, found.tzinfo), (local.astimezone(UTC), local.fold, local.tzinfo), text)
+        wrong = local.replace(tzinfo=datetime.timezone(local.utcoffset() + datetime.timedelta(hours=3, minutes=7)))
+        record = ixdtf.parse(f"{wrong.isoformat()}[{name}]")
+        with self.assertRaises(ixdtf.ZoneConflictError):
+            record.to_datetime()
+        self.assertEqual(record.to_datetime("offset").astimezone(UTC), wrong.astimezone(UTC))
+        self.assertEqual(record.to_datetime("zone").replace(tzinfo=None), local.replace(tzinfo=None))
+
+
+def changes_of(zone):
+    """The instants at which a zone's offset changes, by halving between days that have different ones."""
+    begin = datetime.datetime(1950, 1, 1, tzinfo=UTC)
+    offset = begin.astimezone(zone).utcoffset()
+    for day in range(1, 85 * 365):
+        end = begin + datetime.timedelta(days=1)
+        following = end.astimezone(zone).utcoffset()
+        if following != offset:
+            low, high = begin, end
+            while high - low > datetime.timedelta(seconds=1):
+                middle = low + (high - low) // 2
+                middle = middle.replace(microsecond=0)
+                if middle.astimezone(zone).utcoffset() == offset:
+                    low = middle
+                else:
+                    high = middle
+            yield high
+        begin, offset = end, following
+
+
+class Calls(unittest.TestCase):
+    def test_kinds(self):
+        for kind, text in (("date-time", "2024-03-02"), ("year-month", "2020-11"), ("month-day", "11-07"), ("time", "T12"), ("offset", "+05:30"), ("zone", "+05:30"),
+                           ("zone-name", "Europe/Paris"), ("duration", "P1D")):
+            self.assertTrue(ixdtf.is_valid(text, kind))
+            self.assertTrue(ixdtf.is_valid(text, kind=kind))
+            self.assertFalse(ixdtf.is_valid(text + "?", kind))
+        for wrong in ("week", 5, None):
+            with self.assertRaises(ValueError):
+                ixdtf.is_valid("2024-03-02", wrong)
+
+    def test_strict(self):
+        self.assertTrue(ixdtf.is_valid("1200", "time", strict=True))
+        self.assertFalse(ixdtf.is_valid("1200", "time"))
+        self.assertFalse(ixdtf.is_valid("11-00", "month-day", strict=True))
+        self.assertEqual(ixdtf.parse_month_day("11-00").date, Date(0, 11, 0))
+
+    def test_parts(self):
+        self.assertEqual(ixdtf.parse_offset("-05:00:30.5"), Offset(-1, 5, 0, 30, Fraction(1, 5)))
+        self.assertEqual(ixdtf.parse_zone("+05:30"), Zone(None, Offset(1, 5, 30)))
+        self.assertEqual(ixdtf.parse_zone_name("Europe/Berlin"), Zone("Europe/Berlin"))
+
+    def test_error(self):
+        error = refusal(ixdtf.parse, "2024-03-02T8:48")
+        self.assertIsInstance(error, ValueError)
+        self.assertEqual((error.text, error.name, error.position, error.within), ("2024-03-02T8:48", "TIME_HOUR", 12, ""))
+        self.assertEqual(str(error), "Invalid character while parsing hour value.\n2024-03-02T8:48\n            ^")
+        again = pickle.loads(pickle.dumps(error))
+        self.assertEqual((str(again), again.position), (str(error), error.position))
+
+
+class Runs(unittest.TestCase):
+    """Nothing leaks, and threads and interpreters do not disturb one another."""
+
+    def test_nothing_leaks(self):
+        def work():
+            record = ixdtf.parse("2024-03-02T08:48:00.25-05:00[America/New_York][u-ca=hebrew]")
+            record.date, record.time, record.offset, record.zone, record.calendar, hash(record), repr(record), record == record
+            record.to_datetime()
+            ixdtf.canonical(record)
+            pickle.loads(pickle.dumps(record))
+            ixdtf.parse("2024-03-02[u-ca=a][b=c]", handler=lambda it: it)
+            for text in ("2024-13-01", "2024\u20ac", b"\xff"):
+                refusal(ixdtf.parse, text)
+            refusal(ixdtf.parse, "2024-03-02[!b=c]", handler=lambda it: it)
+            ixdtf.parse_duration("P1DT1.5H").to_timedelta()
+            ixdtf.is_valid("P1D", "duration")
+
+        for _ in range(1000):
+            work()
+        gc.collect()
+        before = sys.getallocatedblocks()
+        for _ in range(4000):
+            work()
+        gc.collect()
+        # a leak of one block in each turn would be 4000
+        self.assertLess(sys.getallocatedblocks() - before, 2000)
+
+    def test_threads(self):
+        long = "2024-03-02[" + "a" * 100_000 + "]"
+        failed = []
+
+        def work():
+            for number in range(300):
+                day = number % 28 + 1
+                if ixdtf.parse(f"2024-02-{day:02}[Area/Name]").date.day != day or len(ixdtf.parse(long).zone.name) != 100_000:
+                    failed.append(day)
+
+        threads = [threading.Thread(target=work) for _ in range(8)]
+        for thread in threads:
+            thread.start()
+        for thread in threads:
+            thread.join()
+        self.assertEqual(failed, [])
+
+    def test_interpreters(self):
+        try:
+            import _xxsubinterpreters as interpreters
+        except ImportError:
+            try:
+                import _interpreters as interpreters
+            except ImportError:
+                self.skipTest("this Python has no module of interpreters")
+        for _ in range(3):
+            try:
+                other = interpreters.create("legacy") if hasattr(interpreters, "new_config") else interpreters.create(isolated=False)
+            except TypeError:
+                other = interpreters.create()
+            interpreters.run_string(other, f"import sys; sys.path[:] = {sys.path!r}; import ixdtf; assert ixdtf.parse('2024-03-02').date.day == 2")
+            interpreters.destroy(other)
+        self.assertEqual(ixdtf.parse("2024-03-02").date.day, 2)
+
+
+def load_tests(loader, tests, pattern):
+    """The examples of the package and of the page are tests too."""
+    tests.addTests(doctest.DocTestSuite(ixdtf))
+    page = TOP / "docs" / "PYTHON.md"
+    if page.exists():
+        tests.addTests(doctest.DocFileSuite(str(page), module_relative=False))
+    return tests
+
+
+if __name__ == "__main__":
+    unittest.main()
