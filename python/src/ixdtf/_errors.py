@@ -1,4 +1,5 @@
 """The error of a text that is refused."""
+from typing import Union
 
 
 class IxdtfError(ValueError):
@@ -15,7 +16,7 @@ class IxdtfError(ValueError):
 
     __module__ = "ixdtf"
 
-    def __init__(self, text, name, reason, position, within):
+    def __init__(self, text: Union[str, bytes], name: str, reason: str, position: int, within: str) -> None:
         self.text = text
         self.name = name.removeprefix("IXDTF_")
         self.reason = f"{reason.rstrip('.')} while parsing {within}" if within else reason
@@ -23,12 +24,12 @@ class IxdtfError(ValueError):
         self.within = within
         super().__init__(text, name, reason, position, within)
 
-    def __str__(self):
+    def __str__(self) -> str:
         return f"{self.reason}\n{_shown(self.text)}\n{' ' * len(_shown(self.text[:self.position]))}^"
 
 
-def _shown(text):
+def _shown(text: Union[str, bytes]) -> str:
     """A text in one line: each character that cannot be printed is written as in a Python string."""
-    characters = text if isinstance(text, str) else text.decode("latin-1")
-    is_plain = str.isprintable if isinstance(text, str) else lambda it: " " <= it <= "~"
-    return "".join(it if is_plain(it) else ascii(it)[1:-1] for it in characters)
+    if isinstance(text, str):
+        return "".join(it if it.isprintable() else ascii(it)[1:-1] for it in text)
+    return "".join(it if " " <= it <= "~" else ascii(it)[1:-1] for it in text.decode("latin-1"))

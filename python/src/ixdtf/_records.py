@@ -1,6 +1,6 @@
 """The parts of a record, and durations. All are named tuples: they never change, and are equal if their fields are."""
 import datetime as _datetime
-from typing import NamedTuple, Optional, Union
+from typing import Any, NamedTuple, Optional, Union
 
 
 class Fraction(NamedTuple):
@@ -17,7 +17,7 @@ class Fraction(NamedTuple):
     def nanosecond(self) -> int:
         """The nanoseconds of a fraction of a second. Digits behind the ninth are dropped."""
         known = min(self.digits, 18)
-        return self.value * 10 ** (9 - known) if known < 9 else self.value // 10 ** (known - 9)
+        return int(self.value * 10 ** (9 - known) if known < 9 else self.value // 10 ** (known - 9))
 
 
 class Date(NamedTuple):
@@ -56,7 +56,10 @@ class Offset(NamedTuple):
     second: Optional[int] = None
     fraction: Optional[Fraction] = None
 
-    is_utc = False
+    @property
+    def is_utc(self) -> bool:
+        """False: an offset says how far local time is ahead of UTC."""
+        return False
 
     def to_timedelta(self) -> _datetime.timedelta:
         """The offset as a timedelta. ValueError is raised if the fraction is no whole number of microseconds."""
@@ -70,10 +73,10 @@ class _Utc:
     __slots__ = ()
     is_utc = True
 
-    def __repr__(self):
+    def __repr__(self) -> str:
         return "Z"
 
-    def __reduce__(self):
+    def __reduce__(self) -> str:
         return "Z"
 
 
@@ -143,24 +146,24 @@ def _microseconds(fraction: Optional[Fraction], seconds: int) -> int:
     whole, rest = divmod(fraction.value * seconds * 10**6, 10**fraction.digits)
     if rest:
         raise ValueError("a fraction is no whole number of microseconds")
-    return whole
+    return int(whole)
 
 
 def _fraction(digits: int, value: int) -> Optional[Fraction]:
     return Fraction(digits, value) if digits else None
 
 
-def make_date(year, month, day):
+def make_date(year: int, month: int, day: int) -> Date:
     """The date of a record, for the reader."""
     return Date(year, month, day)
 
 
-def make_time(hour, minute, second, digits, value):
+def make_time(hour: int, minute: int, second: int, digits: int, value: int) -> Time:
     """The time of a record, for the reader."""
     return Time(hour, minute, second, _fraction(digits, value))
 
 
-def make_offset(form, is_negative, hour, minute, second, digits, value) -> Union[Offset, _Utc]:
+def make_offset(form: int, is_negative: int, hour: int, minute: int, second: int, digits: int, value: int) -> Union[Offset, _Utc]:
     """The offset of a record, for the reader: form is 1 for Z, 2 for minutes, 3 for seconds."""
     if form == 1:
         return Z
@@ -168,19 +171,37 @@ def make_offset(form, is_negative, hour, minute, second, digits, value) -> Union
     return Offset(sign, hour, minute) if form == 2 else Offset(sign, hour, minute, second, _fraction(digits, value))
 
 
-def make_zone(is_critical, name, is_negative, hour, minute):
+def make_zone(is_critical: int, name: Optional[str], is_negative: int, hour: int, minute: int) -> Zone:
     """The zone of a record, for the reader."""
     return Zone(name, Offset(-1 if is_negative else 1, hour, minute) if name is None else None, bool(is_critical))
 
 
-def make_duration(is_negative, has_date, years, months, weeks, days, last, hours, minutes, seconds, digits, value):
+def make_duration(
+    is_negative: int,
+    has_date: int,
+    years: int,
+    months: int,
+    weeks: int,
+    days: int,
+    last: int,
+    hours: int,
+    minutes: int,
+    seconds: int,
+    digits: int,
+    value: int,
+) -> Duration:
     """A duration, for the reader: last is 0 if there is no time, 1 for hours, 2 for minutes, 3 for seconds."""
-    dates = (years, months, weeks, days) if has_date else (None, None, None, None)
-    times = tuple(it if place < last else None for place, it in enumerate((hours, minutes, seconds)))
-    return Duration(-1 if is_negative else 1, *dates, *times, _fraction(digits, value))
+    duration = Duration(
+        sign=-1 if is_negative else 1,
+        hours=hours if last > 0 else None,
+        minutes=minutes if last > 1 else None,
+        seconds=seconds if last > 2 else None,
+        fraction=_fraction(digits, value),
+    )
+    return duration._replace(years=years, months=months, weeks=weeks, days=days) if has_date else duration
 
 
-def describe(date, time, offset, zone, calendar):
+def describe(date: Any, time: Any, offset: Any, zone: Any, calendar: Any) -> str:
     """What repr() of a record shows: the parts that it has."""
     parts = {"date": date, "time": time, "offset": offset, "zone": zone, "calendar": calendar}
     return f"Record({', '.join(f'{name}={part!r}' for name, part in parts.items() if part is not None)})"
