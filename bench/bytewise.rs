@@ -1,10 +1,10 @@
-//! Puts pieces into an output whose writer takes one byte at each write, and prints a digest of what it took.
+//! Writes slices to an output whose writer accepts one byte in each write. Prints a digest of what the writer accepted.
 
 use ixdtf_buffers::output::Output;
 use std::io;
 use std::io::Write;
 
-/// A writer that takes one byte at each write.
+/// A writer that accepts one byte in each write.
 struct ByteWriter {
     digest: u64,
 }

@@ -1,10 +1,10 @@
 #!/usr/bin/env python3
-"""plain.py CHECKOUT: makes the benchmark as plain Rust, over the plain crates of a checkout, and has cargo build it.
+"""plain.py CHECKOUT: makes the benchmark in Rust, and builds it with cargo over the crates in CHECKOUT/rust.
 
-The workloads are those of crates/ixdtf_bench of the checkout that this file is of, whatever CHECKOUT has, so that two checkouts are
-timed by the same. They are made by the rules of tools/to_rust.py; what they take from Rattle's library is bench/runtime.rs. The plain
-programs have no libraries, so their files become two, `ixdtf_answers` and `ixdtf_checks`, as the proved crates are. It writes to
-CHECKOUT/bench/out alone, and prints the path of the program."""
+The workloads are always those of crates/ixdtf_bench in the checkout of this file, and not those of CHECKOUT. So two checkouts are
+measured with the same workloads. They are made by the rules of tools/to_rust.py. bench/runtime.rs has what they need from the library of
+Rattle. The programs in rust/ have no libraries of their own, so this tool makes two libraries from their files, `ixdtf_answers` and
+`ixdtf_checks`, like the proved crates of these names. The tool writes only to CHECKOUT/bench/out. It prints the path of the program."""
 import os
 import re
 import subprocess
@@ -15,7 +15,7 @@ HERE = os.path.dirname(BENCH)
 sys.path.insert(0, os.path.join(HERE, 'tools'))
 import to_rust
 
-# the crates of what the programs do, and the plain programs that have their files
+# the libraries of the programs, and the Rust programs that contain their files
 LIBRARIES = {'ixdtf_answers': 'ixdtf_lines', 'ixdtf_checks': 'ixdtf_check'}
 MANIFEST = '''[package]
 name = "{0}"
@@ -31,7 +31,7 @@ OF_PLAIN = ('ixdtf', 'ixdtf_print', 'ixdtf_buffers')
 BENCHMARK = to_rust.Crate('crates/ixdtf_bench/src', '', root='main', tests=True, above=True)
 USES = {'use crate::runtime::{AllocError, Global, String};': 'use crate::runtime::{AllocError, Global, TryToVec, Vec};',
         'use std::env;': 'use crate::runtime::{HostRuntime, env};', '.to_vec(alloc)': '.try_to_vec(alloc)'}
-# a loop that a proof names has a label
+# A loop has a label if a proof names it. Rust needs no label there.
 HEAD = '#![forbid(unsafe_code)]\n#![allow(unused_imports, unused_labels)]\n\n#[macro_use]\nmod runtime;\n'
 
 
@@ -42,7 +42,7 @@ def read(path):
 
 
 def write(path, text):
-    """Writes a file where it is another one, so that cargo builds what has changed."""
+    """Writes a file if its content is different, so that cargo builds only what has changed."""
     os.makedirs(os.path.dirname(path), exist_ok=True)
     if not os.path.exists(path) or read(path) != text:
         with open(path, 'w', encoding='utf-8') as file:
@@ -50,16 +50,16 @@ def write(path, text):
 
 
 def manifest(name, checkout, made):
-    """The manifest of a crate over the plain crates of a checkout and over these made ones."""
+    """The manifest of a crate that uses the Rust crates of a checkout, and the crates `made`."""
     paths = {it: os.path.join(checkout, 'rust', it) for it in OF_PLAIN} | {it: f'../{it}' for it in made}
     return MANIFEST.format(name) + ''.join(f'{it} = {{ path = "{path}" }}\n' for it, path in paths.items())
 
 
 def library(checkout, name, program):
-    """The root of a library of the files that a plain program has. All its modules are public."""
+    """The root file of a library that is made from the files of a Rust program. All its modules are public."""
     root = read(os.path.join(checkout, 'crates', name, 'src', 'lib.rt'))
     folder = os.path.join(checkout, 'rust', program, 'src')
-    # the plain program leaves out some modules, such as the laws
+    # The Rust program does not have some modules, such as the laws.
     modules = [it for it in re.findall(r'^(?:pub )?mod (\w+);$', root, re.M) if os.path.exists(os.path.join(folder, f'{it}.rs'))]
     return '#![forbid(unsafe_code)]\n#![allow(unused_labels)]\n\n' + ''.join(
         f'#[path = "{folder}/{module}.rs"]\npub mod {module};\n' for module in modules)
@@ -68,7 +68,7 @@ def library(checkout, name, program):
 def workloads():
     """The files of the benchmark in Rust, by their names."""
     for module, text in sorted(to_rust.sources(BENCHMARK).items()):
-        # a string that goes on in the next line is one
+        # A string that continues on the next line becomes one line.
         plain = to_rust.written(BENCHMARK, module, re.sub(r'\\\n\s*', '', text))
         for old, new in USES.items():
             plain = plain.replace(old, new)
@@ -79,7 +79,7 @@ def workloads():
 
 
 def build(checkout):
-    """Makes the crates and builds them, and gives the path of the program."""
+    """Makes the crates and builds them. Returns the path of the program."""
     checkout = os.path.abspath(checkout)
     top = os.path.join(checkout, 'bench', 'out', 'plain')
     for name, program in LIBRARIES.items():

@@ -1,4 +1,4 @@
-//! Reads texts of 16-bit units that are refused, takes what `parse` returns apart in place, and prints a count.
+//! Parses refused 16-bit texts, takes apart what `parse` returns in the same function, and prints a count.
 
 use ixdtf::parsers::IxdtfParser;
 

@@ -1,6 +1,6 @@
-//! What the benchmark, which is made of the proved one, takes from its own toolchain's standard library: memory and output by results.
+//! What the benchmark in Rust needs from the standard library of Rattle: memory and output that return results.
 
-/// What the system hands to the program.
+/// What a Rattle program gets from the system.
 pub struct HostRuntime;
 
 impl HostRuntime {
@@ -9,14 +9,14 @@ impl HostRuntime {
     }
 }
 
-/// What memory is taken of.
+/// The allocator.
 #[derive(Clone, Copy)]
 pub struct Global;
 
-/// Why no memory was to be had, which does not come here.
+/// The error for missing memory. It never occurs here.
 pub enum AllocError {}
 
-/// A vector that grows by results.
+/// A vector whose growth returns a result.
 pub struct Vec<T>(std::vec::Vec<T>);
 
 impl<T> Vec<T> {
@@ -53,7 +53,7 @@ impl<T: Clone> Vec<T> {
     }
 }
 
-/// A copy of a slice as a result.
+/// Copies a slice, and returns a result.
 pub trait TryToVec<T> {
     fn try_to_vec(&self, alloc: Global) -> Result<Vec<T>, AllocError>;
 }
@@ -65,7 +65,7 @@ impl<T: Clone> TryToVec<T> for [T] {
 }
 
 pub mod env {
-    //! The arguments.
+    //! The arguments of the program.
     use super::HostRuntime;
 
     pub fn args(_rt: &HostRuntime) -> Result<std::env::Args, ()> {

@@ -1,22 +1,22 @@
 #!/usr/bin/env python3
-"""check_documents.py: sees that what the documents name is there.
+"""check_documents.py: checks that the names, counts and examples in the documents are right.
 
-(a) Names. In every document each file and directory, each item in back-quotes, each target of a link with its heading, and each count
-that `COUNTS` knows must be there. `name` of `File.antt` asks that this file defines the name, and `name` of `item` that the item has such
-a clause, field or function. In a table with a column `Clause` each function has the clauses that the row names, and each clause the
-fields in parentheses behind it. With a column `File` beside it, each of these contracts stands in a file that the row names, and each
-file of the row has one of them or is one of tests. The files in which docs/TRUST.md has people read the contracts are those of the contracts
-that its tables name. Each line of a table begins and ends with a bar.
+(a) Names. Each of these must exist: each file and directory that a document names, each item in back-quotes, and each target of a link,
+with its heading. "`name` of `File.antt`" means that this file defines the name. "`name` of `item`" means that the item has a clause, a
+field or a function of this name. Each count that matches `COUNTS` must be right. In a table with a column `Clause`, each function must have
+the clauses of its row, and each clause must have the fields in parentheses after it. If the table also has a column `File`, the files of a
+row must be those that contain these contracts; files of tests are allowed too. The files in which docs/TRUST.md has people read contracts
+must be those with the contracts of its tables. Each line of a table must begin and end with a bar.
 
-(b) Examples. The lines of docs/FAULTS.md are those of the model `places.py`: their names, what they go on with, and their errors. Each
-example, a text with its place, has this error at this place in the model, and in the row of `places.tsv`, whose place was counted by
-hand. The errors have the texts of the code and of the model, and the readers that the model has them in.
+(b) Examples. The lines of docs/FAULTS.md must be those of the model places.py: their names, what can follow, and their errors. Each
+example is a text with the position of its error (`place` in this file). It must have this error at this position in the model, and in
+places.tsv, in which a person counted the positions. The errors must have the texts that they have in the code and in the model, and the
+readers that they have in the model.
 
-(c) Snippets. Each block of Rattle or Rust in README.md and docs/CALLING.md stands in a crate of tests or in an example of rust/ixdtf,
-which are compiled: its items word by word, and what it imports among the imports there. Those of the READMEs of `rust/` are tests of
-their crates.
+(c) Snippets. Each block of Rattle or Rust in README.md and docs/CALLING.md must be in a crate of tests or in an example of rust/ixdtf,
+which are compiled: all of its items, word by word, and all of its imports. The blocks in the READMEs of `rust/` are tests of their crates.
 
-It prints what it finds, one finding a line, and ends with status 1 where there is one."""
+The tool prints one line for each finding. The exit status is 1 if there is a finding."""
 import fnmatch
 import os
 import re
@@ -31,18 +31,18 @@ from places import Error, Fault
 
 ROOT = os.path.dirname(TOOLS)
 
-# what a document may name and the repository does not have, and where it is
+# names that a document may have although they are not in the repository, and where they come from
 EXCEPTIONS = {
-    'Rattle.std.specs': 'of the toolchain',
-    'NonZeroU8': "of Rust's library",
-    'BufRead': "of Rust's library",
-    'assert_syntax': 'of the Rust crate',
+    'Rattle.std.specs': 'from the toolchain',
+    'NonZeroU8': "from Rust's library",
+    'BufRead': "from Rust's library",
+    'assert_syntax': 'from `ixdtf` 0.6.7',
     'c/out': 'made by c/build',
-    'must-fail/FILE.FUNCTION.what_it_does.edit': 'stands for the name of each edit',
+    'must-fail/FILE.FUNCTION.what_it_does.edit': 'a pattern for the names of mutations',
 }
-# programs of other hands: of a command of theirs only the paths are looked for
+# programs from outside: in a command of one of these, only paths are checked
 COMMANDS = ('rt', 'cargo', 'python3', 'bash', 'git', 'cd', 'gcc', 'clang', 'cc', 'wc', 'grep', 'nm', 'valgrind', 'rustc')
-# a column of names in the standards, and columns of names that a document gives
+# the column with names from the standards, and the columns with names that a document defines
 OF_STANDARDS = 'From'
 GIVEN = ('Class', 'Production')
 
@@ -53,7 +53,7 @@ OWN_FILES = {'tools/check_documents.py', 'tools/test_check_documents.py'}
 
 
 class Finding(NamedTuple):
-    """What is not so, in which line of a document."""
+    """What is wrong, and in which line of a document."""
     document: str
     line: int
     what: str
@@ -66,14 +66,14 @@ class Finding(NamedTuple):
 # The repository
 
 class Tree:
-    """The files of the repository, and what their code names."""
+    """The files of the repository, and the names in their code."""
 
     def __init__(self, root: str):
         self.root = root
         self.files = sorted(self.walk())
 
     def walk(self) -> Iterator[str]:
-        """The paths of all files but what is built."""
+        """The paths of all files. What was built is left out."""
         for folder, folders, files in os.walk(self.root):
             folders[:] = [it for it in folders if it not in PASSED_OVER]
             for name in files:
@@ -90,31 +90,31 @@ class Tree:
         return [it for it in self.files if it.endswith('.md')]
 
     def code(self) -> list[str]:
-        """The files whose names count."""
+        """The files of code."""
         return [it for it in self.files if it not in OWN_FILES and (it.endswith(CODE) or '.' not in os.path.basename(it)
                                                                      or it.startswith('.ci/'))]
 
     @cached_property
     def paths(self) -> set[str]:
-        """All files and directories, each by all ends of its path."""
+        """All files and directories, each by all endings of its path."""
         whole = set(self.files) | {os.path.dirname(it) for it in self.files}
         whole |= {parent for it in self.files for parent in parents(it)}
         return {'/'.join(parts[at:]) for it in whole for parts in [it.split('/')] for at in range(len(parts))}
 
     @cached_property
     def names(self) -> set[str]:
-        """The words of all code, of its comments and of its paths."""
+        """All words in the code, in its comments and in the paths."""
         words = {word for path in self.code() for word in WORD.findall(self.read(path))}
         return words | {word for it in self.files for word in WORD.findall(it)}
 
     @cached_property
     def given(self) -> set[str]:
-        """The names that documents give, as of productions."""
+        """The names that documents define, for example the names of productions."""
         rows = (row for it in self.documents() for _, row in Document(self, it).tables())
         return {row[head] for row in rows for head in GIVEN if head in row}
 
     def has_name(self, name: str) -> bool:
-        """Whether code or a document has the name, or one that ends so where it begins with `_`."""
+        """Whether the code or a document has the name. If the name begins with `_`, whether the code has a name with this ending."""
         return name in self.names or name in self.given or name.startswith('_') and any(it.endswith(name) for it in self.names)
 
     @cached_property
@@ -124,7 +124,7 @@ class Tree:
 
     @cached_property
     def promises(self) -> dict[str, dict[str, str]]:
-        """What the fields of each record say that is the whole clause of a reader."""
+        """For each record that is a clause of a reader: what its fields say."""
         found, record = {}, {}
         for path in (it for it in self.files if it.endswith('specs/Promises.antt')):
             for line in self.read(path).splitlines():
@@ -137,7 +137,7 @@ class Tree:
 
     @cached_property
     def fields(self) -> dict[str, set[str]]:
-        """The fields of the records of all definitions."""
+        """The fields of all records in definitions."""
         found = {}
         for path in (it for it in self.files if it.endswith('.antt')):
             for name, body in re.findall(r'^(?:pub )?record (\S+)[^\n]*(?:\n +\(.*)*\n((?:  pub .*\n?)*)', self.read(path), re.M):
@@ -145,18 +145,18 @@ class Tree:
         return found
 
     def has_path(self, path: str) -> bool:
-        """Whether a path, from the top or from any directory, is one of a file or a directory."""
+        """Whether there is a file or a directory with this path, from the top or from any directory."""
         return all(any(fnmatch.fnmatchcase(it, one) for it in self.paths) if '*' in one else one in self.paths
                    for one in expanded(path.rstrip('/')))
 
     def is_part(self, name: str, item: str) -> bool:
-        """Whether an item has this clause, field or function. One that is a crate, or has none of these, may have anything."""
+        """Whether an item has this clause, field or function. The answer is yes for a crate, and for an item about which nothing is known."""
         clauses, fields = self.contracts.found.get(item), self.fields.get(item)
         return (clauses is None and fields is None or f'crates/{item}' in self.paths or name == 'impl' or name in (clauses or {})
                 or name in (fields or ()) or f'{item}::{name}' in self.contracts.found)
 
     def defines(self, path: str, name: str) -> bool:
-        """Whether a file of this path defines the name."""
+        """Whether a file with this path defines the name."""
         return any(is_defined(self.read(it), name) for it in self.files if ('/' + it).endswith('/' + path))
 
 
@@ -177,7 +177,7 @@ def expanded(path: str) -> list[str]:
 
 
 def is_defined(content: str, name: str) -> bool:
-    """Whether the code has a definition of the name: an item, a field, a constructor or a definition of its own."""
+    """Whether the code defines the name as an item, a field, a constructor or a definition."""
     of_item = r'(?:abbrev|unfoldable|record|data|pub|fn|struct|enum|trait|type|const|mod|impl|use|ghost)'
     return re.search(rf'^\s*(?:{of_item}(?:\([a-z]+\))?\s+)+{re.escape(name)}\b|^\s+(?:[\w-]+ )*{re.escape(name)}(?: [\w-]+)* :|'
                      rf'^{re.escape(name)} :', content, re.M) is not None
@@ -187,7 +187,7 @@ def is_defined(content: str, name: str) -> bool:
 # Contracts
 
 class Contract(NamedTuple):
-    """The clauses of a function or an `impl`: for each name its text. A clause without a name is ''."""
+    """The clauses of a function or an `impl`: for each name, its text. A clause without a name has the name ''."""
     owner: str
     clauses: dict[str, str]
 
@@ -206,14 +206,14 @@ GROUPS = {
 
 
 def members(group: str) -> list[str]:
-    """The functions of a group. Raises KeyError where there is no such group."""
+    """The functions of a group. Raises KeyError if there is no such group."""
     located = [it + '_located' for it in GROUPS[group.removesuffix(' located')]]
     return located if group.endswith(' located') else GROUPS[group] + located
 
 
 class Contracts:
-    """The contracts of code: of each function by its name, also with its type or its file before it, and of each `impl`. Where a clause
-    is one of `promises`, a record, the fields of it are clauses too."""
+    """The contracts of the code. Each function is found by its name, also with its type or its file before it. Each `impl` has a contract
+    too. If a clause is a record of `promises`, the fields of this record are clauses too."""
 
     def __init__(self, sources: dict[str, str], promises: dict[str, dict[str, str]] = {}):
         self.found, self.files = {}, {}
@@ -230,7 +230,7 @@ class Contracts:
                         self.files.setdefault((name, clause), set()).add(path)
 
     def missing(self, owner: str, clause: str) -> Optional[str]:
-        """What is not there: the function, or its clause."""
+        """What is missing: the function, or its clause. None if nothing is missing."""
         if owner not in self.found:
             return f'no function `{owner}`'
         return None if clause in self.found[owner] else f'`{owner}` has no clause {f"`{clause}`" if clause else "without a name"}'
@@ -265,7 +265,7 @@ def contracts_of(source: str) -> list[Contract]:
 
 
 def owner_of(head: str) -> str:
-    """The name of an `impl` by its head: its type, or `Trait for Type`; the type has no generics, and no path."""
+    """The name of an `impl`, from its head: its type, or `Trait for Type`. The type is without its generics and its path."""
     depth, at = 0, 0
     if head.startswith('<'):
         for at, letter in enumerate(head, 1):
@@ -285,7 +285,7 @@ RULE = re.compile(r'\|?-+(\|-+)+\|?')
 
 
 class Document:
-    """A document: its lines outside of blocks of code, by their numbers, and its headings."""
+    """A document: its lines outside of blocks of code, with their numbers, and its headings."""
 
     def __init__(self, tree: Tree, path: str):
         self.tree, self.path = tree, path
@@ -307,7 +307,7 @@ class Document:
         return {re.sub(r'[^\w\- ]', '', it.lower()).replace(' ', '-') for it in heads}
 
     def tables(self) -> Iterator[tuple[int, dict[str, str]]]:
-        """The rows of all tables, each as its cells by the heads of its columns, with the number of its line."""
+        """The rows of all tables, each with the number of its line. A row has its cells by the heads of their columns."""
         heads, rule = None, None
         for at, (number, line) in enumerate(self.lines):
             follows = self.lines[at + 1][1] if at + 1 < len(self.lines) else ''
@@ -321,17 +321,17 @@ class Document:
 
 
 def findings_in_layout(document: Document) -> Iterator[Finding]:
-    """The lines of tables that do not have their bars: each line begins and ends with one, since not every reader of Markdown takes others."""
+    """The lines of tables that do not begin and end with a bar. Some programs that display Markdown need these bars."""
     lines = dict(document.lines)
     rules = [number for number, line in document.lines if RULE.fullmatch(line.strip())]
     for number in sorted({it for it, _ in document.tables()} | set(rules) | {it - 1 for it in rules}):
         line = lines[number].strip()
         if not line.startswith('|') or not line.endswith('|'):
-            yield Finding(document.path, number, 'a line of a table has no bar at its beginning or at its end')
+            yield Finding(document.path, number, 'a line of a table must begin and end with a bar')
 
 
 def cells_in_line(line: str) -> list[str]:
-    """The cells of a row of a table, with or without the bars at its ends."""
+    """The cells of a row of a table. The row may have bars at its ends."""
     line = line.strip()
     line = line[1:] if line.startswith('|') else line
     line = line[:-1] if line.endswith('|') else line
@@ -348,7 +348,7 @@ OF_FILE = re.compile(r'((?:`[^`]+`(?:, and |, | and )?)+) of `([\w/]+\.(?:antt|r
 
 
 def findings_in_names(document: Document) -> Iterator[Finding]:
-    """The names of a document that are not there."""
+    """The names in a document that do not exist."""
     tree = document.tree
     rows = dict(document.tables())
     for number, line in document.lines:
@@ -372,7 +372,7 @@ def findings_in_names(document: Document) -> Iterator[Finding]:
 
 
 def missing_in_span(tree: Tree, span: str) -> Optional[str]:
-    """What a span names and is not there."""
+    """What does not exist, of the names in a span."""
     if span in EXCEPTIONS:
         return None
     paths = [it for it in re.split(r' (?![^{]*\})', span) if PATH.fullmatch(it) and (it.endswith(EXTENSIONS) or it.startswith(TOP))]
@@ -386,7 +386,7 @@ def missing_in_span(tree: Tree, span: str) -> Optional[str]:
 
 
 def missing_in_link(document: Document, target: str) -> Optional[str]:
-    """What a link leads to and is not there."""
+    """What does not exist, of the target of a link."""
     if re.match(r'[a-z]+:', target):
         return None
     file, _, anchor = target.partition('#')
@@ -399,7 +399,7 @@ def missing_in_link(document: Document, target: str) -> Optional[str]:
 
 
 def findings_in_clauses(document: Document) -> Iterator[Finding]:
-    """The clauses that tables name and no contract has."""
+    """The clauses that a table names and no contract has."""
     for number, row in document.tables():
         for head, cell in row.items():
             for owner, clause, fields in clauses_in(head, cell):
@@ -411,8 +411,8 @@ NAMED_CLAUSE = re.compile(r'(?:`(\w+)`|\*\(unnamed\)\*)(?: \((`\w+`(?:, `\w+`)*)
 
 
 def clauses_in(head: str, cell: str) -> Iterator[tuple[str, str, list[str]]]:
-    """For each clause that a cell names its function or *group*, its name and the fields of it: in a column `Clause` each function
-    before its clauses, in a column "Clause of `function`" the clauses alone."""
+    """For each clause that a cell names: its function or *group*, its name and its fields. In a column `Clause`, each function comes before
+    its clauses. In a column "Clause of `function`", there are only the clauses."""
     of_one = re.fullmatch('Clause of (`.*`)', head)
     if of_one:
         yield from ((of_one[1], clause, []) for clause in SPAN.findall(cell))
@@ -424,7 +424,7 @@ def clauses_in(head: str, cell: str) -> Iterator[tuple[str, str, list[str]]]:
 
 
 def missing_clauses(tree: Tree, owner: str, clause: str, fields: list[str]) -> Iterator[str]:
-    """What is not there of a clause: a function, the clause of it, or a field of what the clause says."""
+    """What does not exist: a function, its clause, or a field of the clause."""
     if owner.startswith('*') and owner.strip('*').removesuffix(' located') not in GROUPS:
         yield f'no group {owner}'
         return
@@ -440,13 +440,13 @@ def missing_clauses(tree: Tree, owner: str, clause: str, fields: list[str]) -> I
 
 
 def findings_in_files(document: Document) -> Iterator[Finding]:
-    """The files of rows that do not have the contracts of these rows, and the contracts that none of these files has."""
+    """The files that a row names and that have no contract of the row, and the contracts of the row that are in none of its files."""
     for number, row in document.tables():
         named = [it for it in SPAN.findall(row.get('File', '')) if it.endswith('.rt')]
         contracts = set(contracts_in(document.tree, row)) if 'File' in row else set()
         for path in sorted({path for _, path in contracts if not any(is_at_the_end(path, it) for it in named)}):
             names = sorted({name for name, at in contracts if at == path})
-            yield Finding(document.path, number, f'no file of the row has the contract of `{names[0]}`: it stands in {path}')
+            yield Finding(document.path, number, f'the contract of `{names[0]}` is in {path}, which the row does not name')
         for it in named:
             if not any(is_at_the_end(path, it) for _, path in contracts) and not is_of_tests(document.tree, it):
                 yield Finding(document.path, number, f'`{it}` has no contract that the row names')
@@ -467,7 +467,7 @@ def is_at_the_end(path: str, end: str) -> bool:
 
 
 def is_of_tests(tree: Tree, name: str) -> bool:
-    """Whether a file of tests has this name."""
+    """Whether a file of tests or of examples has this name."""
     return any(is_at_the_end(it, name) for it in tree.files if it.startswith(COMPILING))
 
 
@@ -480,12 +480,12 @@ NO_DEFINITIONS = ('Lib.antt', 'language.antt', 'table.antt', 'FixedPlaces.antt')
 
 
 def value_of(count: str) -> int:
-    """The number of a count in figures or as a word."""
+    """The number that a count means. The count has digits, or is a word."""
     return NUMBERS.index(count.lower()) if count.lower() in NUMBERS else int(count.replace(',', ''))
 
 
 def definitions(tree: Tree) -> list[str]:
-    """The files of the definitions that public clauses cite."""
+    """The files of the definitions to which public clauses refer."""
     return [it for it in tree.files if it.startswith('crates/ixdtf_grammar/specs/') and os.path.basename(it) not in NO_DEFINITIONS]
 
 
@@ -495,12 +495,12 @@ def lines_of_definitions(tree: Tree) -> list[str]:
 
 
 def edits(tree: Tree) -> list[str]:
-    """The edits that the check must refuse."""
+    """The mutations, which the prover must refuse."""
     return [it for it in tree.files if it.endswith('.edit')]
 
 
 def is_of_a_definition(tree: Tree, path: str) -> bool:
-    """Whether an edit turns a definition, and no body."""
+    """Whether a mutation changes a definition, and not a function body."""
     return '\nfile: specs/' in tree.read(path)
 
 
@@ -515,7 +515,7 @@ def never_come(tree: Tree) -> list[str]:
     return re.findall(r'^never_comes (\w+) = true', tree.read('crates/ixdtf_grammar/specs/table/Faults.antt'), re.M)
 
 
-# documents of numbers of other things by the same words
+# documents in which the same words count other things
 OWN_COUNTS = {'docs/NUMBERS.md'}
 COUNTS = [(re.compile(pattern, re.I), counted) for pattern, counted in [
     (rf'{A_COUNT} variants', lambda tree: len(variants(tree))),
@@ -534,7 +534,7 @@ COUNTS = [(re.compile(pattern, re.I), counted) for pattern, counted in [
 
 
 def findings_in_counts(document: Document) -> Iterator[Finding]:
-    """The counts that are others."""
+    """The counts that are wrong."""
     for number, line in document.lines if document.path not in OWN_COUNTS else []:
         for pattern, counted in COUNTS:
             for said in pattern.finditer(line):
@@ -543,22 +543,22 @@ def findings_in_counts(document: Document) -> Iterator[Finding]:
 
 
 def findings_in_reading_order(document: Document) -> Iterator[Finding]:
-    """The files of definitions that the order of reading leaves out."""
+    """The files of definitions that are missing in the order of reading."""
     named = {span for _, line in document.lines if re.match(r'\d\. ', line) for span in SPAN.findall(line)}
     for path in definitions(document.tree):
         if os.path.basename(path).removesuffix('.antt') not in named:
-            yield Finding(document.path, 1, f'{path} has no place in the order of reading')
+            yield Finding(document.path, 1, f'{path} is missing in the order of reading')
     yield from findings_in_contracts_to_read(document)
 
 
 def findings_in_contracts_to_read(document: Document) -> Iterator[Finding]:
-    """Where the files that people are to read for contracts are others than those that have the contracts which the tables name."""
+    """The differences between the files in which people should read contracts, and the files with the contracts of the tables."""
     wanted = {path for _, row in document.tables() for _, path in contracts_in(document.tree, row)}
     for number, line in document.lines:
         if line.startswith('Then read the contracts'):
             named = [it for it in SPAN.findall(line) if it.endswith('.rt')]
             for path in sorted(it for it in wanted if not any(is_at_the_end(it, name) for name in named)):
-                yield Finding(document.path, number, f'{path} has contracts that the tables name, and is not among the files to read')
+                yield Finding(document.path, number, f'{path} has contracts that the tables name, but is not one of the files to read')
             for name in named:
                 if not any(is_at_the_end(path, name) for path in wanted):
                     yield Finding(document.path, number, f'`{name}` has no contract that the tables name')
@@ -588,16 +588,16 @@ def in_one_line(source: str) -> str:
 
 
 def findings_in_snippets(document: Document) -> Iterator[Finding]:
-    """The blocks of Rattle or Rust that no crate of tests and no example has."""
+    """The blocks of Rattle or Rust that are in no crate of tests and in no example."""
     compiled = [document.tree.read(it) for it in document.tree.files if it.startswith(COMPILING) and it.endswith(('.rt', '.rs'))]
     imports = set().union(*map(imported, compiled))
     for block in BLOCK.finditer(document.text):
         line = document.text.count('\n', 0, block.start()) + 1
         for path in sorted(imported(block[1]) - imports):
-            yield Finding(document.path, line, f'no test imports {path}')
+            yield Finding(document.path, line, f'no test and no example imports {path}')
         items = in_one_line(USE.sub('', block[1]))
         if not any(items in in_one_line(it) for it in compiled):
-            yield Finding(document.path, line, 'no test has the code of this block')
+            yield Finding(document.path, line, 'no test and no example has the code of this block')
 
 
 # ---------------------------------------------------------------------------------------------------------------------------------
@@ -616,12 +616,12 @@ Row = dict[str, str]
 
 
 def is_clock_line(name: str) -> bool:
-    """Whether a line is there once for each clock."""
+    """Whether there is a line with this name for each clock."""
     return name.startswith(CLOCK_LINES) and name != 'after_fraction_group'
 
 
 def error_in(cell: str) -> Optional[Error]:
-    """The error that a cell names, and None where it names none."""
+    """The error that a cell names. None if it names no error."""
     named = re.search(r'`([^`]*)`', cell)
     if cell == 'ok' or named is None:
         return None
@@ -629,7 +629,7 @@ def error_in(cell: str) -> Optional[Error]:
 
 
 def letters_in(cell: str) -> Optional[frozenset[str]]:
-    """The code units that a cell says a text goes on with; None for a whole line."""
+    """The code units that can follow, as a cell says. None for a whole line."""
     if cell == 'whole':
         return None
     parts = re.findall(r'`([^`]*)`|(\w[\w ]*)', cell)
@@ -642,7 +642,7 @@ def of_class(letters: str) -> frozenset[str]:
 
 
 def others_in(cell: str) -> frozenset[tuple[str, Error]]:
-    """The errors that a cell names for other code units: at one, or at the rest (an empty text)."""
+    """The errors that a cell names for other code units: for one code unit, or for all others (then the text is empty)."""
     special = re.match(r'(.*) at `(.)`(?: or a digit)?, else (.*)', cell)
     if special:
         return frozenset([(special[2], error_in(special[1])), ('', error_in(special[3]))])
@@ -650,13 +650,13 @@ def others_in(cell: str) -> frozenset[tuple[str, Error]]:
 
 
 def cells_of(line: places.Line) -> tuple:
-    """What a line of the model goes on with, and its errors at the end and at other code units."""
+    """What can follow in a line of the model, and its errors at the end and at other code units."""
     others = frozenset(('' if letters == places.ANY_LETTER else letters.removeprefix('\\'), error) for letters, error in line.other)
     return None if line.goes_on is None else of_class(line.goes_on), line.end, others
 
 
 class Such(NamedTuple):
-    """A text that the table has for a line, its error where it is said, and its place."""
+    """An example text of a line, its error if the table gives it, and its place."""
     text: str
     error: Optional[Error]
     place: int
@@ -667,17 +667,17 @@ SUCH = re.compile(r'(strict: )?(?:`([^`]*)`|the empty text|nothing)(?:: ((?:\*ab
 
 
 def such_as(cell: str) -> Iterator[Such]:
-    """The texts of a cell. Raises ValueError where one is not written as these are."""
+    """The example texts of a cell. Raises ValueError if one of them is not written in the right form."""
     for part in cell.split('; ') if cell else []:
         such = SUCH.fullmatch(part)
         if such is None:
-            raise ValueError(f'no text with its place: {part}')
+            raise ValueError(f'expected a text and its position, found: {part}')
         strict, text, error, place = such.groups()
         yield Such(text or '', error and error_in(error), int(place), strict is not None)
 
 
 class Said(NamedTuple):
-    """An example of the table: the names of its lines, the reader where it is named, the whole text, and its error and place."""
+    """An example of the table: the names of its lines, the reader if the table gives it, the complete text, and its error and place."""
     lines: list[str]
     reader: Optional[str]
     units: tuple[int, ...]
@@ -687,7 +687,8 @@ class Said(NamedTuple):
 
 
 def said_in_row(row: Row) -> Iterator[Said]:
-    """The examples of a row of lines. An error that is not said is that of the row: at the end of the text, or at another unit."""
+    """The examples of a row with lines. If an example has no error of its own, its error is that of the row, for the end of the text or for
+    another code unit."""
     lines = SPAN.findall(row['Line'])
     for head in (it for it in row if it.startswith(('Such as', '`parse'))):
         reader, before = re.search(r'`(parse\w*)`', head), re.search(r'after `([^`]*)`', head)
@@ -698,7 +699,7 @@ def said_in_row(row: Row) -> Iterator[Said]:
 
 
 def implied_error(row: Row, text: str, place: int) -> Optional[Error]:
-    """The error of a row at this place of a text: that of the end, or of another code unit. None where the clock says it."""
+    """The error of a row at this place of a text: that for the end, or for another code unit. None if the clock decides it."""
     if row.get('Goes on with') == 'whole' or place == len(text):
         return error_in(row.get('End', ''))
     at_units = dict(others_in(row.get('Other', '')))
@@ -710,11 +711,11 @@ NAMED = re.compile(r'`(?P<reader>parse\w*|IsoDurationParser::parse)` of (?P<wide
 
 
 def said_of_places(row: Row) -> Iterator[Said]:
-    """The examples of the kinds of places."""
+    """The examples in the table of the kinds of positions."""
     for it in row['Such as'].split('; '):
         named = NAMED.fullmatch(it)
         if named is None:
-            raise ValueError(f'no text with its reader: {it}')
+            raise ValueError(f'expected a reader and its text, found: {it}')
         reader = 'duration' if '::' in named['reader'] else named['reader']
         yield Said([], reader, tuple(map(ord, named['text'])), named['wide'] is not None, False,
                    Fault(error_in(named['error']), int(named['place'])))
@@ -737,19 +738,19 @@ def said_in(row: Row) -> Iterator[Said]:
 
 
 def is_line_of(said: Said, name: str) -> bool:
-    """Whether a line is one that the example is of; one that names no line is of any."""
+    """Whether the example belongs to a line. An example that names no line belongs to every line."""
     return not said.lines or name in said.lines or name.split(' ')[0] in said.lines
 
 
 def in_the_list(said: Said) -> list[places.Example]:
-    """What the list that was counted by hand has of this: the same text, error and place in this line and this reader."""
+    """The entries of places.tsv with the same text, error and place, for this line and this reader."""
     return [it for it in places.examples() if (tuple(it.units), it.wide, it.strict) == (said.units, said.wide, said.strict)
             and said.reader in (None, it.reader) and is_line_of(said, it.line)
             and it.place == said.fault.place and said.fault.error in (None, it.error)]
 
 
 def is_in_the_model(said: Said, listed: places.Example) -> bool:
-    """Whether the model has the error at the place, as a row of the line that the list has it in, or as a refusal."""
+    """Whether the model has the error at the place: as a row of the line that places.tsv gives, or as the error of an annotation."""
     reader, text = places.READERS[said.strict][listed.reader], places.letters_of(said.units, said.wide)
     if listed.line == 'reply':
         return places.refused_reply(reader, text, said.fault.place, places.each_replies_for_itself) == said.fault
@@ -759,12 +760,12 @@ def is_in_the_model(said: Said, listed: places.Example) -> bool:
 
 
 def lines_of_model() -> list[places.Line]:
-    """The lines of all readers of the crate's profile."""
+    """The lines of all readers with the rules of `ixdtf` 0.6.7."""
     return [line for reader in places.READERS[False].values() for line in reader.lines]
 
 
 def errors_of_line(line: places.Line) -> set[str]:
-    """The errors that a line has, but for that at a bad code unit."""
+    """The errors of a line, except for the one at a bad code unit."""
     return {error.variant for error in [line.end] + [error for _, error in line.other] if error}
 
 
@@ -786,7 +787,7 @@ def readers_in(cell: str) -> set[str]:
 
 
 def findings_in_faults(document: Document) -> Iterator[Finding]:
-    """Where the fault table is another one than the model, or an example is not so."""
+    """The differences of the fault table from the model, and the wrong examples."""
     for number, row in document.tables():
         try:
             for said in said_in(row):
@@ -805,19 +806,19 @@ def findings_in_faults(document: Document) -> Iterator[Finding]:
 
 
 def differences_from_model(document: Document) -> Iterator[str]:
-    """The lines that the table or the model has alone, by their names and by their cells."""
+    """The lines that only the table has, or only the model, by their names and by their cells."""
     rows = [(SPAN.findall(row['Line']), row) for _, row in document.tables() if 'Line' in row]
     said = {name for names, _ in rows for name in names}
     had = {re.sub(' (Time|Offset|MinuteOffset)$', '', line.name) for line in lines_of_model()}
-    yield from (f'the line {it} is in the table or in the model alone' for it in sorted(said ^ had))
+    yield from (f'the line {it} is only in the table, or only in the model' for it in sorted(said ^ had))
     cells = {(name, letters_in(row['Goes on with']), error_in(row['End']), others_in(row['Other'])) for names, row in rows
              for name in names if 'Goes on with' in row and not is_clock_line(name)}
     of_model = {(line.name, *cells_of(line)) for line in lines_of_model() if not is_clock_line(line.name)}
-    yield from sorted({f'the cells of {it[0]} are others in the model' for it in cells ^ of_model})
+    yield from sorted({f'the model has other cells for the line {it[0]}' for it in cells ^ of_model})
 
 
 def findings_in_errors(document: Document) -> Iterator[Finding]:
-    """Where the table of errors is another one than the code's or the model's."""
+    """The differences of the table of errors from the code and from the model."""
     texts = dict(re.findall(r'ParseError::(\w+)(?: \{ \.\. \})? =>\s+"(.*)"', document.tree.read('crates/ixdtf_grammar/src/error.rt')))
     said = {}
     for number, row in document.tables():
@@ -825,18 +826,18 @@ def findings_in_errors(document: Document) -> Iterator[Finding]:
             variant = row['Variant'].strip('`')
             said[variant] = row['Text']
             if row['Text'] != texts.get(variant) or row['Text'] != places.TEXTS.get(variant, row['Text']):
-                yield Finding(document.path, number, f'{variant} has another text')
+                yield Finding(document.path, number, f'{variant} has a different text in the code or in the model')
             if readers_in(row['Readers']) != readers_of_model(variant):
-                yield Finding(document.path, number, f'{variant} is returned by {", ".join(sorted(readers_of_model(variant)))}')
+                yield Finding(document.path, number, f'in the model, {variant} is returned by {", ".join(sorted(readers_of_model(variant)))}')
     if list(said) != variants(document.tree):
-        yield Finding(document.path, 1, 'the errors are not those of the code, in its order')
+        yield Finding(document.path, 1, 'the errors are not those of the code, in the order of the code')
 
 
 # ---------------------------------------------------------------------------------------------------------------------------------
 # All of it
 
 def findings(tree: Tree) -> Iterator[Finding]:
-    """What is not so, in all documents."""
+    """The findings in all documents."""
     for path in tree.documents():
         document = Document(tree, path)
         yield from findings_in_layout(document)
@@ -854,7 +855,7 @@ def findings(tree: Tree) -> Iterator[Finding]:
 
 
 def findings_in_code(tree: Tree) -> Iterator[Finding]:
-    """The documents that code names and are not there."""
+    """The documents that the code names and that do not exist."""
     for path in tree.code():
         content = tree.read(path)
         for named in re.finditer(r'\bdocs/\w+\.md\b', content):

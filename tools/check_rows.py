@@ -1,23 +1,23 @@
 #!/usr/bin/env python3
-"""check_rows.py: sees that texts in tests, examples and proofs have the errors and places of the list that was counted by hand.
+"""check_rows.py: checks the errors and positions in tests, examples and proofs, and the names of mutations.
 
-A row is a text, a reader and what the reader does: it accepts the text, or returns an error, at a place where the row says it. Rows are
-read from
+A *row* is a text, a reader and a result: the reader accepts the text, or it returns an error. A row can also have the position of the
+error, which is called its *place* in this file. The tool reads rows from these sources:
 
-    tests      the tables that the tests of crates/ixdtf_tests walk, with handlers too
-    examples   the examples on located readers in crates/*/src, as their doc comments show them
+    tests      the tables that the tests of crates/ixdtf_tests walk, also those with handlers
+    examples   the examples of `*_located` readers in the doc comments of crates/*/src
     proofs     the tables of computed examples in crates/ixdtf_tests/proofs
     C          the rows of c/test_rows.h
 
-Each row has the error and the place that places.tsv has for its text, where it has the text, and that the model places.py has. What a row
-says is never taken from the library's own output.
+It compares each row with the model tools/places.py. If tools/places.tsv has the text, it also compares the row with this list, in which a
+person counted the places. No row may be copied from the output of the library itself.
 
-It looks at the edits too, which are rows of wrong bodies: FILE.FUNCTION in the name of crates/*/must-fail/FILE.FUNCTION.WHAT.edit is the
-file, without its ending, and the function in which its `old` stands. The function may have its type before it. Of an edit of a definition,
+The tool also checks the names of the mutations, crates/*/must-fail/FILE.FUNCTION.WHAT.edit. FILE must be the file, without its ending, and
+FUNCTION the function that contains the text after `old:`. The type of the function may come before it. For a mutation of a definition,
 FILE and FUNCTION are the file and the definition.
 
-It prints what differs, one finding a line, and how many rows and edits it read; it ends with status 1 where there is a finding, or a source
-has fewer rows than `LEAST` says, so that a table that is no longer read is seen."""
+The tool prints each difference as one line, and then the numbers of rows and mutations that it read. The exit status is 1 if there is a
+difference. It is also 1 if a source has fewer rows than `LEAST` says, because then a table is probably no longer read."""
 import os
 import re
 import sys
@@ -32,7 +32,7 @@ from places import Annotation, Error, Fault, Handler
 
 ROOT = os.path.dirname(TOOLS)
 
-# a source has at least so many rows
+# the least number of rows of each source
 LEAST = {'tests': 1180, 'examples': 20, 'proofs': 2500, 'C': 700}
 
 
@@ -40,8 +40,8 @@ LEAST = {'tests': 1180, 'examples': 20, 'proofs': 2500, 'C': 700}
 # Rows
 
 class Row(NamedTuple):
-    """A text, its reader, and the error and the place that a file says of it: no error where the text is accepted, and no place where the
-    file has none. `handler` makes a handler, and is None for the forms without one."""
+    """A text, its reader, and the error and the place that a file gives. `error` is None if the text is accepted. `place` is None if the
+    file has no place. `handler` makes a handler. It is None for a reader without a handler."""
     path: str
     reader: str
     strict: bool
@@ -57,7 +57,7 @@ class Row(NamedTuple):
 
 
 def said(error: Optional[Error], place: Optional[int]) -> str:
-    """An error and its place in words."""
+    """An error and its place, in words."""
     if error is None:
         return 'ok'
     name = ' '.join(it for it in error if it)
@@ -74,20 +74,20 @@ def counted_by_hand() -> dict[tuple, list[places.Example]]:
 
 
 def listed(row: Row) -> list[tuple[Error, int]]:
-    """What places.tsv has of the text without a handler, and with one that replies none where no reply is refused there."""
+    """What places.tsv has for the text, without a handler. Also with a handler that replies None, if places.tsv has no refused reply."""
     found = counted_by_hand().get((row.reader, row.strict, row.wide, row.units), [])
     return [(it.error, it.place) for it in found if row.handler is None or row.handler is GIVES_NONE and it.line != 'reply']
 
 
 def modelled(row: Row) -> tuple[Optional[Error], Optional[int]]:
-    """What the model has of the text."""
+    """What the model has for the text."""
     handler = row.handler() if row.handler else places.each_replies_for_itself
     found = places.outcome(row.reader, row.units, row.wide, row.strict, handler)
     return (found.error, found.place) if isinstance(found, Fault) else (None, None)
 
 
 def findings(row: Row) -> Iterator[str]:
-    """Where the row differs from the list or from the model."""
+    """The differences of the row from the list and from the model."""
     for source, (error, place) in [('places.tsv', it) for it in listed(row)] + [('the model', modelled(row))]:
         if error != row.error or row.place is not None and place != row.place:
             yield f'{row} is {said(row.error, row.place)}; {source} has {said(error, place)}'
@@ -97,8 +97,8 @@ def findings(row: Row) -> Iterator[str]:
 # Handlers
 
 def answers_another() -> Handler:
-    """The handler that replies first the calendar `a`, then the calendar `b` with the flag of the annotation, then none, and later the
-    annotation."""
+    """A handler. Its first reply is the calendar `a`, its second the calendar `b` with the flag of the annotation, and its third None.
+    After these, it replies the annotation."""
     calls = []
 
     def reply(pair: Annotation) -> Optional[Annotation]:
@@ -109,7 +109,7 @@ def answers_another() -> Handler:
 
 
 def always(reply: Callable[[Annotation], Optional[Annotation]]) -> Callable[[], Handler]:
-    """What makes a handler that keeps no state."""
+    """A function that makes a handler without a state."""
     return lambda: reply
 
 
@@ -117,7 +117,7 @@ GIVES_BACK = always(lambda pair: pair)
 GIVES_NONE = always(lambda pair: None)
 MAKES_CRITICAL = always(lambda pair: pair._replace(critical=True))
 TURNS_CRITICAL = always(lambda pair: pair._replace(critical=not pair.critical))
-# by their names in the tests of crates/ixdtf_tests, and in those for C
+# by their names in the tests of crates/ixdtf_tests, and in the tests for C
 HANDLERS = {'HandsBack': GIVES_BACK, 'RepliesNone': GIVES_NONE, 'MakesCritical': MAKES_CRITICAL, 'TurnsCritical': TURNS_CRITICAL,
             'RepliesAnother': answers_another}
 C_HANDLERS = {'id': GIVES_BACK, 'none': GIVES_NONE, 'crit': MAKES_CRITICAL, 'flip': TURNS_CRITICAL, 'foreign': answers_another}
@@ -127,7 +127,7 @@ C_HANDLERS = {'id': GIVES_BACK, 'none': GIVES_NONE, 'crit': MAKES_CRITICAL, 'fli
 # Values in Rattle
 
 class Named(NamedTuple):
-    """A name, without its path, and the arguments or the fields that stand behind it."""
+    """A name, without its path, and the arguments or fields after it."""
     name: str
     arguments: tuple = ()
     fields: dict = {}
@@ -140,20 +140,20 @@ CLOSING = {'(': ')', '[': ']', '{': '}'}
 
 
 class Values:
-    """Reads values from a place in a source on. Raises ValueError where none stands."""
+    """Reads values of a source, from an index on. Raises ValueError if there is no value."""
 
     def __init__(self, source: str, at: int):
         self.tokens = ((it.lastgroup, it[0]) for it in TOKEN.finditer(source, at) if it.lastgroup)
         self.kind, self.text = next(self.tokens)
 
     def take(self) -> str:
-        """The next token, which is passed."""
+        """Consumes the next token, and returns it."""
         text = self.text
         self.kind, self.text = next(self.tokens, ('end', ''))
         return text
 
     def value(self) -> Value:
-        """The value that stands next."""
+        """The next value."""
         while self.text == '&':
             self.take()
         kind = self.kind
@@ -168,10 +168,10 @@ class Values:
             return int(text.replace('_', ''))
         if kind == 'name':
             return self.named(text.split('::')[-1])
-        raise ValueError(f'no value: {text}')
+        raise ValueError(f'expected a value, found {text}')
 
     def named(self, name: str) -> Named:
-        """A name, and what stands behind it."""
+        """A name, with what follows it."""
         if self.text == '(':
             return Named(name, tuple(self.parts(self.value)))
         if self.text == '{':
@@ -182,7 +182,7 @@ class Values:
         """A field and its value."""
         name, colon = self.take(), self.take()
         if colon != ':':
-            raise ValueError(f'no field: {name}')
+            raise ValueError(f'expected `:` after the field {name}, found {colon}')
         return name, self.value()
 
     def parts(self, part: Callable) -> list:
@@ -193,7 +193,7 @@ class Values:
             if self.text == ',':
                 self.take()
             elif self.text != closing:
-                raise ValueError(f'no end of a part: {self.text}')
+                raise ValueError(f'expected `,` or {closing}, found {self.text}')
         self.take()
         return found
 
@@ -203,7 +203,7 @@ LETTERS = {'n': '\n', 't': '\t', 'r': '\r', '0': '\0', '\\': '\\', '"': '"', "'"
 
 
 def unescaped(literal: str) -> Union[str, bytes]:
-    """The value of a literal of a text or of bytes."""
+    """The value of a string literal or of a byte string literal."""
     def meant(it: re.Match) -> str:
         number = it['code'] or it['byte']
         return chr(int(number, 16)) if number else '' if it['newline'] else LETTERS[it['letter']]
@@ -214,7 +214,7 @@ def unescaped(literal: str) -> Union[str, bytes]:
 # ---------------------------------------------------------------------------------------------------------------------------------
 # Tables of tests
 
-# the readers of the model, by the names that they have in the tests
+# the readers of the model, by their names in the tests
 READERS = {'Parse': 'parse', 'YearMonth': 'parse_year_month', 'MonthDay': 'parse_month_day', 'Time': 'parse_time',
            'Offset': 'parse_offset', 'Identifier': 'parse_identifier', 'IanaIdentifier': 'parse_iana_identifier', 'Duration': 'duration'}
 CONSTANT = re.compile(r'^\s*(?:pub(?:\(\w+\))? )?(?:const|static) (\w+):[^=]*=\s', re.M)
@@ -223,18 +223,18 @@ NO_LETTER = Error('NonAsciiCodePoint')
 
 
 class TestFile:
-    """A file of tests: its constants, beside those of the module above it, and the tables that its tests walk."""
+    """A file of tests: its constants, those of its parent module, and the tables that its tests walk."""
 
     def __init__(self, path: str, source: str, above: Optional['TestFile'] = None):
         self.path, self.source, self.above = path, source, above
 
     @cached_property
     def constants(self) -> dict[str, int]:
-        """Where the value of each constant begins."""
+        """The index at which the value of each constant begins."""
         return {it[1]: it.end() for it in CONSTANT.finditer(self.source)}
 
     def resolved(self, value: Value) -> Value:
-        """The value, or that of the constant which it names."""
+        """The value. If it is the name of a constant, the value of the constant."""
         if not isinstance(value, Named) or value.arguments or value.fields:
             return value
         if value.name in self.constants:
@@ -242,7 +242,7 @@ class TestFile:
         return self.above.resolved(value) if self.above else value
 
     def rows(self) -> Iterator[Row]:
-        """The rows of all tables that are walked by name."""
+        """The rows of all tables that a test names."""
         for call in CALL.finditer(self.source):
             arguments = Values(self.source, call.end() - 1).value()
             values = [self.resolved(it) for it in arguments[1:]]
@@ -250,45 +250,45 @@ class TestFile:
                 yield from getattr(self, call[1])(*values)
 
     def row(self, reader: Value, text: str, error: Optional[Error], place: Optional[int], **others) -> Row:
-        """A row of these parts, of 8-bit code units where nothing else is said."""
+        """A row with these parts. The text has 8-bit code units, unless `others` says something different."""
         units = tuple(map(ord, text)) if others.get('wide') else tuple(text.encode())
         return Row(self.path, READERS[reader.name], False, False, units, error, place)._replace(**others)
 
     def both(self, reader: Value, text: str, fault: tuple[Optional[Error], Optional[int]], wide_fault: tuple[Optional[Error], Optional[int]],
              **others) -> Iterator[Row]:
-        """A text of 8-bit code units, and of 16-bit ones, each a character."""
+        """Two rows of a text: one with 8-bit code units, and one with a 16-bit code unit for each character."""
         yield self.row(reader, text, *fault, **others)
         yield self.row(reader, text, *wide_fault, wide=True, **others)
 
     def error(self, value: Value) -> Error:
-        """The error that a value is."""
+        """The error that a value stands for."""
         named = self.resolved(value)
         return Error(named.name, named.fields.get('location'))
 
     def refused(self, reader: Value, table: list) -> Iterator[Row]:
-        """Texts that are refused alike in both widths."""
+        """Texts that have the same error in 8-bit and in 16-bit text."""
         for text, error, place in map(self.resolved, table):
             fault = self.error(error), place
             yield from self.both(reader, text, fault, fault)
 
     def no_letter(self, reader: Value, table: list) -> Iterator[Row]:
-        """Texts that are refused at a bad code unit, in 16-bit code units for that one."""
+        """Texts that are refused at a bad code unit. In 16-bit text, the bad code unit is the reason."""
         for text, error, place in map(self.resolved, table):
             yield from self.both(reader, text, (self.error(error), place), (NO_LETTER, place))
 
     def scanned(self, table: list) -> Iterator[Row]:
-        """Texts that are refused at one place, and in 16-bit code units for a bad one at another."""
+        """Texts that are refused at one place as 8-bit text, and for a bad code unit at another place as 16-bit text."""
         for reader, text, error, place, bad in map(self.resolved, table):
             yield from self.both(reader, text, (self.error(error), place), (NO_LETTER, bad))
 
     def refused_in_both(self, reader: Value, table: list) -> Iterator[Row]:
-        """Texts with their errors under both profiles."""
+        """Texts with their errors under each of the two profiles."""
         for text, error, strictly in map(self.resolved, table):
             yield self.row(reader, text, self.error(error), None)
             yield self.row(reader, text, self.error(strictly), None, strict=True)
 
     def refused_replies(self, table: list) -> Iterator[Row]:
-        """Texts that are refused alike in both widths, with a handler."""
+        """Texts that have the same error in 8-bit and in 16-bit text, with a handler."""
         for (form, kind, text, _), error, place in map(self.resolved, table):
             fault = self.error(error), place
             yield from self.both(form, text, fault, fault, handler=HANDLERS[kind.name])
@@ -299,7 +299,7 @@ class TestFile:
             yield from self.both(form, text, (self.error(error), place), (NO_LETTER, place), handler=HANDLERS[kind.name])
 
     def heeded(self, table: list) -> Iterator[Row]:
-        """Texts that are read, with a handler."""
+        """Texts that are accepted, with a handler."""
         for (form, kind, text, _), *_ in map(self.resolved, table):
             yield from self.both(form, text, (None, None), (None, None), handler=HANDLERS[kind.name])
 
@@ -315,7 +315,7 @@ EQUAL = re.compile(r'\s*assert_eq!\(\(located\.error, located\.at\), (?=\()')
 
 
 def rows_of_examples(path: str, source: str) -> Iterator[Row]:
-    """The rows of the examples on located readers in the doc comments of a source."""
+    """The rows of the examples of `*_located` readers in the doc comments of a source."""
     shown = '\n'.join(it.strip().removeprefix('///') for it in source.splitlines() if it.strip().startswith('///'))
     for located in LOCATED.finditer(shown):
         parser, text, method = located.groups()
@@ -340,12 +340,12 @@ C_ESCAPE = re.compile(r'\\([0-7]{1,3}|.)')
 
 
 def c_text(literal: str) -> str:
-    """The bytes of a literal in C, each as a character."""
+    """The bytes of a string literal in C, each as a character."""
     return C_ESCAPE.sub(lambda it: chr(int(it[1], 8)) if it[1].isdigit() else LETTERS[it[1]], literal)
 
 
 def rows_for_c(path: str, source: str) -> Iterator[Row]:
-    """The rows of readers in the tables for C."""
+    """The rows in the tables for C."""
     for table, body in C_TABLE.findall(source):
         for it in C_ROW.finditer(body) if table != 'error_rows' else ():
             text, wide = c_text(it['text']), table == 'wide_rows'
@@ -359,7 +359,7 @@ def rows_for_c(path: str, source: str) -> Iterator[Row]:
 # Computed examples: terms of definitions
 
 class Term(NamedTuple):
-    """A name and its arguments, where the name has no definition here."""
+    """A name without a definition in these files, and its arguments."""
     name: str
     arguments: tuple = ()
 
@@ -369,7 +369,7 @@ WORDS = re.compile(r'\s+|(?P<string>"[^"]*")|(?P<number>\d+(?![\w-]))|(?P<record
                    r'(?P<name>[^\s(),{}]+)')
 BAD = 'Bad'
 BAD_UNIT = 0xe9  # a 16-bit code unit that is bad
-MARK = ord('|')  # at the place of an example, and no part of its text
+MARK = ord('|')  # marks the place of an example, and is not a part of its text
 
 
 class Terms:
@@ -384,26 +384,26 @@ class Terms:
         return self.tokens[self.at] if self.at < len(self.tokens) else ('end', '')
 
     def take(self) -> tuple[str, str]:
-        """The next token, which is passed."""
+        """Consumes the next token, and returns it."""
         self.at += 1
         return self.tokens[self.at - 1]
 
     def term(self) -> tuple:
-        """A term, as a name and its arguments, where `++` and `∷` group to the right."""
+        """A term, as a name and its arguments. `++` and `∷` group to the right."""
         left = self.application()
         if self.peek()[1] in ('++', '∷'):
             return (self.take()[1], left, self.term())
         return left
 
     def application(self) -> tuple:
-        """A name and its arguments, or one part alone."""
+        """A name and its arguments, or one part without arguments."""
         parts = [self.part()]
         while self.peek()[0] != 'end' and self.peek()[1] not in ('++', '∷', ')', ',', '}'):
             parts.append(self.part())
         return ('apply', *parts) if len(parts) > 1 else parts[0]
 
     def part(self) -> tuple:
-        """One part: a literal, a name, or what stands in brackets."""
+        """One part: a literal, a name, or a part in brackets."""
         kind, text = self.take()
         if kind == 'record':
             return self.passed_record()
@@ -417,7 +417,7 @@ class Terms:
         return ('tuple', *parts) if len(parts) > 1 else parts[0]
 
     def passed_record(self) -> tuple:
-        """A record, whose fields are passed."""
+        """A record. Its fields are skipped."""
         depth = 1
         while depth:
             text = self.take()[1]
@@ -451,7 +451,7 @@ class Proofs:
         self.tables = [(name, it[1]) for name, of_file in chunks.items() for it in map(TABLE.match, of_file) if it]
 
     def meaning(self, module: str, term: tuple, local: dict[str, Meaning]) -> Meaning:
-        """What a term is in a module, where these names stand for these meanings."""
+        """What a term means in a module, if these names have these meanings."""
         kind, *parts = term
         if kind in ('++', '∷', 'tuple', 'apply'):
             of_parts = [self.meaning(module, it, local) for it in parts]
@@ -468,7 +468,7 @@ class Proofs:
         return local[text] if text in local else [] if text == '[]' else self.named(module, text)
 
     def named(self, module: str, name: str) -> Meaning:
-        """What a name is in a module: the term that it is defined as, where it is defined here."""
+        """What a name means in a module: the term by which it is defined, if it is defined in these files."""
         module = self.imports.get(module, {}).get(name, module)
         if name in BUILT_IN or name not in self.definitions.get(module, {}):
             return Term(name)
@@ -476,7 +476,7 @@ class Proofs:
         return Term(f'{module}.{name}') if parameters else self.meaning(module, Terms(body).term(), {})
 
     def applied(self, function: Meaning, arguments: tuple) -> Meaning:
-        """A function and its arguments, as it is defined where it is defined here, and where these are all that it takes."""
+        """What a function with its arguments means. It is computed if the function is defined in these files and has all its arguments."""
         module, dot, name = function.name.rpartition('.')
         arguments = function.arguments + arguments
         if name == 'map':
@@ -499,7 +499,7 @@ class Proofs:
 
 
 def top_level(source: str) -> list[str]:
-    """The lines that begin in the first column, each with the indented ones after it, without comments."""
+    """The lines that begin in the first column. Each has the indented lines after it. Comments are left out."""
     lines = [it for it in source.splitlines() if not it.lstrip().startswith('-- ')]
     found = []
     for line in lines:
@@ -511,22 +511,22 @@ def top_level(source: str) -> list[str]:
 
 
 def as_list(meaning: Meaning) -> list:
-    """A list. Raises ValueError where the meaning is none."""
+    """The meaning as a list. Raises ValueError if it is not a list."""
     if isinstance(meaning, list):
         return meaning
     raise ValueError(f'no list: {meaning}')
 
 
 def reader_of(meaning: Meaning) -> tuple[str, list[bool]]:
-    """A reader and the profiles that an example is of: both where it has none or any."""
+    """The reader and the profiles of an example. These are both profiles if the example has none, or any."""
     profile = meaning.arguments[0].name if meaning.arguments else ''
     name = 'duration' if meaning.name == 'parse_duration' else meaning.name
     return name, {'Crate': [False], 'Strict': [True]}.get(profile, [False, True])
 
 
 def rows_of_outcome(path: str, reader: str, strict: bool, text: list, outcome: Meaning) -> Iterator[Row]:
-    """The rows of a text and its outcome, which no reply changes: of 16-bit code units where one is bad, and in both widths where all
-    are from 1 to 126."""
+    """The rows of a text and its outcome, for a handler that replies None. If a code unit is bad, there is a row for 16-bit text only. If
+    all code units are from 1 to 126, there is a row for each width."""
     error, place = fault_of(text, outcome)
     units = tuple(it if isinstance(it, int) else BAD_UNIT for it in text)
     is_bad = BAD in text or Term(BAD) in text
@@ -537,7 +537,7 @@ def rows_of_outcome(path: str, reader: str, strict: bool, text: list, outcome: M
 
 
 def fault_of(text: list, outcome: Meaning) -> tuple[Optional[Error], Optional[int]]:
-    """The error and the place of an outcome: it stands before what the text has left there."""
+    """The error and the place of an outcome. The outcome has the rest of the text after the place."""
     if outcome.name != 'refused':
         return None, None
     name, where, fault = outcome.arguments[0].arguments
@@ -549,21 +549,21 @@ ABRUPT = re.compile(r'^(abrupt_\w+) = AbruptEnd \(codes "(.*)"\)$', re.M)
 
 
 # ---------------------------------------------------------------------------------------------------------------------------------
-# Edits
+# Mutations
 
-# a definition of a file in specs/, and what stands outside functions and may be named
+# a definition in a file of specs/, and an item outside of functions
 OF_SPECS = re.compile(r'(?:(?:abbrev|unfoldable|record|data|pub) )*([^\W\d]\w*) (?:[^=:]* )?[:=] ')
 OUTSIDE = re.compile(r'(?:pub(?:\([a-z]+\))? )?(?:struct|enum|const|static) (\w+)')
 
 
 class Change(NamedTuple):
-    """A change of an edit: a file of the crate, and the text of it that goes."""
+    """A change of a mutation: a file of the crate, and the text that is replaced in it."""
     path: str
     old: str
 
 
 class Part(NamedTuple):
-    """A part of a file: a function with the words of the `impl` that it stands in, a definition, or another item; with its text."""
+    """A part of a file: a function with the words of its `impl`, a definition, or another item. It has its text."""
     kind: str
     name: str
     owners: tuple[str, ...]
@@ -571,7 +571,7 @@ class Part(NamedTuple):
 
 
 def changes_of(edit: str) -> list[Change]:
-    """The changes of an edit. An `old` without a `file` is of the one above it."""
+    """The changes of a mutation. An `old` without a `file` before it is in the same file as the `old` before it."""
     found, path = [], ''
     for line in edit.splitlines():
         key, _, value = line.partition(': ')
@@ -583,7 +583,7 @@ def changes_of(edit: str) -> list[Change]:
 
 
 def end_of(lines: list[str], first: int) -> int:
-    """The last line of an item that begins in this one. Sources are laid out, so it is the first that closes it at its own margin."""
+    """The last line of an item that begins in line `first`: the first line that closes the item with the same indentation."""
     margin = lines[first][:len(lines[first]) - len(lines[first].lstrip())]
     for at in range(first, len(lines)):
         text = lines[at].rstrip()
@@ -610,7 +610,7 @@ def functions_in(lines: list[str]) -> Iterator[tuple[int, int, Part]]:
 
 
 def definitions_in(lines: list[str]) -> Iterator[tuple[int, int, Part]]:
-    """The definitions of a file of specs/, each from its first line to the one before the next."""
+    """The definitions in a file of specs/. Each goes from its first line to the line before the next definition."""
     begins = [(at, OF_SPECS.match(line)) for at, line in enumerate(lines) if line[:1].strip()] + [(len(lines), None)]
     for (at, definition), (following, _) in zip(begins, begins[1:]):
         if definition and not lines[at].startswith(('use ', '--')):
@@ -618,10 +618,10 @@ def definitions_in(lines: list[str]) -> Iterator[tuple[int, int, Part]]:
 
 
 def part_of(path: str, source: str, old: str) -> Optional[Part]:
-    """The innermost part of a source that holds a text; None where none does, as at an import. Raises ValueError where the text does not
-    stand once."""
+    """The innermost part of a source that contains a text. None if no part contains it, for example if it is an import. Raises ValueError
+    if the source does not contain the text exactly once."""
     if source.count(old) != 1:
-        raise ValueError(f'`{old}` stands {source.count(old)} times in {path}')
+        raise ValueError(f'`{old}` occurs {source.count(old)} times in {path}, and must occur once')
     line = source.count('\n', 0, source.index(old))
     parts = definitions_in if path.endswith('.antt') else functions_in
     around = [(first, part) for first, last, part in parts(source.splitlines()) if first <= line <= last]
@@ -629,8 +629,8 @@ def part_of(path: str, source: str, old: str) -> Optional[Part]:
 
 
 def names_of(part: Part, source: str) -> Iterator[str]:
-    """The words by which an edit of this part is named: the name, also with a word of its `impl` before it; and of what is no function,
-    such as a table, the functions that name it too."""
+    """The names that a mutation of this part may have: the name of the part, or this name after a word of its `impl`. If the part is not a
+    function, but for example a table, the names of the functions that use it are allowed too."""
     yield part.name
     yield from (f'{owner}.{part.name}' for owner in part.owners)
     if part.kind == 'item':
@@ -639,7 +639,7 @@ def names_of(part: Part, source: str) -> Iterator[str]:
 
 
 def findings_in_edit(path: str, edit: str) -> Iterator[str]:
-    """Where an edit is not named by what it changes."""
+    """The reason if the name of a mutation does not say what it changes."""
     crate, name = path.split('/must-fail/')
     parts, named = [], []
     for change in changes_of(edit):
@@ -654,11 +654,11 @@ def findings_in_edit(path: str, edit: str) -> Iterator[str]:
             parts += [f'{file}.{part.name}'] if part else []
             named += [f'{file}.{it}.' for it in names_of(part, source)] if part else []
     if not name.startswith(tuple(named)):
-        yield f'{path}: what it changes stands in {" and ".join(sorted(set(parts))) or "no function"}'
+        yield f'{path}: it changes {" and ".join(sorted(set(parts))) or "no function"}'
 
 
 def findings_in_edits() -> tuple[list[str], int]:
-    """What is found in the edits of all crates, and how many they are."""
+    """The findings in the mutations of all crates, and the number of mutations."""
     paths = [it for it in files('crates', '.edit') if '/must-fail/' in it]
     return [what for path in paths for what in findings_in_edit(path, read(path))], len(paths)
 
@@ -673,7 +673,7 @@ def read(path: str) -> str:
 
 
 def files(folder: str, ending: str) -> list[str]:
-    """The files below a folder whose names end so, but for what is built."""
+    """The files in a folder, and in the folders in it, whose names have this ending. What was built is left out."""
     found = []
     for at, folders, names in os.walk(os.path.join(ROOT, folder)):
         folders[:] = [it for it in folders if it != 'out']
@@ -715,7 +715,7 @@ def main() -> int:
     """The program."""
     rows = all_rows()
     found = [it for of_source in rows.values() for row in of_source for it in findings(row)]
-    found += [f'{source}: {len(rows[source])} rows are read, and {least} are wanted' for source, least in LEAST.items()
+    found += [f'{source}: {len(rows[source])} rows were read, and at least {least} were expected' for source, least in LEAST.items()
               if len(rows[source]) < least]
     of_edits, edits = findings_in_edits()
     found += of_edits

@@ -1,5 +1,5 @@
-//! A program that calls every reader in both widths, with and without a handler, and the printer, for `tools/panics.sh`. It is
-//! linked without the standard library, so that a panic in it is one of what it calls.
+//! A program for `tools/panics.sh`. It calls every reader on 8-bit and on 16-bit text, with and without a handler, and the printer.
+//! It is linked without the standard library. So each panic in it is a panic of a function that it calls.
 #![no_std]
 #![no_main]
 
@@ -14,11 +14,11 @@ fn panic(_: &core::panic::PanicInfo<'_>) -> ! {
     loop {}
 }
 
-// What `core`, which is compiled to unwind, names of the standard library.
+// `core` is compiled for unwinding, and refers to this function of the standard library.
 #[unsafe(no_mangle)]
 extern "C" fn rust_eh_personality() {}
 
-/// A writer that writes nowhere.
+/// A writer that drops what it gets.
 struct Nowhere;
 
 impl Write for Nowhere {

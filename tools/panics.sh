@@ -1,7 +1,9 @@
 #!/usr/bin/env bash
-# tools/panics.sh: which functions of the plain Rust crates can panic as compiled with optimisation, by the calls of a panic in a
-# linked program that calls every reader in both widths (tools/panics.rs), without the standard library. It ends with 1 where
-# one can. `readers`, `display` and `printer` are what the program calls.
+# tools/panics.sh: lists the functions of the Rust crates that can panic when they are compiled with optimisation.
+#
+# It compiles a program that calls every reader on 8-bit and on 16-bit text (tools/panics.rs), without the standard library. Then it
+# looks for calls of a panic in the linked program. There are three programs: `readers`, `display` and `printer` say what each of
+# them calls. The exit status is 1 if a function can panic.
 set -euo pipefail
 cd "$(dirname "$0")/.."
 work=$(mktemp -d)
@@ -20,10 +22,10 @@ for part in readers display printer; do
       called = $0; sub(/.*</, "", called); sub(/(\+0x[0-9a-f]+)?>.*/, "", called)
       if (name !~ /^core::(panicking|slice|option|result|str)/) print "  " name " calls " called }' | sort | uniq -c)
   if [ -n "$found" ]; then
-    printf '%s: these can panic as compiled\n%s\n' "$part" "$found"
+    printf '%s: these functions can panic when they are compiled with optimisation\n%s\n' "$part" "$found"
     status=1
   else
-    echo "$part: no function can panic as compiled"
+    echo "$part: no function can panic when it is compiled with optimisation"
   fi
 done
 exit $status

@@ -1,21 +1,26 @@
 #!/usr/bin/env python3
-"""places.py [--utf16] [FILE..]: the error and its place for each line of the program's protocol (docs/PROGRAM.md).
+"""places.py [--utf16] [FILE..]: prints the error and its position for each line of its input. The lines are those of the program
+ixdtf_lines (docs/PROGRAM.md): a word, a space and a text.
 
-A model of the readers, made from docs/GRAMMAR.md and docs/FAULTS.md alone, to compare the library with. It reads nothing step by
-step: it has the productions of the first and the lines of the second as patterns, in their order and under their names, and asks of
-a text which rows fit it.
+This is a model of the readers. It was written only from docs/GRAMMAR.md and docs/FAULTS.md, so the library can be compared with it. It
+does not read a text step by step. It has the productions of the grammar and the lines of the fault table as patterns, in the order and
+with the names of the documents. To find the error of a text, it looks for the rows that fit the text.
 
-For each line it writes `ok` where the reader takes the text, and else `error`, the text of the error, ` at ` and the place. Lines
-that the program answers without a reader are answered as it does. A file `-`, or none, is standard input. With --utf16 a text is
-UTF-8 and is given to the readers of 16-bit units as its UTF-16 units; a byte that is not UTF-8 is one unit that stands for no letter.
+For each line it prints `ok` if the reader accepts the text. Otherwise it prints `error`, the text of the error, ` at ` and the
+position. Some lines have an answer that comes from no reader, for example lines with an unknown word. The tool gives the same answers.
+The file `-` is standard input. If there is no file, the tool reads standard input. With --utf16, each text is UTF-8, and the readers of
+16-bit text get it as UTF-16. A byte that is not UTF-8 becomes one bad code unit.
 
-The place of an error is a number of units from the front of the text: the length of the front of the row that fits. So it is
+A *letter* is a code unit as a pattern sees it. A bad code unit has no letter.
 
-    the index of a letter that does not fit, or of a unit that stands for no letter;
-    the length of the text, where the text ends too early;
-    the end of the front, for a whole line: just behind a number out of its range, a unit out of order, or that which makes a time
-    ambiguous;
-    just behind the `]` of the annotation, where a reply to an annotation is refused.
+The position of an error, called its *place* in this file, is the number of code units before it: the length of the prefix of the row
+that fits, which is called its *front* here. So the place is
+
+    the index of a letter that does not fit, or of a bad code unit;
+    the length of the text, if the text ends too early;
+    the end of the front, for a whole line: after a number out of its range, after a duration unit out of order, or after the part
+    that makes a time ambiguous;
+    the index after the `]` of an annotation, if a reply to this annotation is refused.
 """
 import os
 import re
@@ -25,9 +30,9 @@ from typing import Callable, Iterator, NamedTuple, Optional, Sequence
 
 
 # ---------------------------------------------------------------------------------------------------------------------------------
-# Letters (GRAMMAR, "Code units"). A text is a string of letters. A class is what stands between the brackets of a pattern.
+# Letters (GRAMMAR, "Code units"). A text is a string of letters. A class is written as between the brackets `[` and `]` of a pattern.
 
-BAD = '\uffff'  # the letter of a unit that stands for none
+BAD = '\uffff'  # stands for a bad code unit, which has no letter
 
 DIGIT = '0-9'
 SIGN = r'+\-'
@@ -54,26 +59,26 @@ ANY_LETTER = rf'\x00-{chr(ord(BAD) - 1)}'
 
 
 def letters_of(units: Sequence[int], wide: bool) -> str:
-    """The letters of 8-bit units, or where `wide` says so of 16-bit ones, of which 1 to 126 alone stand for a letter."""
+    """The letters of 8-bit code units, or of 16-bit code units if `wide` is true. Of the latter, only 1 to 126 have a letter."""
     if wide:
         return ''.join(chr(unit) if 1 <= unit <= 126 else BAD for unit in units)
     return bytes(units).decode('latin-1')
 
 
 # ---------------------------------------------------------------------------------------------------------------------------------
-# Patterns. No part below has two ways to be one text, so that a text that does not fit is soon refused.
+# Patterns. No pattern below matches a text in two ways. So the search ends soon for a text that does not match.
 
 NOTHING = ''
 NEVER = '(?!)'
 
 
 def one(letters: str) -> str:
-    """One letter of a class."""
+    """One letter in a class."""
     return f'[{letters}]'
 
 
 def other_than(letters: str) -> str:
-    """One letter that is not of a class; `BAD` is no letter."""
+    """One letter that is not in a class. `BAD` is not a letter."""
     return f'[^{letters}{BAD}]'
 
 
@@ -98,38 +103,38 @@ def any_number(part: str) -> str:
 
 
 def digits(least: int, most: Optional[int] = None) -> str:
-    """So many digits."""
+    """From `least` to `most` digits, or exactly `least` digits if `most` is None."""
     return f'[{DIGIT}]{{{least},{least if most is None else most}}}'
 
 
 def ahead(part: str) -> str:
-    """Nothing, where the part follows."""
+    """The empty text, if the part follows it."""
     return f'(?={part})'
 
 
 def not_ahead(part: str) -> str:
-    """Nothing, where the part does not follow."""
+    """The empty text, if the part does not follow it."""
     return f'(?!{part})'
 
 
 def but_not(excluded: str, shape: str) -> str:
-    """The shape, where it is not what is excluded, which has the length of the shape."""
+    """A text of the shape that does not match `excluded`. Both match only texts of the same length."""
     return not_ahead(excluded) + shape
 
 
 def two_digits(least: int, most: int) -> str:
-    """Two digits of a number from `least` to `most`."""
+    """A number from `least` to `most`, written with two digits."""
     return either(*(f'{tens}[{max(least - 10 * tens, 0)}-{min(most - 10 * tens, 9)}]' for tens in range(least // 10, most // 10 + 1)))
 
 
 def as_long_and_less(limit: str) -> str:
-    """As many digits as the limit has, of a smaller number, the first of them not 0."""
+    """A number with as many digits as the limit, and less than the limit. The first digit is not 0."""
     smaller = ((at, 0 if at else 1, int(digit) - 1) for at, digit in enumerate(limit))
     return either(*(f'{limit[:at]}[{low}-{high}]{digits(len(limit) - at - 1)}' for at, low, high in smaller if low <= high))
 
 
 def as_long_and_not_less(limit: str) -> str:
-    """As many digits as the limit has, of its number or a greater one, the first of them not 0."""
+    """A number with as many digits as the limit, and not less than the limit. The first digit is not 0."""
     greater = (f'{limit[:at]}[{int(digit) + 1}-9]{digits(len(limit) - at - 1)}' for at, digit in enumerate(limit) if digit != '9')
     return either(limit, *greater)
 
@@ -138,7 +143,7 @@ def as_long_and_not_less(limit: str) -> str:
 # Dates (GRAMMAR, "Dates and times").
 
 def four_digits_of_a_leap_year() -> str:
-    """The last four digits of a year whose February has 29 days: divisible by 4 and not by 100, or by 400."""
+    """The last four digits of a leap year: divisible by 4 and not by 100, or divisible by 400."""
     fours = either('0[48]', '[2468][048]', '[13579][26]')
     return either(digits(2) + fours, either('00', fours) + '00')
 
@@ -153,7 +158,7 @@ SHORT_MONTH = either('0[469]', '11')
 
 
 def date(hyphen: str) -> str:
-    """Year, month and day, with this between them."""
+    """A year, a month and a day, with this text between them."""
     of_any_year = either(LONG_MONTH + hyphen + two_digits(1, 31), SHORT_MONTH + hyphen + two_digits(1, 30),
                          '02' + hyphen + two_digits(1, 28))
     return either(YEAR + hyphen + of_any_year, LEAP_YEAR + hyphen + '02' + hyphen + '29')
@@ -165,7 +170,7 @@ YEAR_MONTH = YEAR + maybe('-') + MONTH
 
 
 def month_day(strict: bool) -> str:
-    """Month and day, of which the least is 0, or under the strict profile 1."""
+    """A month and a day. The least day is 0, or 1 under the strict profile."""
     least = 1 if strict else 0
     hyphen = maybe('-')
     return maybe('--') + either(LONG_MONTH + hyphen + two_digits(least, 31), SHORT_MONTH + hyphen + two_digits(least, 30),
@@ -184,10 +189,10 @@ FRACTION = one(MARK) + some(one(DIGIT))
 
 
 class Clock(NamedTuple):
-    """What is written as a time is: a time, an offset, or an offset without seconds."""
+    """One of the three parts that are written like a time: a time, an offset, or an offset without seconds."""
     name: str
-    greatest_second: Optional[int]  # None: no second may be written
-    mixed: str                      # the error at a colon or a digit behind a minute that does not go on with it
+    greatest_second: Optional[int]  # None: a second is not allowed
+    mixed: str                      # the error at a colon or a digit after a minute, if it must not follow
     second: Optional[str]           # the error at a second
 
 
@@ -197,12 +202,12 @@ MINUTE_OFFSET_CLOCK = Clock('MinuteOffset', None, 'InvalidMinutePrecisionOffset'
 
 
 def to_second(clock: Clock) -> str:
-    """The shape with seconds and no fraction."""
+    """The shape of a time with a second and without a fraction."""
     return HOUR + either(':' + MINUTE + ':', MINUTE) + two_digits(0, clock.greatest_second)
 
 
 def clock_text(clock: Clock) -> str:
-    """The texts of a clock: those of a time, or of an offset behind its sign."""
+    """The texts of a clock: those of a time, or those of an offset after its sign."""
     short = [HOUR + ':' + MINUTE, HOUR + MINUTE, HOUR]
     return either(*short) if clock.greatest_second is None else either(to_second(clock) + maybe(FRACTION), *short)
 
@@ -214,7 +219,7 @@ MINUTE_OFFSET = one(SIGN) + clock_text(MINUTE_OFFSET_CLOCK)
 
 
 # ---------------------------------------------------------------------------------------------------------------------------------
-# Zones and pairs (GRAMMAR, "Zones" and "Annotations").
+# Zones and annotations (GRAMMAR, "Zones" and "Annotations").
 
 NAME = one(ZONE_LEAD) + any_number(maybe('/') + one(ZONE_CHAR))
 ZONE = either(NAME, MINUTE_OFFSET)
@@ -223,7 +228,7 @@ ZONE_BRACKET = OPEN + ZONE + one(CLOSING)
 KEY = one(KEY_LEAD) + any_number(one(KEY_CHAR))
 VALUE = some(one(VALUE_CHAR)) + any_number('-' + some(one(VALUE_CHAR)))
 PAIR = OPEN + KEY + '=' + VALUE + one(CLOSING)
-BRACKETS = either(ZONE_BRACKET, PAIR) + any_number(PAIR)  # one bracket or more, all of them whole
+BRACKETS = either(ZONE_BRACKET, PAIR) + any_number(PAIR)  # one or more complete brackets
 TAIL = maybe(BRACKETS)
 
 
@@ -237,12 +242,12 @@ NOT_ZERO = '[1-9]'
 NUMBER = either(some('0'), ZEROS + either(NOT_ZERO + digits(0, 18), as_long_and_less(TWO_TO_64)))
 NUMBER_BELOW_32 = either(some('0'), ZEROS + either(NOT_ZERO + digits(0, 8), as_long_and_less(TWO_TO_32)))
 NUMBER_FROM_32 = ZEROS + either(as_long_and_not_less(TWO_TO_32), NOT_ZERO + digits(10, 18), as_long_and_less(TWO_TO_64))
-# 2^64 or more, and without the last digit less
+# 2^64 or more, but less than 2^64 without its last digit
 NUMBER_TOO_GREAT = ZEROS + either(as_long_and_not_less(TWO_TO_64), as_long_and_less(TWO_TO_64) + digits(1))
 
 
 class Unit(NamedTuple):
-    """A unit of durations: its letters, and the numbers that a group of it may have."""
+    """A duration unit: its letters, and the numbers that a group of this unit may have."""
     letters: str
     number: str
 
@@ -253,12 +258,13 @@ Units = tuple[Unit, ...]
 
 
 def group(unit: Unit) -> str:
-    """A number and the letter of its unit."""
+    """A number and the letter of its duration unit."""
     return unit.number + one(unit.letters)
 
 
 def some_groups(units: Units, strict: bool) -> str:
-    """One group or more of these units, none behind a shorter one, and under the strict profile none behind one of its own."""
+    """One or more groups of these duration units. None comes after a group with a shorter unit. Under the strict profile, none comes after
+    a group with the same unit."""
     def from_the(first: int) -> str:
         again = NOTHING if strict else any_number(group(units[first]))
         return group(units[first]) + again + any_groups(units[first + 1:], strict)
@@ -266,23 +272,23 @@ def some_groups(units: Units, strict: bool) -> str:
 
 
 def any_groups(units: Units, strict: bool) -> str:
-    """Any number of groups of these units in order."""
+    """Any number of groups of these duration units, in order."""
     return maybe(some_groups(units, strict)) if units else NOTHING
 
 
 def groups_before(units: Units, at: int, strict: bool) -> str:
-    """The groups behind which a group of the unit at this place is in order."""
+    """The groups after which a group of the unit with this index is in order."""
     return any_groups(units[:at] if strict else units[:at + 1], strict)
 
 
 def groups_out_of_order(units: Units, at: int, strict: bool) -> str:
-    """The groups in order behind which a group of the unit at this place is not."""
+    """The groups, in order themselves, after which a group of the unit with this index is not in order."""
     first = at if strict else at + 1
     return any_groups(units[:first], strict) + some_groups(units[first:], strict)
 
 
 def last_group(units: Units, strict: bool, number: str, before: Callable[[Units, int, bool], str]) -> str:
-    """Groups, and behind them a number with a letter of one of the units; `before` says which groups, by the unit."""
+    """Groups, and then a number with the letter of one of the duration units. `before` returns the groups for the unit."""
     return either(*(before(units, at, strict) + number + one(unit.letters) for at, unit in enumerate(units)))
 
 
@@ -300,7 +306,7 @@ def duration(strict: bool) -> str:
 # Errors (FAULTS, "The errors"): those that a reader returns.
 
 class Error(NamedTuple):
-    """An error: the name of its variant, and for `AbruptEnd` its location."""
+    """An error: the name of its variant, and the location if it is `AbruptEnd`."""
     variant: str
     location: Optional[str] = None
 
@@ -356,29 +362,29 @@ TEXTS = {
 # ---------------------------------------------------------------------------------------------------------------------------------
 # Lines (FAULTS, "How to read a line").
 
-OK = 'ok'                # in a table: the text may end here
-NO_OTHER = 'no other'    # in a table: the text goes on with any letter
+OK = 'ok'                # in a table: the text can end here
+NO_OTHER = 'no other'    # in a table: any letter can follow
 AT_END, AT_BAD, AT_OTHER, WHOLE = 'end', 'bad', 'other', 'whole'
 
 
 class At(NamedTuple):
-    """An error at letters of a class, and one at every other letter."""
+    """One error for the letters of a class, and another error for every other letter."""
     letters: str
     error: str
     otherwise: str
 
 
 class Line(NamedTuple):
-    """A line of the table, with its front in the midst of what stands before it and of what is asked of the text behind it."""
+    """A line of the fault table. Its front includes what the reader has before it."""
     name: str
     front: str
-    behind: str                               # the pattern of what stands behind the front where one of the rows fits
-    goes_on: Optional[str]                    # the class of the letters with which the text goes on; None for a whole line
-    end: Optional[Error]                      # the error at the end, or of a whole line; None where the text may end
-    other: tuple[tuple[str, Error], ...]      # the error at another letter: that of the first class which has it
+    behind: str                               # the pattern of the text after the front, if one of the rows fits
+    goes_on: Optional[str]                    # the letters that can follow; None for a whole line
+    end: Optional[Error]                      # the error at the end, or the error of a whole line; None if the text can end here
+    other: tuple[tuple[str, Error], ...]      # the errors at other letters: that of the first class that contains the letter
 
     def error(self, row: str, letter: str) -> Error:
-        """The error of a row, at this letter."""
+        """The error of a row at this letter."""
         if row == AT_BAD:
             return Error('NonAsciiCodePoint')
         if row == AT_OTHER:
@@ -387,7 +393,7 @@ class Line(NamedTuple):
 
 
 def abrupt(location: str) -> Error:
-    """The error where the text breaks off in this."""
+    """The error if the text ends in this part."""
     return Error('AbruptEnd', location)
 
 
@@ -397,7 +403,7 @@ def error_of(cell) -> Error:
 
 
 def errors_of(other) -> tuple[tuple[str, Error], ...]:
-    """The errors that a cell of a table names for other letters: that of the first class which has the letter."""
+    """The errors that a cell of a table names for other letters. The first class that contains the letter counts."""
     if other == NO_OTHER:
         return ()
     cells = [(other.letters, other.error), (ANY_LETTER, other.otherwise)] if isinstance(other, At) else [(ANY_LETTER, other)]
@@ -405,7 +411,7 @@ def errors_of(other) -> tuple[tuple[str, Error], ...]:
 
 
 def line(name: str, front: str, goes_on: str, end, other) -> Line:
-    """A line with a row for a unit that stands for no letter, and where they have an error for the end and for another letter."""
+    """A line. It has a row for a bad code unit. If the cells have an error for the end or for another letter, it has a row for these too."""
     rows = [f'(?P<{AT_BAD}>{BAD})']
     if end != OK:
         rows.append(rf'(?P<{AT_END}>\Z)')
@@ -415,12 +421,12 @@ def line(name: str, front: str, goes_on: str, end, other) -> Line:
 
 
 def whole(name: str, front: str, error: str) -> Line:
-    """A line whose row fits whatever stands after the front."""
+    """A line whose row fits, whatever comes after the front."""
     return Line(name, front, f'(?P<{WHOLE}>)', None, error_of(error), ())
 
 
 def after(before: str, lines: list[Line]) -> list[Line]:
-    """The lines, with this before their fronts."""
+    """The lines, with this text before their fronts."""
     return [it._replace(front=before + it.front) for it in lines]
 
 
@@ -476,7 +482,7 @@ def month_day_lines(strict: bool) -> list[Line]:
 # Times, and offsets after their sign (FAULTS, the section of this name).
 
 class Follow(NamedTuple):
-    """What may follow a whole part, and the errors where something else does."""
+    """What can follow a complete part, and the errors if something else follows."""
     letters: str
     end: str
     other: str
@@ -489,7 +495,7 @@ NOTHING_FOLLOWS = Follow(NOTHING, OK, 'InvalidEnd')
 
 
 def clock_lines(clock: Clock, follow: Follow) -> list[Line]:
-    """The lines of a clock; `hour_start` is the first."""
+    """The lines of a clock. The first one is `hour_start`."""
     of = f' {clock.name}'
     mixed = At(COLON + DIGIT, clock.mixed, follow.other)
     seconds = clock.greatest_second is not None
@@ -523,12 +529,12 @@ def second_lines(clock: Clock, follow: Follow, of: str) -> list[Line]:
 # ---------------------------------------------------------------------------------------------------------------------------------
 # The other lines of times that stand alone, and of offsets (FAULTS, "Times that stand alone" and "Offsets and zone names").
 
-# the text is a time with its offset, up to its end or a `[`
+# the text is a time with its offset, up to the end or up to a `[`
 READS_AS_TIME = ahead(TIME + maybe(OFFSET_OR_Z) + either(r'\Z', one(OPENING)))
 
 
 def time_alone_lines(strict: bool) -> list[Line]:
-    """The lines that `parse_time` alone has."""
+    """The lines that only `parse_time` has."""
     no_month_day = not_ahead(month_day(strict))
     return [
         line('time_start',                NOTHING,                                 DIGIT + TIME_LETTER, abrupt('digit'), 'TimeHour'),
@@ -546,7 +552,7 @@ ZULU_LINES = [
 
 
 # ---------------------------------------------------------------------------------------------------------------------------------
-# Zone names, brackets and pairs (FAULTS, "Offsets and zone names", "Brackets" and "Annotations").
+# Zone names, brackets and annotations (FAULTS, "Offsets and zone names", "Brackets" and "Annotations").
 
 IDENTIFIER_LINES = [
     line('identifier_start', NOTHING,    ZONE_LEAD + SIGN,              abrupt('TimeZoneAnnotation'), 'TzLeadingChar'),
@@ -583,14 +589,14 @@ PAIR_LINES = [
     line('after_value_hyphen', KEY + '=' + VALUE + '-', VALUE_CHAR,        'AnnotationValueCharPostHyphen', 'AnnotationValueCharPostHyphen'),
 ]
 
-# a first bracket behind its `[` or `[!`
+# a first bracket after its `[` or `[!`
 UP_TO_EQUALS_OR_CLOSING = one(KEY_LEAD) + any_number(other_than(EQUALS + CLOSING))
 READS_AS_NAME = either(ahead(but_not(one(KEY_LEAD), one(ZONE_LEAD))), ahead(UP_TO_EQUALS_OR_CLOSING + one(CLOSING)))
 READS_AS_PAIR = ahead(UP_TO_EQUALS_OR_CLOSING + one(EQUALS))
 
 
 def bracket_lines(core: str) -> list[Line]:
-    """The lines of the brackets behind a core."""
+    """The lines of the brackets after a core."""
     core_and_open, bracketed = core + OPEN, core + BRACKETS
     return (after(core, FIRST_BRACKET_LINES)
             + after(core_and_open + one(SIGN), clock_lines(MINUTE_OFFSET_CLOCK, FOLLOWS_BRACKETED_OFFSET))
@@ -604,7 +610,7 @@ def bracket_lines(core: str) -> list[Line]:
 # Durations (FAULTS, the section of this name).
 
 def date_group_lines(strict: bool) -> list[Line]:
-    """The lines of durations up to their dates."""
+    """The lines of durations up to the end of their date groups."""
     dates = DURATION_START + any_groups(DATE_UNITS, strict)
     some_dates = DURATION_START + some_groups(DATE_UNITS, strict)
     goes_on = DIGIT + TIME_LETTER
@@ -624,7 +630,7 @@ def date_group_lines(strict: bool) -> list[Line]:
 
 
 def time_group_lines(strict: bool) -> list[Line]:
-    """The lines of durations from their `T`."""
+    """The lines of durations from the `T` on."""
     designator = DURATION_START + any_groups(DATE_UNITS, strict) + one(TIME_LETTER)
     times = designator + any_groups(TIME_UNITS, strict)
     some_times = designator + some_groups(TIME_UNITS, strict)
@@ -645,10 +651,10 @@ def time_group_lines(strict: bool) -> list[Line]:
 
 
 # ---------------------------------------------------------------------------------------------------------------------------------
-# Readers (GRAMMAR, "Whole texts"; FAULTS, what stands before the lines of each).
+# Readers (GRAMMAR, "Whole texts"; FAULTS, what comes before the lines of each reader).
 
 class Row(NamedTuple):
-    """A row that fits a text: the name of its line, which of its rows it is, its error, and the length of its front."""
+    """A row that fits a text: the name of its line, which row of the line it is, its error, and the length of its front."""
     line: str
     row: str
     error: Error
@@ -656,7 +662,7 @@ class Row(NamedTuple):
 
 
 class Reader:
-    """A reader: its language, its lines, and the core before its brackets where it has any."""
+    """A reader: its language, its lines, and the core before its brackets, if it has brackets."""
 
     def __init__(self, language: str, lines: list[Line], core: str = NEVER):
         self.language = language
@@ -670,7 +676,7 @@ class Reader:
 
     @cached_property
     def rows(self) -> list[re.Pattern]:
-        """For each line the texts that one of its rows fits."""
+        """For each line, the texts that one of its rows fits."""
         return [re.compile(it.front + it.behind) for it in self.lines]
 
     @cached_property
@@ -679,7 +685,7 @@ class Reader:
         return re.compile(self.core + ahead(one(OPENING)))
 
     def rows_that_fit(self, text: str) -> list[Row]:
-        """The rows that fit a text, one for a line."""
+        """The rows that fit a text, at most one of each line."""
         found = []
         for it, pattern in zip(self.lines, self.rows):
             match = pattern.match(text)
@@ -689,7 +695,8 @@ class Reader:
         return found
 
     def row(self, text: str) -> Optional[Row]:
-        """The one row that fits a text, or None for a text of the language. Raises ValueError where the table says less or more."""
+        """The one row that fits a text, or None if the text is in the language. Raises ValueError if no row or more than one fits, or if a
+        row fits a text in the language."""
         rows, derived = self.rows_that_fit(text), self.of_language.fullmatch(text) is not None
         if len(rows) + derived != 1:
             raise ValueError(f'{text!r} has {len(rows)} rows that fit, and is {"" if derived else "not "}in the language: {rows}')
@@ -697,7 +704,7 @@ class Reader:
 
 
 def bracketed_reader(core: str, lines: list[Line]) -> Reader:
-    """A reader with brackets, by its core and its lines before them."""
+    """A reader with brackets. It is made from its core and the lines of the core."""
     return Reader(core + TAIL, lines + bracket_lines(core), core)
 
 
@@ -745,7 +752,7 @@ READERS = {strict: readers(strict) for strict in (False, True)}
 # Replies (GRAMMAR, "Annotations and the calendar"; FAULTS, "Annotations that are refused").
 
 class Annotation(NamedTuple):
-    """A pair, or a reply to one."""
+    """An annotation, or a reply to one."""
     critical: bool
     key: str
     value: str
@@ -755,7 +762,7 @@ Handler = Callable[[Annotation], Optional[Annotation]]
 
 
 def each_replies_for_itself(pair: Annotation) -> Annotation:
-    """The handler of the forms without one."""
+    """The handler of the readers without a handler: it returns each annotation."""
     return pair
 
 
@@ -764,7 +771,7 @@ NEXT_PAIR = re.compile(rf'\[(?P<critical>!?)(?P<key>{KEY})=(?P<value>{VALUE})\]'
 
 
 def pairs_before(reader: Reader, text: str, place: int) -> Iterator[tuple[Annotation, int]]:
-    """The pairs that stand whole before a place, each with the end of its bracket."""
+    """The annotations that are complete before a place, each with the end of its bracket."""
     core = reader.core_of_brackets.match(text)
     if not core:
         return
@@ -776,7 +783,7 @@ def pairs_before(reader: Reader, text: str, place: int) -> Iterator[tuple[Annota
 
 
 def refusal(reply: Annotation, calendar: Optional[Annotation]) -> Optional[Error]:
-    """The error of a reply, where it is refused beside the first calendar before it."""
+    """The error of a reply, if it is refused. `calendar` is the first calendar before it."""
     if reply.key != 'u-ca':
         return Error('UnrecognizedCritical') if reply.critical else None
     if calendar and calendar.value != reply.value and (calendar.critical or reply.critical):
@@ -785,7 +792,7 @@ def refusal(reply: Annotation, calendar: Optional[Annotation]) -> Optional[Error
 
 
 class Fault(NamedTuple):
-    """An error and its place, in units from the front of the text."""
+    """An error and its place, which is a number of code units."""
     error: Error
     place: int
 
@@ -794,7 +801,7 @@ class Fault(NamedTuple):
 
 
 def refused_reply(reader: Reader, text: str, place: int, handler: Handler) -> Optional[Fault]:
-    """The first refusal among the replies to the pairs before a place. The handler is asked up to it, and no further."""
+    """The first error among the replies to the annotations before a place. The handler is called up to this annotation, and not after it."""
     calendar = None
     for pair, end in pairs_before(reader, text, place):
         reply = handler(pair)
@@ -810,7 +817,7 @@ def refused_reply(reader: Reader, text: str, place: int, handler: Handler) -> Op
 
 def outcome(name: str, units: Sequence[int], wide: bool = False, strict: bool = False,
             handler: Handler = each_replies_for_itself) -> 'Fault | str':
-    """`OK`, or the error and its place, that a reader has for a text of 8-bit units, or of 16-bit ones where `wide` says so."""
+    """`OK`, or the error and its place, that a reader returns for a text of 8-bit code units, or of 16-bit code units if `wide` is true."""
     reader, text = READERS[strict][name], letters_of(units, wide)
     row = reader.row(text)
     refused = refused_reply(reader, text, len(text) if row is None else row.place, handler)
@@ -820,7 +827,7 @@ def outcome(name: str, units: Sequence[int], wide: bool = False, strict: bool = 
 
 
 # ---------------------------------------------------------------------------------------------------------------------------------
-# The examples beside it.
+# The examples in places.tsv.
 
 class Example(NamedTuple):
     """A line of places.tsv."""
@@ -836,13 +843,13 @@ class Example(NamedTuple):
 
 
 def units_of(spelled: str) -> list[int]:
-    """The units of a text in which `\\uXXXX` is a unit."""
+    """The code units of a text in which `\\uXXXX` is one code unit."""
     return [int(it[2:], 16) if len(it) > 1 else ord(it) for it in re.findall(r'\\u[0-9a-f]{4}|.', spelled)]
 
 
 @cache
 def examples() -> list[Example]:
-    """The lines of places.tsv, each a text whose place was counted by hand."""
+    """The lines of places.tsv. Each has a text and a place that a person counted."""
     with open(os.path.join(os.path.dirname(os.path.abspath(__file__)), 'places.tsv'), encoding='ascii') as lines:
         cells = [it.rstrip('\n').split('\t') for it in lines][1:]
     return [Example(reader, profile == 'strict', bits == '16', line, row, units_of(text), units_of(front),
@@ -851,7 +858,7 @@ def examples() -> list[Example]:
 
 
 # ---------------------------------------------------------------------------------------------------------------------------------
-# Lines of the program's protocol.
+# The lines of the program.
 
 LONGEST_LINE = 4096
 WORDS = {'parse': 'parse', 'year-month': 'parse_year_month', 'month-day': 'parse_month_day', 'time': 'parse_time',
@@ -861,13 +868,13 @@ STRICT_WORDS = {'strict-month-day': 'parse_month_day', 'strict-time': 'parse_tim
 
 
 def utf16_units(text: bytes) -> list[int]:
-    """The UTF-16 units of a text in UTF-8."""
+    """The UTF-16 code units of a text in UTF-8."""
     spelled = text.decode('utf-8', 'surrogateescape').encode('utf-16-le', 'surrogatepass')
     return [spelled[at] | spelled[at + 1] << 8 for at in range(0, len(spelled), 2)]
 
 
 def answer(protocol_line: bytes, wide: bool = False) -> str:
-    """What is written for a line."""
+    """The answer to a line."""
     if len(protocol_line) > LONGEST_LINE:
         return 'error line too long'
     word, space, text = protocol_line.partition(b' ')

@@ -1,6 +1,6 @@
 #!/usr/bin/env python3
-"""test_bench.py: the benchmark that bench/plain.py makes as plain Rust, at a small size, prints what the proved one does, which is stored
-beside its sources. So both are the same workloads, with the same results."""
+"""test_bench.py: tests that the benchmark in Rust, which bench/plain.py makes, prints the same as the proved one, at a small size. The output
+of the proved one is stored beside its sources. So both have the same workloads, with the same results."""
 import os
 import subprocess
 import sys
@@ -12,7 +12,7 @@ import plain
 
 
 def stored(name: str) -> str:
-    """A stored part of the run of the proved benchmark."""
+    """A file of the stored run of the proved benchmark."""
     with open(os.path.join(ROOT, 'crates/ixdtf_bench', name), encoding='utf-8') as file:
         return file.read()
 

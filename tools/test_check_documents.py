@@ -1,5 +1,5 @@
 #!/usr/bin/env python3
-"""Tests of check_documents.py: that each thing it looks for is found where it is wrong, and nothing where it is right."""
+"""Tests of check_documents.py: it finds each thing that is wrong, and finds nothing if all is right."""
 import os
 import sys
 import tempfile
@@ -52,7 +52,7 @@ FILES = {
 
 
 class InATree(unittest.TestCase):
-    """Documents in a small tree."""
+    """Documents in a small repository."""
 
     def setUp(self):
         self.folder = tempfile.TemporaryDirectory()
@@ -61,23 +61,23 @@ class InATree(unittest.TestCase):
             self.write(path, content)
 
     def write(self, path: str, content: str):
-        """Writes a file of the tree."""
+        """Writes a file of the repository."""
         path = os.path.join(self.folder.name, path)
         os.makedirs(os.path.dirname(path), exist_ok=True)
         with open(path, 'w', encoding='utf-8') as file:
             file.write(content)
 
     def document(self, content: str) -> Document:
-        """A document of this content in the tree."""
+        """A document with this content in the repository."""
         self.write('docs/PAGE.md', content)
         return Document(Tree(self.folder.name), 'docs/PAGE.md')
 
     def names(self, content: str) -> list[str]:
-        """What is found in the names of a document."""
+        """The findings in the names of a document."""
         return [it.what for it in check.findings_in_names(self.document(content))]
 
     def clauses(self, cell: str) -> list[str]:
-        """What is found in a cell of clauses."""
+        """The findings in a cell of clauses."""
         document = self.document(f'| Promise | Clause |\n|---|---|\n| it reads | {cell} |\n')
         return [it.what for it in check.findings_in_clauses(document)]
 
@@ -141,7 +141,7 @@ class Clauses(InATree):
         self.assertEqual([it.what for it in check.findings_in_clauses(document)], ['`read` has no clause `err`'])
 
     def files(self, clause: str, file: str) -> list[str]:
-        """What is found in a row of a clause and the files that have it."""
+        """The findings in a row with clauses and files."""
         document = self.document(f'| Promise | Clause | File |\n|---|---|---|\n| it reads | {clause} | {file} |\n')
         return [it.what for it in check.findings_in_files(document)]
 
@@ -151,7 +151,7 @@ class Clauses(InATree):
         for clause, file in [('`Reader::read`: `ok`', '`lib.rt`'), ('`Reader::read`: `ok`; `last`: `some`', '`reader/src/lib.rt`, `more.rt`'),
                              ('`free`: *(unnamed)*', '`lib.rt`; the tests `texts.rt`'), ('the check itself', '')]:
             self.assertEqual(self.files(clause, file), [])
-        of_read = 'no file of the row has the contract of `Reader::read`: it stands in crates/reader/src/lib.rt'
+        of_read = 'the contract of `Reader::read` is in crates/reader/src/lib.rt, which the row does not name'
         for clause, file, what in [
             ('`Reader::read`: `ok`', '`more.rt`', [of_read, '`more.rt` has no contract that the row names']),
             ('`Reader::read`: `ok`', 'the same', [of_read]),
@@ -167,7 +167,7 @@ class Clauses(InATree):
         for line, what in [
             ('Then read the contracts: `lib.rt` of `crates/reader`.', []),
             ('Then read the contracts: `lib.rt` and `more.rt`.', ['`more.rt` has no contract that the tables name']),
-            ('Then read the contracts.', ['crates/reader/src/lib.rt has contracts that the tables name, and is not among the files to read']),
+            ('Then read the contracts.', ['crates/reader/src/lib.rt has contracts that the tables name, but is not one of the files to read']),
         ]:
             document = self.document(table + line)
             self.assertEqual([it.what for it in check.findings_in_contracts_to_read(document)], what)
@@ -196,12 +196,12 @@ class Tables(InATree):
 
 
 class Repository(unittest.TestCase):
-    """The documents of the repository, and what is found when one is changed."""
+    """The documents of this repository, and the findings after one of them is changed."""
 
     TREE = Tree(check.ROOT)
 
     def found(self, path: str, old: str, new: str, finder) -> list[str]:
-        """What is found in a document in which this is changed."""
+        """The findings in a document after this change."""
         document = Document(self.TREE, path)
         self.assertEqual(document.text.count(old), 1, old)
         document.text = document.text.replace(old, new)
@@ -209,7 +209,7 @@ class Repository(unittest.TestCase):
         return [it.what for it in finder(document)]
 
     def faults(self, old: str, new: str) -> list[str]:
-        """What is found in a changed fault table."""
+        """The findings in a changed fault table."""
         return self.found('docs/FAULTS.md', old, new, check.findings_in_faults)
 
     def test_nothing_is_found(self):
@@ -226,19 +226,19 @@ class Repository(unittest.TestCase):
 
     def test_another_error(self):
         self.assertTrue(self.faults('`UTC]`: `InvalidEnd` at 3', '`UTC]`: `IanaChar` at 3'))
-        self.assertIn('the cells of after_date are others in the model',
+        self.assertIn('the model has other cells for the line after_date',
                       self.faults('`T`, `t`, space, `[` | ok', '`T`, `t`, `[` | ok'))
 
     def test_another_text(self):
         self.assertTrue(self.faults('`+10000001108` at 11', '`+10000001109` at 11'))
 
     def test_an_example_that_cannot_be_read(self):
-        self.assertIn('cannot be read: no text with its place: `20-06-05`', self.faults('`20-06-05` at 2', '`20-06-05`'))
+        self.assertIn('cannot be read: expected a text and its position, found: `20-06-05`', self.faults('`20-06-05` at 2', '`20-06-05`'))
         self.assertIn("cannot be read: 'any sign'", self.faults('nothing | digit, sign |', 'nothing | digit, any sign |'))
 
     def test_the_table_of_errors(self):
-        self.assertIn('OffsetNeedsSign has another text', self.faults('UTC offset needs a sign |', 'UTC offset needs a sign. |'))
-        self.assertIn('OffsetNeedsSign is returned by parse_offset',
+        self.assertIn('OffsetNeedsSign has a different text in the code or in the model', self.faults('UTC offset needs a sign |', 'UTC offset needs a sign. |'))
+        self.assertIn('in the model, OffsetNeedsSign is returned by parse_offset',
                       self.faults('UTC offset needs a sign | `parse_offset`', 'UTC offset needs a sign | `parse_time`'))
 
     def test_counts(self):
@@ -248,22 +248,22 @@ class Repository(unittest.TestCase):
 
     def test_the_order_of_reading(self):
         self.assertEqual(self.found('docs/TRUST.md', '3. `Handlers`, ', '3. ', check.findings_in_reading_order),
-                         ['crates/ixdtf_grammar/specs/Handlers.antt has no place in the order of reading'])
+                         ['crates/ixdtf_grammar/specs/Handlers.antt is missing in the order of reading'])
 
     def test_files_that_have_no_contract(self):
         self.assertEqual(self.found('docs/TRUST.md', 'what it returns | `handled.rt` |', 'what it returns | `parsers.rt` |', check.findings_in_files),
-                         ['no file of the row has the contract of `IxdtfParser::parse_month_day_with_annotation_handler`: it stands in '
-                          'crates/ixdtf/src/parsers/handled.rt', '`parsers.rt` has no contract that the row names'])
+                         ['the contract of `IxdtfParser::parse_month_day_with_annotation_handler` is in crates/ixdtf/src/parsers/handled.rt, '
+                          'which the row does not name', '`parsers.rt` has no contract that the row names'])
         self.assertEqual(self.found('docs/TRUST.md', '`parsers.rt`, `unhandled.rt`, ', '`parsers.rt`, ', check.findings_in_reading_order),
-                         ['crates/ixdtf/src/parsers/unhandled.rt has contracts that the tables name, and is not among the files to read'])
+                         ['crates/ixdtf/src/parsers/unhandled.rt has contracts that the tables name, but is not one of the files to read'])
 
     def test_snippets(self):
         for path in check.WITH_SNIPPETS:
             self.assertEqual(list(check.findings_in_snippets(Document(self.TREE, path))), [])
         self.assertEqual(self.found('docs/CALLING.md', 'let Ok(record) = parser.parse() else', 'let Ok(record) = parser.read() else',
-                                    check.findings_in_snippets), ['no test has the code of this block'])
+                                    check.findings_in_snippets), ['no test and no example has the code of this block'])
         self.assertEqual(self.found('docs/CALLING.md', 'use ixdtf::{LocatedError, ParserResult};', 'use ixdtf::{PlacedError, ParserResult};',
-                                    check.findings_in_snippets), ['no test imports ixdtf::PlacedError'])
+                                    check.findings_in_snippets), ['no test and no example imports ixdtf::PlacedError'])
         self.assertEqual(check.imported('use a::{self, b as c};\nuse d::e;\n'), {'a', 'a::b as c', 'd::e'})
 
     def test_errors_that_a_row_implies(self):

@@ -1,5 +1,5 @@
 #!/usr/bin/env python3
-"""Tests of check_rows.py: that it reads the rows of each source, and finds those that are wrong."""
+"""Tests of check_rows.py: it reads the rows of each source, and finds the wrong ones."""
 import os
 import sys
 import unittest
@@ -15,12 +15,12 @@ MONTH = Error('InvalidMonthRange')
 
 
 def row(text: str, error, place, **others) -> Row:
-    """A row of `parse` and 8-bit code units, but for these parts."""
+    """A row of `parse` with 8-bit code units. `others` replaces parts of it."""
     return Row('file', 'parse', False, False, tuple(text.encode()), error, place)._replace(**others)
 
 
 class Findings(unittest.TestCase):
-    """What is found in a row."""
+    """Tests of the findings in one row."""
 
     def test_right(self):
         for it in [row('2020-13-01', MONTH, 7), row('2020-13-01', MONTH, None), row('2020-01-01', None, None), row('', DIGIT, 0),
@@ -35,7 +35,7 @@ class Findings(unittest.TestCase):
             self.assertTrue(list(check.findings(it)), it)
 
     def test_both_sources(self):
-        # the list that was counted by hand has this text, and the model too
+        # places.tsv has this text, and so has the model.
         self.assertEqual(list(check.findings(row('2020-13-01', MONTH, 8))), [
             "file: parse of '2020-13-01' is InvalidMonthRange at 8; places.tsv has InvalidMonthRange at 7",
             "file: parse of '2020-13-01' is InvalidMonthRange at 8; the model has InvalidMonthRange at 7"])
@@ -57,7 +57,7 @@ class Findings(unittest.TestCase):
 
 
 class Literals(unittest.TestCase):
-    """Values in Rattle."""
+    """Tests of values in Rattle."""
 
     def value(self, source: str):
         return Values(source, 0).value()
@@ -98,7 +98,7 @@ fn all() {
 
 
 class Sources(unittest.TestCase):
-    """The rows of each source."""
+    """Tests of the rows of each source."""
 
     def texts(self, rows) -> list[tuple]:
         """The parts of rows that most tables have."""
@@ -207,7 +207,7 @@ strict = refl
 
 
 class ComputedExamples(unittest.TestCase):
-    """The tables of proofs."""
+    """Tests of the tables in proofs."""
 
     def test_rows(self):
         rows = {it._replace(path='', handler=None) for it in Proofs({'Helpers': HELPERS, 'Dates': EXAMPLES}).rows('proofs')}
@@ -264,10 +264,10 @@ data pub Sign : Set where
 
 
 class Edits(unittest.TestCase):
-    """Edits and their names."""
+    """Mutations and their names."""
 
     def findings(self, name: str, *changes: tuple[str, str]) -> list[str]:
-        """What is found in an edit of this name and these changes, each a file and the text that goes."""
+        """The findings in a mutation with this name and these changes. A change is a file and the text that is replaced."""
         edit = '# text: 10 is read; this refuses it\n' + ''.join(f'file: {path}\nold: {old}\nnew: 0\n' for path, old in changes)
         before, check.read = check.read, lambda path: DEFINITIONS if path.endswith('.antt') else SOURCE
         try:
@@ -293,23 +293,23 @@ class Edits(unittest.TestCase):
                                   ('digits.put.takes_two_for_one', '0, 1, 2,', 'digits.VALUES'),
                                   ('digits.first.says_another_thing', '//! Digits.', 'no function')]:
             self.assertEqual(self.findings(name, ('src/digits.rt', old)),
-                             [f'crates/ixdtf_digits/must-fail/{name}.edit: what it changes stands in {stands}'], name)
+                             [f'crates/ixdtf_digits/must-fail/{name}.edit: it changes {stands}'], name)
         self.assertTrue(self.findings('digits.is_digit.takes_ten', ('specs/Digit.antt', 'letter \u2264 9')))
         self.assertTrue(self.findings('Digit.IsDigit.takes_ten', ('specs/Digit.antt', 'Prelude')))
 
     def test_changes_of_one_body(self):
-        # what stands in no function may be changed beside it, and a proof
+        # A mutation may also change text outside of functions, and a proof.
         self.assertEqual(self.findings('digits.put.puts_zero', ('src/digits.rt', '//! Digits.'), ('src/digits.rt', 'bytes[at] = byte;'),
                                        ('proofs/put/Proof.antt', 'it is not looked at')), [])
 
     def test_an_old_that_is_not_there(self):
         for old, times in [('byte.max(9)', 0), ('byte', 9)]:
             self.assertEqual(self.findings('digits.put.puts_zero', ('src/digits.rt', old)),
-                             [f'crates/ixdtf_digits/must-fail/digits.put.puts_zero.edit: `{old}` stands {times} times in src/digits.rt'])
+                             [f'crates/ixdtf_digits/must-fail/digits.put.puts_zero.edit: `{old}` occurs {times} times in src/digits.rt, and must occur once'])
 
 
 class Repository(unittest.TestCase):
-    """The rows that are there."""
+    """Tests of the rows of the repository."""
 
     def test_each_edit_is_read(self):
         self.assertGreater(check.findings_in_edits()[1], 400)

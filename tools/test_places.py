@@ -21,7 +21,7 @@ from places import Annotation, Error, Example, Fault, examples
 
 
 def plain_examples() -> list[Example]:
-    """Those examples of which each unit stands for a letter in both widths."""
+    """The examples in which each code unit has a letter in 8-bit and in 16-bit text."""
     return [it for it in examples() if all(1 <= unit <= 126 for unit in it.units)]
 
 
@@ -31,7 +31,7 @@ def row_of(example: Example) -> Optional[places.Row]:
 
 
 class Examples(unittest.TestCase):
-    """The lines of places.tsv, and that each row has one."""
+    """Tests of the lines of places.tsv: each row of the table has one."""
 
     def test_place_is_the_length_of_the_front(self):
         for it in examples():
@@ -70,7 +70,7 @@ class Examples(unittest.TestCase):
 
 
 def rows_of(line: places.Line) -> Iterator[tuple[str, Error]]:
-    """The rows that a line has, with the error of each."""
+    """The rows of a line, each with its error."""
     if line.goes_on is None:
         yield places.WHOLE, line.end
         return
@@ -82,7 +82,7 @@ def rows_of(line: places.Line) -> Iterator[tuple[str, Error]]:
 
 
 class Grammar(unittest.TestCase):
-    """The examples of docs/GRAMMAR.md that have an error: those of the two profiles, and those of annotations."""
+    """Tests of the examples in docs/GRAMMAR.md that have an error: those of the two profiles, and those of annotations."""
 
     def rows(self, head: str) -> list[dict[str, str]]:
         """The rows of the tables that have this column."""
@@ -115,9 +115,9 @@ class Grammar(unittest.TestCase):
 
 
 # ---------------------------------------------------------------------------------------------------------------------------------
-# One row alone, and one front
+# One row, and one front
 
-# for each reader texts to begin with, letters, and how many of them stand behind at most
+# for each reader: how a text begins, the letters that can follow, and at most how many follow
 SHORT = {
     'parse': [('', '2-0W', 5), ('2020', '-01x', 5), ('2020-01-01T12', ':+05.Z[', 4), ('2020-01-01', '[!a=+-]', 4),
               ('2020-01-01[a=b]', '[!a=-]', 4)],
@@ -147,13 +147,14 @@ def fronts_that_fit(line: places.Line, text: str) -> list[int]:
 
 
 class OneRow(unittest.TestCase):
-    """Of a text outside a reader's language one row alone fits, with one front alone; of a text of the language none does."""
+    """Tests that exactly one row fits a text outside the language of a reader, with exactly one front, and that no row fits a text in the
+    language."""
 
     def test_short_texts(self):
         for strict, readers in places.READERS.items():
             for name, reader in readers.items():
                 for text in short_texts(name, places.BAD):
-                    reader.row(text)    # raises an error where the table says less or more
+                    reader.row(text)    # raises an error if no row or more than one fits
 
     def test_fronts(self):
         for it in (it for it in examples() if it.line != 'reply' and it.place <= 13):
@@ -187,12 +188,12 @@ class OneRow(unittest.TestCase):
 # Replies, letters and the program
 
 class Replies(unittest.TestCase):
-    """Other handlers than the one of the forms without."""
+    """Tests of handlers that do not return each annotation."""
 
     TEXT = b'2020-01-01[u-ca=a][!u-ca=b][!x=y][z=1]'
 
     def heard(self, text: bytes, handler) -> tuple:
-        """The outcome of `parse`, and the pairs that the handler was asked about."""
+        """The outcome of `parse`, and the annotations with which the handler was called."""
         asked = []
 
         def listening(pair):
@@ -233,7 +234,7 @@ class Replies(unittest.TestCase):
 
 
 class Letters(unittest.TestCase):
-    """Units and their letters."""
+    """Tests of code units and their letters."""
 
     def test_wide(self):
         self.assertEqual(places.letters_of([0, 1, 65, 126, 127, 128, 0xffff], True),
@@ -249,13 +250,13 @@ class Letters(unittest.TestCase):
 
 
 class Widths(unittest.TestCase):
-    """Places of 16-bit text beside those of 8-bit text of the same units."""
+    """Tests that compare the places in 16-bit text with those in 8-bit text of the same code units."""
 
-    # a first bracket that is looked through, up to a unit that stands for no letter in 16-bit text
+    # a first bracket that is scanned, up to a code unit that is bad in 16-bit text
     LOOKED_THROUGH = re.compile(r'[^\[]*\[!?[a-z_][^=\]]*\Z')
 
     def both(self, it: Example, units: list[int]) -> tuple:
-        """The outcomes in the two widths."""
+        """The outcomes of the 8-bit and of the 16-bit text."""
         return tuple(places.outcome(it.reader, units, wide, it.strict) for wide in (False, True))
 
     def test_plain_units_have_one_outcome(self):
@@ -264,7 +265,7 @@ class Widths(unittest.TestCase):
             self.assertEqual(narrow, wide, it)
 
     def test_another_unit(self):
-        """One outcome where the 8-bit reader needs no letter from this unit on, and does not look through a first bracket."""
+        """The outcome is the same if the 8-bit reader needs no letter from this code unit on, and does not scan a first bracket."""
         for it in plain_examples():
             for at in range(len(it.units) + 1):
                 units = it.units[:at] + [128] + it.units[at:]
@@ -273,20 +274,20 @@ class Widths(unittest.TestCase):
                 self.assertEqual(wide, narrow if one else Fault(Error('NonAsciiCodePoint'), at), (it, at))
 
     def stops_before(self, it: Example, units: list[int], narrow: Fault, at: int) -> bool:
-        """Whether the error of 8-bit text speaks of what stands before this unit alone."""
+        """Whether the error of 8-bit text depends only on the text before this code unit."""
         row = places.READERS[it.strict][it.reader].row(places.letters_of(units, False))
         of_a_letter = row.row == places.AT_OTHER and narrow == Fault(row.error, row.place)
         return narrow.place < at if of_a_letter else narrow.place <= at
 
     def looks_through(self, it: Example, front: list[int]) -> bool:
-        """Whether a front is a core and the beginning of a first bracket that is looked through."""
+        """Whether a front is a core and the beginning of a first bracket that is scanned."""
         letters = places.letters_of(front, False)
         core = places.READERS[it.strict][it.reader].core_of_brackets
         return core.match(letters) is not None and self.LOOKED_THROUGH.match(letters) is not None
 
 
 class Program(unittest.TestCase):
-    """Lines of the program's protocol."""
+    """Tests of the lines of the program."""
 
     def run_on(self, given: bytes, *arguments: str) -> list[str]:
         """The answers to lines of standard input."""

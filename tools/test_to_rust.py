@@ -1,6 +1,6 @@
 #!/usr/bin/env python3
-"""Tests of to_rust.py: sources that it refuses, changes that --check sees, and a comparison, token by token, of what goes in and
-what comes out, by other means than its own: text is cut into tokens by hand here, and what may differ is listed below."""
+"""Tests of to_rust.py: sources that it refuses, changes that --check finds, and a comparison of its input and output, token by token.
+The comparison does not use the code of the tool: this file cuts texts into tokens with its own code, and has its own lists of what may differ."""
 import contextlib
 import functools
 import io
@@ -20,20 +20,20 @@ PAIRS = [('crates/ixdtf/src', 'rust/ixdtf/src'), ('crates/ixdtf_tests/src', 'rus
          ('crates/ixdtf_print/src', 'rust/ixdtf_print/src'), ('crates/ixdtf_answers/src', 'rust/ixdtf_lines/src'),
          ('crates/ixdtf_buffers/src', 'rust/ixdtf_buffers/src'), ('crates/ixdtf_checks/src', 'rust/ixdtf_check/src'),
          ('crates/ixdtf_c/src', 'rust/ixdtf_c/src')]
-# the layers of the library, whose modules stand at the root of the made crate, or else in `parsers`
+# the layers of the library, whose modules are at the root of the crate that is made, or in `parsers`
 LAYERS = ['grammar', 'reading', 'times', 'brackets', 'durations']
 AT_THE_ROOT = {'encoding', 'error', 'located', 'packed', 'pointed', 'records', 'cursor', 'stop'}
 PAIRS += [(f'crates/ixdtf_{layer}/src', 'rust/ixdtf/src') for layer in LAYERS]
 
 
-# crates whose root file is made
+# crates whose root file is made by the tool
 WITH_ROOTS = {'crates/ixdtf/src', 'crates/ixdtf_print/src', 'crates/ixdtf_buffers/src', 'crates/ixdtf_c/src'}
-# files of the made crates that are written by hand, by their modules
+# files that a person wrote, by their modules
 BY_HAND = {'main', 'tests/printing', 'abort', 'slices', 'place'}
 
 
 def tokens_of(text):
-    """The tokens of a text without spaces and comments, cut letter by letter."""
+    """The tokens of a text without spaces and comments. They are cut letter by letter."""
     out, at = [], 0
     while at < len(text):
         c = text[at]
@@ -72,7 +72,7 @@ def tokens_of(text):
 
 
 def block_end(words, at):
-    """The place behind the block that opens here."""
+    """The index after the block that opens at this index."""
     depth = 0
     while True:
         depth += (words[at] in ('{', '[', '(')) - (words[at] in ('}', ']', ')'))
@@ -82,7 +82,7 @@ def block_end(words, at):
 
 
 def without_ghosts(words):
-    """The tokens without clauses, ghost items and models. The text of a ghost has brackets in pairs."""
+    """The tokens without clauses, ghost items and models. In the text of a ghost item, each bracket is closed."""
     out, at = [], 0
     while at < len(words):
         word = words[at]
@@ -150,7 +150,7 @@ def drop_tactics(words):
 
 
 def without_places(words):
-    """The tokens without the numbers of the errors, which an equality alone calls that is derived in Rust."""
+    """The tokens without the numbers of the errors. Only an equality uses them, and Rust derives this equality."""
     at = next((at for at in range(len(words)) if words[at:at + len(PLACES)] == PLACES), None)
     return words if at is None else words[:at] + words[block_end(words, at + 2):]
 
@@ -159,7 +159,7 @@ EXPORT = phrase('#[unsafe(no_mangle)] pub extern "C" fn')
 
 
 def with_pointers(words):
-    """The tokens with a pointer and a length in the place of each slice that a function for C takes."""
+    """The tokens. Each slice that a function for C takes is replaced by a pointer and a length."""
     out, at = [], 0
     while at < len(words):
         if words[at:at + len(EXPORT)] != EXPORT:
@@ -205,7 +205,7 @@ def as_rust(words):
 
 
 def without_layers(words):
-    """The tokens without what the layers change: their names in paths, the folder `parsers`, and how a hidden function is shown."""
+    """The tokens without what the layers change: their names in paths, the folder `parsers`, and the visibility of hidden functions."""
     text = ' ' + ' '.join(words) + ' '
     for layer in LAYERS:
         text = text.replace(f' ixdtf_{layer} : : ', ' crate : : ')
@@ -214,7 +214,7 @@ def without_layers(words):
 
 
 def without_heads(words):
-    """The tokens without the modules and the imports that have no attribute: they differ in the two files that declare the modules of the layers."""
+    """The tokens without modules and imports that have no attribute. These differ in the two files that declare the modules of the layers."""
     out, at = [], 0
     while at < len(words):
         if words[at] in ('mod', 'use') and ']' not in (words[at - 1], words[at - 1 - (words[at - 1] == 'pub')]):
@@ -228,8 +228,8 @@ def without_heads(words):
 
 
 def difference(source, made, heads=False):
-    """The first place where what was made has other tokens than the source, but for those that may be added. Modules and
-    imports are left out with `heads`."""
+    """The first difference between the tokens of the source and those of the result, except for tokens that may be added. With `heads`,
+    modules and imports are left out."""
     wanted, found = (without_layers(words) for words in (as_rust(tokens_of(source)), tokens_of(made)))
     if heads:
         wanted, found = without_heads(wanted), without_heads(found)
@@ -246,7 +246,7 @@ def difference(source, made, heads=False):
                 j += len(new)
                 break
         else:
-            # an added phrase may begin as the source goes on: step back over what was matched of it
+            # An added phrase may begin like the text that follows in the source. So go back over the tokens that were matched.
             for new in ADDED:
                 for back in range(1, len(new)):
                     if found[j - back:j - back + len(new)] == new and wanted[i - back:i] == new[:back]:
@@ -260,19 +260,19 @@ def difference(source, made, heads=False):
     return '' if i == len(wanted) else f'{" ".join(wanted[i:i + 12])} | the end'
 
 
-# What a source becomes depends on its text alone, so a source that did not change is not made again for each test.
+# The result for a source depends only on its text. So a source that did not change is not made again for each test.
 to_rust.rewritten = functools.cache(to_rust.rewritten)
 
 
 class Answer:
-    """How a run of the tool ended, as a process of its own has it."""
+    """How a run of the tool ended."""
 
     def __init__(self, returncode, stdout, stderr):
         self.returncode, self.stdout, self.stderr = returncode, stdout, stderr
 
 
 def run(top, *arguments):
-    """Runs the tool of these tests on the sources of a copy."""
+    """Runs the tool, in this process, on the sources of a copy."""
     before = to_rust.TOP, sys.argv
     to_rust.TOP, sys.argv = top, ['to_rust.py', *arguments]
     code, out = None, io.StringIO()
@@ -283,12 +283,12 @@ def run(top, *arguments):
         code = end.code
     finally:
         to_rust.TOP, sys.argv = before
-    # as Python ends: a text goes to standard error
+    # like Python at its end, which writes a text to standard error
     return Answer(1, out.getvalue(), f'{code}\n') if isinstance(code, str) else Answer(int(code or 0), out.getvalue(), '')
 
 
 def run_apart(top, *arguments):
-    """Runs the tool that the copy has, as a process of its own."""
+    """Runs the tool of the copy in a process of its own."""
     return subprocess.run([sys.executable, os.path.join(top, 'tools/to_rust.py'), *arguments], capture_output=True, text=True)
 
 
@@ -345,7 +345,7 @@ class Refuses(Copied):
             file.write('\nfn added() { panic!("x"); }\n')
         answer, apart = run(self.top), run_apart(self.top)
         self.assertEqual((apart.returncode, apart.stdout, apart.stderr), (answer.returncode, answer.stdout, answer.stderr))
-        self.assertEqual(apart.stderr, 'to_rust.py: crates/ixdtf_reading/src/cursor.rt: the macro panic\n')
+        self.assertEqual(apart.stderr, 'to_rust.py: crates/ixdtf_reading/src/cursor.rt: the macro `panic` is not in the lists of this tool\n')
 
     def test_characters(self):
         answer = self.body('let text = "text"; text.chars().count(); for _ in text.chars().take(3).skip(1) {}')
@@ -390,7 +390,7 @@ class Checks(Copied):
     def test_a_made_file_was_changed(self):
         self.change('rust/ixdtf/src/parsers/dates.rs', '_ => 31,', '_ => 30,')
         answer = run(self.top, '--check')
-        self.assertEqual((answer.returncode, answer.stdout), (1, 'rust/ixdtf/src/parsers/dates.rs is not what tools/to_rust.py makes\n'))
+        self.assertEqual((answer.returncode, answer.stdout), (1, 'rust/ixdtf/src/parsers/dates.rs differs from what tools/to_rust.py makes\n'))
 
     def test_a_source_was_changed(self):
         self.change('crates/ixdtf_times/src/dates.rt', '_ => 31,', '_ => 30,')

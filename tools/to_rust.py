@@ -1,51 +1,52 @@
 #!/usr/bin/env python3
-"""to_rust.py [--check]: makes the plain Rust crates of rust/ of the proved ones of crates/.
+"""to_rust.py [--check]: makes the Rust crates in rust/ from the Rattle crates in crates/.
 
-The tokens of the sources are kept in their order. What is removed:
+With --check, the tool writes nothing. It names each file in rust/ that differs from what it would write.
 
-  clauses        `requires NAME { .. }`, `ensures NAME { .. }`, and the comments that stand right before one
-  ghost items    `ghost use ..;`, `ghost NAME = { .. };`, `ghost NAME: { .. };` and `ghost NAME: { .. },`, with their docs
+The tool keeps the tokens of the sources, in their order. It removes these:
+
+  clauses        `requires NAME { .. }`, `ensures NAME { .. }`, and the comments right before a clause
+  ghost items    `ghost use ..;`, `ghost NAME = { .. };`, `ghost NAME: { .. };` and `ghost NAME: { .. },`, with their doc comments
   models         `impl .. Model for .. { .. }` (it has only ghost items), and `Model` in a `use`
   attributes     `#[tactic(..)]`, `#[rattlefmt::skip]`, and `Drop` in a `#[derive(..)]`
-  modules        those that a crate of CRATES omits, with those below them, which have no code that another module calls, with the `use` of one
-  phrases        those of UNSEEN, of which contracts alone speak, with the comments that stand right before them: the count of
-                 looks at units (with the module `looks` and `Cursor::keep_looks`), and calls of laws
+  modules        those that a crate of CRATES omits, with the modules in them and the `use` of each. No other module calls their code.
+  phrases        those of UNSEEN, with the comments right before them. Only contracts need them: the count of accesses (with the module
+                 `looks` and `Cursor::keep_looks`), and calls of laws.
 
-The library stands in layers, crates of their own (LAYERS), which are one crate here: a module of a layer stands where LAYERS has it,
-a path through a layer goes through `crate`, the root of a layer gives way to what the root of the library re-exports of it, and
-what is public for the layers above alone, `#[doc(hidden)] pub fn`, is `pub(crate) fn`.
+The library consists of layers (LAYERS), which are crates in Rattle and together one crate in Rust. LAYERS says where each module of a
+layer goes. A path through a layer becomes a path through `crate`. The root file of a layer is replaced by what the root of the library
+re-exports from it. A function that is public only for the layers above, `#[doc(hidden)] pub fn`, becomes `pub(crate) fn`.
 
-What is put in the place of something else, and there is nothing more of it:
+These rules, and no others, replace or add something:
 
-  1 fmt          `<W: fmt::Write>` behind the name of a function is left out, and `fmt::Formatter<W>` is `fmt::Formatter<'_>`
-  2 derive_where `#[derive_where(..)]` is `#[derive(..)]`
-  3 prove        `const _: () = prove!(..)` is `const _: () = assert!(..)`
-  4 ADDED        attributes on types, which bind users of the crate and not its own code
-  5 heads        what stands at the head of each root file, in the place of its own documents where the head has a README
-  6 arms         in a crate that stands on the library, a `match` with arms for the variants of a type that ADDED leaves open
-                 (OPEN) gets the last arm `_ => unreachable!()`, which Rust asks for there
-  7 core         `std::` is `core::` in a crate without the standard library
-  8 calls        `#[must_use]` on each public function of MARKED that takes nothing that changes and returns no result, and is not
-                 hidden, and in those of INLINED `#[inline]` too
-  9 equality     `impl PartialEq for ..` of DERIVED is `#[derive(PartialEq)]`, and what that impl alone calls is left out
-  10 exports     of a function for C, `#[unsafe(no_mangle)] pub extern "C" fn`, a slice `x: &[T]` is a pointer and a length, as C hands it in,
-                 `x: *const T, x_length: usize`, of which the first line of the body makes the slice (src/slices.rs). There stands by hand
-                 what a slice in a struct is: a pointer, which may be null where the length is 0, and the length
-  11 str         `str::from_utf8` is `std::str::from_utf8`, which older compilers have
-  14 links       a link of a document to a name of FARTHER, which its module does not import, is a link to it in the module above
+  1 fmt          `<W: fmt::Write>` after the name of a function is removed, and `fmt::Formatter<W>` becomes `fmt::Formatter<'_>`.
+  2 derive_where `#[derive_where(..)]` becomes `#[derive(..)]`.
+  3 prove        `const _: () = prove!(..)` becomes `const _: () = assert!(..)`.
+  4 ADDED        Types get attributes. These affect users of the crate, and not its own code.
+  5 heads        Each root file gets a head. If this head has a README, it replaces the doc comment of the root file.
+  6 arms         This rule is for crates that use the library. ADDED makes some types open (OPEN). A `match` with arms for the variants
+                 of such a type gets the last arm `_ => unreachable!()`, which Rust requires.
+  7 core         `std::` becomes `core::` in a crate without the standard library.
+  8 calls        Each public function of MARKED gets `#[must_use]`, if it takes no `&mut`, returns a value other than a result, and is
+                 not hidden. The functions of INLINED also get `#[inline]`.
+  9 equality     `impl PartialEq for ..` of DERIVED becomes `#[derive(PartialEq)]`. What only that impl calls is removed.
+  10 exports     This rule is for functions for C, `#[unsafe(no_mangle)] pub extern "C" fn`. A slice `x: &[T]` becomes a pointer and a
+                 length, as C passes them: `x: *const T, x_length: usize`. The first line of the body makes the slice from them
+                 (src/slices.rs). A person wrote the type of a slice in a struct: a pointer, which may be null if the length is 0, and
+                 the length.
+  11 str         `str::from_utf8` becomes `std::str::from_utf8`, which older compilers have too.
+  14 links       If a doc comment links to a name of FARTHER, which its module does not import, the link goes through the module above.
 
-Of a test, besides (TESTS):
+Tests (TESTS) have two more rules:
 
-  12 runtime     a test takes nothing, and makes the `rt` that the sources hand to it; `HostRuntime`, `Abort`, `Fail`, `Global`,
-                 `AllocError`, `String` and the macros with an `rt` or an allocator are those of src/runtime.rs
-  13 clone       `x.clone()` is `x.try_clone()` of src/runtime.rs, since a clone is a result there
+  12 runtime     A test has no parameter. It makes the `rt` that the Rattle test gets as a parameter. `HostRuntime`, `Abort`, `Fail`,
+                 `Global`, `AllocError`, `String`, and the macros with an `rt` or an allocator are those of src/runtime.rs.
+  13 clone       `x.clone()` becomes `x.try_clone()` of src/runtime.rs, because a clone is a result there.
 
-What is not known here is refused: an attribute, a macro, a keyword, or a name of the standard library that is not listed.
-Whether Rust's and Rattle's name mean the same was looked up once for each listed one. A method of a crate's own that has
-the name of a method of `core` (core_methods.txt) is called only on what is known to be of a type of its own that has it, or
-on the characters of a text (ON_CHARACTERS).
-
---check writes nothing, and says which files of the crates are not what would be written."""
+The tool refuses what it does not know: an attribute, a macro, a keyword, or a name of the standard library that is not in its lists. For
+each name in the lists, a person looked up once that it means the same in Rust and in Rattle. A method of a crate can have the name of a
+method of `core` (core_methods.txt). The tool accepts a call of it only if the receiver is known to have a type of the crate with this
+method, or to be the characters of a text (ON_CHARACTERS)."""
 import functools
 import os
 import re
@@ -54,7 +55,7 @@ import sys
 TOP = os.path.join(os.path.dirname(os.path.abspath(__file__)), '..')
 
 MADE = '// Made by tools/to_rust.py of {0}. Do not edit.\n\n'
-# the head of each root file, and what stands at its end
+# the head of each root file, and its end
 README = '#![doc = include_str!("../README.md")]\n'
 LIBRARY = (README + '#![cfg_attr(not(test), no_std)]\n#![forbid(unsafe_code)]\n\n#[cfg(test)]\nextern crate self as ixdtf;\n',
            '\n#[cfg(test)]\n#[macro_use]\nmod runtime;\n#[cfg(test)]\nmod callers;\n#[cfg(test)]\nmod tests;\n')
@@ -63,7 +64,7 @@ PROGRAM = ('#![forbid(unsafe_code)]\n', '')
 FOR_C = ('#![cfg_attr(not(test), no_std)]\n', '\n#[cfg(not(test))]\nmod abort;\n')
 
 
-# the layers of the library, and where their modules stand in the crate that is made of all of them
+# the layers of the library, and where their modules go in the crate that is made from all of them
 LAYERS = {
     'ixdtf_grammar': 'encoding error located packed pointed records parsers/profile'.split(),
     'ixdtf_reading': 'cursor grammar stop parsers/annotations parsers/letters'.split(),
@@ -75,9 +76,9 @@ PLACES = {(layer, place.rpartition('/')[2]): place for layer, places in LAYERS.i
 
 
 class Crate:
-    """A crate that is made: its sources, its folder, the modules that are left out, the file that is its root, and the head
-    and the end of that file. `tests` are made by the rules of tests; a crate `above` stands on the library; a `layer` is a part of it;
-    one `on_core` has no standard library; a crate that `exports` has calls for C."""
+    """A crate that is made: its sources, its folder, the modules that are left out, the file that is its root, and the head and the end of
+    that file. `tests`: it is made by the rules for tests. `above`: it uses the library. `layer`: it is a part of the library. `on_core`: it
+    does not use the standard library. `exports`: it has functions for C."""
 
     def __init__(self, source, target, omitted=(), root='lib', ends=('', ''), tests=False, above=False, layer=None,
                  exports=False):
@@ -86,15 +87,15 @@ class Crate:
         self.on_core = bool(layer) or 'no_std' in ends[0]
 
     def place(self, module):
-        """Where a module of the crate stands in the crate that is made."""
+        """The path of a module in the crate that is made."""
         if not self.layer:
             return module
         if (self.layer, module) not in PLACES:
-            raise SystemExit(f'to_rust.py: {self.source}/{module}.rt: LAYERS has no place for it')
+            raise SystemExit(f'to_rust.py: {self.source}/{module}.rt: LAYERS does not have this module')
         return PLACES[self.layer, module]
 
     def omits(self, module):
-        """Whether a module or one above it is left out."""
+        """Whether a module, or a module that contains it, is left out."""
         parts = module.split('/')
         return any('/'.join(parts[:n]) in self.omitted for n in range(1, len(parts) + 1))
 
@@ -118,15 +119,15 @@ CRATES = [
 ]
 WRITTEN_BY_HAND = {'rust/ixdtf/src/runtime.rs', 'rust/ixdtf/src/tests/printing.rs', 'rust/ixdtf_lines/src/main.rs', 'rust/ixdtf_check/src/main.rs',
                    'rust/ixdtf_c/src/abort.rs', 'rust/ixdtf_c/src/slices.rs', 'rust/ixdtf_buffers/src/place.rs'}
-# what is copied as it stands, since a package has no file from outside its folder
+# files that are copied, because a package cannot have a file from outside of its folder
 COPIES = {'rust/ixdtf/tests/places.tsv': 'tools/places.tsv'}
 DERIVES = {'Clone', 'Copy', 'Debug', 'Default', 'PartialEq'}
 KEPT_ATTRIBUTES = {'inline(always)', 'inline(never)', 'cold', 'doc(hidden)'}
 TEST_ATTRIBUTES = {'test', 'cfg(test)'}
-# of a crate that exports calls: a struct and a function as C has them, and such a function's head
+# for a crate with functions for C: the attributes of its structs and functions, and the head of such a function
 EXPORT_ATTRIBUTES = {'repr(C)', 'unsafe(no_mangle)'}
 EXPORTED = '# [ unsafe ( no_mangle ) ] pub extern "C" fn'.split()
-# the library for C makes records of their fields
+# the library for C makes records from their fields
 OPEN_FOR_C = '#[cfg_attr(not(feature = "open-records"), non_exhaustive)]'
 ADDED = {
     ('records', 'IxdtfParseRecord'): OPEN_FOR_C, ('records', 'Annotation'): OPEN_FOR_C,
@@ -137,10 +138,10 @@ ADDED = {
 OPEN = {name for (_, name), attribute in ADDED.items() if attribute == '#[non_exhaustive]'}
 INLINED = {'parsers', 'parsers/handled', 'parsers/unhandled', 'parsers/time_zone_parser', 'parsers/duration'}
 MARKED = INLINED | {'error', 'located', 'records', 'canonical', 'length'}
-# What documents of a module link to in the module above.
+# names in the module above to which doc comments of a module link
 FARTHER = {'parsers/unhandled': ('Profile', 'TimeZoneParser')}
 RESULTS = {'Result', 'ParserResult'}
-# the types with an equality that is a derived one, and the functions that it calls
+# the types whose equality becomes a derived one, and the functions that this equality calls
 DERIVED = {('error', 'ParseError'): {'place', 'location'}, ('located', 'LocatedError'): set()}
 UNSEEN = [phrase.split() for phrase in ['use crate :: looks :: Looks ;', 'looks : Looks ,', 'looks : Looks :: none ( ) ,', 'self . looks . tick ( ) ;',
                                         'let common = left . len ( ) . min ( right . len ( ) ) ;', 'self . looks . tick_by ( common ) ;', 'self . looks . tick_by ( 4 ) ;',
@@ -160,7 +161,7 @@ REFUSED = set('unsafe extern dyn async await macro_rules union yield move box ra
               ' requires ensures ghost Model tactic derive_where invariant decreases alloc Global'.split())
 TEST_REFUSED = REFUSED - {'alloc', 'Global'}
 KEYWORDS = set('pub if match while for in return let else'.split())
-# the handler of a reader, what stands in src/slices.rs of the library for C, and in src/place.rs of the buffers
+# the handler of a reader, and the functions in src/slices.rs of the library for C and in src/place.rs of the buffers
 CALLED = {'handler', 'to_c', 'from_c', 'place_of', 'pass_many'}
 STD_PATHS = {'std::str::from_utf8', 'std::fmt', 'std::error::Error', 'std::marker::PhantomData', 'std::mem::replace', 'std::fmt::Debug', 'std::io::{Read,Write}',
              'std::io::Write', 'std::io::Read', 'std::fmt::Write', 'std::str'}
@@ -168,15 +169,15 @@ STD_METHODS = set('get len split_at is_ascii_digit is_ascii_alphabetic is_ascii_
                   ' is_none to_le_bytes saturating_add saturating_sub min map copied checked_mul checked_add unsigned_abs'
                   ' is_ascii_alphanumeric as_slice iter position is_empty copy_from_slice read write flush digit_count leading_value'
                   ' chars len_utf8 is_control encode_utf8 last is_some unwrap_or starts_with parse checked_sub ok max'.split())
-# methods of the iterators over the characters of a text, and the heads of what they give
+# methods of the iterators over the characters of a text, and the heads of the types that they return
 ON_CHARACTERS = {('Chars', 'take'): 'Chars', ('Chars', 'skip'): 'Chars', ('Chars', 'count'): 'usize'}
 CALLED_ON_CHARACTERS = {method for _, method in ON_CHARACTERS}
 OWN_PATHS = {'self', 'crate', 'Self', 'T', 'C', 'E', 'L'}
 HIDDEN = '# [ doc ( hidden ) ] pub fn'.split()
-# hidden, and called by crates above the library too
+# hidden functions that crates above the library call too
 CALLED_FROM_ABOVE = {'of_parts'}
 STD_CALLS = {'u64::from', 'u64::from_le_bytes', 'u32::from', 'u16::from', 'usize::from', 'u128::from', 'i32::from', 'char::from', 'u32::try_from', 'usize::try_from', 'fmt::Debug::fmt', 'str::from_utf8'}
-# the names of the methods of `core`, as its documents of Rust 1.95 have them (`id="method.NAME"` and `id="tymethod.NAME"`)
+# the names of the methods of `core`, from its documentation for Rust 1.95 (`id="method.NAME"` and `id="tymethod.NAME"`)
 with open(os.path.join(os.path.dirname(os.path.abspath(__file__)), 'core_methods.txt'), encoding='ascii') as names:
     CORE_METHODS = set(names.read().split())
 
@@ -206,18 +207,18 @@ class Token:
 
 
 def end_of_block(text, at):
-    """The place after the `}` of the ghost text whose `{` stands here."""
+    """The index after the `}` of the ghost text whose `{` is at this index."""
     depth = 0
     while True:
         if at >= len(text):
-            raise Refused('a ghost text does not end')
+            raise Refused('a ghost text has no closing bracket')
         if text[at] == '"':
             end = text.find('"', at + 1)
             if end < 0 or '\\' in text[at:end] or '\n' in text[at:end]:
-                raise Refused('a string in a ghost text is not a plain one')
+                raise Refused('a ghost text has a string with an escape or a line break, or without an end')
             at = end
         elif text[at] == "'" or text.startswith(('//', '/*', '--', '{-'), at):
-            raise Refused('a quote or a comment in a ghost text')
+            raise Refused('a ghost text has a quote or a comment')
         elif text[at] == '{':
             depth += 1
         elif text[at] == '}':
@@ -233,12 +234,12 @@ def scan(text):
     while at < len(text):
         found = TOKEN.match(text, at)
         if not found or text.startswith('/*', at):
-            raise Refused(f'no token: {text[at:at + 40]!r}')
+            raise Refused(f'expected a token, found {text[at:at + 40]!r}')
         kind, end = found.lastgroup, found.end()
         if kind == 'word' and found[0] in ('requires', 'ensures'):
             head = CLAUSE.match(text, at)
             if not head:
-                raise Refused(f'no clause: {text[at:at + 40]!r}')
+                raise Refused(f'expected a clause, found {text[at:at + 40]!r}')
             kind, end = 'clause', end_of_block(text, head.end())
         elif kind == 'word' and found[0] == 'ghost':
             kind = 'ghost'
@@ -250,19 +251,19 @@ def scan(text):
                 public = [t for t in tokens if t.kind != 'space'][-1:]
                 field = item[0].rstrip().endswith(':') and text[end - 1] == ','
                 if not field and text[end - 1] != ';':
-                    raise Refused('a ghost item without its end')
+                    raise Refused('a ghost item must end with `;`, or with `,` if it is a field')
                 if field and public and public[0].text == 'pub':
                     while tokens.pop() is not public[0]:
                         pass
             else:
-                raise Refused(f'no ghost item: {text[at:at + 40]!r}')
+                raise Refused(f'expected a ghost item, found {text[at:at + 40]!r}')
         tokens.append(Token(kind, text[at:end], at))
         at = end
     return tokens
 
 
 class Solid:
-    """The places of the next tokens from a place on that are neither space nor comments, looked for as they are asked for."""
+    """The indices of the next tokens, from an index on, without spaces and comments. They are found when they are needed."""
 
     def __init__(self, tokens, at):
         self.found = []
@@ -278,7 +279,7 @@ class Solid:
 
 
 def gone(tokens, first, last):
-    """Removes the tokens from one place to another."""
+    """Removes the tokens from one index to another."""
     tokens[first:last + 1] = [Token('gone', '', tokens[first].at)]
 
 
@@ -287,24 +288,24 @@ def put(tokens, first, last, text):
 
 
 def group(tokens, at):
-    """The place of the mark that closes the one here."""
+    """The index of the bracket that closes the bracket at this index."""
     closes, depth = {'(': ')', '[': ']', '{': '}'}, []
     for i in range(at, len(tokens)):
         if tokens[i].kind == 'mark' and tokens[i].text in closes:
             depth.append(closes[tokens[i].text])
         elif tokens[i].kind == 'mark' and tokens[i].text in ')]}':
             if tokens[i].text != depth.pop():
-                raise Refused('brackets cross')
+                raise Refused('a bracket is closed by a bracket of another kind')
             if not depth:
                 return i
-    raise Refused('a bracket does not end')
+    raise Refused('a bracket is not closed')
 
 
 def attribute(tokens, at, crate):
     inner = tokens[at + 1].text == '!'
     start = at + 1 + inner
     if tokens[start].text != '[':
-        raise Refused('a `#` without its bracket')
+        raise Refused('expected `[` after `#`')
     last = group(tokens, start)
     text = ''.join(t.text for t in tokens[start + 1:last])
     name, _, arguments = text.partition('(')
@@ -314,21 +315,21 @@ def attribute(tokens, at, crate):
     if text == 'cfg(test)' and (crate.tests or is_here(tokens, Solid(tokens, last + 1), 0, ['mod', 'tests', ';']) and crate.omits('tests')):
         return gone(tokens, at, last)
     if inner:
-        raise Refused(f'the attribute {text}')
+        raise Refused(f'the attribute `{text}` is not in the lists of this tool')
     if text == 'rattlefmt::skip':
         return gone(tokens, at, last)
     if name in ('derive', 'derive_where'):
         kept = [n for n in names if n != 'Drop' or name != 'derive']
         if not DERIVES.issuperset(kept):
-            raise Refused(f'the attribute {text}')
+            raise Refused(f'the attribute `{text}` is not in the lists of this tool')
         return put(tokens, at, last, f'#[derive({", ".join(kept)})]') if kept else gone(tokens, at, last)
     kept = KEPT_ATTRIBUTES | (TEST_ATTRIBUTES if crate.tests else set()) | (EXPORT_ATTRIBUTES if crate.exports else set())
     if text not in kept or text == 'unsafe(no_mangle)' and tokens[Solid(tokens, last + 1)[2]].text != '"C"':
-        raise Refused(f'the attribute {text}')
+        raise Refused(f'the attribute `{text}` is not in the lists of this tool')
 
 
 def is_here(tokens, places, k, words):
-    """Whether these words stand from the k-th of the places on."""
+    """Whether the tokens are these words, from the k-th of the indices on."""
     try:
         for i, word in enumerate(words):
             if tokens[places[k + i]].text != word:
@@ -339,7 +340,7 @@ def is_here(tokens, places, k, words):
 
 
 def rewrite(tokens, module, crate):
-    """The attributes, models, uses and signatures of the file, one after another."""
+    """Rewrites the attributes, models, uses and signatures of the file, one after another."""
     at = 0
     while at < len(tokens):
         token = tokens[at]
@@ -378,7 +379,7 @@ def rewrite(tokens, module, crate):
             if 'Model' in head and head[head.index('Model') + 1] == 'for' and tokens[i].text == '{':
                 last = group(tokens, i)
                 if any(t.kind not in ('space', 'ghost', 'doc', 'comment') for t in tokens[i + 1:last]):
-                    raise Refused('a model with code')
+                    raise Refused('a model has code')
                 gone(tokens, at, last)
         elif token.kind == 'word' and token.text == 'use':
             last = next(i for i in range(at, len(tokens)) if tokens[i].text == ';')
@@ -410,26 +411,26 @@ def rewrite(tokens, module, crate):
             while tokens[first - 1].kind in ('space', 'word') and tokens[first - 1].text in (' ', 'pub'):
                 first -= 1
             if tokens[places[2]].text != ';':
-                raise Refused('an omitted module with a body')
+                raise Refused('an omitted module must be in a file of its own')
             gone(tokens, first, places[2])
         elif token.kind == 'word' and token.text in ('struct', 'enum'):
             name = module, tokens[places[1]].text
             added = None if crate.tests else '\n'.join(['#[derive(PartialEq)]'] * (name in DERIVED) + [ADDED.get(name)] * (name in ADDED))
             if added:
                 if tokens[at - 2].text != 'pub' or not tokens[at - 3].text.endswith('\n'):
-                    raise Refused('a type that is not public')
+                    raise Refused('a type of this list must be public')
                 tokens.insert(at - 2, Token('put', added + '\n', token.at))
                 at += 1
         at += 1
 
 
 def unseen(tokens, first, last):
-    """Has the tokens from one place to another removed as a ghost item is, with the comments right before them."""
+    """Marks the tokens from one index to another as a ghost item, so that they are removed with the comments right before them."""
     tokens[first:last + 1] = [Token('ghost', '', tokens[first].at)]
 
 
 def marked(tokens, at, module):
-    """Puts the attributes of rule 8 before a public function, and gives its place."""
+    """Inserts the attributes of rule 8 before a public function, and returns its index."""
     opening = next(i for i in range(at, len(tokens)) if tokens[i].text == '{')
     words = [t.text for t in tokens[at:opening] if t.kind not in ('space', 'comment', 'doc', 'clause')]
     parameters = words[words.index('('):close(words, words.index('(')) + 1]
@@ -449,7 +450,7 @@ def marked(tokens, at, module):
 
 
 def is_derived(tokens, first, last, head, module):
-    """Whether an `impl` is an equality of DERIVED, or has only what that one calls."""
+    """Whether an `impl` is an equality of DERIVED, or has only functions that such an equality calls."""
     for (place, name), called in DERIVED.items():
         if place == module and head == ['impl', 'PartialEq', 'for', name]:
             return True
@@ -461,7 +462,7 @@ def is_derived(tokens, first, last, head, module):
 
 
 def through_layer(tokens, at, module, crate):
-    """Has a path that begins with a layer, or in a layer with `crate`, go to the place of its module."""
+    """Rewrites a path that begins with a layer, or with `crate` in a layer, to the new path of its module."""
     layer = crate.layer if tokens[at].text == 'crate' else tokens[at].text
     folder = PLACES.get((layer, tokens[at + 2].text), '').rpartition('/')[0]
     start = 'self' if folder and folder == module else f'crate::{folder}' if folder else 'crate'
@@ -469,7 +470,7 @@ def through_layer(tokens, at, module, crate):
 
 
 def of_layers(module, plain, roots):
-    """A file of the library with the modules of the layers, where it is the one that declares them, and with what it re-exports of
+    """A file of the library. If it declares the modules of the layers, they are added. It also gets what it re-exports from
     their roots."""
     names = {place.rpartition('/')[2] for places in LAYERS.values() for place in places if place.rpartition('/')[0] == ('' if module == 'lib' else module)}
     shown = [name for line in re.findall(r'pub use crate::(?:\{([A-Za-z, _]+)\}|([a-z_]+));\n', plain) for name in ''.join(line).split(', ')]
@@ -478,17 +479,17 @@ def of_layers(module, plain, roots):
     first = lines.index(block[0])
     block += [f'{"pub " if name in shown else ""}mod {name};\n' for name in names]
     lines = [line for line in lines if line not in block]
-    # A page shows the calls of a type in the order of its modules: those without a handler first.
+    # A page of the documentation shows the functions of a type in the order of its modules: those without a handler come first.
     lines[first:first] = sorted(block, key=lambda line: (line.split()[-1] != 'unhandled;', line.split()[-1]))
     items = ''.join(sorted((of_root(name, roots) for name in shown if name not in names), key=lambda item: (item.startswith('\n'), item)))
     return re.sub(r'(?:pub use crate::(?:\{[A-Za-z, _]+\}|[a-z_]+);\n)+', lambda m: items, ''.join(lines))
 
 
 def of_root(name, roots):
-    """The item that the root of a layer has under this name."""
+    """The item with this name in the root of a layer."""
     found = [m[0] for text in roots for m in re.finditer(rf'pub use [a-z_]+::{name};\n|\n(?:///[^\n]*\n)*pub type {name}[^\n]*\n', text)]
     if len(found) != 1:
-        raise Refused(f'{len(found)} items of the layers that are {name}')
+        raise Refused(f'expected one item {name} in the layers, found {len(found)}')
     return found[0]
 
 
@@ -497,7 +498,7 @@ TEST_CLONE = '. clone ( )'.split()
 
 
 def test_head(tokens, at, places):
-    """A test takes nothing, and makes the runtime that the sources hand to it where it names one."""
+    """Rewrites the head of a test. The test has no parameter, and makes the runtime that the source has as a parameter, if it names one."""
     first, last = places[2], places[6]
     opening = next(i for i in places if tokens[i].text == '{')
     named = any(t.kind == 'word' and t.text == 'rt' for t in tokens[opening:group(tokens, opening)])
@@ -507,7 +508,7 @@ def test_head(tokens, at, places):
 
 
 def export(tokens, at):
-    """Has a function for C, whose `extern` stands here, take each slice as a pointer and a length."""
+    """Rewrites a function for C, whose `extern` is at this index: each slice becomes a pointer and a length."""
     opening = next(i for i in range(at, len(tokens)) if tokens[i].text == '(')
     last = group(tokens, opening)
     body = next(i for i in range(last, len(tokens)) if tokens[i].text == '{')
@@ -521,7 +522,7 @@ def export(tokens, at):
         name, bracket = words[0], words.index('[')
         borrow = [w for w in words[2:bracket] if not w.startswith("'")]
         if words[1] != ':' or borrow not in (['&'], ['&', 'mut']) or words[-1] != ']':
-            raise Refused(f'a parameter of a function for C that is {" ".join(words)}')
+            raise Refused(f'a function for C has an unknown kind of parameter: {" ".join(words)}')
         unit = ''.join(t.text for t in tokens[places[bracket] + 1:places[-1]])
         pointer, made = ('*mut', 'slice_mut') if 'mut' in borrow else ('*const', 'slice')
         between = tokens[opening + 1].text if tokens[opening + 1].kind == 'space' else ' '
@@ -534,13 +535,13 @@ def export(tokens, at):
 
 
 def inside(tokens, first, at):
-    """Whether a bracket that opens behind the one place is still open at the other."""
+    """Whether a bracket that opens after the first index is still open at the second one."""
     texts = [t.text for t in tokens[first:at] if t.kind == 'mark']
     return any(texts.count(a) != texts.count(b) for a, b in ('()', '[]', '<>'))
 
 
 def last_arm(tokens, at):
-    """Gives a `match` with arms for the variants of an open type its last arm."""
+    """Adds a last arm to a `match` with arms for the variants of an open type."""
     opening = next(i for i in range(at, len(tokens)) if tokens[i].text == '{')
     last = group(tokens, opening)
     margin = tokens[last - 1].text.rpartition('\n')[2] if tokens[last - 1].kind == 'space' else ''
@@ -561,10 +562,10 @@ def last_arm(tokens, at):
 
 
 def lay_out(tokens):
-    """The text of the file. What was removed leaves no empty line, and a `{` goes up to its signature."""
+    """The text of the file. What was removed leaves no empty line, and a `{` is put on the line of its signature."""
     for at, token in enumerate(tokens):
         if token.kind in ('clause', 'ghost'):
-            # the comments and docs that stand right before it are said of it
+            # The comments and doc comments right before it belong to it.
             back = at - 1
             while tokens[back].kind in ('comment', 'doc') or tokens[back].kind == 'space' and tokens[back].text.count('\n') < 2:
                 if tokens[back].text.startswith('//!'):
@@ -599,7 +600,7 @@ def lay_out(tokens):
 
 
 def declared(words, files):
-    """The names that the crates declare behind these words."""
+    """The names that the crates declare after these words."""
     return {name for text in files for name in re.findall(rf'\b(?:{words}) ([A-Za-z_0-9]+)', text)}
 
 
@@ -620,7 +621,7 @@ def head_of(words):
 
 
 def split_commas(words):
-    """The parts between commas that stand in no bracket."""
+    """The parts between the commas that are not in brackets."""
     parts, depth = [[]], 0
     for word in words:
         depth += (word in '([{<') - (word in ')]}>')
@@ -632,7 +633,7 @@ def split_commas(words):
 
 
 class Types:
-    """What the sources say of the types of their own: the fields, the methods, and what these return, each by its head."""
+    """What the sources say about their own types: the fields, the methods, and what the methods return. Each type is known by its head."""
 
     def __init__(self, files):
         self.fields, self.methods = {}, {}
@@ -648,13 +649,13 @@ class Types:
                     owner, method = name
                     returned = words[words.index('->') + 1:] if '->' in words else []
                     head = owner if head_of(returned) == 'Self' else head_of(returned)
-                    # two free functions of one name are known where both return the same
+                    # Two functions of one name that are not methods are known only if both return the same type.
                     self.methods[owner, method] = head if self.methods.get((owner, method), head) == head else ''
 
 
 def items(text):
-    """The structs and functions of a file: the place, the kind, the name, and the words of the fields or of the signature. The
-    name of a function has that of the type or trait that it stands in, or none."""
+    """The structs and functions of a file: the index, the kind, the name, and the words of the fields or of the signature. The name
+    of a function comes with the name of its type or trait, which is empty if there is none."""
     words = [t.text for t in solid_tokens(text)]
     owners, depth, at = [], 0, 0
     while at < len(words):
@@ -694,7 +695,7 @@ def close(words, at):
         depth += (words[i] in '([{') - (words[i] in ')]}')
         if not depth:
             return i
-    raise Refused('a bracket does not end')
+    raise Refused('a bracket is not closed')
 
 
 def parameters(signature):
@@ -709,11 +710,12 @@ def parameters(signature):
 
 
 def receivers(text, types):
-    """Refuses a method with the name of one of `core` whose receiver is not known to be of a type of the crate's that has it."""
+    """Refuses a call of a method with the name of a method of `core`, unless the receiver is known to have a type of the crate with this
+    method."""
     words = [t.text for t in solid_tokens(text)]
     own = {method for _, method in types.methods}
     if 'chars' in own:
-        raise Refused('a method chars of its own')
+        raise Refused('the crate has a method `chars`')
     known, owner = {}, ''
     functions = {at: (name, signature) for at, kind, name, signature in items(text) if kind == 'fn'}
     for at, word in enumerate(words):
@@ -744,7 +746,7 @@ def receivers(text, types):
             here = type_of(path, known, types) or made_by(words, at - 1, types)
             call = here, words[at + 1]
             if call not in types.methods and call not in ON_CHARACTERS and words[at + 1] not in STD_METHODS:
-                raise Refused(f'the method {words[at + 1]}, which is one of `core` too, on {"".join(path) or "what is not known"}')
+                raise Refused(f'the method {words[at + 1]}, which `core` has too, is called on {"".join(path) or "an expression of an unknown type"}')
 
 
 def made_by(words, at, types):
@@ -769,7 +771,7 @@ def made_by(words, at, types):
 
 
 def type_of(path, known, types):
-    """The head of the type of a variable and its fields."""
+    """The head of the type of a variable with its fields."""
     if not path:
         return ''
     found = known.get(path[0], '')
@@ -779,43 +781,43 @@ def type_of(path, known, types):
 
 
 def in_export(words, at):
-    """Whether a word stands in the head of a function for C or makes a slice of its, which are written in one way. Strings are no words here."""
+    """Whether a word is in the head of a function for C, or in the line that makes a slice. Both have one form. Strings are not words here."""
     starts = [at - back for back in (2, 8, 9) if at >= back and words[at - back:at - back + 8] == EXPORTED[:8]]
     return (any([w for w in words[start + 8:start + 11] if w != 'unsafe'][:2] == ['extern', 'fn'] for start in starts)
             or words[at:at + 6] == 'unsafe { crate :: slices ::'.split())
 
 
 def allowed(text, functions, types, crate):
-    """Refuses what is not known in a file as it would be written."""
+    """Refuses what is not known, in a file as it would be written."""
     refused, macros = (TEST_REFUSED, TEST_MACROS) if crate.tests else (REFUSED, MACROS)
     tokens = solid_tokens(text)
     words = [t.text for t in tokens] + [''] * 8
-    # the parameters of the file that are of a trait of the crates' own
+    # the type parameters of the file whose bound is a trait of these crates
     own = OWN_PATHS | {words[i] for i in range(1, len(tokens)) if words[i - 1] in ('<', ',', 'where', ')') and len(words[i]) == 1
                        and words[i + 1] == ':' and words[i + 2] in types}
     for i, (token, word) in enumerate(zip(tokens, words)):
         if token.kind in ('clause', 'ghost'):
-            raise Refused('something ghost stayed')
+            raise Refused('a ghost item was not removed')
         if token.kind != 'word':
             continue
         before, after = words[i - 1] if i else '', words[i + 1]
         if word in refused and words[i:i + 2] != ['extern', 'crate'] and not (crate.exports and in_export(words, i)):
-            raise Refused(f'the word {word}')
+            raise Refused(f'the word `{word}` is not in the lists of this tool')
         if word == 'Formatter' and words[i + 1:i + 4] != ['<', "'_", '>']:
-            raise Refused('a Formatter that rule 1 does not have')
+            raise Refused('a Formatter has a form that rule 1 does not have')
         if word == 'static' and after == 'mut':
-            raise Refused('a static that changes')
+            raise Refused('a static is `mut`')
         if after == '!' and words[i + 2] in '([{' and word not in macros:
-            raise Refused(f'the macro {word}')
+            raise Refused(f'the macro `{word}` is not in the lists of this tool')
         if crate.tests:
             continue
         if word == 'size_of' and words[i - 2:i] != ['!', '(']:
-            raise Refused('a size outside a prove!, where Rust has another one')
+            raise Refused('a size is used outside of prove!, and can be different in Rust')
         in_attribute = before == '[' and words[i - 2] in '#!' or words[i - 2:i + 1] == ['cfg_attr', '(', 'not']
         if after == '(' and not in_attribute and before not in ('.', '::', 'fn', 'pub') and not word[0].isupper() and word not in functions | KEYWORDS | CALLED:
-            raise Refused(f'the call {word}')
+            raise Refused(f'the function `{word}` is not in the lists of this tool')
         if before == '.' and after == '(' and word not in functions | STD_METHODS | CALLED_ON_CHARACTERS:
-            raise Refused(f'the method {word}')
+            raise Refused(f'the method `{word}` is not in the lists of this tool')
         if word in ('std', 'core') and after == '::' and before != '::':
             path = word
             while words[i + 1] == '::':
@@ -823,13 +825,13 @@ def allowed(text, functions, types, crate):
             if path.endswith('::{'):
                 path += ''.join(words[i + 1:words.index('}', i) + 1])
             if path.replace('core::', 'std::', 1) not in STD_PATHS:
-                raise Refused(f'the path {path}')
+                raise Refused(f'the path `{path}` is not in the lists of this tool')
         elif after == '::' and before != '::' and word not in types | own:
             path = word
             while words[i + 1] == '::':
                 path, i = f'{path}::{words[i + 2]}', i + 2
             if words[i + 1] == '(' and path not in STD_CALLS:
-                raise Refused(f'the call {path}')
+                raise Refused(f'the function `{path}` is not in the lists of this tool')
 
 
 def sources(crate):
@@ -848,14 +850,14 @@ def sources(crate):
 
 
 def rewritten(crate, module, text):
-    """A source with all that its own text has changed."""
+    """A source after all changes that depend only on its own text."""
     tokens = scan(text)
     rewrite(tokens, module, crate)
     return lay_out(tokens)
 
 
 def written(crate, module, text):
-    """What a source is in Rust."""
+    """A source in Rust."""
     plain = rewritten(crate, module, text)
     for name in FARTHER.get(module, ()):
         plain = re.sub(rf'\[`({name}::\w+)`\](?!\()', r'[`\1`](super::\1)', plain)
@@ -875,7 +877,7 @@ def source_of(crate, module):
 
 
 def headed(crate, module, plain):
-    """A file with the head and the end of its crate where it is the root."""
+    """A file. If it is the root, it has the head and the end of its crate."""
     if crate.tests:
         head = re.match(r'(?://![^\n]*\n)*', plain)
         return head[0] + TEST_USE + plain[head.end():]
@@ -939,7 +941,7 @@ def main():
         if path not in there or text_of(path) != text:
             wrong.append(path)
     for path in wrong:
-        print(f'{path} is not what tools/to_rust.py makes')
+        print(f'{path} differs from what tools/to_rust.py makes')
     sys.exit(bool(wrong))
 
 
