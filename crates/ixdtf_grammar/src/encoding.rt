@@ -1,7 +1,7 @@
-//! The encodings that a source may have.
+//! The encodings that a source can have.
 //!
-//! The readers are generic in the encoding. They see a code unit as the ASCII byte that it stands for. An encoding says
-//! which byte that is, or that there is none.
+//! The readers are generic in the encoding. A code unit stands for an ASCII byte, or for none. The encoding says for
+//! which byte, and the readers see this byte.
 
 ghost use Rattle.std.specs.Prelude.{◌≡◌, ℕ, ◌<◌, ◌≤◌, ◌↔◌, ◌^◌, map, length, All, IsTrue, IsSome, IfSome, slice_range, codes};
 ghost use Rattle.std.specs.Cmp.{unsigned_Decides};
@@ -11,14 +11,16 @@ ghost use Rattle.ixdtf_grammar.specs.Views.{Returns, ascii_at};
 use crate::{ParseError, ParserResult};
 
 mod private {
-    /// Sealed: only the encodings of this crate implement it.
+    /// Only the encodings of this crate can implement this trait.
     pub trait Sealed {}
 }
 
-/// An encoding of a source in code units.
+/// An encoding of a text in code units: [`Utf8`] or [`Utf16`].
 ///
-/// Each code unit is a number. It stands for the ASCII character of this number, or for none that a reader accepts. No
-/// other crate can implement this trait.
+/// Each code unit is a number. It stands for the ASCII character with this number, or for a character that no reader
+/// accepts. No other crate can implement this trait.
+///
+/// # Examples
 ///
 /// ```rust
 /// use ixdtf::ParseError;
@@ -28,7 +30,7 @@ mod private {
 /// assert_eq!(Utf16::get_ascii(&[0x2212], 0), Err(ParseError::NonAsciiCodePoint));
 /// ```
 pub trait EncodingType: private::Sealed {
-    /// The code unit of a source.
+    /// The type of a code unit: `u8` or `u16`.
     type CodeUnit: PartialEq + std::fmt::Debug + Clone;
 
     /// The number of a code unit.
@@ -40,21 +42,27 @@ pub trait EncodingType: private::Sealed {
     /// All code units are below this.
     ghost limit: { ℕ };
 
-    /// The code units from `start` up to `end`, or `None` where an index is out of range or `start` is after `end`.
+    /// Returns the code units from `start` up to, but not including, `end`.
+    ///
+    /// Returns `None` if an index is out of range, or if `start` is after `end`.
     fn slice(source: &[Self::CodeUnit], start: usize, end: usize) -> Option<&[Self::CodeUnit]>
         ensures within { IsSome result ↔ ((start ≤ end) × (end ≤ length source.now)) }
         ensures units { IfSome result (λ units. units.now ≡ slice_range source.now start end) };
 
-    /// The code unit at an index of the source, as a byte, or `None` past its end. The readers accept ASCII alone, so none
-    /// of them accepts a byte from 128 up.
+    /// Returns the code unit at an index of the source, as a byte. Returns `None` after the end of the source.
     ///
-    /// The error is `NonAsciiCodePoint`, and is returned exactly where the code unit there stands for no character.
+    /// The readers accept only ASCII. So none of them accepts a byte of 128 or more.
+    ///
+    /// # Errors
+    ///
+    /// - `NonAsciiCodePoint`: the code unit at the index stands for no character. For [`Utf16`], these are 0 and the
+    ///   code units of 127 or more. [`Utf8`] never returns this error.
     fn get_ascii(source: &[Self::CodeUnit], index: usize) -> ParserResult<Option<u8>>
         ensures letter { Returns (λ found. found) result
             (ascii_at letter index (map number source.now)) }
         ensures small { All (λ unit. number unit < limit) source.now };
 
-    /// Whether the key is `u-ca`, the key of calendars (RFC 9557 section 4.1).
+    /// Returns whether the key is `u-ca`, the key of calendars (RFC 9557, section 4.1).
     fn check_calendar_key(key: &[Self::CodeUnit]) -> bool
         ensures { IsTrue result ↔ (map number key.now ≡ codes "u-ca") };
 
@@ -69,8 +77,10 @@ pub trait EncodingType: private::Sealed {
     ghost equal: { (a b : Self.CodeUnit) → IsTrue (Self.CodeUnit.eq a b) ↔ (number a ≡ number b) };
 }
 
-/// Sources in 8-bit code units, as UTF-8. Each stands for itself, also 0 and those from 128 up, and `get_ascii` returns
-/// no error. Whether they are UTF-8 is not checked.
+/// The encoding of sources with 8-bit code units, such as UTF-8.
+///
+/// Each code unit stands for itself, also 0 and the code units of 128 or more. So `get_ascii` returns no error. It is
+/// not checked that the source is UTF-8.
 #[derive(Clone, Debug, Drop, PartialEq)]
 pub struct Utf8;
 
@@ -106,8 +116,10 @@ impl EncodingType for Utf8 {
     ghost equal = { unsigned_Decides };
 }
 
-/// Sources in 16-bit code units, as UTF-16. Those from 1 to 126 stand for themselves. Every other stands for no
-/// character, also 0 and 127. Whether they are UTF-16 is not checked.
+/// The encoding of sources with 16-bit code units, such as UTF-16.
+///
+/// The code units from 1 to 126 stand for themselves. All others, including 0 and 127, stand for no character. It is
+/// not checked that the source is UTF-16.
 #[derive(Clone, Debug, Drop, PartialEq)]
 pub struct Utf16;
 

@@ -1,4 +1,4 @@
-//! The errors of the readers, and their texts.
+//! The errors of the readers, and their messages.
 
 ghost use Rattle.std.specs.Prelude.{◌≡◌};
 ghost use Rattle.ixdtf_grammar.specs.table.Faults.{fault_of};
@@ -8,11 +8,14 @@ ghost use Rattle.ixdtf_grammar.specs.table.ErrorEquality.{place_of, location_of}
 use std::error::Error;
 use std::fmt;
 
-/// Why a reader refused a text, or a reply to an annotation.
+/// The reason why a reader refused a text, such as `InvalidMonthRange` for `2021-13-01`.
 ///
-/// Each error that a reader returns for a text has a row in the fault table, `docs/FAULTS.md` of the repository, with
-/// its place in the text. `CriticalDuplicateCalendar` and `UnrecognizedCritical` are errors of replies. The names and
-/// the texts are those of `ixdtf` 0.6.7 of ICU4X, as they are spelled there.
+/// `CriticalDuplicateCalendar` and `UnrecognizedCritical` are about annotations: about those that the handler returned,
+/// or, without a handler, about those in the text. Each other error that a reader returns is in the fault table,
+/// `docs/FAULTS.md` of the repository, with its position in the text. The names and the messages are those of `ixdtf`
+/// 0.6.7 of ICU4X, with its spelling.
+///
+/// # Examples
 ///
 /// ```rust
 /// use ixdtf::ParseError;
@@ -31,127 +34,148 @@ use std::fmt;
 /// ```
 #[derive(Clone, Copy, Debug)]
 pub enum ParseError {
-    /// An internal error. No reader returns it.
+    /// An internal error. No reader returns this error.
     ImplAssert,
-    /// The next code unit is a 16-bit one that is not from 1 to 126. A `Utf8` source never has this error.
+    /// The next code unit is a 16-bit code unit outside 1 to 126. 8-bit text never has this error.
     NonAsciiCodePoint,
-    /// No reader returns it.
+    /// No reader returns this error.
     ParseFloat,
-    /// The text ends where more has to follow. The location is `digit` where a digit has to follow, `Date` right after the
-    /// year of a date, and `AmbiguousAnnotation` after the `[` or `[!` of a first bracket, or in a first bracket that
-    /// begins with a lowercase letter or `_` and has no `=` and no `]`. For the empty text it is `time-numoffset` from
-    /// `parse_offset` and `TimeZoneAnnotation` from `parse_identifier`. From `parse_month_day` it is `MonthDay` for the
-    /// empty text and after one hyphen. In a duration it is `DurationStart` for the empty text, `DurationDesignator` after
-    /// a sign, `Duration` after the `P`, and `DateDurationDesignator` and `TimeDurationDesignator` after the digits of a
-    /// number. There another character than the letter of a unit has these errors too.
+    /// The text ends too early. `location` says what was being parsed:
+    ///
+    /// - `digit`: a digit must follow, as in `2020-1`.
+    /// - `Date`: the text ends after the year of a date, as in `2020`.
+    /// - `AmbiguousAnnotation`: the first bracket is not closed, and it is not known whether it is a zone or an
+    ///   annotation. It is empty after `[` or `[!`, or it begins with a lowercase letter or `_` and contains neither
+    ///   `=` nor `]`, as in `2020-01-01[cet`.
+    /// - `MonthDay`: the text for `parse_month_day` is empty, or is one hyphen.
+    /// - `time-numoffset`: the text for `parse_offset` is empty.
+    /// - `TimeZoneAnnotation`: the text for `parse_identifier` is empty.
+    /// - `DurationStart`: the text for a duration is empty.
+    /// - `DurationDesignator`: a duration ends after its sign.
+    /// - `Duration`: a duration ends after its `P`.
+    /// - `DateDurationDesignator`, `TimeDurationDesignator`: after the digits of a number, a duration ends, or has
+    ///   another character than the letter of a date unit or of a time unit.
     AbruptEnd {
-        /// What the reader was parsing.
+        /// What was being parsed.
         location: &'static str,
     },
-    /// A character that may not follow stands after a whole date, year and month, month and day, time, offset, bracket or
-    /// duration. In a text that is a name alone, a `]` after the name has this error. In a duration a character after the
-    /// `P` that is neither a digit nor a `T` has it.
+    /// A complete part is followed by a character that must not follow it. The part is a date, a year and a month, a
+    /// month and a day, a time, an offset, a bracket or a duration.
+    ///
+    /// If the text must be only a name, a `]` after the name has this error. In a duration, a character after the `P`
+    /// that is neither a digit nor a `T` has this error.
     InvalidEnd,
-    /// The two digits of a month are not 01 to 12.
+    /// The month is not 01 to 12.
     InvalidMonthRange,
-    /// The day of a date is 00, or past the last day of that month in that year.
+    /// The day of a date is 00, or is after the last day of this month in this year.
     InvalidDayRange,
-    /// The text begins with neither a digit nor a sign, or another character stands among the four digits of a year.
+    /// The text begins with a character that is neither a digit nor a sign, or the four digits of a year contain
+    /// another character.
     DateYear,
-    /// Another character stands among the six digits of a year with a sign, or the year is `-000000`.
+    /// The six digits of a year with a sign contain another character, or the year is `-000000`.
     DateExtendedYear,
-    /// Neither a hyphen nor a digit stands after a year, another character stands in the place of a month's digit, or a
-    /// month and a day begin with neither a digit nor a hyphen.
+    /// A year is followed by a character that is neither a hyphen nor a digit. Or a month contains a character that is
+    /// not a digit. Or a month and a day begin with a character that is neither a digit nor a hyphen.
     DateMonth,
-    /// Another character stands in the place of a day's digit, or neither a hyphen nor a digit stands after the month of a
-    /// month and a day.
+    /// A day contains a character that is not a digit. Or, in a month and a day, the month is followed by a character
+    /// that is neither a hyphen nor a digit.
     DateDay,
-    /// No reader returns it.
+    /// No reader returns this error.
     DateUnexpectedEnd,
-    /// No reader returns it.
+    /// No reader returns this error.
     TimeRequired,
-    /// Another character stands in the place of an hour's digit, or the hour is past 23, in a time or in an offset; or a
-    /// time that stands alone begins with neither a digit nor a `T`.
+    /// The hour of a time or of an offset contains a character that is not a digit, or is greater than 23. In
+    /// `parse_time`, this is also the error if the text begins with a character that is neither a digit nor a `T`.
     TimeHour,
-    /// Another character stands in the place of a minute's digit, or the minute is past 59, in a time or in an offset. The
-    /// same for an offset's second.
+    /// The minute of a time, or the minute or the second of an offset, contains a character that is not a digit, or is
+    /// greater than 59.
     TimeMinuteSecond,
-    /// Another character stands in the place of a digit of a time's second, or the second is past 60.
+    /// The second of a time contains a character that is not a digit, or is greater than 60.
     TimeSecond,
-    /// No digit stands after the `.` or `,` of a fraction. The end of the text there has this error too.
+    /// No digit follows the `.` or `,` of a fraction. This is also the error if the text ends there.
     FractionPart,
-    /// A date has one of its two hyphens: after `2020-01` no hyphen follows, or after `202001` one does. The end of the text
-    /// after `2020-01` has this error too.
+    /// A date has only one of its two hyphens: no hyphen follows `2020-01`, or a hyphen follows `202001`. This is also
+    /// the error if the text ends after `2020-01`.
     DateSeparator,
-    /// A time has one of its two colons: after `12:00` a digit follows, or after `1200` a colon does.
+    /// A time has only one of its two colons: a digit follows `12:00`, or a colon follows `1200`.
     TimeSeparator,
-    /// No reader returns it.
+    /// No reader returns this error.
     DecimalSeparator,
-    /// No reader returns it.
+    /// No reader returns this error.
     InvalidAnnotation,
-    /// No reader returns it.
+    /// No reader returns this error.
     AnnotationOpen,
-    /// A bracket is not closed: the text ends after the zone name or the annotation's value in it, or no `]` follows the
-    /// offset in it.
+    /// A bracket is not closed: the text ends after the name of a zone or after the value of an annotation, or no `]`
+    /// follows the offset in the bracket.
     AnnotationClose,
-    /// No reader returns it.
+    /// No reader returns this error.
     AnnotationChar,
     /// The text ends in the key of an annotation, before its `=`.
     AnnotationKeyValueSeparator,
-    /// In a bracket after others, the key of an annotation begins with a character that no key begins with. The end of the
-    /// text there has this error too.
+    /// In a bracket that is not the first one, the key begins with a character that cannot begin a key. This is also
+    /// the error if the text ends there.
     AnnotationKeyLeadingChar,
-    /// The key of an annotation has a character that is neither one of a key nor the `=` after it.
+    /// The key of an annotation contains a character that a key cannot contain, and that is not the `=` after it.
     AnnotationKeyChar,
-    /// No ASCII letter or digit follows a hyphen in the value of an annotation. The end of the text there has this error too.
+    /// In the value of an annotation, no ASCII letter or digit follows a hyphen. This is also the error if the text
+    /// ends there.
     AnnotationValueCharPostHyphen,
-    /// The value of an annotation has a character that is neither one of a value nor the `]` after it; or no ASCII letter
-    /// or digit follows the `=`. The end of the text after the `=` has this error too.
+    /// The value of an annotation contains a character that a value cannot contain, and that is not the `]` after it.
+    /// This is also the error if no ASCII letter or digit follows the `=`, or if the text ends after the `=`.
     AnnotationValueChar,
-    /// A colon or a digit follows the minute of an offset that may have no seconds: one in brackets, or one that
-    /// `parse_identifier` reads.
+    /// A colon or a digit follows the minute of an offset that must not have seconds: an offset in brackets, or for
+    /// `parse_identifier`.
     InvalidMinutePrecisionOffset,
-    /// A reply to an annotation has the key `u-ca` and another value than the first reply with this key, and at least one
-    /// of the two is critical. Without a handler each annotation is its own reply.
+    /// An annotation with the key `u-ca` has a value that differs from that of the first such annotation, and at least
+    /// one of the two is critical. With a handler, this is about the annotations that the handler returned.
     CriticalDuplicateCalendar,
-    /// A reply to an annotation is critical, and its key is not `u-ca`. Without a handler each annotation is its own reply.
+    /// An annotation is critical, and its key is not `u-ca`. With a handler, this is about the annotations that the
+    /// handler returned.
     UnrecognizedCritical,
-    /// A time zone begins with a character that none begins with. From `parse_iana_identifier` the empty text has this
-    /// error too.
+    /// A time zone begins with a character that cannot begin a time zone. For `parse_iana_identifier`, this is also the
+    /// error of the empty text.
     TzLeadingChar,
-    /// No character of a name follows a `/` in the name of a time zone. The end of the text there has this error too.
+    /// In the name of a time zone, a `/` is not followed by a character of a name. This is also the error if the text
+    /// ends there.
     IanaCharPostSeparator,
-    /// The name of a time zone has a character that is neither one of a name nor the `]` of its bracket.
+    /// The name of a time zone contains a character that a name cannot contain, and that is not the `]` of its bracket.
     IanaChar,
-    /// An offset has one of its two colons: after `+05:00` a digit follows, or after `+0500` a colon does.
+    /// An offset has only one of its two colons: a digit follows `+05:00`, or a colon follows `+0500`.
     UtcTimeSeparator,
-    /// A text that is an offset alone begins with another character than a sign.
+    /// The text for `parse_offset` begins with a character that is not a sign.
     OffsetNeedsSign,
-    /// One hyphen stands before a month and a day, in the place of two or none.
+    /// A month and a day begin with one hyphen and another character. Two hyphens or none are allowed.
     MonthDayHyphen,
-    /// Another character stands in the place of the `P` of a duration, or of its sign.
+    /// A duration begins with a character that is neither a sign nor a `P`, or its sign is followed by another
+    /// character than `P`.
     DurationDisgnator,
-    /// A number of a duration is 2^64 or more, or that of its years, months or weeks is 2^32 or more.
+    /// A number of a duration is 2^64 or more, or the number of its years, months or weeks is 2^32 or more.
     DurationValueExceededRange,
-    /// The years, months, weeks and days of a duration are not in this order, or under the strict profile one of them
-    /// stands twice.
+    /// The years, months, weeks and days of a duration are not in this order. Under the strict profile, this is also
+    /// the error if one of these units occurs twice.
     DateDurationPartOrder,
-    /// The hours, minutes and seconds of a duration are not in this order, or under the strict profile one of them stands
-    /// twice.
+    /// The hours, minutes and seconds of a duration are not in this order. Under the strict profile, this is also the
+    /// error if one of these units occurs twice.
     TimeDurationPartOrder,
-    /// No digit follows the `T` of a duration. The end of the text there has this error too.
+    /// No digit follows the `T` of a duration. This is also the error if the text ends there.
     TimeDurationDesignator,
-    /// A time that stands alone, with its offset, begins as a month and a day do.
+    /// The text for `parse_time` is ambiguous: up to its first `[` it is a time, but it begins like a month and a day,
+    /// as in `1200`.
     AmbiguousTimeMonthDay,
-    /// A time that stands alone, with its offset, begins as a year and a month do, and not as a month and a day.
+    /// The text for `parse_time` is ambiguous: up to its first `[` it is a time, but it begins like a year and a month,
+    /// and not like a month and a day, as in `200112`.
     AmbiguousTimeYearMonth,
-    /// The day of a month and a day is past the last day of its month, where February has 29, or under the strict profile
-    /// it is 00.
+    /// The day of a month and a day is after the last day of the month. February has 29 days here. Under the strict
+    /// profile, this is also the error of the day 00.
     InvalidMonthDay,
 }
 
 impl ParseError {
-    /// The text of the error, the same for each `AbruptEnd`. Display also writes the location of an `AbruptEnd`.
+    /// Returns the message of the error, such as `Parsing ended abruptly.`.
+    ///
+    /// The message is the same for every `AbruptEnd`. `Display` also writes the location of an `AbruptEnd`.
+    ///
+    /// # Examples
     ///
     /// ```rust
     /// use ixdtf::ParseError;
@@ -221,7 +245,7 @@ impl ParseError {
 }
 
 impl ParseError {
-    /// The index of the variant in the list of variants.
+    /// Returns the index of the variant in the list of variants.
     fn place(&self) -> u8
         ensures { result ≡ place_of (fault_of self.now) }
     {
@@ -277,7 +301,7 @@ impl ParseError {
 }
 
 impl ParseError {
-    /// The location of an `AbruptEnd`, and nothing for every other error.
+    /// Returns the location of an `AbruptEnd`, and the empty string for every other error.
     fn location(&self) -> &'static str
         ensures { result.now ≡ location_of (fault_of self.now) }
     {
@@ -297,7 +321,7 @@ impl PartialEq for ParseError {
 
     ghost laws = { same_error-laws };
 
-    /// Whether the errors are the same variant, and their locations have equal bytes.
+    /// Returns whether the errors are the same variant, and their locations have equal bytes.
     fn eq(&self, other: &ParseError) -> bool
         ensures computes { result ≡ same_error self.now other.now }
         ensures equal { IsTrue result ↔ (fault_of self.now ≡ fault_of other.now) }
@@ -306,8 +330,8 @@ impl PartialEq for ParseError {
     }
 }
 
-// Display writes the text of the error, and for `AbruptEnd` `Parsing ended abruptly while parsing ` and the location.
-// It ignores width and fill.
+// `Display` writes the message of the error. For an `AbruptEnd`, it writes `Parsing ended abruptly while parsing ` and
+// the location. It ignores width and fill.
 impl fmt::Display for ParseError {
     ghost use Rattle.std.specs.Prelude.{Some};
     ghost use Rattle.ixdtf_grammar.specs.table.Faults.{fault_of};

@@ -1,4 +1,4 @@
-//! An error with its place in the text.
+//! An error with its position in the text.
 
 ghost use Rattle.std.specs.Prelude.{◌≡◌};
 
@@ -7,9 +7,12 @@ use crate::pointed::PointedText;
 use std::error::Error;
 use std::fmt;
 
-/// Why a reader refused a text, and at which code unit.
+/// An error and its position in the text, as the `*_located` readers return it.
 ///
-/// Display writes the text of the error, ` at ` and the place, as `Invalid character while parsing month value. at 5`.
+/// `Display` writes the message of the error, ` at ` and the position, as in
+/// `Invalid character while parsing month value. at 5`.
+///
+/// # Examples
 ///
 /// ```rust
 /// use ixdtf::parsers::IxdtfParser;
@@ -21,17 +24,21 @@ use std::fmt;
 pub struct LocatedError {
     /// The error.
     pub error: ParseError,
-    /// How many code units of the remaining input stand before the place of the error.
+    /// The position of the error: the number of code units before it in the input of the reader.
     pub at: usize,
 }
 
 impl LocatedError {
-    /// The text with a mark under the place of the error, for people to read.
+    /// Returns the text with a mark under the position of the error, for people to read.
     ///
-    /// `text` is what the reader was given. The place counts its bytes, so the reader has to be one of 8-bit code units. A
-    /// place in 16-bit code units is another one in UTF-8 where a character before it is not ASCII.
+    /// `text` must be the text that the reader was given, as 8-bit text, because the position is used as a number of
+    /// bytes. If the reader was given 16-bit text with a character outside ASCII before the position, the mark is at a
+    /// wrong column.
     ///
-    /// The Display of the result writes two lines, with no newline at the end:
+    /// The `Display` of the result writes two lines, without a newline at the end. [`PointedText`] describes what it
+    /// writes for a long text, and for control characters.
+    ///
+    /// # Examples
     ///
     /// ```rust
     /// use ixdtf::parsers::IxdtfParser;
@@ -40,8 +47,6 @@ impl LocatedError {
     /// let error = IxdtfParser::from_str(text).parse_located().unwrap_err();
     /// assert_eq!(error.in_text(text).to_string(), "2020-x1\n     ^");
     /// ```
-    ///
-    /// [`PointedText`] says how they are made of a longer text, or of one with control characters.
     pub fn in_text<'a>(&self, text: &'a str) -> PointedText<'a>
         ensures text { result.text.now ≡ text.now }
         ensures place { result.at ≡ self.now.at }
@@ -59,7 +64,7 @@ impl PartialEq for LocatedError {
 
     ghost laws = { same_located-laws };
 
-    /// Whether the places and the errors are equal.
+    /// Returns whether the errors are equal and the positions are equal.
     fn eq(&self, other: &LocatedError) -> bool
         ensures computes { result ≡ same_located self.now other.now }
         ensures equal { IsTrue result
@@ -69,7 +74,7 @@ impl PartialEq for LocatedError {
     }
 }
 
-// Display writes the text of the error, ` at ` and the place in decimal. It ignores width and fill.
+// `Display` writes the message of the error, ` at ` and the position as a decimal number. It ignores width and fill.
 impl fmt::Display for LocatedError {
     ghost use Rattle.std.specs.Prelude.{Some};
     ghost use Rattle.ixdtf_grammar.specs.table.Faults.{fault_of};
@@ -91,7 +96,7 @@ impl From<LocatedError> for ParseError {
 
     ghost from_gives = { λ located error. error ≡ located.error };
 
-    /// The error without its place.
+    /// Returns the error without its position.
     fn from(located: LocatedError) -> ParseError {
         located.error
     }

@@ -7,8 +7,9 @@ ghost use Rattle.std.proofs.Common.{rules};
 use std::fmt;
 use std::marker::Model;
 
-/// A number below 2^64, as its eight bytes, the lowest first. It needs no alignment, so a record that has one has no
-/// padding before it.
+/// A number below 2^64, stored as its eight bytes, the lowest byte first.
+///
+/// It needs no alignment. So a record that contains it has no padding before it.
 #[derive(Clone, Copy)]
 pub struct PackedNumber {
     bytes: [u8; 8],
@@ -30,7 +31,7 @@ impl Model for PackedNumber {
 }
 
 impl PackedNumber {
-    /// The number, packed.
+    /// Packs a number.
     #[inline(always)]
     pub fn of(number: u64) -> PackedNumber
         ensures { result ≡ number }
@@ -40,7 +41,7 @@ impl PackedNumber {
         }
     }
 
-    /// The number.
+    /// Returns the number.
     #[inline(always)]
     pub fn number(self) -> u64
         ensures { result ≡ self }
@@ -54,7 +55,7 @@ impl PartialEq for PackedNumber {
 
     ghost laws = { Prim.search (comparing, rules) };
 
-    /// Whether the numbers are equal.
+    /// Returns whether the numbers are equal.
     #[inline(always)]
     fn eq(&self, other: &PackedNumber) -> bool {
         self.number() == other.number()
@@ -62,7 +63,7 @@ impl PartialEq for PackedNumber {
 }
 
 impl fmt::Debug for PackedNumber {
-    /// Writes the number, as a `u64` is written.
+    /// Writes the number like a `u64`.
     fn fmt<W: fmt::Write>(&self, f: &mut fmt::Formatter<W>) -> fmt::Result {
         fmt::Debug::fmt(&self.number(), f)
     }

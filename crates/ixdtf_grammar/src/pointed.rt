@@ -8,22 +8,25 @@ ghost use Rattle.ixdtf_grammar.specs.LocatedTexts.{shown, column_of, cut_mark, l
 
 use std::fmt;
 
-/// The most characters that are written before the place.
+/// The greatest number of characters that are written before the position.
 const BEFORE_PLACE: usize = 48;
 
-/// The most characters that are written from the place on.
+/// The greatest number of characters that are written from the position on.
 const FROM_PLACE: usize = 24;
 
-/// A text with a mark under the place of an error, as [`LocatedError::in_text`](crate::LocatedError::in_text) returns it.
+/// A text with a mark under the position of an error, as [`LocatedError::in_text`](crate::LocatedError::in_text)
+/// returns it.
 ///
-/// Display writes two lines with a newline between them and none at the end: the text, and spaces with a `^` under the place.
-/// It does not allocate.
+/// `Display` writes two lines: the text, and a `^` under the position, after spaces. There is a newline between the two
+/// lines, and none at the end. `Display` does not allocate.
 ///
-/// - The mark stands under the character that has the byte at the place. It stands one past the last where the place is
-///   the end of the text or past it. A column is one code point.
-/// - A control character, U+0000 to U+001F and U+007F to U+009F, is written as `.`.
-/// - At most 48 characters before the place are written, and at most 24 from it on. Where more stand there, `..` is written for
-///   them. So a line has at most 76 columns.
+/// - The mark is under the character that contains the byte at the position. If the position is the end of the text or
+///   after it, the mark is one column after the last character. A column is one code point.
+/// - A control character, U+0000 to U+001F or U+007F to U+009F, is written as `.`.
+/// - At most 48 characters before the position are written, and at most 24 characters from the position on. If there
+///   are more, `..` is written instead of them. So a line has at most 76 columns.
+///
+/// # Examples
 ///
 /// ```rust
 /// use ixdtf::parsers::IxdtfParser;
@@ -42,7 +45,7 @@ pub struct PointedText<'a> {
 }
 
 impl<'a> PointedText<'a> {
-    /// The text with a mark at the byte `at`.
+    /// Creates a text with a mark at the byte `at`.
     pub(crate) fn new(text: &'a str, at: usize) -> PointedText<'a>
         ensures text { result.text.now ≡ text.now }
         ensures place { result.at ≡ at }
@@ -51,7 +54,7 @@ impl<'a> PointedText<'a> {
     }
 }
 
-// Display ignores width and fill.
+// `Display` ignores width and fill.
 impl<'a> fmt::Display for PointedText<'a> {
     ghost use Rattle.std.specs.Prelude.{Some};
     ghost use Rattle.ixdtf_grammar.specs.LocatedTexts.{pointed_text};
@@ -69,7 +72,7 @@ impl<'a> fmt::Display for PointedText<'a> {
     }
 }
 
-/// How many whole characters the first `at` bytes of the text have.
+/// Returns the number of complete characters in the first `at` bytes of the text.
 fn column_of(text: &str, at: usize) -> usize
     ensures column { result ≡ column_of (chars text.now) at }
     ensures within { result ≤ length (chars text.now) }
@@ -87,7 +90,7 @@ fn column_of(text: &str, at: usize) -> usize
     column
 }
 
-/// How many columns of the first line are before the place.
+/// Returns the number of columns of the first line that are before the position.
 fn indent_of(column: usize) -> usize
     ensures { result ≡ indent_of column }
 {
@@ -98,14 +101,14 @@ fn indent_of(column: usize) -> usize
     }
 }
 
-/// `..` where something is cut.
+/// Returns `..` if something is cut, and otherwise the empty string.
 fn cut_mark(is_cut: bool) -> &'static str
     ensures { result.now ≡ cut_mark is_cut }
 {
     if is_cut { ".." } else { "" }
 }
 
-/// Writes the first line: the text from 48 characters before the column up to 24 from it on.
+/// Writes the first line: at most 48 characters before the column, and at most 24 characters from the column on.
 fn write_line<W: fmt::Write>(f: &mut fmt::Formatter<W>, text: &str, column: usize) -> fmt::Result
     requires { column ≤ length (chars text.now) }
     ensures { WritesStyledOnOk W.write_str_gives f.old result (encode_utf8_all (line_of (chars text.now) column)) f.new }
@@ -117,7 +120,7 @@ fn write_line<W: fmt::Write>(f: &mut fmt::Formatter<W>, text: &str, column: usiz
     f.write_str(cut_mark(is_longer))
 }
 
-/// Writes the characters from the one at `first` up to the one before `end`, as they are shown.
+/// Writes the characters from index `first` up to, but not including, index `end`.
 fn write_characters<W: fmt::Write>(
     f: &mut fmt::Formatter<W>,
     text: &str,

@@ -22,7 +22,7 @@ pub use error::ParseError;
 pub use located::LocatedError;
 pub use pointed::PointedText;
 
-/// What a reader returns: what it found, or the error.
+/// The result of a reader: the value that it found, or the error.
 pub type ParserResult<T> = Result<T, ParseError>;
 
 #[cfg(test)]

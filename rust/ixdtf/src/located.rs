@@ -1,15 +1,18 @@
 // Made by tools/to_rust.py of crates/ixdtf_grammar/src/located.rt. Do not edit.
 
-//! An error with its place in the text.
+//! An error with its position in the text.
 
 use crate::error::ParseError;
 use crate::pointed::PointedText;
 use core::error::Error;
 use core::fmt;
 
-/// Why a reader refused a text, and at which code unit.
+/// An error and its position in the text, as the `*_located` readers return it.
 ///
-/// Display writes the text of the error, ` at ` and the place, as `Invalid character while parsing month value. at 5`.
+/// `Display` writes the message of the error, ` at ` and the position, as in
+/// `Invalid character while parsing month value. at 5`.
+///
+/// # Examples
 ///
 /// ```rust
 /// use ixdtf::parsers::IxdtfParser;
@@ -22,17 +25,21 @@ use core::fmt;
 pub struct LocatedError {
     /// The error.
     pub error: ParseError,
-    /// How many code units of the remaining input stand before the place of the error.
+    /// The position of the error: the number of code units before it in the input of the reader.
     pub at: usize,
 }
 
 impl LocatedError {
-    /// The text with a mark under the place of the error, for people to read.
+    /// Returns the text with a mark under the position of the error, for people to read.
     ///
-    /// `text` is what the reader was given. The place counts its bytes, so the reader has to be one of 8-bit code units. A
-    /// place in 16-bit code units is another one in UTF-8 where a character before it is not ASCII.
+    /// `text` must be the text that the reader was given, as 8-bit text, because the position is used as a number of
+    /// bytes. If the reader was given 16-bit text with a character outside ASCII before the position, the mark is at a
+    /// wrong column.
     ///
-    /// The Display of the result writes two lines, with no newline at the end:
+    /// The `Display` of the result writes two lines, without a newline at the end. [`PointedText`] describes what it
+    /// writes for a long text, and for control characters.
+    ///
+    /// # Examples
     ///
     /// ```rust
     /// use ixdtf::parsers::IxdtfParser;
@@ -41,15 +48,13 @@ impl LocatedError {
     /// let error = IxdtfParser::from_str(text).parse_located().unwrap_err();
     /// assert_eq!(error.in_text(text).to_string(), "2020-x1\n     ^");
     /// ```
-    ///
-    /// [`PointedText`] says how they are made of a longer text, or of one with control characters.
     #[must_use]
     pub fn in_text<'a>(&self, text: &'a str) -> PointedText<'a> {
         PointedText::new(text, self.at)
     }
 }
 
-// Display writes the text of the error, ` at ` and the place in decimal. It ignores width and fill.
+// `Display` writes the message of the error, ` at ` and the position as a decimal number. It ignores width and fill.
 impl fmt::Display for LocatedError {
     fn fmt(&self, f: &mut fmt::Formatter<'_>) -> fmt::Result {
         let error = self.error;
@@ -61,7 +66,7 @@ impl fmt::Display for LocatedError {
 impl Error for LocatedError {}
 
 impl From<LocatedError> for ParseError {
-    /// The error without its place.
+    /// Returns the error without its position.
     fn from(located: LocatedError) -> ParseError {
         located.error
     }

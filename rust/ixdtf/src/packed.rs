@@ -4,15 +4,16 @@
 
 use core::fmt;
 
-/// A number below 2^64, as its eight bytes, the lowest first. It needs no alignment, so a record that has one has no
-/// padding before it.
+/// A number below 2^64, stored as its eight bytes, the lowest byte first.
+///
+/// It needs no alignment. So a record that contains it has no padding before it.
 #[derive(Clone, Copy)]
 pub struct PackedNumber {
     bytes: [u8; 8],
 }
 
 impl PackedNumber {
-    /// The number, packed.
+    /// Packs a number.
     #[inline(always)]
     pub fn of(number: u64) -> PackedNumber {
         PackedNumber {
@@ -20,7 +21,7 @@ impl PackedNumber {
         }
     }
 
-    /// The number.
+    /// Returns the number.
     #[inline(always)]
     pub fn number(self) -> u64 {
         u64::from_le_bytes(self.bytes)
@@ -28,7 +29,7 @@ impl PackedNumber {
 }
 
 impl PartialEq for PackedNumber {
-    /// Whether the numbers are equal.
+    /// Returns whether the numbers are equal.
     #[inline(always)]
     fn eq(&self, other: &PackedNumber) -> bool {
         self.number() == other.number()
@@ -36,7 +37,7 @@ impl PartialEq for PackedNumber {
 }
 
 impl fmt::Debug for PackedNumber {
-    /// Writes the number, as a `u64` is written.
+    /// Writes the number like a `u64`.
     fn fmt(&self, f: &mut fmt::Formatter<'_>) -> fmt::Result {
         fmt::Debug::fmt(&self.number(), f)
     }

@@ -4,22 +4,25 @@
 
 use core::fmt;
 
-/// The most characters that are written before the place.
+/// The greatest number of characters that are written before the position.
 const BEFORE_PLACE: usize = 48;
 
-/// The most characters that are written from the place on.
+/// The greatest number of characters that are written from the position on.
 const FROM_PLACE: usize = 24;
 
-/// A text with a mark under the place of an error, as [`LocatedError::in_text`](crate::LocatedError::in_text) returns it.
+/// A text with a mark under the position of an error, as [`LocatedError::in_text`](crate::LocatedError::in_text)
+/// returns it.
 ///
-/// Display writes two lines with a newline between them and none at the end: the text, and spaces with a `^` under the place.
-/// It does not allocate.
+/// `Display` writes two lines: the text, and a `^` under the position, after spaces. There is a newline between the two
+/// lines, and none at the end. `Display` does not allocate.
 ///
-/// - The mark stands under the character that has the byte at the place. It stands one past the last where the place is
-///   the end of the text or past it. A column is one code point.
-/// - A control character, U+0000 to U+001F and U+007F to U+009F, is written as `.`.
-/// - At most 48 characters before the place are written, and at most 24 from it on. Where more stand there, `..` is written for
-///   them. So a line has at most 76 columns.
+/// - The mark is under the character that contains the byte at the position. If the position is the end of the text or
+///   after it, the mark is one column after the last character. A column is one code point.
+/// - A control character, U+0000 to U+001F or U+007F to U+009F, is written as `.`.
+/// - At most 48 characters before the position are written, and at most 24 characters from the position on. If there
+///   are more, `..` is written instead of them. So a line has at most 76 columns.
+///
+/// # Examples
 ///
 /// ```rust
 /// use ixdtf::parsers::IxdtfParser;
@@ -38,13 +41,13 @@ pub struct PointedText<'a> {
 }
 
 impl<'a> PointedText<'a> {
-    /// The text with a mark at the byte `at`.
+    /// Creates a text with a mark at the byte `at`.
     pub(crate) fn new(text: &'a str, at: usize) -> PointedText<'a> {
         PointedText { text, at }
     }
 }
 
-// Display ignores width and fill.
+// `Display` ignores width and fill.
 impl<'a> fmt::Display for PointedText<'a> {
     fn fmt(&self, f: &mut fmt::Formatter<'_>) -> fmt::Result {
         let column = column_of(self.text, self.at);
@@ -55,7 +58,7 @@ impl<'a> fmt::Display for PointedText<'a> {
     }
 }
 
-/// How many whole characters the first `at` bytes of the text have.
+/// Returns the number of complete characters in the first `at` bytes of the text.
 fn column_of(text: &str, at: usize) -> usize {
     let mut column = 0;
     let mut left = at;
@@ -70,7 +73,7 @@ fn column_of(text: &str, at: usize) -> usize {
     column
 }
 
-/// How many columns of the first line are before the place.
+/// Returns the number of columns of the first line that are before the position.
 fn indent_of(column: usize) -> usize {
     if BEFORE_PLACE < column {
         BEFORE_PLACE + 2
@@ -79,12 +82,12 @@ fn indent_of(column: usize) -> usize {
     }
 }
 
-/// `..` where something is cut.
+/// Returns `..` if something is cut, and otherwise the empty string.
 fn cut_mark(is_cut: bool) -> &'static str {
     if is_cut { ".." } else { "" }
 }
 
-/// Writes the first line: the text from 48 characters before the column up to 24 from it on.
+/// Writes the first line: at most 48 characters before the column, and at most 24 characters from the column on.
 fn write_line(f: &mut fmt::Formatter<'_>, text: &str, column: usize) -> fmt::Result {
     let end = column + FROM_PLACE;
     let is_longer = end < text.chars().count();
@@ -93,7 +96,7 @@ fn write_line(f: &mut fmt::Formatter<'_>, text: &str, column: usize) -> fmt::Res
     f.write_str(cut_mark(is_longer))
 }
 
-/// Writes the characters from the one at `first` up to the one before `end`, as they are shown.
+/// Writes the characters from index `first` up to, but not including, index `end`.
 fn write_characters(
     f: &mut fmt::Formatter<'_>,
     text: &str,

@@ -5,7 +5,9 @@
 use crate::encoding::EncodingType;
 use crate::packed::PackedNumber;
 
-/// What a reader found in a text: each part that stood there, and `None` for each part that did not.
+/// The parts of a text with a date or a time. A field is `None` if the text does not have this part.
+///
+/// # Examples
 ///
 /// ```rust
 /// use ixdtf::parsers::IxdtfParser;
@@ -17,22 +19,23 @@ use crate::packed::PackedNumber;
 #[derive(Debug, PartialEq)]
 #[cfg_attr(not(feature = "open-records"), non_exhaustive)]
 pub struct IxdtfParseRecord<'a, T: EncodingType> {
-    /// The calendar date (`full-date` of RFC 3339, section 5.6, or one of its forms in ISO 8601).
+    /// The date (`full-date` of RFC 3339, section 5.6, or another form of ISO 8601).
     pub date: Option<DateRecord>,
     /// The time of day (`partial-time` of RFC 3339, section 5.6, or a shorter form of ISO 8601).
     pub time: Option<TimeRecord>,
-    /// How far the time is from UTC (`time-offset` of RFC 3339, section 5.6).
+    /// The offset from UTC (`time-offset` of RFC 3339, section 5.6).
     pub offset: Option<UtcOffsetRecordOrZ>,
     /// The time zone in brackets (`time-zone` of RFC 9557, section 4.1).
     pub tz: Option<TimeZoneAnnotation<'a, T>>,
-    /// The code units of the value of the first annotation with the key `u-ca` (`suffix-tag` of RFC 9557, section 4.1),
-    /// which names a calendar; where there is a handler, those of the first such reply. Whether there is such a calendar is
-    /// not checked.
+    /// The calendar: the value of the first annotation with the key `u-ca` (`suffix-tag` of RFC 9557, section 4.1).
+    ///
+    /// With a handler, this is the first such annotation that the handler returned. It is not checked that such a
+    /// calendar exists.
     pub calendar: Option<&'a [T::CodeUnit]>,
 }
 
 impl<'a, T: EncodingType> Default for IxdtfParseRecord<'a, T> {
-    /// An empty record.
+    /// Creates an empty record.
     #[inline(always)]
     fn default() -> Self {
         IxdtfParseRecord {
@@ -48,30 +51,32 @@ impl<'a, T: EncodingType> Default for IxdtfParseRecord<'a, T> {
 /// A date of the proleptic Gregorian calendar (`full-date` of RFC 3339, section 5.6).
 #[derive(Clone, Copy, Debug, Default, PartialEq)]
 pub struct DateRecord {
-    /// The year: 0 to 9999 from four digits, or -999999 to 999999 from a sign and six digits. Year 0 is the year before
-    /// year 1. It is 0 too where the text is a month and a day.
+    /// The year: 0 to 9999 if it is written with four digits, and -999999 to 999999 if it is written with a sign and
+    /// six digits. Year 0 is the year before year 1. For a month and a day without a year, it is 0.
     pub year: i32,
     /// The month, 1 to 12.
     pub month: u8,
-    /// The day of the month, from 1. Where the text is a month and a day it is from 0, and where the text is a year and a
-    /// month it is 1.
+    /// The day of the month, from 1 on. For a month and a day without a year, it can also be 0. For a year and a month
+    /// without a day, it is 1.
     pub day: u8,
 }
 
-/// A time of day (`partial-time` of RFC 3339, section 5.6). Parts that the text leaves out are zero.
+/// A time of day (`partial-time` of RFC 3339, section 5.6). Parts that the text does not have are 0.
 #[derive(Clone, Copy, Debug, Default, PartialEq)]
 pub struct TimeRecord {
     /// The hour, 0 to 23.
     pub hour: u8,
     /// The minute, 0 to 59.
     pub minute: u8,
-    /// The second, 0 to 60. 60 is a leap second, and is kept as it was written.
+    /// The second, 0 to 60. 60 is a leap second. It is not changed to 59.
     pub second: u8,
-    /// The part of a second beyond `second` (`time-secfrac` of RFC 3339, section 5.6), or `None` where no digits follow.
+    /// The fraction of a second (`time-secfrac` of RFC 3339, section 5.6), or `None` if the text has no fraction.
     pub fraction: Option<Fraction>,
 }
 
-/// A time zone in brackets, as `[!Europe/Paris]` (`time-zone` of RFC 9557, section 4.1).
+/// A time zone in brackets, such as `[!Europe/Paris]` (`time-zone` of RFC 9557, section 4.1).
+///
+/// # Examples
 ///
 /// ```rust
 /// use ixdtf::parsers::IxdtfParser;
@@ -85,14 +90,16 @@ pub struct TimeRecord {
 #[derive(Clone, Debug, PartialEq)]
 #[cfg_attr(not(feature = "open-records"), non_exhaustive)]
 pub struct TimeZoneAnnotation<'a, T: EncodingType> {
-    /// Whether a `!` stands right after the opening bracket (`critical-flag`). An application must then process the zone,
+    /// Whether a `!` follows the opening bracket (`critical-flag`). If it does, an application must process the zone,
     /// or reject the text.
     pub critical: bool,
-    /// The zone between the brackets.
+    /// The zone: a name or an offset.
     pub tz: TimeZoneRecord<'a, T>,
 }
 
-/// An annotation in brackets, as `[!u-ca=hebrew]` (`suffix-tag` of RFC 9557, section 4.1).
+/// An annotation in brackets, such as `[!u-ca=hebrew]` (`suffix-tag` of RFC 9557, section 4.1).
+///
+/// # Examples
 ///
 /// ```rust
 /// use ixdtf::parsers::IxdtfParser;
@@ -109,21 +116,21 @@ pub struct TimeZoneAnnotation<'a, T: EncodingType> {
 #[derive(Clone, Debug, PartialEq)]
 #[cfg_attr(not(feature = "open-records"), non_exhaustive)]
 pub struct Annotation<'a, T: EncodingType> {
-    /// Whether a `!` stands right after the opening bracket (`critical-flag`). An application must then process the
+    /// Whether a `!` follows the opening bracket (`critical-flag`). If it does, an application must process the
     /// annotation, or reject the text.
     pub critical: bool,
-    /// The code units of the key (`suffix-key`), as they stand in the text.
+    /// The code units of the key (`suffix-key`): a slice of the text.
     pub key: &'a [T::CodeUnit],
-    /// The code units of the value (`suffix-values`), as they stand in the text.
+    /// The code units of the value (`suffix-values`): a slice of the text.
     pub value: &'a [T::CodeUnit],
 }
 
-/// A time zone, by name or by offset.
+/// A time zone: a name such as `Europe/Paris`, or an offset such as `+05:30`.
 #[derive(Clone, Debug, PartialEq)]
 #[non_exhaustive]
 pub enum TimeZoneRecord<'a, T: EncodingType> {
-    /// The code units of a name (`time-zone-name` of RFC 9557, section 4.1), as they stand in the text. Whether such a zone
-    /// exists is not checked.
+    /// The code units of a name (`time-zone-name` of RFC 9557, section 4.1): a slice of the text. It is not checked
+    /// that such a zone exists.
     Name(&'a [T::CodeUnit]),
     /// A fixed offset (`time-numoffset` of RFC 3339, section 5.6).
     Offset(MinutePrecisionOffset),
@@ -133,14 +140,14 @@ pub enum TimeZoneRecord<'a, T: EncodingType> {
 #[derive(Clone, Copy, Debug, PartialEq)]
 #[repr(i8)]
 pub enum Sign {
-    /// From a `-`.
+    /// The text has a `-`.
     Negative = -1,
-    /// From a `+`, or from no sign where none is needed.
+    /// The text has a `+`, or has no sign and needs none.
     Positive = 1,
 }
 
 impl From<bool> for Sign {
-    /// `Positive` for `true`, and `Negative` for `false`: the two signs of `time-numoffset` (RFC 3339, section 5.6).
+    /// Returns `Positive` for `true`, and `Negative` for `false`.
     fn from(value: bool) -> Sign {
         if value {
             Sign::Positive
@@ -150,12 +157,13 @@ impl From<bool> for Sign {
     }
 }
 
-/// An offset from UTC in hours and minutes (`time-numoffset` of RFC 3339, section 5.6): UTC and the offset together are
-/// the local time.
+/// An offset from UTC in hours and minutes (`time-numoffset` of RFC 3339, section 5.6).
+///
+/// Local time is UTC plus the offset.
 #[derive(Clone, Copy, Debug, PartialEq)]
 pub struct MinutePrecisionOffset {
-    /// `Positive` where local time is ahead of UTC. `-00:00` stays `Negative`: UTC is known there, and the local offset is
-    /// not.
+    /// The sign. It is `Positive` if local time is ahead of UTC. For `-00:00` it is `Negative`: this offset means that
+    /// UTC is known, and the local offset is not.
     pub sign: Sign,
     /// The hours, 0 to 23.
     pub hour: u8,
@@ -164,7 +172,7 @@ pub struct MinutePrecisionOffset {
 }
 
 impl MinutePrecisionOffset {
-    /// `+00:00`: local time is UTC (RFC 3339, section 5.6).
+    /// Returns the offset `+00:00`: local time is UTC (RFC 3339, section 5.6).
     pub const fn zero() -> MinutePrecisionOffset {
         MinutePrecisionOffset {
             sign: Sign::Positive,
@@ -174,19 +182,20 @@ impl MinutePrecisionOffset {
     }
 }
 
-/// An offset from UTC down to parts of a second. `time-numoffset` of RFC 3339, section 5.6, has no seconds: this is the
-/// longer form that the readers also take.
+/// An offset from UTC with seconds, such as `-05:00:30.5`.
+///
+/// `time-numoffset` of RFC 3339, section 5.6, has no seconds. The readers also accept this longer form.
 #[derive(Clone, Copy, Debug, PartialEq)]
 pub struct FullPrecisionOffset {
-    /// The sign, the hours and the minutes. The sign is that of the whole offset.
+    /// The sign, the hours and the minutes. The sign is that of the complete offset.
     pub minute_precision_offset: MinutePrecisionOffset,
     /// The seconds, 0 to 59.
     pub second: u8,
-    /// The part of a second beyond `second`, or `None` where no digits follow.
+    /// The fraction of a second, or `None` if the text has no fraction.
     pub fraction: Option<Fraction>,
 }
 
-/// An offset from UTC, in the precision that it was written in: `+01:00` and `+01:00:00` are two records.
+/// An offset from UTC, with or without seconds. `+01:00` and `+01:00:00` give different values.
 #[derive(Clone, Copy, Debug, PartialEq)]
 #[non_exhaustive]
 pub enum UtcOffsetRecord {
@@ -197,19 +206,19 @@ pub enum UtcOffsetRecord {
 }
 
 impl UtcOffsetRecord {
-    /// Whether the offset was written without seconds (as `time-numoffset` of RFC 3339, section 5.6).
+    /// Returns whether the offset was written without seconds (as `time-numoffset` of RFC 3339, section 5.6).
     #[must_use]
     pub fn is_minute_precision(&self) -> bool {
         matches!(self, UtcOffsetRecord::MinutePrecision(_))
     }
 
-    /// `+00:00`, written without seconds: local time is UTC (RFC 3339, section 5.6).
+    /// Returns the offset `+00:00`, without seconds: local time is UTC (RFC 3339, section 5.6).
     #[must_use]
     pub fn zero() -> UtcOffsetRecord {
         UtcOffsetRecord::MinutePrecision(MinutePrecisionOffset::zero())
     }
 
-    /// The sign of the whole offset (of `time-numoffset` of RFC 3339, section 5.6).
+    /// Returns the sign of the complete offset (`time-numoffset` of RFC 3339, section 5.6).
     #[must_use]
     pub fn sign(&self) -> Sign {
         match self {
@@ -218,7 +227,7 @@ impl UtcOffsetRecord {
         }
     }
 
-    /// The hours (`time-hour` of RFC 3339, section 5.6).
+    /// Returns the hours (`time-hour` of RFC 3339, section 5.6).
     #[must_use]
     pub fn hour(&self) -> u8 {
         match self {
@@ -227,7 +236,7 @@ impl UtcOffsetRecord {
         }
     }
 
-    /// The minutes (`time-minute` of RFC 3339, section 5.6).
+    /// Returns the minutes (`time-minute` of RFC 3339, section 5.6).
     #[must_use]
     pub fn minute(&self) -> u8 {
         match self {
@@ -236,8 +245,7 @@ impl UtcOffsetRecord {
         }
     }
 
-    /// The seconds, or `None` where the offset was written without them. `time-numoffset` of RFC 3339, section 5.6, has
-    /// none: they are of the longer form.
+    /// Returns the seconds, or `None` if the offset was written without seconds. Offsets of RFC 3339 have no seconds.
     #[must_use]
     pub fn second(&self) -> Option<u8> {
         match self {
@@ -246,8 +254,7 @@ impl UtcOffsetRecord {
         }
     }
 
-    /// The part of a second beyond the seconds (`time-secfrac` of RFC 3339, section 5.6), or `None` where the offset was
-    /// written without seconds, or no digits follow them.
+    /// Returns the fraction of a second, or `None` if the offset was written without a fraction.
     #[must_use]
     pub fn fraction(&self) -> Option<Fraction> {
         match self {
@@ -257,13 +264,15 @@ impl UtcOffsetRecord {
     }
 }
 
-/// What may stand after a time for its offset (`time-offset` of RFC 3339, section 5.6).
+/// The offset of a time: a number such as `-05:30`, or `Z` (`time-offset` of RFC 3339, section 5.6).
+///
+/// # Examples
 ///
 /// ```rust
 /// use ixdtf::parsers::IxdtfParser;
 /// use ixdtf::records::{Sign, UtcOffsetRecordOrZ};
 ///
-/// // How many minutes local time is ahead of UTC, where the text says so.
+/// // How many minutes local time is ahead of UTC, if the text says it.
 /// fn minutes_ahead(text: &str) -> Option<i32> {
 ///     match IxdtfParser::from_str(text).parse().ok()?.offset? {
 ///         UtcOffsetRecordOrZ::Z => None,
@@ -280,15 +289,18 @@ impl UtcOffsetRecord {
 /// ```
 #[derive(Clone, Copy, Debug, PartialEq)]
 pub enum UtcOffsetRecordOrZ {
-    /// An offset in numbers.
+    /// An offset that is written as numbers.
     Offset(UtcOffsetRecord),
-    /// The letter `Z` or `z`: the time is UTC, and nothing is said of a local offset.
+    /// The letter `Z` or `z`. The time is UTC, and the local offset is not known.
     Z,
 }
 
 impl UtcOffsetRecordOrZ {
-    /// The offset in numbers, and `-00:00` for `Z`: both say that UTC is known and the local offset is not (RFC 9557,
-    /// section 2).
+    /// Returns the offset as numbers. Returns `-00:00` for `Z`.
+    ///
+    /// `Z` and `-00:00` have the same meaning: UTC is known, and the local offset is not (RFC 9557, section 2).
+    ///
+    /// # Examples
     ///
     /// ```rust
     /// use ixdtf::records::{Sign, UtcOffsetRecordOrZ};
@@ -311,20 +323,22 @@ impl UtcOffsetRecordOrZ {
     }
 }
 
-/// A duration (`Duration` of the Temporal grammar; ISO 8601, section 5.5.2), in the units that it was written in. No
-/// unit is converted to another.
+/// A duration, such as `P1Y2M3DT4H` (`Duration` of the Temporal grammar; ISO 8601, section 5.5.2).
+///
+/// It has the units in which it was written. No unit is converted to another.
 #[derive(Clone, Copy, Debug, PartialEq)]
 pub struct DurationParseRecord {
-    /// `Negative` exactly where the text begins with a `-`. The sign is that of the whole duration.
+    /// The sign of the complete duration. It is `Negative` exactly if the text begins with a `-`.
     pub sign: Sign,
-    /// The years, months, weeks and days (`DurationDate`), or `None` where `T` stands right after `P`.
+    /// The years, months, weeks and days (`DurationDate`), or `None` if `T` follows `P` directly.
     pub date: Option<DateDurationRecord>,
-    /// The hours, minutes and seconds (`DurationTime`), or `None` where there is no `T`.
+    /// The hours, minutes and seconds (`DurationTime`), or `None` if the text has no `T`.
     pub time: Option<TimeDurationRecord>,
 }
 
-/// The date units of a duration (`DurationDate` of the Temporal grammar; ISO 8601, section 5.5.2). A unit that the text
-/// leaves out is zero. A unit that it repeats has the last number.
+/// The years, months, weeks and days of a duration (`DurationDate` of the Temporal grammar; ISO 8601, section 5.5.2).
+///
+/// A unit that the text does not have is 0. If the text repeats a unit, its last number counts.
 #[derive(Clone, Copy, Debug, Default, PartialEq)]
 pub struct DateDurationRecord {
     /// The years (`Y`).
@@ -337,14 +351,18 @@ pub struct DateDurationRecord {
     pub days: u64,
 }
 
-/// The time units of a duration (`DurationTime` of the Temporal grammar; ISO 8601, section 5.5.2). The variant is the
-/// last unit of the text. A unit that the text leaves out is zero. A unit that it repeats has the last number.
+/// The hours, minutes and seconds of a duration (`DurationTime` of the Temporal grammar; ISO 8601, section 5.5.2).
+///
+/// The variant is the last unit of the text. A unit that the text does not have is 0. If the text repeats a unit, its
+/// last number counts.
+///
+/// # Examples
 ///
 /// ```rust
 /// use ixdtf::parsers::IsoDurationParser;
 /// use ixdtf::records::TimeDurationRecord;
 ///
-/// // The whole seconds of a duration's time.
+/// // The seconds in the time part of a duration, without fractions of a second.
 /// fn seconds_of(time: TimeDurationRecord) -> u128 {
 ///     let (hours, minutes, seconds, fraction, unit) = match time {
 ///         TimeDurationRecord::Hours { hours, fraction } => (hours, 0, 0, fraction, 3600),
@@ -365,7 +383,7 @@ pub enum TimeDurationRecord {
     Hours {
         /// The hours (`H`).
         hours: u64,
-        /// The part of an hour beyond `hours`, or `None` where no digits follow.
+        /// The fraction of an hour, or `None` if the text has no fraction.
         fraction: Option<Fraction>,
     },
     /// The last unit is minutes.
@@ -374,7 +392,7 @@ pub enum TimeDurationRecord {
         hours: u64,
         /// The minutes (`M`).
         minutes: u64,
-        /// The part of a minute beyond `minutes`, or `None` where no digits follow.
+        /// The fraction of a minute, or `None` if the text has no fraction.
         fraction: Option<Fraction>,
     },
     /// The last unit is seconds.
@@ -385,17 +403,21 @@ pub enum TimeDurationRecord {
         minutes: u64,
         /// The seconds (`S`).
         seconds: u64,
-        /// The part of a second beyond `seconds`, or `None` where no digits follow.
+        /// The fraction of a second, or `None` if the text has no fraction.
         fraction: Option<Fraction>,
     },
 }
 
-/// A fraction of a second (`time-secfrac` of RFC 3339, section 5.6), or of the last unit of a duration: the digits
-/// after a `.` or a `,`. For a fraction of an hour or a minute, what its methods call nanoseconds are billionths of the
-/// hour or minute.
+/// A fraction: the digits after a `.` or a `,`.
 ///
-/// It keeps how many digits there were, up to 255, and the number of the first 18 of them, or of all where there are
-/// fewer. So `.1` and `.10` are two fractions, and digits behind the eighteenth are only counted.
+/// It is a fraction of a second (`time-secfrac` of RFC 3339, section 5.6), or of the last unit of a duration. If it is
+/// a fraction of an hour or of a minute, the nanoseconds that its methods return are billionths of an hour or of a
+/// minute.
+///
+/// A fraction stores the number of its digits, up to 255, and the value of the first 18 digits. So `.1` and `.10` are
+/// different fractions. Digits after the first 18 are only counted.
+///
+/// # Examples
 ///
 /// ```rust
 /// use ixdtf::parsers::IxdtfParser;
@@ -411,11 +433,12 @@ pub struct Fraction {
     value: PackedNumber,
 }
 
-// A time and an offset have a fraction each, and a record with both is copied without a call while it is short.
+// A record can have two fractions, that of a time and that of an offset. If it is short enough, it is copied without a
+// function call.
 const _: () = assert!(size_of::<Fraction>() == 9);
 
 impl Fraction {
-    /// The fraction of one digit, an ASCII byte.
+    /// Creates the fraction with one digit, given as an ASCII byte.
     pub(crate) fn start(digit: u8) -> Fraction {
         Fraction {
             digits: 1,
@@ -423,10 +446,10 @@ impl Fraction {
         }
     }
 
-    /// The fraction of `count` digits, where `value` is the number of the first 18 of them, or of all where there are
-    /// fewer; or `None` where no fraction has both.
+    /// Creates the fraction with `count` digits, the first 18 of which have the value `value`.
     ///
-    /// Only for crates of this repository; not part of the public interface.
+    /// Returns `None` if there is no such fraction. If `count` is less than 18, `value` is the value of all digits.
+    /// This function is only for crates of this repository, and not a part of the public interface.
     #[doc(hidden)]
     pub fn of_parts(count: u8, value: u64) -> Option<Fraction> {
         if count == 0 || value >= 10u64.pow(u32::from(count.min(18))) {
@@ -438,13 +461,13 @@ impl Fraction {
         })
     }
 
-    /// Whether it has fewer than 18 digits, so that one more digit changes its value.
+    /// Returns whether it has fewer than 18 digits, so that one more digit changes its value.
     #[inline(always)]
     pub(crate) fn is_short(self) -> bool {
         self.digits < 18
     }
 
-    /// A fraction of fewer than 18 digits with one more digit after it, an ASCII byte.
+    /// Returns the fraction with one more digit at its end, given as an ASCII byte. It must have fewer than 18 digits.
     #[inline(always)]
     pub(crate) fn with_digit(self, digit: u8) -> Fraction {
         let value = self.value.number();
@@ -454,7 +477,8 @@ impl Fraction {
         }
     }
 
-    /// A fraction of 18 digits or more with one more digit after it, which is only counted.
+    /// Returns the fraction with one more digit at its end. It must have 18 digits or more, so the digit is only
+    /// counted.
     #[inline(always)]
     pub(crate) fn with_more(self) -> Fraction {
         Fraction {
@@ -463,22 +487,28 @@ impl Fraction {
         }
     }
 
-    /// How many digits the fraction has, its leading and trailing zeros counted: 1 to 255.
+    /// Returns the number of digits, 1 to 255. Leading and trailing zeros count.
+    ///
+    /// If the text has more than 255 digits, the number is 255.
     #[must_use]
     pub fn digit_count(&self) -> u8 {
         let Fraction { digits, .. } = *self;
         digits
     }
 
-    /// The number of the first 18 digits, or of all where there are fewer.
+    /// Returns the value of the first 18 digits, or of all digits if there are fewer. For `.10` it is 10.
     #[must_use]
     pub fn leading_value(&self) -> u64 {
         let Fraction { value, .. } = *self;
         value.number()
     }
 
-    /// The nanoseconds of the fraction, or `None` where it has more than nine digits, also where those after the ninth are
-    /// zeros. `Some` has the number that [`to_truncated_nanoseconds`](Self::to_truncated_nanoseconds) returns.
+    /// Returns the nanoseconds of the fraction, or `None` if it has more than nine digits.
+    ///
+    /// Zeros after the ninth digit count too. If the result is `Some`, it has the number that
+    /// [`to_truncated_nanoseconds`](Self::to_truncated_nanoseconds) returns.
+    ///
+    /// # Examples
     ///
     /// ```rust
     /// use ixdtf::parsers::IxdtfParser;
@@ -495,8 +525,9 @@ impl Fraction {
         Some(self.to_truncated_nanoseconds())
     }
 
-    /// The whole nanoseconds of the fraction: its first nine digits, with zeros after them where there are fewer. The
-    /// digits after the ninth are dropped.
+    /// Returns the nanoseconds of the fraction, without the digits after the ninth.
+    ///
+    /// # Examples
     ///
     /// ```rust
     /// use ixdtf::parsers::IxdtfParser;
@@ -511,7 +542,8 @@ impl Fraction {
         if self.digits <= 9 {
             (value * 10u64.pow(u32::from(9 - self.digits))) as u32
         } else {
-            // At least 1, which a compiler does not see of a power: no division by zero is compiled.
+            // The power is at least 1, but the compiler does not know this. Because of `max`, it compiles no code for a
+            // division by zero.
             (value / 10u64.pow(u32::from(self.digits.min(18) - 9)).max(1)) as u32
         }
     }

@@ -2,9 +2,11 @@
 
 //! The profile of a parser.
 
-/// How a parser reads: as `ixdtf` 0.6.7 of ICU4X does, or more strictly for month-days and durations.
+/// The rules of a parser: those of `ixdtf` 0.6.7 of ICU4X, or stricter rules for month-days and durations.
 ///
-/// A new parser has [`Profile::Crate`]. Dates, year-months, offsets and zones are read in the same way under both.
+/// A new parser has [`Profile::Crate`]. For dates, year-months, offsets and zones, both profiles have the same rules.
+///
+/// # Examples
 ///
 /// ```rust
 /// use ixdtf::ParseError;
@@ -22,15 +24,16 @@
 /// ```
 #[derive(Clone, Copy, Debug, PartialEq)]
 pub enum Profile {
-    /// As `ixdtf` 0.6.7 of ICU4X: a month-day may have the day 0, and a unit of a duration may be repeated.
+    /// The rules of `ixdtf` 0.6.7 of ICU4X: a month-day may have the day 0, and a unit of a duration may be repeated.
     Crate,
-    /// Stricter: the day of a month-day is at least 1, and each unit of a duration is shorter than the one before it. So
-    /// `parse_time` reads some texts that are ambiguous under [`Profile::Crate`], such as `1200`.
+    /// Stricter rules: the day of a month-day must be at least 1, and each unit of a duration must be shorter than the
+    /// unit before it. `parse_time` then accepts some texts that are ambiguous under [`Profile::Crate`], such as
+    /// `1200`.
     Strict,
 }
 
 impl Profile {
-    /// The least day of a month-day.
+    /// Returns the least day of a month-day.
     #[inline(always)]
     pub(crate) fn least_day(self) -> u8 {
         match self {
@@ -39,7 +42,7 @@ impl Profile {
         }
     }
 
-    /// The least difference between the ranks of two units of a duration, one after the other.
+    /// Returns the least difference between the ranks of two units of a duration that follow each other.
     #[inline(always)]
     pub(crate) fn least_step(self) -> u8 {
         match self {
