@@ -70,7 +70,7 @@ LAYERS = {
     'ixdtf_reading': 'cursor grammar stop parsers/annotations parsers/letters'.split(),
     'ixdtf_times': 'parsers/date_times parsers/dates parsers/months parsers/offsets parsers/time'.split(),
     'ixdtf_brackets': 'parsers/brackets parsers/zone'.split(),
-    'ixdtf_durations': 'parsers/duration'.split(),
+    'ixdtf_durations': 'parsers/date_groups parsers/duration parsers/group_numbers parsers/time_groups'.split(),
 }
 PLACES = {(layer, place.rpartition('/')[2]): place for layer, places in LAYERS.items() for place in places}
 

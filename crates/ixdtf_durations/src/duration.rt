@@ -1,42 +1,32 @@
 //! The reader of durations.
 
-ghost use Rattle.std.specs.Prelude.{◌≡◌, ◌+◌, ◌-◌, ◌*◌, ◌≤◌, List, [], ◌∷◌, map, length, nat_le, ◌<◌, slice_set};
-ghost use Rattle.std.specs.Prelude.{Ok, Err, Some, None, OnOk, OnErr, IfOk, IfErr, IsTrue, IsSome};
+ghost use Rattle.std.specs.Prelude.{◌≡◌, ◌+◌, ◌≤◌, List, [], ◌∷◌, map, length};
+ghost use Rattle.std.specs.Prelude.{Ok, OnOk, OnErr, IsTrue};
 ghost use Rattle.ixdtf_grammar.specs.declared.profile.Profile.{Profile};
-ghost use Rattle.ixdtf_grammar.specs.language.Letters.{Text, digit};
+ghost use Rattle.ixdtf_grammar.specs.language.Letters.{digit};
 ghost use Rattle.ixdtf_grammar.specs.language.Letters.Letter.{Plain};
-ghost use Rattle.ixdtf_grammar.specs.language.Digits.{decimal};
-ghost use Rattle.ixdtf_grammar.specs.language.Durations.{Group, greatest_value, date_duration};
-ghost use Rattle.ixdtf_grammar.specs.language.Durations.Half.{date, time};
-ghost use Rattle.ixdtf_grammar.specs.declared.records.Sign.{Sign};
-ghost use Rattle.ixdtf_grammar.specs.table.Faults.Fault.{DurationValueExceededRange};
+ghost use Rattle.ixdtf_grammar.specs.language.Durations.{Group, date_duration};
 ghost use Rattle.ixdtf_grammar.specs.table.DurationFronts.Context.{in_dates, in_times};
-ghost use Rattle.ixdtf_grammar.specs.declared.records.DurationParseRecord.{DurationParseRecord};
 ghost use Rattle.ixdtf_grammar.specs.language.Readers.Reader.{parse_duration};
 ghost use Rattle.ixdtf_grammar.specs.language.Languages.{lasting};
 ghost use Rattle.ixdtf_grammar.specs.table.Faults.{fault_of};
 ghost use Rattle.ixdtf_grammar.specs.Laws.{InNoOther};
 ghost use Rattle.ixdtf_grammar.specs.Promises.{ReadsPart, ReadsPartAt};
 ghost use Rattle.ixdtf_grammar.specs.Views.{UnreadUnder, under, unread_of};
-ghost use Rattle.ixdtf_reading.specs.reading.Clauses.{Spends, Checks, Yields, fault_of_stop};
-ghost use Rattle.ixdtf_reading.specs.reading.Durations.State.{started, signed, between, in_number, at_mark};
-ghost use Rattle.ixdtf_durations.specs.reading.DurationClauses.{run_from, ReadsOn, SettlesFrom, ReadsNumber, AreDates, HasSmallDates};
-ghost use Rattle.ixdtf_durations.specs.reading.DurationClauses.{IsDateRecord, IsTimeRecord, rank_seen, date_rank_from, time_rank_from};
-ghost use Rattle.ixdtf_durations.specs.reading.DurationClauses.{after_time_group, behind_unit, dated};
+ghost use Rattle.ixdtf_reading.specs.reading.Clauses.{Spends};
+ghost use Rattle.ixdtf_reading.specs.reading.Durations.State.{started, signed, between, in_number};
+ghost use Rattle.ixdtf_durations.specs.reading.DurationClauses.{run_from, ReadsOn, SettlesFrom};
 
+use crate::date_groups::parse_dates;
+use crate::time_groups::parse_time_groups;
 use ixdtf_grammar::encoding::{EncodingType, Utf8, Utf16};
 use ixdtf_grammar::profile::Profile;
-use ixdtf_grammar::records::{
-    DateDurationRecord, DurationParseRecord, Fraction, Sign, TimeDurationRecord,
-};
+use ixdtf_grammar::records::{DateDurationRecord, DurationParseRecord, Sign};
 use ixdtf_grammar::{LocatedError, ParseError, ParserResult};
 use ixdtf_reading::cursor::Cursor;
-use ixdtf_reading::grammar::{
-    is_ascii_sign, is_decimal_separator, is_duration_designator, is_time_designator,
-};
+use ixdtf_reading::grammar::{is_ascii_sign, is_duration_designator, is_time_designator};
 use ixdtf_reading::stop::{FromStop, Stop};
 use ixdtf_times::offsets::sign_from;
-use ixdtf_times::time::parse_fraction;
 use std::marker::Model;
 
 /// A reader of durations.
@@ -271,374 +261,6 @@ impl<'a, T: EncodingType> IsoDurationParser<'a, T> {
     }
 }
 
-// ==== Numbers ====
-
-/// A number, and the code unit after it, which is not a digit and is not taken yet.
-#[derive(Clone, Copy)]
-struct Number {
-    value: u64,
-    next: u8,
-}
-
-/// The number with one more digit, where it does not overflow.
-#[inline(always)]
-#[tactic(auto, unfolding(ixdtf_grammar::specs::language::Durations::greatest_value))]
-fn add_digit(value: u64, byte: u8) -> Result<u64, Stop>
-    requires digit { IsTrue (digit byte) }
-    ensures { Checks (λ sum. sum) result (value * 10 + (byte - 48))
-        (nat_le (value * 10 + (byte - 48)) greatest_value) DurationValueExceededRange }
-{
-    match value.checked_mul(10) {
-        None => Err(Stop::DurationValueExceededRange),
-        Some(tens) => match tens.checked_add(u64::from(byte - b'0')) {
-            None => Err(Stop::DurationValueExceededRange),
-            Some(sum) => Ok(sum),
-        },
-    }
-}
-
-/// Takes the other digits of a number, and returns it with the code unit after them, which is not taken. The end of the
-/// input is this stop.
-#[inline(always)]
-fn parse_number<'a, T: EncodingType>(
-    cursor: &mut Cursor<'a, T>,
-    first: u8,
-    end: Stop,
-) -> Result<Number, Stop>
-    requires digit { IsTrue (digit first) }
-    ensures number { ReadsNumber T.letter first (fault_of_stop end) cursor.old result cursor.new }
-    ensures small { IfOk result (λ number. IsTrue (nat_le number.value greatest_value)) }
-    ensures more { OnOk result (1 ≤ length cursor.new.rest) }
-    ensures looks { Spends 1 cursor.old cursor.new }
-{
-    let mut value = u64::from(first - b'0');
-    while let Some(byte) = cursor.look()? {
-        if !byte.is_ascii_digit() {
-            return Ok(Number { value, next: byte });
-        }
-        let grown = add_digit(value, byte);
-        cursor.advance();
-        value = grown?;
-    }
-    Err(end)
-}
-
-// ==== Dates ====
-
-// The greatest number of years, and of months, and of weeks.
-const MOST_OF_LONG_UNITS: u64 = 0xffff_ffff;
-
-// The rank of the date unit that a code unit names: years are 1, months 2, weeks 3 and days 4. Any other code unit has
-// 0.
-#[rattlefmt::skip]
-static DATE_RANKS: [u8; 256] = [
-    0, 0, 0, 0, 0, 0, 0, 0, 0, 0, 0, 0, 0, 0, 0, 0,
-    0, 0, 0, 0, 0, 0, 0, 0, 0, 0, 0, 0, 0, 0, 0, 0,
-    0, 0, 0, 0, 0, 0, 0, 0, 0, 0, 0, 0, 0, 0, 0, 0,
-    0, 0, 0, 0, 0, 0, 0, 0, 0, 0, 0, 0, 0, 0, 0, 0,
-    0, 0, 0, 0, 4, 0, 0, 0, 0, 0, 0, 0, 0, 2, 0, 0, // @ to O
-    0, 0, 0, 0, 0, 0, 0, 3, 0, 1, 0, 0, 0, 0, 0, 0, // P to _
-    0, 0, 0, 0, 4, 0, 0, 0, 0, 0, 0, 0, 0, 2, 0, 0, // ` to o
-    0, 0, 0, 0, 0, 0, 0, 3, 0, 1, 0, 0, 0, 0, 0, 0, // p to the last
-    0, 0, 0, 0, 0, 0, 0, 0, 0, 0, 0, 0, 0, 0, 0, 0,
-    0, 0, 0, 0, 0, 0, 0, 0, 0, 0, 0, 0, 0, 0, 0, 0,
-    0, 0, 0, 0, 0, 0, 0, 0, 0, 0, 0, 0, 0, 0, 0, 0,
-    0, 0, 0, 0, 0, 0, 0, 0, 0, 0, 0, 0, 0, 0, 0, 0,
-    0, 0, 0, 0, 0, 0, 0, 0, 0, 0, 0, 0, 0, 0, 0, 0,
-    0, 0, 0, 0, 0, 0, 0, 0, 0, 0, 0, 0, 0, 0, 0, 0,
-    0, 0, 0, 0, 0, 0, 0, 0, 0, 0, 0, 0, 0, 0, 0, 0,
-    0, 0, 0, 0, 0, 0, 0, 0, 0, 0, 0, 0, 0, 0, 0, 0,
-];
-
-/// The rank of the date unit that the code unit names, or 0.
-#[inline(always)]
-fn date_rank(letter: u8) -> u8
-    ensures rank { result ≡ rank_seen date letter }
-    ensures small { result ≤ 4 }
-{
-    DATE_RANKS[letter as usize]
-}
-
-/// Takes the letter of a date unit after a number, and returns its rank where it is at least `least` and the number is
-/// in the range of the unit. Another code unit is not taken.
-#[inline(always)]
-#[tactic(auto, using(crate::proofs::code::DurationSteps::letters_left))]
-fn take_date_unit<'a, T: EncodingType>(
-    cursor: &mut Cursor<'a, T>,
-    number: Number,
-    least: u8,
-) -> Result<u8, Stop>
-    requires least { 1 ≤ least }
-    requires small { IsTrue (nat_le number.value greatest_value) }
-    requires more { 1 ≤ length cursor.old.rest }
-    ensures rank { Yields (λ rank. rank) result (date_rank_from least number) }
-    ensures small { IfOk result (λ rank. rank ≤ 4) }
-    ensures left { map T.letter cursor.new.rest ≡
-        behind_unit date number.next (map T.letter cursor.old.rest) }
-    ensures taken { OnOk result (length cursor.new.rest + 1 ≡ length cursor.old.rest) }
-    ensures shorter { length cursor.new.rest ≤ length cursor.old.rest }
-    ensures looks { cursor.new.looks ≡ cursor.old.looks }
-{
-    let rank = date_rank(number.next);
-    if rank < least {
-        if rank == 0 {
-            return Err(Stop::AbruptDateDesignator);
-        }
-        cursor.advance_by(1);
-        return Err(Stop::DateDurationPartOrder);
-    }
-    cursor.advance_by(1);
-    if number.value > MOST_OF_LONG_UNITS && rank < 4 {
-        return Err(Stop::DurationValueExceededRange);
-    }
-    Ok(rank)
-}
-
-/// Keeps the number of a group by the rank of its unit.
-#[inline(always)]
-fn keep_number(values: &mut [u64], rank: u8, number: u64)
-    requires { rank < length values.old }
-    ensures { values.new ≡ slice_set values.old rank number }
-{
-    let place = usize::from(rank);
-    // It always is: with this test a compiler sees it too, and keeps no panic.
-    if place < values.len() {
-        values[place] = number;
-    }
-}
-
-/// The record of the numbers of date groups, indexed by their ranks.
-#[inline(always)]
-fn date_record(values: [u64; 5]) -> DateDurationRecord
-    requires small { HasSmallDates values }
-    ensures { IsDateRecord values result }
-{
-    DateDurationRecord {
-        years: values[1] as u32,
-        months: values[2] as u32,
-        weeks: values[3] as u32,
-        days: values[4],
-    }
-}
-
-/// Date groups that were read, and whether a `T` followed them. It is taken.
-#[derive(Clone, Copy)]
-struct Dates {
-    record: DateDurationRecord,
-    timed: bool,
-}
-
-/// Reads date groups after their first digit, and what follows them: the end of the input, or a `T`.
-#[inline(always)]
-fn parse_dates<'a, T: EncodingType>(
-    cursor: &mut Cursor<'a, T>,
-    first: u8,
-    profile: Profile,
-) -> Result<Dates, Stop>
-    requires digit { IsTrue (digit first) }
-    ensures dates { IfOk result
-        (λ dates. AreDates profile T.letter first cursor.old.rest dates cursor.new.rest) }
-    ensures refused { IfErr result (λ e. (s : Sign) →
-        run_from profile (in_number (in_dates s []) (Plain first ∷ []))
-        (map T.letter cursor.old.rest)
-        ≡ Err (fault_of_stop e, map T.letter cursor.new.rest)) }
-    ensures looks { Spends 1 cursor.old cursor.new }
-{
-    let mut values = [0; 5];
-    let mut least = 1;
-    let mut digit = first;
-    loop {
-        let number = parse_number(cursor, digit, Stop::AbruptDateDesignator)?;
-        let rank = take_date_unit(cursor, number, least)?;
-        keep_number(&mut values, rank, number.value);
-        least = rank + profile.least_step();
-        match cursor.look()? {
-            None => {
-                return Ok(Dates {
-                    record: date_record(values),
-                    timed: false,
-                });
-            }
-            Some(byte) if byte.is_ascii_digit() => {
-                cursor.advance();
-                digit = byte;
-            }
-            Some(byte) if is_time_designator(byte) => {
-                cursor.advance();
-                return Ok(Dates {
-                    record: date_record(values),
-                    timed: true,
-                });
-            }
-            Some(_) => return Err(Stop::InvalidEnd),
-        }
-    }
-}
-
-// ==== Times ====
-
-// The rank of the time unit that a code unit names: hours are 1, minutes 2 and seconds 3. Any other code unit has 0.
-#[rattlefmt::skip]
-static TIME_RANKS: [u8; 256] = [
-    0, 0, 0, 0, 0, 0, 0, 0, 0, 0, 0, 0, 0, 0, 0, 0,
-    0, 0, 0, 0, 0, 0, 0, 0, 0, 0, 0, 0, 0, 0, 0, 0,
-    0, 0, 0, 0, 0, 0, 0, 0, 0, 0, 0, 0, 0, 0, 0, 0,
-    0, 0, 0, 0, 0, 0, 0, 0, 0, 0, 0, 0, 0, 0, 0, 0,
-    0, 0, 0, 0, 0, 0, 0, 0, 1, 0, 0, 0, 0, 2, 0, 0, // @ to O
-    0, 0, 0, 3, 0, 0, 0, 0, 0, 0, 0, 0, 0, 0, 0, 0, // P to _
-    0, 0, 0, 0, 0, 0, 0, 0, 1, 0, 0, 0, 0, 2, 0, 0, // ` to o
-    0, 0, 0, 3, 0, 0, 0, 0, 0, 0, 0, 0, 0, 0, 0, 0, // p to the last
-    0, 0, 0, 0, 0, 0, 0, 0, 0, 0, 0, 0, 0, 0, 0, 0,
-    0, 0, 0, 0, 0, 0, 0, 0, 0, 0, 0, 0, 0, 0, 0, 0,
-    0, 0, 0, 0, 0, 0, 0, 0, 0, 0, 0, 0, 0, 0, 0, 0,
-    0, 0, 0, 0, 0, 0, 0, 0, 0, 0, 0, 0, 0, 0, 0, 0,
-    0, 0, 0, 0, 0, 0, 0, 0, 0, 0, 0, 0, 0, 0, 0, 0,
-    0, 0, 0, 0, 0, 0, 0, 0, 0, 0, 0, 0, 0, 0, 0, 0,
-    0, 0, 0, 0, 0, 0, 0, 0, 0, 0, 0, 0, 0, 0, 0, 0,
-    0, 0, 0, 0, 0, 0, 0, 0, 0, 0, 0, 0, 0, 0, 0, 0,
-];
-
-/// The rank of the time unit that the code unit names, or 0.
-#[inline(always)]
-fn time_rank(letter: u8) -> u8
-    ensures rank { result ≡ rank_seen time letter }
-    ensures small { result ≤ 3 }
-{
-    TIME_RANKS[letter as usize]
-}
-
-/// A time group: a number, its fraction, and the code unit after them, which is not taken yet.
-#[derive(Clone, Copy)]
-struct TimeGroup {
-    value: u64,
-    fraction: Option<Fraction>,
-    letter: u8,
-}
-
-/// Takes the letter of a time unit, and returns its rank where it is at least `least`. Another code unit is not taken.
-#[inline(always)]
-#[tactic(auto, using(crate::proofs::code::DurationSteps::letters_left))]
-fn take_time_unit<'a, T: EncodingType>(
-    cursor: &mut Cursor<'a, T>,
-    letter: u8,
-    least: u8,
-) -> Result<u8, Stop>
-    requires least { 1 ≤ least }
-    requires more { 1 ≤ length cursor.old.rest }
-    ensures rank { Yields (λ rank. rank) result (time_rank_from least letter) }
-    ensures small { IfOk result (λ rank. rank ≤ 3) }
-    ensures left { map T.letter cursor.new.rest ≡
-        behind_unit time letter (map T.letter cursor.old.rest) }
-    ensures taken { OnOk result (length cursor.new.rest + 1 ≡ length cursor.old.rest) }
-    ensures shorter { length cursor.new.rest ≤ length cursor.old.rest }
-    ensures looks { cursor.new.looks ≡ cursor.old.looks }
-{
-    let rank = time_rank(letter);
-    if rank < least {
-        if rank == 0 {
-            return Err(Stop::AbruptTimeDesignator);
-        }
-        cursor.advance_by(1);
-        return Err(Stop::TimeDurationPartOrder);
-    }
-    cursor.advance_by(1);
-    Ok(rank)
-}
-
-/// The record of the numbers of time groups, indexed by their ranks. The rank of the last is its variant.
-#[inline(always)]
-fn time_record(values: [u64; 4], rank: u8, fraction: Option<Fraction>) -> TimeDurationRecord
-    requires rank { 1 ≤ rank }
-    ensures { IsTimeRecord values rank fraction result }
-{
-    match rank {
-        1 => TimeDurationRecord::Hours {
-            hours: values[1],
-            fraction,
-        },
-        2 => TimeDurationRecord::Minutes {
-            hours: values[1],
-            minutes: values[2],
-            fraction,
-        },
-        _ => TimeDurationRecord::Seconds {
-            hours: values[1],
-            minutes: values[2],
-            seconds: values[3],
-            fraction,
-        },
-    }
-}
-
-/// Reads the digits of a fraction after its decimal mark, and returns them with the code unit after them, which is not
-/// taken.
-#[inline(always)]
-fn parse_fraction_group<'a, T: EncodingType>(
-    cursor: &mut Cursor<'a, T>,
-    value: u64,
-) -> Result<TimeGroup, Stop>
-    ensures group { (profile : Profile) (s : Sign) (dates times : List Group) (ds : Text) →
-        value ≡ decimal ds → ReadsOn T.letter profile (at_mark s dates times ds)
-        cursor.old result cursor.new (after_time_group profile s dates times) }
-    ensures fraction { IfOk result (λ g. IsSome g.fraction) }
-    ensures more { OnOk result (1 ≤ length cursor.new.rest) }
-    ensures looks { Spends 3 cursor.old cursor.new }
-{
-    let fraction = parse_fraction(cursor)?;
-    match cursor.look()? {
-        None => Err(Stop::AbruptTimeDesignator),
-        Some(letter) => Ok(TimeGroup {
-            value,
-            fraction: Some(fraction),
-            letter,
-        }),
-    }
-}
-
-/// Reads time groups after their first digit, and expects the end of the input. Behind a fraction nothing else may stand, so
-/// only its group has one: the others are numbers, and none of them is copied with a place for a fraction.
-#[inline(always)]
-fn parse_time_groups<'a, T: EncodingType>(
-    cursor: &mut Cursor<'a, T>,
-    first: u8,
-    profile: Profile,
-) -> Result<TimeDurationRecord, Stop>
-    requires digit { IsTrue (digit first) }
-    ensures times { (s : Sign) (dates : List Group) →
-        ReadsOn T.letter profile (in_number (in_times s dates []) (Plain first ∷ []))
-        cursor.old result cursor.new
-        (λ time text. Ok (dated s (date_duration dates) (Some time), text)) }
-    ensures looks { Spends 4 cursor.old cursor.new }
-{
-    let mut values = [0; 4];
-    let mut least = 1;
-    let mut digit = first;
-    loop {
-        let whole = parse_number(cursor, digit, Stop::AbruptTimeDesignator)?;
-        if is_decimal_separator(whole.next) {
-            cursor.advance_by(1);
-            let group = parse_fraction_group(cursor, whole.value)?;
-            let rank = take_time_unit(cursor, group.letter, least)?;
-            keep_number(&mut values, rank, group.value);
-            match cursor.look()? {
-                None => return Ok(time_record(values, rank, group.fraction)),
-                Some(_after_fraction) => return Err(Stop::InvalidEnd),
-            }
-        }
-        let rank = take_time_unit(cursor, whole.next, least)?;
-        keep_number(&mut values, rank, whole.value);
-        least = rank + profile.least_step();
-        match cursor.look()? {
-            None => return Ok(time_record(values, rank, None)),
-            Some(byte) if byte.is_ascii_digit() => {
-                cursor.advance();
-                digit = byte;
-            }
-            Some(_) => return Err(Stop::InvalidEnd),
-        }
-    }
-}
-
 /// Reads time groups after their `T`, and expects the end of the input.
 #[inline(always)]
 fn parse_times<'a, T: EncodingType>(
@@ -667,8 +289,6 @@ fn parse_times<'a, T: EncodingType>(
         _ => Err(Stop::TimeDurationDesignator),
     }
 }
-
-// ==== Durations ====
 
 /// Takes the `P` or `p` after a sign, and returns the sign.
 #[inline(always)]

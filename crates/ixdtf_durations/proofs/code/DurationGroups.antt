@@ -6,7 +6,7 @@ use Rattle.ixdtf_grammar.specs.language.Durations.{Half, Group, place, unit_of, 
 use Rattle.ixdtf_grammar.specs.{language.Durations.DurationUnit.{years, months, weeks, days, hours, minutes, seconds}, table.Faults.Fault}
 use Rattle.ixdtf_grammar.specs.table.Faults.Fault.{DurationValueExceededRange, DateDurationPartOrder, TimeDurationPartOrder}
 use Rattle.ixdtf_grammar.specs.table.Lines.{abrupt_date_designator, abrupt_time_designator}
-use Rattle.ixdtf_durations.specs.{declared.duration.{Number.Number, TimeGroup.TimeGroup}, reading.DurationClauses.{rank, date_numbers, time_numbers}}
+use Rattle.ixdtf_durations.specs.{declared.{group_numbers.Number.Number, time_groups.TimeGroup.TimeGroup}, reading.DurationClauses.{rank, date_numbers, time_numbers}}
 use Rattle.ixdtf_durations.specs.reading.DurationClauses.{date_group_of, time_group_of, date_rank_from, time_rank_from, date_read, time_read}
 use Rattle.ixdtf_durations.proofs.code.DurationRanks.{below, date_place, time_place}
 

@@ -9,7 +9,7 @@ use Rattle.ixdtf_grammar.specs.table.DurationFronts.Context.{in_dates, in_times}
 use Rattle.ixdtf_reading.specs.reading.Looks.{Placed, Read, ◌>>=◌, error_of}
 use Rattle.ixdtf_reading.specs.reading.Durations.{State, add_group, end_group, step, run, integer_group, State.{between, in_number, at_mark, ended}}
 use Rattle.ixdtf_reading.proofs.code.FirstLetter.{first_is}
-use Rattle.ixdtf_durations.specs.{declared.duration.Number.Number, reading.DurationClauses.{run_from, run_where, IsNumber}}
+use Rattle.ixdtf_durations.specs.{declared.group_numbers.Number.Number, reading.DurationClauses.{run_from, run_where, IsNumber}}
 use Rattle.ixdtf_durations.specs.reading.DurationClauses.{behind_unit, date_group_of, date_read, after_time_group, date_group_fits, time_group_fits}
 
 -- ---- code units

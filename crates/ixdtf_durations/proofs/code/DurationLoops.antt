@@ -5,7 +5,7 @@ use Rattle.ixdtf_grammar.specs.declared.records.{TimeDurationRecord.TimeDuration
 use Rattle.ixdtf_grammar.specs.language.{Letters.{Letter, Text, digit, time_letter, Letter.Plain}, Fractions.FractionParts}
 use Rattle.ixdtf_grammar.specs.{language.Durations.{Group, unit_of, least_step, date_duration, time_duration_to, Half.{date, time}}, table.Faults.Fault}
 use Rattle.ixdtf_grammar.specs.table.{Faults.Fault.InvalidEnd, DurationFronts.Context.{in_dates, in_times}}
-use Rattle.ixdtf_durations.specs.{declared.duration.{Number.Number, TimeGroup.TimeGroup}, reading.DurationClauses.{run_from, run_where, date_group_of}}
+use Rattle.ixdtf_durations.specs.{declared.{group_numbers.Number.Number, time_groups.TimeGroup.TimeGroup}, reading.DurationClauses.{run_from, run_where, date_group_of}}
 use Rattle.ixdtf_durations.specs.reading.DurationClauses.{time_group_of, rank, date_rank_from, time_rank_from, behind_unit, date_read, after_group}
 use Rattle.ixdtf_durations.specs.reading.DurationClauses.{after_time_group, HasSmallDates, IsDateRecord, IsTimeRecord, AreDates, dated}
 use Rattle.ixdtf_durations.proofs.code.{DurationRanks.below, DurationGroups.{HasDates, HasTimes, date_added, date_refused, time_added, time_refused}}

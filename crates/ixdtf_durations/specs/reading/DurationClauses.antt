@@ -10,7 +10,7 @@ use Rattle.ixdtf_grammar.specs.table.Faults.{Fault, Fault.{DurationValueExceeded
 use Rattle.ixdtf_grammar.specs.{table.{DurationFronts.{Context, half_of, Context.{in_dates, in_times}}, Lines.no_designator}, Views.Unread}
 use Rattle.ixdtf_reading.specs.{declared.stop.Stop.Stop, reading.{Looks.{Read, Placed, error_of, seen}, Clauses.{fault_of_stop, Settles}}}
 use Rattle.ixdtf_reading.specs.reading.Durations.{State, run, State.{between, in_number, ended}}
-use Rattle.ixdtf_durations.specs.declared.duration.{Number.Number, Dates.Dates, TimeGroup.TimeGroup}
+use Rattle.ixdtf_durations.specs.declared.{group_numbers.Number.Number, date_groups.Dates.Dates, time_groups.TimeGroup.TimeGroup}
 
 -- reading a duration from a state on, by errors
 abbrev pub run_from : Profile → State → Text → Read Placed DurationParseRecord

@@ -1,0 +1,11 @@
+use Rattle.ixdtf_durations.proofs.date_groups.date_rank.Goals as goal
+use Rattle.std.proofs.Common.{arith}
+use Rattle.ixdtf_durations.proofs.code.DurationRanks.{ranks_from, date_rank_is, date_rank_small}
+
+pub returns-clause-rank : goal.returns-clause-rank
+unfolding ranks_from
+returns-clause-rank c = date_rank_is c.args.letter (omega arith)
+
+pub returns-clause-small : goal.returns-clause-small
+unfolding ranks_from
+returns-clause-small c = date_rank_small c.args.letter (omega arith)

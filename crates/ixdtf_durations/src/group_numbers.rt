@@ -1,0 +1,76 @@
+//! The number of a group: digits, and the code unit after them.
+
+ghost use Rattle.std.specs.Prelude.{◌≡◌, ◌+◌, ◌-◌, ◌*◌, ◌≤◌, ◌<◌, length, nat_le, slice_set, OnOk, IfOk, IsTrue};
+ghost use Rattle.ixdtf_grammar.specs.language.Letters.{digit};
+ghost use Rattle.ixdtf_grammar.specs.language.Durations.{greatest_value};
+ghost use Rattle.ixdtf_grammar.specs.table.Faults.Fault.{DurationValueExceededRange};
+ghost use Rattle.ixdtf_reading.specs.reading.Clauses.{Spends, Checks, fault_of_stop};
+ghost use Rattle.ixdtf_durations.specs.reading.DurationClauses.{ReadsNumber};
+
+use ixdtf_grammar::encoding::EncodingType;
+use ixdtf_reading::cursor::Cursor;
+use ixdtf_reading::stop::Stop;
+use std::marker::Model;
+
+/// A number, and the code unit after it, which is not a digit and is not taken yet.
+#[derive(Clone, Copy)]
+pub struct Number {
+    pub value: u64,
+    pub next: u8,
+}
+
+/// The number with one more digit, where it does not overflow.
+#[inline(always)]
+#[tactic(auto, unfolding(ixdtf_grammar::specs::language::Durations::greatest_value))]
+fn add_digit(value: u64, byte: u8) -> Result<u64, Stop>
+    requires digit { IsTrue (digit byte) }
+    ensures { Checks (λ sum. sum) result (value * 10 + (byte - 48))
+        (nat_le (value * 10 + (byte - 48)) greatest_value) DurationValueExceededRange }
+{
+    match value.checked_mul(10) {
+        None => Err(Stop::DurationValueExceededRange),
+        Some(tens) => match tens.checked_add(u64::from(byte - b'0')) {
+            None => Err(Stop::DurationValueExceededRange),
+            Some(sum) => Ok(sum),
+        },
+    }
+}
+
+/// Takes the other digits of a number, and returns it with the code unit after them, which is not taken. The end of the
+/// input is this stop.
+#[inline(always)]
+pub fn parse_number<'a, T: EncodingType>(
+    cursor: &mut Cursor<'a, T>,
+    first: u8,
+    end: Stop,
+) -> Result<Number, Stop>
+    requires digit { IsTrue (digit first) }
+    ensures number { ReadsNumber T.letter first (fault_of_stop end) cursor.old result cursor.new }
+    ensures small { IfOk result (λ number. IsTrue (nat_le number.value greatest_value)) }
+    ensures more { OnOk result (1 ≤ length cursor.new.rest) }
+    ensures looks { Spends 1 cursor.old cursor.new }
+{
+    let mut value = u64::from(first - b'0');
+    while let Some(byte) = cursor.look()? {
+        if !byte.is_ascii_digit() {
+            return Ok(Number { value, next: byte });
+        }
+        let grown = add_digit(value, byte);
+        cursor.advance();
+        value = grown?;
+    }
+    Err(end)
+}
+
+/// Keeps the number of a group by the rank of its unit.
+#[inline(always)]
+pub fn keep_number(values: &mut [u64], rank: u8, number: u64)
+    requires { rank < length values.old }
+    ensures { values.new ≡ slice_set values.old rank number }
+{
+    let place = usize::from(rank);
+    // It always is: with this test a compiler sees it too, and keeps no panic.
+    if place < values.len() {
+        values[place] = number;
+    }
+}

@@ -1,0 +1,120 @@
+// Made by tools/to_rust.py of crates/ixdtf_durations/src/date_groups.rt. Do not edit.
+
+//! The date part of a duration: groups of years, months, weeks and days.
+
+use crate::parsers::group_numbers::{Number, keep_number, parse_number};
+use crate::encoding::EncodingType;
+use crate::parsers::profile::Profile;
+use crate::records::DateDurationRecord;
+use crate::cursor::Cursor;
+use crate::grammar::is_time_designator;
+use crate::stop::Stop;
+
+// The greatest number of years, and of months, and of weeks.
+const MOST_OF_LONG_UNITS: u64 = 0xffff_ffff;
+
+// The rank of the date unit that a code unit names: years are 1, months 2, weeks 3 and days 4. Any other code unit has
+// 0.
+static DATE_RANKS: [u8; 256] = [
+    0, 0, 0, 0, 0, 0, 0, 0, 0, 0, 0, 0, 0, 0, 0, 0,
+    0, 0, 0, 0, 0, 0, 0, 0, 0, 0, 0, 0, 0, 0, 0, 0,
+    0, 0, 0, 0, 0, 0, 0, 0, 0, 0, 0, 0, 0, 0, 0, 0,
+    0, 0, 0, 0, 0, 0, 0, 0, 0, 0, 0, 0, 0, 0, 0, 0,
+    0, 0, 0, 0, 4, 0, 0, 0, 0, 0, 0, 0, 0, 2, 0, 0, // @ to O
+    0, 0, 0, 0, 0, 0, 0, 3, 0, 1, 0, 0, 0, 0, 0, 0, // P to _
+    0, 0, 0, 0, 4, 0, 0, 0, 0, 0, 0, 0, 0, 2, 0, 0, // ` to o
+    0, 0, 0, 0, 0, 0, 0, 3, 0, 1, 0, 0, 0, 0, 0, 0, // p to the last
+    0, 0, 0, 0, 0, 0, 0, 0, 0, 0, 0, 0, 0, 0, 0, 0,
+    0, 0, 0, 0, 0, 0, 0, 0, 0, 0, 0, 0, 0, 0, 0, 0,
+    0, 0, 0, 0, 0, 0, 0, 0, 0, 0, 0, 0, 0, 0, 0, 0,
+    0, 0, 0, 0, 0, 0, 0, 0, 0, 0, 0, 0, 0, 0, 0, 0,
+    0, 0, 0, 0, 0, 0, 0, 0, 0, 0, 0, 0, 0, 0, 0, 0,
+    0, 0, 0, 0, 0, 0, 0, 0, 0, 0, 0, 0, 0, 0, 0, 0,
+    0, 0, 0, 0, 0, 0, 0, 0, 0, 0, 0, 0, 0, 0, 0, 0,
+    0, 0, 0, 0, 0, 0, 0, 0, 0, 0, 0, 0, 0, 0, 0, 0,
+];
+
+/// The rank of the date unit that the code unit names, or 0.
+#[inline(always)]
+fn date_rank(letter: u8) -> u8 {
+    DATE_RANKS[letter as usize]
+}
+
+/// Takes the letter of a date unit after a number, and returns its rank where it is at least `least` and the number is
+/// in the range of the unit. Another code unit is not taken.
+#[inline(always)]
+fn take_date_unit<'a, T: EncodingType>(
+    cursor: &mut Cursor<'a, T>,
+    number: Number,
+    least: u8,
+) -> Result<u8, Stop> {
+    let rank = date_rank(number.next);
+    if rank < least {
+        if rank == 0 {
+            return Err(Stop::AbruptDateDesignator);
+        }
+        cursor.advance_by(1);
+        return Err(Stop::DateDurationPartOrder);
+    }
+    cursor.advance_by(1);
+    if number.value > MOST_OF_LONG_UNITS && rank < 4 {
+        return Err(Stop::DurationValueExceededRange);
+    }
+    Ok(rank)
+}
+
+/// The record of the numbers of date groups, indexed by their ranks.
+#[inline(always)]
+fn date_record(values: [u64; 5]) -> DateDurationRecord {
+    DateDurationRecord {
+        years: values[1] as u32,
+        months: values[2] as u32,
+        weeks: values[3] as u32,
+        days: values[4],
+    }
+}
+
+/// Date groups that were read, and whether a `T` followed them. It is taken.
+#[derive(Clone, Copy)]
+pub struct Dates {
+    pub record: DateDurationRecord,
+    pub timed: bool,
+}
+
+/// Reads date groups after their first digit, and what follows them: the end of the input, or a `T`.
+#[inline(always)]
+pub fn parse_dates<'a, T: EncodingType>(
+    cursor: &mut Cursor<'a, T>,
+    first: u8,
+    profile: Profile,
+) -> Result<Dates, Stop> {
+    let mut values = [0; 5];
+    let mut least = 1;
+    let mut digit = first;
+    loop {
+        let number = parse_number(cursor, digit, Stop::AbruptDateDesignator)?;
+        let rank = take_date_unit(cursor, number, least)?;
+        keep_number(&mut values, rank, number.value);
+        least = rank + profile.least_step();
+        match cursor.look()? {
+            None => {
+                return Ok(Dates {
+                    record: date_record(values),
+                    timed: false,
+                });
+            }
+            Some(byte) if byte.is_ascii_digit() => {
+                cursor.advance();
+                digit = byte;
+            }
+            Some(byte) if is_time_designator(byte) => {
+                cursor.advance();
+                return Ok(Dates {
+                    record: date_record(values),
+                    timed: true,
+                });
+            }
+            Some(_) => return Err(Stop::InvalidEnd),
+        }
+    }
+}

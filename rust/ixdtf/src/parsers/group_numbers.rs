@@ -1,0 +1,56 @@
+// Made by tools/to_rust.py of crates/ixdtf_durations/src/group_numbers.rt. Do not edit.
+
+//! The number of a group: digits, and the code unit after them.
+
+use crate::encoding::EncodingType;
+use crate::cursor::Cursor;
+use crate::stop::Stop;
+
+/// A number, and the code unit after it, which is not a digit and is not taken yet.
+#[derive(Clone, Copy)]
+pub struct Number {
+    pub value: u64,
+    pub next: u8,
+}
+
+/// The number with one more digit, where it does not overflow.
+#[inline(always)]
+fn add_digit(value: u64, byte: u8) -> Result<u64, Stop> {
+    match value.checked_mul(10) {
+        None => Err(Stop::DurationValueExceededRange),
+        Some(tens) => match tens.checked_add(u64::from(byte - b'0')) {
+            None => Err(Stop::DurationValueExceededRange),
+            Some(sum) => Ok(sum),
+        },
+    }
+}
+
+/// Takes the other digits of a number, and returns it with the code unit after them, which is not taken. The end of the
+/// input is this stop.
+#[inline(always)]
+pub fn parse_number<'a, T: EncodingType>(
+    cursor: &mut Cursor<'a, T>,
+    first: u8,
+    end: Stop,
+) -> Result<Number, Stop> {
+    let mut value = u64::from(first - b'0');
+    while let Some(byte) = cursor.look()? {
+        if !byte.is_ascii_digit() {
+            return Ok(Number { value, next: byte });
+        }
+        let grown = add_digit(value, byte);
+        cursor.advance();
+        value = grown?;
+    }
+    Err(end)
+}
+
+/// Keeps the number of a group by the rank of its unit.
+#[inline(always)]
+pub fn keep_number(values: &mut [u64], rank: u8, number: u64) {
+    let place = usize::from(rank);
+    // It always is: with this test a compiler sees it too, and keeps no panic.
+    if place < values.len() {
+        values[place] = number;
+    }
+}

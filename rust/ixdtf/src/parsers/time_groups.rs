@@ -1,0 +1,142 @@
+// Made by tools/to_rust.py of crates/ixdtf_durations/src/time_groups.rt. Do not edit.
+
+//! The time part of a duration: groups of hours, minutes and seconds, where the last may have a fraction.
+
+use crate::parsers::group_numbers::{keep_number, parse_number};
+use crate::encoding::EncodingType;
+use crate::parsers::profile::Profile;
+use crate::records::{Fraction, TimeDurationRecord};
+use crate::cursor::Cursor;
+use crate::grammar::is_decimal_separator;
+use crate::stop::Stop;
+use crate::parsers::time::parse_fraction;
+
+// The rank of the time unit that a code unit names: hours are 1, minutes 2 and seconds 3. Any other code unit has 0.
+static TIME_RANKS: [u8; 256] = [
+    0, 0, 0, 0, 0, 0, 0, 0, 0, 0, 0, 0, 0, 0, 0, 0,
+    0, 0, 0, 0, 0, 0, 0, 0, 0, 0, 0, 0, 0, 0, 0, 0,
+    0, 0, 0, 0, 0, 0, 0, 0, 0, 0, 0, 0, 0, 0, 0, 0,
+    0, 0, 0, 0, 0, 0, 0, 0, 0, 0, 0, 0, 0, 0, 0, 0,
+    0, 0, 0, 0, 0, 0, 0, 0, 1, 0, 0, 0, 0, 2, 0, 0, // @ to O
+    0, 0, 0, 3, 0, 0, 0, 0, 0, 0, 0, 0, 0, 0, 0, 0, // P to _
+    0, 0, 0, 0, 0, 0, 0, 0, 1, 0, 0, 0, 0, 2, 0, 0, // ` to o
+    0, 0, 0, 3, 0, 0, 0, 0, 0, 0, 0, 0, 0, 0, 0, 0, // p to the last
+    0, 0, 0, 0, 0, 0, 0, 0, 0, 0, 0, 0, 0, 0, 0, 0,
+    0, 0, 0, 0, 0, 0, 0, 0, 0, 0, 0, 0, 0, 0, 0, 0,
+    0, 0, 0, 0, 0, 0, 0, 0, 0, 0, 0, 0, 0, 0, 0, 0,
+    0, 0, 0, 0, 0, 0, 0, 0, 0, 0, 0, 0, 0, 0, 0, 0,
+    0, 0, 0, 0, 0, 0, 0, 0, 0, 0, 0, 0, 0, 0, 0, 0,
+    0, 0, 0, 0, 0, 0, 0, 0, 0, 0, 0, 0, 0, 0, 0, 0,
+    0, 0, 0, 0, 0, 0, 0, 0, 0, 0, 0, 0, 0, 0, 0, 0,
+    0, 0, 0, 0, 0, 0, 0, 0, 0, 0, 0, 0, 0, 0, 0, 0,
+];
+
+/// The rank of the time unit that the code unit names, or 0.
+#[inline(always)]
+fn time_rank(letter: u8) -> u8 {
+    TIME_RANKS[letter as usize]
+}
+
+/// A time group: a number, its fraction, and the code unit after them, which is not taken yet.
+#[derive(Clone, Copy)]
+pub struct TimeGroup {
+    pub value: u64,
+    pub fraction: Option<Fraction>,
+    pub letter: u8,
+}
+
+/// Takes the letter of a time unit, and returns its rank where it is at least `least`. Another code unit is not taken.
+#[inline(always)]
+fn take_time_unit<'a, T: EncodingType>(
+    cursor: &mut Cursor<'a, T>,
+    letter: u8,
+    least: u8,
+) -> Result<u8, Stop> {
+    let rank = time_rank(letter);
+    if rank < least {
+        if rank == 0 {
+            return Err(Stop::AbruptTimeDesignator);
+        }
+        cursor.advance_by(1);
+        return Err(Stop::TimeDurationPartOrder);
+    }
+    cursor.advance_by(1);
+    Ok(rank)
+}
+
+/// The record of the numbers of time groups, indexed by their ranks. The rank of the last is its variant.
+#[inline(always)]
+fn time_record(values: [u64; 4], rank: u8, fraction: Option<Fraction>) -> TimeDurationRecord {
+    match rank {
+        1 => TimeDurationRecord::Hours {
+            hours: values[1],
+            fraction,
+        },
+        2 => TimeDurationRecord::Minutes {
+            hours: values[1],
+            minutes: values[2],
+            fraction,
+        },
+        _ => TimeDurationRecord::Seconds {
+            hours: values[1],
+            minutes: values[2],
+            seconds: values[3],
+            fraction,
+        },
+    }
+}
+
+/// Reads the digits of a fraction after its decimal mark, and returns them with the code unit after them, which is not
+/// taken.
+#[inline(always)]
+fn parse_fraction_group<'a, T: EncodingType>(
+    cursor: &mut Cursor<'a, T>,
+    value: u64,
+) -> Result<TimeGroup, Stop> {
+    let fraction = parse_fraction(cursor)?;
+    match cursor.look()? {
+        None => Err(Stop::AbruptTimeDesignator),
+        Some(letter) => Ok(TimeGroup {
+            value,
+            fraction: Some(fraction),
+            letter,
+        }),
+    }
+}
+
+/// Reads time groups after their first digit, and expects the end of the input. Behind a fraction nothing else may stand, so
+/// only its group has one: the others are numbers, and none of them is copied with a place for a fraction.
+#[inline(always)]
+pub fn parse_time_groups<'a, T: EncodingType>(
+    cursor: &mut Cursor<'a, T>,
+    first: u8,
+    profile: Profile,
+) -> Result<TimeDurationRecord, Stop> {
+    let mut values = [0; 4];
+    let mut least = 1;
+    let mut digit = first;
+    loop {
+        let whole = parse_number(cursor, digit, Stop::AbruptTimeDesignator)?;
+        if is_decimal_separator(whole.next) {
+            cursor.advance_by(1);
+            let group = parse_fraction_group(cursor, whole.value)?;
+            let rank = take_time_unit(cursor, group.letter, least)?;
+            keep_number(&mut values, rank, group.value);
+            match cursor.look()? {
+                None => return Ok(time_record(values, rank, group.fraction)),
+                Some(_after_fraction) => return Err(Stop::InvalidEnd),
+            }
+        }
+        let rank = take_time_unit(cursor, whole.next, least)?;
+        keep_number(&mut values, rank, whole.value);
+        least = rank + profile.least_step();
+        match cursor.look()? {
+            None => return Ok(time_record(values, rank, None)),
+            Some(byte) if byte.is_ascii_digit() => {
+                cursor.advance();
+                digit = byte;
+            }
+            Some(_) => return Err(Stop::InvalidEnd),
+        }
+    }
+}
