@@ -24,8 +24,14 @@ pub use ixdtf_durations::duration::IsoDurationParser;
 use ixdtf_grammar::encoding::{EncodingType, Utf8, Utf16};
 pub use ixdtf_grammar::profile::Profile;
 use ixdtf_reading::cursor::Cursor;
+// For the printer.
+#[doc(hidden)]
+pub use ixdtf_reading::grammar::is_annotation_value_component;
 #[doc(hidden)]
 pub use ixdtf_reading::stop::FromStop;
+// For the printer.
+#[doc(hidden)]
+pub use ixdtf_times::dates::days_in_month;
 use std::marker::Model;
 
 /// A reader of dates and times, with an offset, a time zone and annotations.

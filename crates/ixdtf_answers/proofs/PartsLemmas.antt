@@ -1,12 +1,14 @@
 -- What answering puts.
-use Rattle.std.proofs.Common.{◌≡◌, ℕ, ◌≤◌, length, Bool, List, [], ◌∷◌, ◌++◌, Option, Some, None, Result, codes, inl, inr, refl, ap, append_assoc}
+use Rattle.std.proofs.Common.{◌≡◌, ℕ, ◌≤◌, length, Bool, List, [], ◌∷◌, ◌++◌, Option, Some, None, Result, Ok, Err, codes, inl, inr, refl, ap, append_assoc}
 use Rattle.std.proofs.lemmas.List.{append-nil}
-use Rattle.ixdtf.specs.{table.{ErrorTexts.message_of, Faults.Fault}, language.{Languages.{Parsed, Found}, Brackets.ZoneNote, ZoneNames.{Zone, Zone.{Name, Offset}}}}
+use Rattle.ixdtf_grammar.specs.{declared.error.ParseError.ParseError, Views.UnreadUnder, Promises.ReadsText}
+use Rattle.ixdtf.specs.{table.{ErrorTexts.message_of, Faults.{Fault, fault_of}}, language.{Languages.{Parsed, Found, Found.parsed}, Letters.byte_letter}}
+use Rattle.ixdtf.specs.language.{Brackets.ZoneNote, Readers.{CoreKind, Reader.bracketed}, ZoneNames.{Zone, Zone.{Name, Offset}}}
 use Rattle.ixdtf_buffers.specs.declared.{error.RunError.RunError, output.Output.Output}
 use Rattle.ixdtf_buffers.specs.{Lines.newline, Output.Puts}
 use Rattle.ixdtf_print.proofs.theorems.ShortErrors.{message_short}
 use Rattle.ixdtf_answers.specs.{Answer.{Gives, Refuses, letters, ok_answer_of, error_answer_of}}
-use Rattle.ixdtf_answers.specs.{Word.{reader_of}, declared.word.Word.Word, Parts.{PutsOutcome, zone_front_of, zone_name_of, zone_field_front_of, zone_field_name_of}}
+use Rattle.ixdtf_answers.specs.{Word.{reader_of}, declared.word.Word.Word, Parts.{PutsOutcome, IsReturned, zone_front_of, zone_name_of, zone_field_front_of, zone_field_name_of}}
 use Rattle.ixdtf_answers.specs.Fields.{zone_text_of, zone_field_of, date_field_of, time_field_of, offset_field_of, calendar_field_of, record_fields_of}
 
 module _ {K : Type 0} {contents : K → Option (List ℕ)} {failed : K → Type 0} {x y : Output K} {r : Result (Unit {0}) RunError} where
@@ -19,6 +21,13 @@ module _ {K : Type 0} {contents : K → Option (List ℕ)} {failed : K → Type 
   pub puts_refused : (word : Word) (text : List ℕ) (fault : Fault) → Refuses (reader_of word) (letters text) fault
       → Puts contents failed x y r (error_answer_of fault ++ newline ∷ []) → PutsOutcome contents failed x y r word text
   puts_refused word text fault refused puts = record { answer = error_answer_of fault; is = inr (fault, refused, refl); puts = puts }
+
+-- what a reader of records returned
+pub record_returned : {X : Type 0} {view : X → Parsed} {old new : UnreadUnder} (word : Word) (kind : CoreKind) (text : List ℕ) (result : Result X ParseError)
+    → reader_of word ≡ bracketed kind → old.rest ≡ text → ReadsText byte_letter fault_of view (bracketed kind) old result new
+    → IsReturned (λ x. parsed (view x)) word text result
+record_returned {view = view} word kind text (Ok x) reader rest reads = record { ok = rw (reader, ← rest) ((reads.ok (view x)).0 refl); err = tt }
+record_returned word kind text (Err e) reader rest reads = record { ok = tt; err = rw (reader, ← rest) reads.err }
 
 -- what is written of an error that the word's reader returns
 pub refused_short : (word : Word) (text : List ℕ) (fault : Fault) → Refuses (reader_of word) (letters text) fault → length (message_of fault) ≤ 69

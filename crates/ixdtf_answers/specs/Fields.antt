@@ -7,9 +7,9 @@ use Rattle.ixdtf_grammar.specs.declared.records.{FullPrecisionOffset.FullPrecisi
 use Rattle.ixdtf_grammar.specs.declared.records.{Sign.TheVariants.{Negative, Positive}, TimeDurationRecord.TimeDurationRecord}
 use Rattle.ixdtf_grammar.specs.declared.records.{TimeDurationRecord.TheVariants.{Hours, Minutes, Seconds}, TimeRecord.TimeRecord}
 use Rattle.ixdtf_grammar.specs.declared.records.{UtcOffsetRecord.UtcOffsetRecord, UtcOffsetRecordOrZ.UtcOffsetRecordOrZ}
-use Rattle.ixdtf.specs.language.{Digits.padded_digits, Fractions.{FractionParts, nanoseconds_of}, Brackets.ZoneNote, Letters.{Letter, Letter.{Plain, Bad}}}
+use Rattle.ixdtf.specs.language.{Digits.padded_digits, Fractions.{FractionParts, nanoseconds_of}, Brackets.ZoneNote}
 use Rattle.ixdtf.specs.language.{Languages.{Parsed, Found, Found.{parsed, shifted, identified, named, lasting}}, ZoneNames.{Zone, Zone.{Name, Offset}}}
-use Rattle.ixdtf_print.specs.Canonical.{canonical_text}
+use Rattle.ixdtf_print.specs.{Canonical.canonical_text, Shown.code_point}
 
 -- `,`
 abbrev pub comma : ℕ
@@ -19,14 +19,9 @@ comma = 44
 abbrev pub point : ℕ
 point = 46
 
--- the byte that a code unit stands for; `Bad` has none
-abbrev pub byte_of : Letter → ℕ
-byte_of (Plain byte) = byte
-byte_of Bad = 0
-
 -- the last nine digits of a number, with leading zeros
 abbrev pub nine_digits_of : ℕ → List ℕ
-nine_digits_of number = map byte_of (padded_digits 9 number)
+nine_digits_of number = map code_point (padded_digits 9 number)
 
 -- year, month and day
 abbrev pub date_text_of : DateRecord → List ℕ
@@ -172,7 +167,7 @@ fields_of (lasting duration) = duration_text_of duration
 
 -- a space, and the bytes of the canonical text of a record; nothing else has one
 abbrev pub canonical_field_of : Found → List ℕ
-canonical_field_of (parsed found) = codes " " ++ map byte_of (canonical_text found)
+canonical_field_of (parsed found) = codes " " ++ map code_point (canonical_text found)
 canonical_field_of (shifted offset) = []
 canonical_field_of (identified zone) = []
 canonical_field_of (named name) = []

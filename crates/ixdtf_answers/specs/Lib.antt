@@ -1,6 +1,5 @@
 pub mod Answer
 pub mod Fields
 pub mod Parts
-pub mod Printed
 pub mod Run
 pub mod Word

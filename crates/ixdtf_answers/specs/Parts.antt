@@ -1,9 +1,20 @@
 -- What answering puts, step by step. No clause of `run` cites this module.
-use Rattle.std.specs.Prelude.{ℕ, Bool, List, [], ◌∷◌, ◌++◌, Option, Some, None, Result}
+use Rattle.std.specs.Prelude.{◌≡◌, ℕ, Bool, List, [], ◌∷◌, ◌++◌, Option, Some, None, Result, IfOk, IfErr}
 use Rattle.ixdtf_buffers.specs.declared.{error.RunError.RunError, output.Output.Output}
 use Rattle.ixdtf_buffers.specs.{Lines.newline, Output.Puts}
-use Rattle.ixdtf.specs.language.{Brackets.ZoneNote, ZoneNames.{Zone, Zone.{Name, Offset}}}
-use Rattle.ixdtf_answers.specs.{Answer.{IsAnswer, IsOutcome}, Fields.{minute_offset_text_of, zone_label_of}, declared.word.Word.Word}
+use Rattle.ixdtf_grammar.specs.declared.error.ParseError.{ParseError}
+use Rattle.ixdtf.specs.{language.{Brackets.ZoneNote, Languages.Found, ZoneNames.{Zone, Zone.{Name, Offset}}}, table.Faults.fault_of}
+use Rattle.ixdtf_answers.specs.Answer.{IsAnswer, IsOutcome, Gives, Refuses, letters, shown_of}
+use Rattle.ixdtf_answers.specs.{Fields.{fields_of, minute_offset_text_of, zone_label_of}, Word.reader_of, declared.word.Word.Word}
+
+-- a word's answers show the fields of what its reader finds
+abbrev pub ShowsFields : Word → Type 0
+ShowsFields word = (found : Found) → shown_of word found ≡ fields_of found
+
+-- the word's reader returned this for the text, with what it found seen by a view
+pub record IsReturned {X : Type 0} (view : X → Found) (word : Word) (text : List ℕ) (result : Result X ParseError) : Type 0 where
+  pub ok : IfOk result (λ found. Gives (reader_of word) (letters text) (view found))
+  pub err : IfErr result (λ error. Refuses (reader_of word) (letters text) (fault_of error))
 
 -- the answer of the word's reader to the text, and a newline, were put
 pub record PutsOutcome {K : Type 0} (contents : K → Option (List ℕ)) (failed : K → Type 0) (before after : Output K) (result : Result (Unit {0}) RunError) (word : Word) (text : List ℕ) : Type 0 where

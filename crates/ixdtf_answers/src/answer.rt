@@ -5,20 +5,33 @@ ghost use Rattle.ixdtf_answers.specs.Parts.{PutsAnswer};
 ghost use Rattle.ixdtf_buffers.specs.Lines.{newline};
 ghost use Rattle.ixdtf_buffers.specs.Output.{Puts};
 
-use crate::found::answer_text;
+use crate::found::{MOST_PRINTED, answer_text};
 use crate::word::Word;
 use ixdtf_buffers::driver::LineTask;
 use ixdtf_buffers::error::RunError;
 use ixdtf_buffers::output::Output;
 use ixdtf_buffers::place::place_of;
 use ixdtf_buffers::sink::Sink;
+use ixdtf_print::PrintedText;
 
 /// The longest line that is read, in bytes.
 pub const LINE_LIMIT: usize = 4096;
 
-/// Answers each line.
+/// What is kept from one line to the next.
 #[derive(Drop)]
-pub struct Answering;
+pub struct Answering {
+    /// The canonical text that was printed last.
+    printed: PrintedText<MOST_PRINTED>,
+}
+
+impl Answering {
+    /// No line was answered.
+    pub fn new() -> Answering {
+        Answering {
+            printed: PrintedText::empty(),
+        }
+    }
+}
 
 impl LineTask<LINE_LIMIT> for Answering {
     ghost use Rattle.ixdtf_answers.specs.Run.{Answers};
@@ -33,13 +46,17 @@ impl LineTask<LINE_LIMIT> for Answering {
     ) -> Result<(), RunError> {
         match line {
             None => put_too_long(output),
-            Some(line) => answer_short(output, line),
+            Some(line) => answer_short(output, &mut self.printed, line),
         }
     }
 }
 
 /// Puts the answer to a line that is not too long.
-fn answer_short<K: Sink>(output: &mut Output<'_, K>, line: &[u8]) -> Result<(), RunError>
+fn answer_short<K: Sink>(
+    output: &mut Output<'_, K>,
+    printed: &mut PrintedText<MOST_PRINTED>,
+    line: &[u8],
+) -> Result<(), RunError>
     requires { length line.now ≤ 4096 }
     ensures { PutsAnswer K.contents K.failed output.old output.new result line.now }
 {
@@ -49,7 +66,7 @@ fn answer_short<K: Sink>(output: &mut Output<'_, K>, line: &[u8]) -> Result<(), 
     let Some(word) = Word::named(&line[..place]) else {
         return put_no_such_reader(output);
     };
-    answer_text(output, word, &line[place + 1..])
+    answer_text(output, printed, word, &line[place + 1..])
 }
 
 /// Puts the answer to a line that is too long to be read.

@@ -2,16 +2,15 @@
 ghost use Rattle.std.specs.Prelude.{◌≡◌, ◌+◌, ◌≤◌, [], ◌∷◌, option_map};
 ghost use Rattle.ixdtf.specs.Views.{note_of, zone_of};
 ghost use Rattle.ixdtf_buffers.specs.Adding.{Adds};
-ghost use Rattle.ixdtf_answers.specs.Fields.{comma, date_field_of, date_text_of, time_field_of, clock_text_of};
+ghost use Rattle.ixdtf_answers.specs.Fields.{comma, date_field_of, time_field_of, clock_text_of};
 ghost use Rattle.ixdtf_answers.specs.Fields.{fraction_text_of, sign_text_of, minute_offset_text_of};
 ghost use Rattle.ixdtf_answers.specs.Fields.{full_offset_text_of, offset_text_of, offset_field_of};
 ghost use Rattle.ixdtf_answers.specs.Fields.{zone_label_of, sign_field_of};
-ghost use Rattle.ixdtf_answers.specs.Fields.{date_duration_text_of, date_duration_field_of, time_numbers_of};
-ghost use Rattle.ixdtf_answers.specs.Fields.{last_fraction_of, time_duration_text_of, time_duration_field_of, duration_text_of};
+ghost use Rattle.ixdtf_answers.specs.Fields.{date_duration_field_of, time_numbers_of};
+ghost use Rattle.ixdtf_answers.specs.Fields.{last_fraction_of, time_duration_field_of, duration_text_of};
 ghost use Rattle.ixdtf_answers.specs.Parts.{zone_front_of, zone_field_front_of};
 ghost use Rattle.std.specs.Fmt.{decimal};
 
-use crate::number::nine_digits;
 use ixdtf::encoding::Utf8;
 use ixdtf::records::{
     DateDurationRecord, DateRecord, DurationParseRecord, Fraction, FullPrecisionOffset,
@@ -19,10 +18,11 @@ use ixdtf::records::{
     TimeZoneRecord, UtcOffsetRecord, UtcOffsetRecordOrZ,
 };
 use ixdtf_buffers::adding::{ROOM, add_byte, add_bytes, add_number, add_signed, add_small};
+use ixdtf_print::put_digits;
 
 /// Adds a comma and a number below 256.
 fn add_small_behind_comma(room: &mut [u8; ROOM], at: usize, number: u8) -> usize
-    requires { at + 4 ≤ 192 }
+    requires { at + 4 ≤ ROOM }
     ensures place { result ≤ at + 4 }
     ensures text { Adds room.old room.new at result (comma ∷ decimal number) }
 {
@@ -32,7 +32,7 @@ fn add_small_behind_comma(room: &mut [u8; ROOM], at: usize, number: u8) -> usize
 
 /// Adds a comma and a number.
 fn add_number_behind_comma(room: &mut [u8; ROOM], at: usize, number: u64) -> usize
-    requires { at + 21 ≤ 192 }
+    requires { at + 21 ≤ ROOM }
     ensures place { result ≤ at + 21 }
     ensures text { Adds room.old room.new at result (comma ∷ decimal number) }
 {
@@ -42,22 +42,13 @@ fn add_number_behind_comma(room: &mut [u8; ROOM], at: usize, number: u64) -> usi
 
 /// Adds the year, month and day, where there is a date.
 pub fn add_date_field(room: &mut [u8; ROOM], at: usize, date: Option<DateRecord>) -> usize
-    requires { at + 25 ≤ 192 }
+    requires { at + 25 ≤ ROOM }
     ensures place { result ≤ at + 25 }
     ensures text { Adds room.old room.new at result (date_field_of date) }
 {
-    match date {
-        None => at,
-        Some(date) => add_date(room, at, date),
-    }
-}
-
-/// Adds the year, month and day.
-fn add_date(room: &mut [u8; ROOM], at: usize, date: DateRecord) -> usize
-    requires { at + 25 ≤ 192 }
-    ensures place { result ≤ at + 25 }
-    ensures text { Adds room.old room.new at result (date_text_of date) }
-{
+    let Some(date) = date else {
+        return at;
+    };
     let year = add_bytes(room, at, b" date=");
     let month = add_signed(room, year, date.year);
     let day = add_small_behind_comma(room, month, date.month);
@@ -66,7 +57,7 @@ fn add_date(room: &mut [u8; ROOM], at: usize, date: DateRecord) -> usize
 
 /// Adds the time and its fraction, where there is a time.
 pub fn add_time_field(room: &mut [u8; ROOM], at: usize, time: Option<TimeRecord>) -> usize
-    requires { at + 27 ≤ 192 }
+    requires { at + 27 ≤ ROOM }
     ensures place { result ≤ at + 27 }
     ensures text { Adds room.old room.new at result (time_field_of time) }
 {
@@ -80,7 +71,7 @@ pub fn add_time_field(room: &mut [u8; ROOM], at: usize, time: Option<TimeRecord>
 
 /// Adds the hour, minute and second.
 fn add_clock(room: &mut [u8; ROOM], at: usize, time: TimeRecord) -> usize
-    requires { at + 17 ≤ 192 }
+    requires { at + 17 ≤ ROOM }
     ensures place { result ≤ at + 17 }
     ensures text { Adds room.old room.new at result (clock_text_of time) }
 {
@@ -92,7 +83,7 @@ fn add_clock(room: &mut [u8; ROOM], at: usize, time: TimeRecord) -> usize
 
 /// Adds the fraction, where there is one, after the last number.
 fn add_fraction(room: &mut [u8; ROOM], at: usize, fraction: Option<Fraction>) -> usize
-    requires { at + 10 ≤ 192 }
+    requires { at + 10 ≤ ROOM }
     ensures place { result ≤ at + 10 }
     ensures text { Adds room.old room.new at result (fraction_text_of fraction) }
 {
@@ -100,8 +91,8 @@ fn add_fraction(room: &mut [u8; ROOM], at: usize, fraction: Option<Fraction>) ->
         None => at,
         Some(fraction) => {
             let digits = add_byte(room, at, b'.');
-            let nine = nine_digits(fraction.to_truncated_nanoseconds());
-            add_bytes(room, digits, nine.as_slice())
+            let nanoseconds = u64::from(fraction.to_truncated_nanoseconds());
+            put_digits(room, digits, 9, nanoseconds)
         }
     }
 }
@@ -112,7 +103,7 @@ pub fn add_offset_field(
     at: usize,
     offset: Option<UtcOffsetRecordOrZ>,
 ) -> usize
-    requires { at + 30 ≤ 192 }
+    requires { at + 30 ≤ ROOM }
     ensures place { result ≤ at + 30 }
     ensures text { Adds room.old room.new at result (offset_field_of offset) }
 {
@@ -125,7 +116,7 @@ pub fn add_offset_field(
 
 /// Adds the field of an offset in numbers.
 pub fn add_offset(room: &mut [u8; ROOM], at: usize, offset: UtcOffsetRecord) -> usize
-    requires { at + 30 ≤ 192 }
+    requires { at + 30 ≤ ROOM }
     ensures place { result ≤ at + 30 }
     ensures text { Adds room.old room.new at result (offset_text_of offset) }
 {
@@ -138,7 +129,7 @@ pub fn add_offset(room: &mut [u8; ROOM], at: usize, offset: UtcOffsetRecord) -> 
 
 /// Adds the sign, hours and minutes.
 fn add_minute_offset(room: &mut [u8; ROOM], at: usize, offset: MinutePrecisionOffset) -> usize
-    requires { at + 8 ≤ 192 }
+    requires { at + 8 ≤ ROOM }
     ensures place { result ≤ at + 8 }
     ensures text { Adds room.old room.new at result (minute_offset_text_of offset) }
 {
@@ -149,7 +140,7 @@ fn add_minute_offset(room: &mut [u8; ROOM], at: usize, offset: MinutePrecisionOf
 
 /// Adds the sign, hours, minutes and seconds, with the fraction.
 fn add_full_offset(room: &mut [u8; ROOM], at: usize, offset: FullPrecisionOffset) -> usize
-    requires { at + 22 ≤ 192 }
+    requires { at + 22 ≤ ROOM }
     ensures place { result ≤ at + 22 }
     ensures text { Adds room.old room.new at result (full_offset_text_of offset) }
 {
@@ -166,7 +157,7 @@ pub fn add_zone_field_front(
     at: usize,
     note: &Option<TimeZoneAnnotation<'_, Utf8>>,
 ) -> usize
-    requires { at + 13 ≤ 192 }
+    requires { at + 13 ≤ ROOM }
     ensures place { result ≤ at + 13 }
     ensures text { Adds room.old room.new at result
         (zone_field_front_of (option_map (note_of (λ byte. byte)) note.now)) }
@@ -184,7 +175,7 @@ pub fn add_zone_front(
     critical: bool,
     zone: &TimeZoneRecord<'_, Utf8>,
 ) -> usize
-    requires { at + 13 ≤ 192 }
+    requires { at + 13 ≤ ROOM }
     ensures place { result ≤ at + 13 }
     ensures text { Adds room.old room.new at result
         (zone_front_of critical (zone_of (λ byte. byte) zone.now)) }
@@ -198,7 +189,7 @@ pub fn add_zone_front(
 
 /// Adds what stands before any zone.
 fn add_zone_label(room: &mut [u8; ROOM], at: usize, critical: bool) -> usize
-    requires { at + 5 ≤ 192 }
+    requires { at + 5 ≤ ROOM }
     ensures place { result ≤ at + 5 }
     ensures text { Adds room.old room.new at result (zone_label_of critical) }
 {
@@ -211,7 +202,7 @@ fn add_zone_label(room: &mut [u8; ROOM], at: usize, critical: bool) -> usize
 
 /// Adds the sign of a duration, and its date and its time, where it has them.
 pub fn add_duration(room: &mut [u8; ROOM], at: usize, duration: DurationParseRecord) -> usize
-    requires { at + 174 ≤ 192 }
+    requires { at + 174 ≤ ROOM }
     ensures place { result ≤ at + 174 }
     ensures text { Adds room.old room.new at result (duration_text_of duration) }
 {
@@ -224,7 +215,7 @@ pub fn add_duration(room: &mut [u8; ROOM], at: usize, duration: DurationParseRec
 
 /// Adds the sign of a duration.
 fn add_sign_field(room: &mut [u8; ROOM], at: usize, sign: Sign) -> usize
-    requires { at + 7 ≤ 192 }
+    requires { at + 7 ≤ ROOM }
     ensures place { result ≤ at + 7 }
     ensures text { Adds room.old room.new at result (sign_field_of sign) }
 {
@@ -238,22 +229,13 @@ fn add_date_duration_field(
     at: usize,
     date: Option<DateDurationRecord>,
 ) -> usize
-    requires { at + 89 ≤ 192 }
+    requires { at + 89 ≤ ROOM }
     ensures place { result ≤ at + 89 }
     ensures text { Adds room.old room.new at result (date_duration_field_of date) }
 {
-    match date {
-        None => at,
-        Some(date) => add_date_duration(room, at, date),
-    }
-}
-
-/// Adds the years, months, weeks and days of a duration.
-fn add_date_duration(room: &mut [u8; ROOM], at: usize, date: DateDurationRecord) -> usize
-    requires { at + 89 ≤ 192 }
-    ensures place { result ≤ at + 89 }
-    ensures text { Adds room.old room.new at result (date_duration_text_of date) }
-{
+    let Some(date) = date else {
+        return at;
+    };
     let years = add_bytes(room, at, b" date=");
     let months = add_number(room, years, u64::from(date.years));
     let weeks = add_number_behind_comma(room, months, u64::from(date.months));
@@ -267,22 +249,13 @@ fn add_time_duration_field(
     at: usize,
     time: Option<TimeDurationRecord>,
 ) -> usize
-    requires { at + 78 ≤ 192 }
+    requires { at + 78 ≤ ROOM }
     ensures place { result ≤ at + 78 }
     ensures text { Adds room.old room.new at result (time_duration_field_of time) }
 {
-    match time {
-        None => at,
-        Some(time) => add_time_duration(room, at, time),
-    }
-}
-
-/// Adds the time of a duration, with the fraction after its last number.
-fn add_time_duration(room: &mut [u8; ROOM], at: usize, time: TimeDurationRecord) -> usize
-    requires { at + 78 ≤ 192 }
-    ensures place { result ≤ at + 78 }
-    ensures text { Adds room.old room.new at result (time_duration_text_of time) }
-{
+    let Some(time) = time else {
+        return at;
+    };
     let fraction = last_fraction(&time);
     let point = add_time_numbers(room, at, &time);
     add_fraction(room, point, fraction)
@@ -290,7 +263,7 @@ fn add_time_duration(room: &mut [u8; ROOM], at: usize, time: TimeDurationRecord)
 
 /// Adds the hours of a duration, and the minutes and seconds that it has.
 fn add_time_numbers(room: &mut [u8; ROOM], at: usize, time: &TimeDurationRecord) -> usize
-    requires { at + 68 ≤ 192 }
+    requires { at + 68 ≤ ROOM }
     ensures place { result ≤ at + 68 }
     ensures text { Adds room.old room.new at result (time_numbers_of time.now) }
 {

@@ -9,7 +9,6 @@ pub mod arguments;
 mod fields;
 mod found;
 pub mod laws;
-pub mod number;
 mod outcome;
 pub mod runner;
 mod word;

@@ -1,17 +1,16 @@
 //! What is put for what a reader found, or for why it refuses a text.
-ghost use Rattle.std.specs.Prelude.{◌≡◌, ◌+◌, ◌<◌, ◌≤◌, ◌^◌, false, [], ◌∷◌, ◌++◌, codes, length, option_map, take};
+ghost use Rattle.std.specs.Prelude.{◌≡◌, ◌+◌, ◌≤◌, false, [], ◌∷◌, ◌++◌, codes, length, option_map, take};
 ghost use Rattle.ixdtf.specs.Views.{parsed_of, note_of, zone_of};
 ghost use Rattle.ixdtf.specs.language.Languages.Found.{parsed};
 ghost use Rattle.ixdtf.specs.table.ErrorTexts.{message_of};
 ghost use Rattle.ixdtf.specs.table.Faults.{fault_of};
-ghost use Rattle.ixdtf_print.specs.Canonical.{canonical_text};
 ghost use Rattle.ixdtf_print.specs.Printable.{record_of};
+ghost use Rattle.ixdtf_print.specs.Printed.{FitsArray};
 ghost use Rattle.ixdtf_buffers.specs.Adding.{Adds};
 ghost use Rattle.ixdtf_answers.specs.Answer.{error_answer_of};
 ghost use Rattle.ixdtf_answers.specs.Fields.{canonical_field_of, record_fields_of, date_field_of, time_field_of};
 ghost use Rattle.ixdtf_answers.specs.Fields.{offset_field_of, offset_text_of, zone_text_of, calendar_text_of, duration_text_of};
 ghost use Rattle.ixdtf_answers.specs.Parts.{zone_field_front_of, zone_name_of, zone_field_name_of};
-ghost use Rattle.ixdtf_answers.specs.Printed.{FitsArray};
 ghost use Rattle.ixdtf_buffers.specs.Lines.{newline};
 ghost use Rattle.ixdtf_buffers.specs.Output.{Puts};
 
@@ -28,13 +27,7 @@ use ixdtf_buffers::adding::{ROOM, add_byte, add_bytes};
 use ixdtf_buffers::error::RunError;
 use ixdtf_buffers::output::Output;
 use ixdtf_buffers::sink::Sink;
-use ixdtf_print::{error_parts, length_of, print_with_room};
-
-/// At least as many bytes as the canonical text of a record that was read from a line has.
-const MOST_BYTES: usize = 4352;
-
-/// As many bytes as the canonical text of a record without a long name has.
-const USUAL_BYTES: usize = 256;
+use ixdtf_print::{PrintedText, error_parts};
 
 /// Puts each field that the record has.
 pub fn put_record<K: Sink>(
@@ -77,7 +70,7 @@ fn put_front_and_name<K: Sink>(
     front: usize,
     name: &[u8],
 ) -> Result<(), RunError>
-    requires { front + 1 ≤ 192 }
+    requires { front + 1 ≤ ROOM }
     ensures { Puts K.contents K.failed output.old output.new result
         (take front room.old ++ (name.now ++ newline ∷ [])) }
 {
@@ -99,10 +92,7 @@ fn put_name_and_calendar<K: Sink>(
     ensures { Puts K.contents K.failed output.old output.new result
         (name.now ++ (calendar_text_of calendar.now ++ newline ∷ [])) }
 {
-    output.put(name)?;
-    output.put(b" calendar=")?;
-    output.put(calendar)?;
-    output.put(b"\n")
+    output.put_all(&[name, b" calendar=".as_slice(), calendar, b"\n".as_slice()])
 }
 
 /// The name of the zone, or no byte where it has none.
@@ -169,50 +159,19 @@ pub fn put_duration<K: Sink>(
     output.put(&room[..end])
 }
 
-/// Puts the canonical text of the record.
-///
-/// Nearly all texts are short, and are printed into a short array, since each array is cleared before it is written.
-pub fn put_canonical<K: Sink>(
+/// Prints the canonical text of the record, and puts it.
+pub fn put_canonical<K: Sink, const SIZE: usize>(
     output: &mut Output<'_, K>,
+    printed: &mut PrintedText<SIZE>,
     parts: &IxdtfParseRecord<'_, Utf8>,
 ) -> Result<(), RunError>
-    requires { FitsArray (parsed_of (λ byte. byte) parts.now) }
+    requires { FitsArray SIZE (record_of parts.now) }
     ensures { Puts K.contents K.failed output.old output.new result
         (codes "ok" ++ canonical_field_of (parsed (record_of parts.now)) ++ newline ∷ []) }
 {
-    if length_of(parts) > USUAL_BYTES as u128 {
-        return put_long_canonical(output, parts);
-    }
-    put_printed::<K, USUAL_BYTES>(output, parts)
-}
-
-/// Puts the canonical text of a record with a long name.
-#[cold]
-#[inline(never)]
-fn put_long_canonical<K: Sink>(
-    output: &mut Output<'_, K>,
-    parts: &IxdtfParseRecord<'_, Utf8>,
-) -> Result<(), RunError>
-    requires { FitsArray (parsed_of (λ byte. byte) parts.now) }
-    ensures { Puts K.contents K.failed output.old output.new result
-        (codes "ok" ++ canonical_field_of (parsed (record_of parts.now)) ++ newline ∷ []) }
-{
-    put_printed::<K, MOST_BYTES>(output, parts)
-}
-
-/// Puts the canonical text of the record, which is printed into an array of so many bytes.
-fn put_printed<K: Sink, const MOST: usize>(
-    output: &mut Output<'_, K>,
-    parts: &IxdtfParseRecord<'_, Utf8>,
-) -> Result<(), RunError>
-    requires fits { length (canonical_text (record_of parts.now)) ≤ MOST }
-    requires array { MOST < 2 ^ 63 }
-    ensures { Puts K.contents K.failed output.old output.new result
-        (codes "ok" ++ canonical_field_of (parsed (record_of parts.now)) ++ newline ∷ []) }
-{
-    let mut text = [0; MOST];
-    let count = print_with_room(parts, &mut text);
-    output.put_all(&[b"ok ".as_slice(), &text[..count], b"\n".as_slice()])
+    printed.print(parts);
+    output.put(b"ok ")?;
+    output.put(printed.as_line())
 }
 
 /// Puts the answer to a text that is refused, and a newline.

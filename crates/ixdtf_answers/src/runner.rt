@@ -49,5 +49,5 @@ pub fn answer_lines<S: Source, K: Sink>(source: &mut S, sink: &mut K) -> Result<
         × WritesFront (K.contents sink.old) (K.contents sink.new) (lines_of bytes) }
     ensures unwritten { result ≡ Err RunError.Write → K.failed sink.new }
 {
-    drive::<S, K, Answering, LINE_LIMIT>(source, sink, &mut Answering).end
+    drive::<S, K, Answering, LINE_LIMIT>(source, sink, &mut Answering::new()).end
 }

@@ -2,14 +2,15 @@
 //!
 //! The text of an answer or of a report is made there, and put at once. A place goes from call to call in a register, where a count in
 //! memory would be read and written for each byte.
-ghost use Rattle.std.specs.Prelude.{◌≡◌, ◌+◌, ◌<◌, ◌≤◌, ◌^◌, [], ◌∷◌, length};
+ghost use Rattle.std.specs.Prelude.{◌≡◌, ◌+◌, ◌<◌, ◌≤◌, ◌^◌, [], ◌∷◌, length, drop};
 ghost use Rattle.std.specs.Fmt.{decimal, signed_decimal};
 ghost use Rattle.ixdtf_buffers.specs.Adding.{Adds, pair_of};
 
-use crate::decimal::Decimal;
-
 /// How many bytes the array of an answer has: at least as many as an answer without names.
 pub const ROOM: usize = 192;
+
+/// The most digits of a `u64`.
+const MOST_DIGITS: usize = 20;
 
 /// Adds the byte at the place, and returns the place behind it.
 #[inline(always)]
@@ -191,6 +192,23 @@ fn add_long<const SIZE: usize>(room: &mut [u8; SIZE], at: usize, number: u64) ->
     ensures place { result ≡ at + length (decimal number) }
     ensures text { Adds room.old room.new at result (decimal number) }
 {
-    let digits = Decimal::new(number);
-    add_bytes(room, at, digits.as_slice())
+    let mut digits = [0; MOST_DIGITS];
+    let start = put_decimal(number, &mut digits);
+    add_bytes(room, at, &digits[start..])
+}
+
+/// Writes the digits at the end of the array, and returns where they start.
+fn put_decimal(number: u64, digits: &mut [u8; MOST_DIGITS]) -> usize
+    ensures start { result < 20 }
+    ensures digits { drop result digits.new ≡ decimal number }
+{
+    let mut left = number;
+    let mut start = MOST_DIGITS - 1;
+    while left >= 10 {
+        digits[start] = b'0' + (left % 10) as u8;
+        left /= 10;
+        start -= 1;
+    }
+    digits[start] = b'0' + left as u8;
+    start
 }

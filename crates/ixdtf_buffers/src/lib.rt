@@ -5,7 +5,6 @@
 #![tactic(auto)]
 
 pub mod adding;
-pub mod decimal;
 pub mod driver;
 pub mod error;
 pub mod line;

@@ -4,13 +4,12 @@ use Rattle.std.proofs.lemmas.{List.{length-map}, Str.{IsUtf8-from_is_utf8, is_ut
 use Rattle.std.specs.Str.{is_utf8}
 use Rattle.ixdtf_grammar.specs.LocatedTexts.{pointed_text}
 use Rattle.ixdtf_buffers.specs.Lines.{newline}
-use Rattle.ixdtf_grammar.specs.{declared.profile.Profile.Profile, Handlers.UnhandledRecord, Places.HasUnhandledFaultAt}
-use Rattle.ixdtf_grammar.specs.{Widths.{byte_text}, language.Languages.{Parsed}}
+use Rattle.ixdtf_grammar.specs.{declared.profile.Profile.Profile, Places.HasUnhandledFaultAt}
+use Rattle.ixdtf_grammar.specs.Widths.{byte_text}
 use Rattle.ixdtf_grammar.specs.language.{Letters.{Text, Letter, byte_letter}, Readers.{Reader, parse}}
 use Rattle.ixdtf_grammar.specs.language.Readers.Reader.{bracketed, parse_offset, parse_identifier, parse_iana_identifier, parse_duration}
 use Rattle.ixdtf_grammar.specs.table.Faults.{Fault}
-use Rattle.ixdtf_print.specs.{Canonical.canonical_text, Laws.CanonicalFits}
-use Rattle.ixdtf_checks.specs.{Printed.FitsArray, Seen.lines_at, Kinds.reader_of, Parts.{Text as Part}, Refusals.IsRefusal}
+use Rattle.ixdtf_checks.specs.{Seen.lines_at, Kinds.reader_of, Parts.{Text as Part}, Refusals.IsRefusal}
 use Rattle.ixdtf_checks.specs.{Verdicts.{Verdict, ShowsPlace, IsTextVerdict, Verdict.{accepted, printed, refused}}, declared.kind.Kind.Kind}
 use Rattle.ixdtf_checks.specs.declared.request.Task.TheVariants.{Check, Print}
 
@@ -37,13 +36,6 @@ shows_place bytes at = go (is_utf8 bytes) refl
     go : (test : Bool) → is_utf8 bytes ≡ test → ShowsPlace bytes at (if test then pointed_text bytes at ++ newline ∷ [] else [])
     go true is = inl (IsUtf8-from_is_utf8 bytes is, refl)
     go false is = inr ((λ good. true≢false (sym (is_utf8-from_IsUtf8 bytes good) ∙ is)), refl)
-
--- a record that was read from a line fits into the array
-pub read_fits : (text : List ℕ) (found : Parsed) → CanonicalFits → UnhandledRecord parse (byte_text text) found → length text ≤ 65536 → FitsArray found
-read_fits text found fits given short =
-    let spell : ℕ → Letter = λ n. byte_letter n in
-    let most : length (canonical_text found) ≤ length (byte_text text) + 14 = fits (byte_text text) found given in
-    omega (arith, most, length-map text spell)
 
 -- a text that is refused has this verdict
 pub check_refused : (kind : Kind) (profile : Profile) (text : Part) (verdict : Verdict) → IsRefusal (reader_of kind profile) text verdict

@@ -2,7 +2,6 @@ pub mod Checks
 pub mod Kinds
 pub mod Parts
 pub mod Pointed
-pub mod Printed
 pub mod Refusals
 pub mod Reports
 pub mod Seen

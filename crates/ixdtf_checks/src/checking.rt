@@ -35,7 +35,7 @@ impl<'n> Checking<'n> {
     {
         Checking {
             request,
-            printed: PrintedText::new(),
+            printed: PrintedText::empty(),
             room: [0; ROOM],
             tally: Tally::new(),
         }

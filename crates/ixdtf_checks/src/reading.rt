@@ -12,7 +12,6 @@ use crate::printed::PrintedText;
 use ixdtf::LocatedError;
 use ixdtf::encoding::Utf8;
 use ixdtf::parsers::{IsoDurationParser, IxdtfParser, Profile, TimeZoneParser};
-use ixdtf_print::canonical_fits;
 
 /// Reads the text as one of the kind, or returns the error with its place.
 pub fn read(kind: Kind, profile: Profile, text: &[u8]) -> Result<(), LocatedError>
@@ -79,7 +78,6 @@ pub fn read_to_print(text: &[u8], printed: &mut PrintedText) -> Result<(), Locat
     ensures err { IfErr result (λ error. HasUnhandledFaultAt parse
         (byte_text text.now) (fault_of_located error) error.at) }
 {
-    canonical_fits();
     match IxdtfParser::from_utf8(text).parse_located() {
         Ok(parts) => {
             printed.print(&parts);

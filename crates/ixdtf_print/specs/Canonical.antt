@@ -48,19 +48,19 @@ time_text None = []
 time_text (Some time) = Plain 84 ∷ clock_text time.hour time.minute time.second time.fraction
 
 -- `+` or `-`
-abbrev pub sign_of : Sign → ℕ
-sign_of Positive = 43
-sign_of Negative = 45
+abbrev pub mark_of : Sign → ℕ
+mark_of Positive = 43
+mark_of Negative = 45
 
 -- a sign and `Hour:Min`
 abbrev pub minute_offset_text : MinutePrecisionOffset → Text
-minute_offset_text offset = Plain (sign_of offset.sign) ∷ minutes_text offset.hour offset.minute
+minute_offset_text offset = Plain (mark_of offset.sign) ∷ minutes_text offset.hour offset.minute
 
 -- a sign and a clock
 abbrev pub full_offset_text : FullPrecisionOffset → Text
 full_offset_text offset =
     let minutes = offset.minute_precision_offset in
-    Plain (sign_of minutes.sign) ∷ clock_text minutes.hour minutes.minute offset.second offset.fraction
+    Plain (mark_of minutes.sign) ∷ clock_text minutes.hour minutes.minute offset.second offset.fraction
 
 -- an offset in its precision, or `Z`
 abbrev pub offset_text : Option UtcOffsetRecordOrZ → Text

@@ -1,39 +1,19 @@
 //! Whether a record has a text.
-ghost use Rattle.std.specs.Prelude.{◌≡◌, ◌↔◌, IsTrue, map, option_map};
+ghost use Rattle.std.specs.Prelude.{◌↔◌, IsTrue, map, option_map};
 ghost use Rattle.ixdtf.specs.Views.{note_of, zone_of};
 ghost use Rattle.ixdtf_print.specs.Printable.{IsPrintable, record_of};
-ghost use Rattle.ixdtf.specs.language.Letters.{value_char, Plain};
+ghost use Rattle.ixdtf.specs.language.Letters.{Plain};
 ghost use Rattle.ixdtf.specs.language.Brackets.{Value};
-ghost use Rattle.ixdtf.specs.language.Dates.{is_leap, month_length};
 ghost use Rattle.ixdtf.specs.language.ZoneNames.{ZoneName};
 ghost use Rattle.ixdtf_print.specs.Spelled.{IsDay, HasDay, IsClock, IsDayTime, IsMinuteClock, IsShift, HasTime};
 ghost use Rattle.ixdtf_print.specs.Spelled.{IsZoneText, HasZone, HasCalendar, IsSpelled};
 
 use ixdtf::encoding::Utf8;
-use ixdtf::parsers::TimeZoneParser;
+use ixdtf::parsers::{TimeZoneParser, days_in_month, is_annotation_value_component};
 use ixdtf::records::{
     DateRecord, Fraction, IxdtfParseRecord, MinutePrecisionOffset, TimeRecord, TimeZoneAnnotation,
     TimeZoneRecord, UtcOffsetRecord, UtcOffsetRecordOrZ,
 };
-
-/// How many days the month has.
-fn days_in_month(year: i32, month: u8) -> u8
-    ensures { result ≡ month_length year month }
-{
-    match month {
-        2 => { if is_leap_year(year) { 29 } else { 28 } }
-        4 | 6 | 9 | 11 => 30,
-        _ => 31,
-    }
-}
-
-/// Whether the year has a 29th of February.
-fn is_leap_year(year: i32) -> bool
-    ensures { result ≡ is_leap year }
-{
-    let distance = year.unsigned_abs();
-    (distance % 4 == 0 && distance % 100 != 0) || distance % 400 == 0
-}
 
 /// Whether the date is a day of the Gregorian calendar, in a year of at most six digits.
 fn is_day(date: DateRecord) -> bool
@@ -139,42 +119,13 @@ fn has_zone(note: &Option<TimeZoneAnnotation<'_, Utf8>>) -> bool
     }
 }
 
-// Of each byte whether it may stand in a value. A look-up takes fewer instructions than the comparisons.
-#[rattlefmt::skip]
-static VALUE_BYTES: [u8; 256] = [
-    0, 0, 0, 0, 0, 0, 0, 0, 0, 0, 0, 0, 0, 0, 0, 0,
-    0, 0, 0, 0, 0, 0, 0, 0, 0, 0, 0, 0, 0, 0, 0, 0,
-    0, 0, 0, 0, 0, 0, 0, 0, 0, 0, 0, 0, 0, 0, 0, 0,
-    1, 1, 1, 1, 1, 1, 1, 1, 1, 1, 0, 0, 0, 0, 0, 0,
-    0, 1, 1, 1, 1, 1, 1, 1, 1, 1, 1, 1, 1, 1, 1, 1,
-    1, 1, 1, 1, 1, 1, 1, 1, 1, 1, 1, 0, 0, 0, 0, 0,
-    0, 1, 1, 1, 1, 1, 1, 1, 1, 1, 1, 1, 1, 1, 1, 1,
-    1, 1, 1, 1, 1, 1, 1, 1, 1, 1, 1, 0, 0, 0, 0, 0,
-    0, 0, 0, 0, 0, 0, 0, 0, 0, 0, 0, 0, 0, 0, 0, 0,
-    0, 0, 0, 0, 0, 0, 0, 0, 0, 0, 0, 0, 0, 0, 0, 0,
-    0, 0, 0, 0, 0, 0, 0, 0, 0, 0, 0, 0, 0, 0, 0, 0,
-    0, 0, 0, 0, 0, 0, 0, 0, 0, 0, 0, 0, 0, 0, 0, 0,
-    0, 0, 0, 0, 0, 0, 0, 0, 0, 0, 0, 0, 0, 0, 0, 0,
-    0, 0, 0, 0, 0, 0, 0, 0, 0, 0, 0, 0, 0, 0, 0, 0,
-    0, 0, 0, 0, 0, 0, 0, 0, 0, 0, 0, 0, 0, 0, 0, 0,
-    0, 0, 0, 0, 0, 0, 0, 0, 0, 0, 0, 0, 0, 0, 0, 0,
-];
-
-/// Whether the byte is an ASCII letter or digit.
-#[inline(always)]
-fn is_value_byte(byte: u8) -> bool
-    ensures { result ≡ value_char byte }
-{
-    VALUE_BYTES[byte as usize] != 0
-}
-
 /// Whether the bytes are the value of an annotation.
 fn is_value(bytes: &[u8]) -> bool
     ensures { IsTrue result ↔ Value (map Plain bytes.now) }
 {
     let mut in_run = false;
     for byte in bytes {
-        if is_value_byte(*byte) {
+        if is_annotation_value_component(*byte) {
             in_run = true;
         } else if *byte == b'-' && in_run {
             in_run = false;

@@ -2,7 +2,7 @@
 ghost use Rattle.std.specs.Prelude.{◌≡◌, ◌+◌, ◌/◌, ◌%◌, ◌≤◌};
 ghost use Rattle.ixdtf.specs.language.Digits.{padded_digits};
 ghost use Rattle.ixdtf_print.specs.Canonical.{fraction_text};
-ghost use Rattle.ixdtf_print.specs.Puts.{HasRoom, Puts};
+ghost use Rattle.ixdtf_print.specs.Prints.{HasRoom, Prints};
 
 use crate::put::{put, put_byte, set_byte};
 use ixdtf::records::Fraction;
@@ -16,47 +16,13 @@ struct WrittenDigits {
 
 #[rattlefmt::skip]
 static WRITTEN_DIGITS: WrittenDigits = WrittenDigits {
-    tens: [
-        48, 48, 48, 48, 48, 48, 48, 48, 48, 48, 49, 49, 49, 49, 49, 49,
-        49, 49, 49, 49, 50, 50, 50, 50, 50, 50, 50, 50, 50, 50, 51, 51,
-        51, 51, 51, 51, 51, 51, 51, 51, 52, 52, 52, 52, 52, 52, 52, 52,
-        52, 52, 53, 53, 53, 53, 53, 53, 53, 53, 53, 53, 54, 54, 54, 54,
-        54, 54, 54, 54, 54, 54, 55, 55, 55, 55, 55, 55, 55, 55, 55, 55,
-        56, 56, 56, 56, 56, 56, 56, 56, 56, 56, 57, 57, 57, 57, 57, 57,
-        57, 57, 57, 57, 48, 48, 48, 48, 48, 48, 48, 48, 48, 48, 49, 49,
-        49, 49, 49, 49, 49, 49, 49, 49, 50, 50, 50, 50, 50, 50, 50, 50,
-        50, 50, 51, 51, 51, 51, 51, 51, 51, 51, 51, 51, 52, 52, 52, 52,
-        52, 52, 52, 52, 52, 52, 53, 53, 53, 53, 53, 53, 53, 53, 53, 53,
-        54, 54, 54, 54, 54, 54, 54, 54, 54, 54, 55, 55, 55, 55, 55, 55,
-        55, 55, 55, 55, 56, 56, 56, 56, 56, 56, 56, 56, 56, 56, 57, 57,
-        57, 57, 57, 57, 57, 57, 57, 57, 48, 48, 48, 48, 48, 48, 48, 48,
-        48, 48, 49, 49, 49, 49, 49, 49, 49, 49, 49, 49, 50, 50, 50, 50,
-        50, 50, 50, 50, 50, 50, 51, 51, 51, 51, 51, 51, 51, 51, 51, 51,
-        52, 52, 52, 52, 52, 52, 52, 52, 52, 52, 53, 53, 53, 53, 53, 53,
-    ],
-    ones: [
-        48, 49, 50, 51, 52, 53, 54, 55, 56, 57, 48, 49, 50, 51, 52, 53,
-        54, 55, 56, 57, 48, 49, 50, 51, 52, 53, 54, 55, 56, 57, 48, 49,
-        50, 51, 52, 53, 54, 55, 56, 57, 48, 49, 50, 51, 52, 53, 54, 55,
-        56, 57, 48, 49, 50, 51, 52, 53, 54, 55, 56, 57, 48, 49, 50, 51,
-        52, 53, 54, 55, 56, 57, 48, 49, 50, 51, 52, 53, 54, 55, 56, 57,
-        48, 49, 50, 51, 52, 53, 54, 55, 56, 57, 48, 49, 50, 51, 52, 53,
-        54, 55, 56, 57, 48, 49, 50, 51, 52, 53, 54, 55, 56, 57, 48, 49,
-        50, 51, 52, 53, 54, 55, 56, 57, 48, 49, 50, 51, 52, 53, 54, 55,
-        56, 57, 48, 49, 50, 51, 52, 53, 54, 55, 56, 57, 48, 49, 50, 51,
-        52, 53, 54, 55, 56, 57, 48, 49, 50, 51, 52, 53, 54, 55, 56, 57,
-        48, 49, 50, 51, 52, 53, 54, 55, 56, 57, 48, 49, 50, 51, 52, 53,
-        54, 55, 56, 57, 48, 49, 50, 51, 52, 53, 54, 55, 56, 57, 48, 49,
-        50, 51, 52, 53, 54, 55, 56, 57, 48, 49, 50, 51, 52, 53, 54, 55,
-        56, 57, 48, 49, 50, 51, 52, 53, 54, 55, 56, 57, 48, 49, 50, 51,
-        52, 53, 54, 55, 56, 57, 48, 49, 50, 51, 52, 53, 54, 55, 56, 57,
-        48, 49, 50, 51, 52, 53, 54, 55, 56, 57, 48, 49, 50, 51, 52, 53,
-    ],
+    tens: *b"0000000000111111111122222222223333333333444444444455555555556666666666777777777788888888889999999999000000000011111111112222222222333333333344444444445555555555666666666677777777778888888888999999999900000000001111111111222222222233333333334444444444555555",
+    ones: *b"0123456789012345678901234567890123456789012345678901234567890123456789012345678901234567890123456789012345678901234567890123456789012345678901234567890123456789012345678901234567890123456789012345678901234567890123456789012345678901234567890123456789012345",
 };
 
 /// The digit of the tens.
 #[inline(always)]
-pub fn tens_of(number: u8) -> u8
+pub fn tens_digit(number: u8) -> u8
     ensures { result ≡ 48 + number / 10 % 10 }
 {
     WRITTEN_DIGITS.tens[number as usize]
@@ -64,7 +30,7 @@ pub fn tens_of(number: u8) -> u8
 
 /// The digit of the ones.
 #[inline(always)]
-pub fn ones_of(number: u8) -> u8
+pub fn ones_digit(number: u8) -> u8
     ensures { result ≡ 48 + number % 10 }
 {
     WRITTEN_DIGITS.ones[number as usize]
@@ -74,7 +40,7 @@ pub fn ones_of(number: u8) -> u8
 pub fn put_four(out: &mut [u8], at: usize, number: u64) -> usize
     requires room { HasRoom out.old at (padded_digits 4 number) }
     requires small { number ≤ 9999 }
-    ensures { Puts out.old out.new at result (padded_digits 4 number) }
+    ensures { Prints out.old out.new at result (padded_digits 4 number) }
 {
     let hundreds = (number / 100) as u8;
     let rest = (number % 100) as u8;
@@ -82,10 +48,10 @@ pub fn put_four(out: &mut [u8], at: usize, number: u64) -> usize
         out,
         at,
         &[
-            tens_of(hundreds),
-            ones_of(hundreds),
-            tens_of(rest),
-            ones_of(rest),
+            tens_digit(hundreds),
+            ones_digit(hundreds),
+            tens_digit(rest),
+            ones_digit(rest),
         ],
     )
 }
@@ -99,15 +65,15 @@ pub fn put_four(out: &mut [u8], at: usize, number: u64) -> usize
 #[tactic(auto, using(crate::proofs::code::DigitLoop::digit_steps))]
 pub fn put_digits(out: &mut [u8], at: usize, count: usize, number: u64) -> usize
     requires { HasRoom out.old at (padded_digits count number) }
-    ensures { Puts out.old out.new at result (padded_digits count number) }
+    ensures { Prints out.old out.new at result (padded_digits count number) }
 {
     let end = at + count;
     let mut place = end;
     let mut left = number;
     while place - at >= 2 {
         let pair = (left % 100) as u8;
-        set_byte(out, place - 1, ones_of(pair));
-        set_byte(out, place - 2, tens_of(pair));
+        set_byte(out, place - 1, ones_digit(pair));
+        set_byte(out, place - 2, tens_digit(pair));
         place -= 2;
         left /= 100;
     }
@@ -121,7 +87,7 @@ pub fn put_digits(out: &mut [u8], at: usize, count: usize, number: u64) -> usize
 /// Puts the fraction at the place, where there is one, and returns the place behind it.
 pub fn put_fraction(out: &mut [u8], at: usize, fraction: Option<Fraction>) -> usize
     requires { HasRoom out.old at (fraction_text fraction) }
-    ensures { Puts out.old out.new at result (fraction_text fraction) }
+    ensures { Prints out.old out.new at result (fraction_text fraction) }
 {
     let Some(fraction) = fraction else {
         return at;

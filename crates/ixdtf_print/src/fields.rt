@@ -5,10 +5,10 @@ ghost use Rattle.ixdtf_print.specs.Printable.{record_of};
 ghost use Rattle.ixdtf.specs.language.Letters.{Plain};
 ghost use Rattle.ixdtf_print.specs.Canonical.{two_digits, year_text, date_text, minutes_text, seconds_text, clock_text, time_text, minute_offset_text};
 ghost use Rattle.ixdtf_print.specs.Canonical.{offset_text, zone_text, opening_text, bracket_text, calendar_text};
-ghost use Rattle.ixdtf_print.specs.Canonical.{optional_date_text, core_text, canonical_text, sign_of};
-ghost use Rattle.ixdtf_print.specs.Puts.{HasRoom, Puts};
+ghost use Rattle.ixdtf_print.specs.Canonical.{optional_date_text, core_text, canonical_text, mark_of};
+ghost use Rattle.ixdtf_print.specs.Prints.{HasRoom, Prints};
 
-use crate::digits::{ones_of, put_digits, put_four, put_fraction, tens_of};
+use crate::digits::{ones_digit, put_digits, put_four, put_fraction, tens_digit};
 use crate::put::{put, put_byte, put_each};
 use ixdtf::encoding::Utf8;
 use ixdtf::records::{
@@ -27,7 +27,7 @@ fn distance_of(date: DateRecord) -> u64
 #[tactic(auto, using(crate::proofs::code::PutBytes::putting, crate::proofs::code::YearSigns::years))]
 fn put_year(out: &mut [u8], at: usize, date: DateRecord) -> usize
     requires { HasRoom out.old at (year_text date.year) }
-    ensures { Puts out.old out.new at result (year_text date.year) }
+    ensures { Prints out.old out.new at result (year_text date.year) }
 {
     let distance = distance_of(date);
     if date.year < 0 {
@@ -45,7 +45,7 @@ fn put_year(out: &mut [u8], at: usize, date: DateRecord) -> usize
 #[tactic(auto, using(crate::proofs::code::PutBytes::putting), unfolding(crate::specs::Canonical::date_text))]
 fn put_date(out: &mut [u8], at: usize, date: DateRecord) -> usize
     requires { HasRoom out.old at (date_text date) }
-    ensures { Puts out.old out.new at result (date_text date) }
+    ensures { Prints out.old out.new at result (date_text date) }
 {
     let after_year = put_year(out, at, date);
     put_days(out, after_year, date.month, date.day)
@@ -54,7 +54,7 @@ fn put_date(out: &mut [u8], at: usize, date: DateRecord) -> usize
 /// Puts a month and a day at the place, each behind its mark, and returns the place behind them.
 fn put_days(out: &mut [u8], at: usize, month: u8, day: u8) -> usize
     requires { HasRoom out.old at (Plain 45 ∷ (two_digits month ++ (Plain 45 ∷ two_digits day))) }
-    ensures { Puts out.old out.new at result
+    ensures { Prints out.old out.new at result
         (Plain 45 ∷ (two_digits month ++ (Plain 45 ∷ two_digits day))) }
 {
     put(
@@ -62,11 +62,11 @@ fn put_days(out: &mut [u8], at: usize, month: u8, day: u8) -> usize
         at,
         &[
             b'-',
-            tens_of(month),
-            ones_of(month),
+            tens_digit(month),
+            ones_digit(month),
             b'-',
-            tens_of(day),
-            ones_of(day),
+            tens_digit(day),
+            ones_digit(day),
         ],
     )
 }
@@ -74,7 +74,7 @@ fn put_days(out: &mut [u8], at: usize, month: u8, day: u8) -> usize
 /// Puts the date at the place, where there is one, and returns the place behind it.
 fn put_optional_date(out: &mut [u8], at: usize, date: Option<DateRecord>) -> usize
     requires { HasRoom out.old at (optional_date_text date) }
-    ensures { Puts out.old out.new at result (optional_date_text date) }
+    ensures { Prints out.old out.new at result (optional_date_text date) }
 {
     match date {
         None => at,
@@ -85,18 +85,18 @@ fn put_optional_date(out: &mut [u8], at: usize, date: Option<DateRecord>) -> usi
 /// Puts a mark, an hour and a minute at the place, and returns the place behind them.
 fn put_minutes(out: &mut [u8], at: usize, mark: u8, hour: u8, minute: u8) -> usize
     requires { HasRoom out.old at (Plain mark ∷ minutes_text hour minute) }
-    ensures { Puts out.old out.new at result (Plain mark ∷ minutes_text hour minute) }
+    ensures { Prints out.old out.new at result (Plain mark ∷ minutes_text hour minute) }
 {
     put(
         out,
         at,
         &[
             mark,
-            tens_of(hour),
-            ones_of(hour),
+            tens_digit(hour),
+            ones_digit(hour),
             b':',
-            tens_of(minute),
-            ones_of(minute),
+            tens_digit(minute),
+            ones_digit(minute),
         ],
     )
 }
@@ -104,21 +104,21 @@ fn put_minutes(out: &mut [u8], at: usize, mark: u8, hour: u8, minute: u8) -> usi
 /// Puts a mark, an hour, a minute and a second at the place, and returns the place behind them.
 fn put_seconds(out: &mut [u8], at: usize, mark: u8, hour: u8, minute: u8, second: u8) -> usize
     requires { HasRoom out.old at (Plain mark ∷ seconds_text hour minute second) }
-    ensures { Puts out.old out.new at result (Plain mark ∷ seconds_text hour minute second) }
+    ensures { Prints out.old out.new at result (Plain mark ∷ seconds_text hour minute second) }
 {
     put(
         out,
         at,
         &[
             mark,
-            tens_of(hour),
-            ones_of(hour),
+            tens_digit(hour),
+            ones_digit(hour),
             b':',
-            tens_of(minute),
-            ones_of(minute),
+            tens_digit(minute),
+            ones_digit(minute),
             b':',
-            tens_of(second),
-            ones_of(second),
+            tens_digit(second),
+            ones_digit(second),
         ],
     )
 }
@@ -134,7 +134,7 @@ fn put_clock(
     fraction: Option<Fraction>,
 ) -> usize
     requires { HasRoom out.old at (Plain mark ∷ clock_text hour minute second fraction) }
-    ensures { Puts out.old out.new at result (Plain mark ∷ clock_text hour minute second fraction) }
+    ensures { Prints out.old out.new at result (Plain mark ∷ clock_text hour minute second fraction) }
 {
     let point = put_seconds(out, at, mark, hour, minute, second);
     put_fraction(out, point, fraction)
@@ -143,7 +143,7 @@ fn put_clock(
 /// Puts the time at the place, where there is one, and returns the place behind it.
 fn put_time(out: &mut [u8], at: usize, time: Option<TimeRecord>) -> usize
     requires { HasRoom out.old at (time_text time) }
-    ensures { Puts out.old out.new at result (time_text time) }
+    ensures { Prints out.old out.new at result (time_text time) }
 {
     match time {
         None => at,
@@ -160,8 +160,8 @@ fn put_time(out: &mut [u8], at: usize, time: Option<TimeRecord>) -> usize
 }
 
 /// The byte of a sign.
-fn byte_of(sign: Sign) -> u8
-    ensures { result ≡ sign_of sign }
+fn mark_of(sign: Sign) -> u8
+    ensures { result ≡ mark_of sign }
 {
     match sign {
         Sign::Positive => b'+',
@@ -172,15 +172,15 @@ fn byte_of(sign: Sign) -> u8
 /// Puts an offset of hours and minutes at the place, and returns the place behind it.
 pub fn put_minute_offset(out: &mut [u8], at: usize, offset: MinutePrecisionOffset) -> usize
     requires { HasRoom out.old at (minute_offset_text offset) }
-    ensures { Puts out.old out.new at result (minute_offset_text offset) }
+    ensures { Prints out.old out.new at result (minute_offset_text offset) }
 {
-    put_minutes(out, at, byte_of(offset.sign), offset.hour, offset.minute)
+    put_minutes(out, at, mark_of(offset.sign), offset.hour, offset.minute)
 }
 
 /// Puts the offset at the place, where there is one, and returns the place behind it.
 fn put_offset(out: &mut [u8], at: usize, offset: Option<UtcOffsetRecordOrZ>) -> usize
     requires { HasRoom out.old at (offset_text offset) }
-    ensures { Puts out.old out.new at result (offset_text offset) }
+    ensures { Prints out.old out.new at result (offset_text offset) }
 {
     match offset {
         None => at,
@@ -190,7 +190,7 @@ fn put_offset(out: &mut [u8], at: usize, offset: Option<UtcOffsetRecordOrZ>) -> 
         }
         Some(UtcOffsetRecordOrZ::Offset(UtcOffsetRecord::FullPrecisionOffset(offset))) => {
             let minutes = offset.minute_precision_offset;
-            let mark = byte_of(minutes.sign);
+            let mark = mark_of(minutes.sign);
             put_clock(
                 out,
                 at,
@@ -218,7 +218,7 @@ pub fn opening_of(critical: bool) -> &'static [u8]
 /// Puts what stands before a zone at the place, and returns the place behind it: one byte or two, at once.
 fn put_opening(out: &mut [u8], at: usize, critical: bool) -> usize
     requires { HasRoom out.old at (opening_text critical) }
-    ensures { Puts out.old out.new at result (opening_text critical) }
+    ensures { Prints out.old out.new at result (opening_text critical) }
 {
     if critical {
         return put(out, at, b"[!");
@@ -229,7 +229,7 @@ fn put_opening(out: &mut [u8], at: usize, critical: bool) -> usize
 /// Puts the zone at the place, and returns the place behind it.
 fn put_zone(out: &mut [u8], at: usize, zone: &TimeZoneRecord<'_, Utf8>) -> usize
     requires { HasRoom out.old at (zone_text (zone_of (λ byte. byte) zone.now)) }
-    ensures { Puts out.old out.new at result (zone_text (zone_of (λ byte. byte) zone.now)) }
+    ensures { Prints out.old out.new at result (zone_text (zone_of (λ byte. byte) zone.now)) }
 {
     match zone {
         TimeZoneRecord::Name(name) => put_each(out, at, name),
@@ -241,7 +241,7 @@ fn put_zone(out: &mut [u8], at: usize, zone: &TimeZoneRecord<'_, Utf8>) -> usize
 #[tactic(auto, using(crate::proofs::code::PutBytes::putting))]
 fn put_bracket(out: &mut [u8], at: usize, note: &Option<TimeZoneAnnotation<'_, Utf8>>) -> usize
     requires { HasRoom out.old at (bracket_text (option_map (note_of (λ byte. byte)) note.now)) }
-    ensures { Puts out.old out.new at result
+    ensures { Prints out.old out.new at result
         (bracket_text (option_map (note_of (λ byte. byte)) note.now)) }
 {
     match note {
@@ -258,7 +258,7 @@ fn put_bracket(out: &mut [u8], at: usize, note: &Option<TimeZoneAnnotation<'_, U
 fn put_calendar(out: &mut [u8], at: usize, calendar: Option<&[u8]>) -> usize
     requires { HasRoom out.old at
         (calendar_text (option_map (λ units. map (λ byte. byte) units.now) calendar)) }
-    ensures { Puts out.old out.new at result
+    ensures { Prints out.old out.new at result
         (calendar_text (option_map (λ units. map (λ byte. byte) units.now) calendar.entry)) }
 {
     match calendar {
@@ -275,7 +275,7 @@ fn put_calendar(out: &mut [u8], at: usize, calendar: Option<&[u8]>) -> usize
 #[tactic(auto, using(crate::proofs::code::PutBytes::putting), unfolding(crate::specs::Canonical::core_text))]
 pub fn put_core(out: &mut [u8], at: usize, parsed: &IxdtfParseRecord<'_, Utf8>) -> usize
     requires { HasRoom out.old at (core_text (record_of parsed.now)) }
-    ensures { Puts out.old out.new at result (core_text (record_of parsed.now)) }
+    ensures { Prints out.old out.new at result (core_text (record_of parsed.now)) }
 {
     let after_date = put_optional_date(out, at, parsed.date);
     let after_time = put_time(out, after_date, parsed.time);
@@ -286,7 +286,7 @@ pub fn put_core(out: &mut [u8], at: usize, parsed: &IxdtfParseRecord<'_, Utf8>) 
 #[tactic(auto, using(crate::proofs::code::PutBytes::putting), unfolding(crate::specs::Canonical::canonical_text))]
 pub fn put_record(out: &mut [u8], parsed: &IxdtfParseRecord<'_, Utf8>) -> usize
     requires { HasRoom out.old 0 (canonical_text (record_of parsed.now)) }
-    ensures { Puts out.old out.new 0 result
+    ensures { Prints out.old out.new 0 result
         (canonical_text (record_of parsed.now)) }
 {
     let after_core = put_core(out, 0, parsed);

@@ -17,10 +17,14 @@ mod fields;
 mod laws;
 mod length;
 mod message;
+mod printed;
 mod put;
 
 pub use canonical::Canonical;
 use check::is_printable;
+// For crates of this repository, and no part of the interface.
+#[doc(hidden)]
+pub use digits::put_digits;
 pub use error::PrintError;
 use fields::put_record;
 use ixdtf::encoding::Utf8;
@@ -34,6 +38,9 @@ pub use length::printed_length;
 // For crates of this repository, and no part of the interface.
 #[doc(hidden)]
 pub use message::error_parts;
+// For crates of this repository, and no part of the interface.
+#[doc(hidden)]
+pub use printed::PrintedText;
 
 /// Writes the canonical text of the record into the front of the slice, and returns how many bytes these are.
 ///

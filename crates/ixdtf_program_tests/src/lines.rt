@@ -4,9 +4,8 @@ mod faults;
 mod words;
 
 use ixdtf_answers::arguments::arguments_allowed;
-use ixdtf_answers::number::nine_digits;
 use ixdtf_answers::runner::run;
-use ixdtf_buffers::decimal::Decimal;
+use ixdtf_buffers::adding::add_number;
 use ixdtf_buffers::error::RunError;
 use std::alloc::{AllocError, Global};
 use std::process::Abort;
@@ -193,12 +192,19 @@ fn numbers_the_errors(rt: HostRuntime) {
 
 #[test]
 fn shows_numbers(rt: HostRuntime) {
-    let most = Decimal::new(u64::MAX);
-    assert_eq!(rt; most.as_slice(), b"18446744073709551615".as_slice());
-    let zero = Decimal::new(0);
-    assert_eq!(rt; zero.as_slice(), b"0".as_slice());
-    let quarter = nine_digits(250_000_000);
-    assert_eq!(rt; quarter.as_slice(), b"250000000".as_slice());
-    let short = nine_digits(7);
-    assert_eq!(rt; short.as_slice(), b"000000007".as_slice());
+    let mut room = [0; 20];
+    let most = add_number(&mut room, 0, u64::MAX);
+    assert_eq!(rt; &room[..most], b"18446744073709551615".as_slice());
+    let zero = add_number(&mut room, 0, 0);
+    assert_eq!(rt; &room[..zero], b"0".as_slice());
+}
+
+#[test]
+fn shows_nine_digits(rt: HostRuntime) -> Result<(), Fail> {
+    check_run(
+        &rt,
+        rt.alloc(),
+        b"time 00:00:00.25\ntime 00:00:00.000000007",
+        b"ok time=0,0,0.250000000\nok time=0,0,0.000000007\n",
+    )
 }

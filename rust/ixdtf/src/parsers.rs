@@ -37,8 +37,14 @@ pub use self::duration::IsoDurationParser;
 use crate::encoding::{EncodingType, Utf8, Utf16};
 pub use self::profile::Profile;
 use crate::cursor::Cursor;
+// For the printer.
+#[doc(hidden)]
+pub use crate::grammar::is_annotation_value_component;
 #[doc(hidden)]
 pub use crate::stop::FromStop;
+// For the printer.
+#[doc(hidden)]
+pub use self::dates::days_in_month;
 
 /// A reader of dates and times, with an offset, a time zone and annotations.
 ///

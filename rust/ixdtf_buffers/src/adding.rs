@@ -5,10 +5,11 @@
 //! The text of an answer or of a report is made there, and put at once. A place goes from call to call in a register, where a count in
 //! memory would be read and written for each byte.
 
-use crate::decimal::Decimal;
-
 /// How many bytes the array of an answer has: at least as many as an answer without names.
 pub const ROOM: usize = 192;
+
+/// The most digits of a `u64`.
+const MOST_DIGITS: usize = 20;
 
 /// Adds the byte at the place, and returns the place behind it.
 #[inline(always)]
@@ -133,6 +134,20 @@ fn add_four_digits<const SIZE: usize>(room: &mut [u8; SIZE], at: usize, number: 
 #[cold]
 #[inline(never)]
 fn add_long<const SIZE: usize>(room: &mut [u8; SIZE], at: usize, number: u64) -> usize {
-    let digits = Decimal::new(number);
-    add_bytes(room, at, digits.as_slice())
+    let mut digits = [0; MOST_DIGITS];
+    let start = put_decimal(number, &mut digits);
+    add_bytes(room, at, &digits[start..])
+}
+
+/// Writes the digits at the end of the array, and returns where they start.
+fn put_decimal(number: u64, digits: &mut [u8; MOST_DIGITS]) -> usize {
+    let mut left = number;
+    let mut start = MOST_DIGITS - 1;
+    while left >= 10 {
+        digits[start] = b'0' + (left % 10) as u8;
+        left /= 10;
+        start -= 1;
+    }
+    digits[start] = b'0' + left as u8;
+    start
 }

@@ -8,7 +8,6 @@
 #![forbid(unsafe_code)]
 
 pub mod adding;
-pub mod decimal;
 pub mod driver;
 pub mod error;
 pub mod line;

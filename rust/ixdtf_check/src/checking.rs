@@ -31,7 +31,7 @@ impl<'n> Checking<'n> {
     pub fn new(request: Request<'n>) -> Checking<'n> {
         Checking {
             request,
-            printed: PrintedText::new(),
+            printed: PrintedText::empty(),
             room: [0; ROOM],
             tally: Tally::new(),
         }

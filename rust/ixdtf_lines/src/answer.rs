@@ -2,19 +2,32 @@
 
 //! The answer to a line.
 
-use crate::found::answer_text;
+use crate::found::{MOST_PRINTED, answer_text};
 use crate::word::Word;
 use ixdtf_buffers::driver::LineTask;
 use ixdtf_buffers::error::RunError;
 use ixdtf_buffers::output::Output;
 use ixdtf_buffers::place::place_of;
 use ixdtf_buffers::sink::Sink;
+use ixdtf_print::PrintedText;
 
 /// The longest line that is read, in bytes.
 pub const LINE_LIMIT: usize = 4096;
 
-/// Answers each line.
-pub struct Answering;
+/// What is kept from one line to the next.
+pub struct Answering {
+    /// The canonical text that was printed last.
+    printed: PrintedText<MOST_PRINTED>,
+}
+
+impl Answering {
+    /// No line was answered.
+    pub fn new() -> Answering {
+        Answering {
+            printed: PrintedText::empty(),
+        }
+    }
+}
 
 impl LineTask<LINE_LIMIT> for Answering {
     /// Puts the answer to the line, and a newline.
@@ -25,20 +38,24 @@ impl LineTask<LINE_LIMIT> for Answering {
     ) -> Result<(), RunError> {
         match line {
             None => put_too_long(output),
-            Some(line) => answer_short(output, line),
+            Some(line) => answer_short(output, &mut self.printed, line),
         }
     }
 }
 
 /// Puts the answer to a line that is not too long.
-fn answer_short<K: Sink>(output: &mut Output<'_, K>, line: &[u8]) -> Result<(), RunError> {
+fn answer_short<K: Sink>(
+    output: &mut Output<'_, K>,
+    printed: &mut PrintedText<MOST_PRINTED>,
+    line: &[u8],
+) -> Result<(), RunError> {
     let Some(place) = place_of(b' ', line) else {
         return put_no_such_reader(output);
     };
     let Some(word) = Word::named(&line[..place]) else {
         return put_no_such_reader(output);
     };
-    answer_text(output, word, &line[place + 1..])
+    answer_text(output, printed, word, &line[place + 1..])
 }
 
 /// Puts the answer to a line that is too long to be read.

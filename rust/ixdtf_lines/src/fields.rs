@@ -2,7 +2,6 @@
 
 //! The fields of what a reader found, added to the text of an answer.
 
-use crate::number::nine_digits;
 use ixdtf::encoding::Utf8;
 use ixdtf::records::{
     DateDurationRecord, DateRecord, DurationParseRecord, Fraction, FullPrecisionOffset,
@@ -10,6 +9,7 @@ use ixdtf::records::{
     TimeZoneRecord, UtcOffsetRecord, UtcOffsetRecordOrZ,
 };
 use ixdtf_buffers::adding::{ROOM, add_byte, add_bytes, add_number, add_signed, add_small};
+use ixdtf_print::put_digits;
 
 /// Adds a comma and a number below 256.
 fn add_small_behind_comma(room: &mut [u8; ROOM], at: usize, number: u8) -> usize {
@@ -25,14 +25,9 @@ fn add_number_behind_comma(room: &mut [u8; ROOM], at: usize, number: u64) -> usi
 
 /// Adds the year, month and day, where there is a date.
 pub fn add_date_field(room: &mut [u8; ROOM], at: usize, date: Option<DateRecord>) -> usize {
-    match date {
-        None => at,
-        Some(date) => add_date(room, at, date),
-    }
-}
-
-/// Adds the year, month and day.
-fn add_date(room: &mut [u8; ROOM], at: usize, date: DateRecord) -> usize {
+    let Some(date) = date else {
+        return at;
+    };
     let year = add_bytes(room, at, b" date=");
     let month = add_signed(room, year, date.year);
     let day = add_small_behind_comma(room, month, date.month);
@@ -63,8 +58,8 @@ fn add_fraction(room: &mut [u8; ROOM], at: usize, fraction: Option<Fraction>) ->
         None => at,
         Some(fraction) => {
             let digits = add_byte(room, at, b'.');
-            let nine = nine_digits(fraction.to_truncated_nanoseconds());
-            add_bytes(room, digits, nine.as_slice())
+            let nanoseconds = u64::from(fraction.to_truncated_nanoseconds());
+            put_digits(room, digits, 9, nanoseconds)
         }
     }
 }
@@ -165,14 +160,9 @@ fn add_date_duration_field(
     at: usize,
     date: Option<DateDurationRecord>,
 ) -> usize {
-    match date {
-        None => at,
-        Some(date) => add_date_duration(room, at, date),
-    }
-}
-
-/// Adds the years, months, weeks and days of a duration.
-fn add_date_duration(room: &mut [u8; ROOM], at: usize, date: DateDurationRecord) -> usize {
+    let Some(date) = date else {
+        return at;
+    };
     let years = add_bytes(room, at, b" date=");
     let months = add_number(room, years, u64::from(date.years));
     let weeks = add_number_behind_comma(room, months, u64::from(date.months));
@@ -186,14 +176,9 @@ fn add_time_duration_field(
     at: usize,
     time: Option<TimeDurationRecord>,
 ) -> usize {
-    match time {
-        None => at,
-        Some(time) => add_time_duration(room, at, time),
-    }
-}
-
-/// Adds the time of a duration, with the fraction after its last number.
-fn add_time_duration(room: &mut [u8; ROOM], at: usize, time: TimeDurationRecord) -> usize {
+    let Some(time) = time else {
+        return at;
+    };
     let fraction = last_fraction(&time);
     let point = add_time_numbers(room, at, &time);
     add_fraction(room, point, fraction)

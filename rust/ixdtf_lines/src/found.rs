@@ -1,38 +1,58 @@
 // Made by tools/to_rust.py of crates/ixdtf_answers/src/found.rt. Do not edit.
 
-//! The answers of the readers, one function for each word.
+//! The answers of the readers, one function for each.
 //!
-//! Each reads the text and puts its answer. None is inlined: what a reader finds stays in the frame of its own word, and no
-//! other word's is cleared for a line. A record is looked at where its reader returned it, and is not moved.
+//! Each reads the text and puts its answer. None is inlined: what a reader finds stays in the frame of its own function, and no
+//! other's is cleared for a line. A record is looked at where its reader returned it, and is not moved.
 
 use crate::outcome::{put_canonical, put_duration, put_error, put_offset, put_record, put_zone};
 use crate::word::Word;
+use ixdtf::ParserResult;
 use ixdtf::encoding::Utf8;
 use ixdtf::parsers::{IsoDurationParser, IxdtfParser, Profile, TimeZoneParser};
-use ixdtf::records::TimeZoneRecord;
+use ixdtf::records::{IxdtfParseRecord, TimeZoneRecord};
 use ixdtf_buffers::error::RunError;
 use ixdtf_buffers::output::Output;
 use ixdtf_buffers::sink::Sink;
+use ixdtf_print::PrintedText;
+
+/// More bytes than the canonical text of a record that was read from a line has.
+pub const MOST_PRINTED: usize = 4352;
 
 /// Puts the answer to the text by the reader that the word names.
 pub fn answer_text<K: Sink>(
     output: &mut Output<'_, K>,
+    printed: &mut PrintedText<MOST_PRINTED>,
     word: Word,
     text: &[u8],
 ) -> Result<(), RunError> {
     match word {
         Word::Parse => answer_parse(output, text),
         Word::YearMonth => answer_year_month(output, text),
-        Word::MonthDay => answer_month_day(output, text),
-        Word::Time => answer_time(output, text),
+        Word::MonthDay => answer_month_day(output, word, Profile::Crate, text),
+        Word::Time => answer_time(output, word, Profile::Crate, text),
         Word::Offset => answer_offset(output, text),
         Word::Zone => answer_zone(output, text),
         Word::Iana => answer_iana(output, text),
-        Word::Duration => answer_duration(output, text),
-        Word::StrictMonthDay => answer_strict_month_day(output, text),
-        Word::StrictTime => answer_strict_time(output, text),
-        Word::StrictDuration => answer_strict_duration(output, text),
-        Word::Canonical => answer_canonical(output, text),
+        Word::Duration => answer_duration(output, word, Profile::Crate, text),
+        Word::StrictMonthDay => answer_month_day(output, word, Profile::Strict, text),
+        Word::StrictTime => answer_time(output, word, Profile::Strict, text),
+        Word::StrictDuration => answer_duration(output, word, Profile::Strict, text),
+        Word::Canonical => answer_canonical(output, printed, text),
+    }
+}
+
+/// Puts the fields of the record that the word's reader found in the text, or why it refuses the text.
+#[inline(always)]
+fn put_found<K: Sink>(
+    output: &mut Output<'_, K>,
+    word: Word,
+    text: &[u8],
+    outcome: &ParserResult<IxdtfParseRecord<'_, Utf8>>,
+) -> Result<(), RunError> {
+    match outcome {
+        Ok(parts) => put_record(output, parts),
+        Err(error) => put_error(output, *error),
     }
 }
 
@@ -40,40 +60,38 @@ pub fn answer_text<K: Sink>(
 #[inline(never)]
 fn answer_parse<K: Sink>(output: &mut Output<'_, K>, text: &[u8]) -> Result<(), RunError> {
     let outcome = IxdtfParser::from_utf8(text).parse();
-    match &outcome {
-        Ok(parts) => put_record(output, parts),
-        Err(error) => put_error(output, *error),
-    }
+    put_found(output, Word::Parse, text, &outcome)
 }
 
 /// Puts the answer of `year-month`.
 #[inline(never)]
 fn answer_year_month<K: Sink>(output: &mut Output<'_, K>, text: &[u8]) -> Result<(), RunError> {
     let outcome = IxdtfParser::from_utf8(text).parse_year_month();
-    match &outcome {
-        Ok(parts) => put_record(output, parts),
-        Err(error) => put_error(output, *error),
-    }
+    put_found(output, Word::YearMonth, text, &outcome)
 }
 
-/// Puts the answer of `month-day`.
+/// Puts the answer of `month-day`, or of `strict-month-day`.
 #[inline(never)]
-fn answer_month_day<K: Sink>(output: &mut Output<'_, K>, text: &[u8]) -> Result<(), RunError> {
-    let outcome = IxdtfParser::from_utf8(text).parse_month_day();
-    match &outcome {
-        Ok(parts) => put_record(output, parts),
-        Err(error) => put_error(output, *error),
-    }
+fn answer_month_day<K: Sink>(
+    output: &mut Output<'_, K>,
+    word: Word,
+    profile: Profile,
+    text: &[u8],
+) -> Result<(), RunError> {
+    let outcome = parser(profile, text).parse_month_day();
+    put_found(output, word, text, &outcome)
 }
 
-/// Puts the answer of `time`.
+/// Puts the answer of `time`, or of `strict-time`.
 #[inline(never)]
-fn answer_time<K: Sink>(output: &mut Output<'_, K>, text: &[u8]) -> Result<(), RunError> {
-    let outcome = IxdtfParser::from_utf8(text).parse_time();
-    match &outcome {
-        Ok(parts) => put_record(output, parts),
-        Err(error) => put_error(output, *error),
-    }
+fn answer_time<K: Sink>(
+    output: &mut Output<'_, K>,
+    word: Word,
+    profile: Profile,
+    text: &[u8],
+) -> Result<(), RunError> {
+    let outcome = parser(profile, text).parse_time();
+    put_found(output, word, text, &outcome)
 }
 
 /// Puts the answer of `offset`.
@@ -104,39 +122,16 @@ fn answer_iana<K: Sink>(output: &mut Output<'_, K>, text: &[u8]) -> Result<(), R
     }
 }
 
-/// Puts the answer of `duration`.
+/// Puts the answer of `duration`, or of `strict-duration`.
 #[inline(never)]
-fn answer_duration<K: Sink>(output: &mut Output<'_, K>, text: &[u8]) -> Result<(), RunError> {
-    match IsoDurationParser::<Utf8>::from_utf8(text).parse() {
-        Ok(duration) => put_duration(output, duration),
-        Err(error) => put_error(output, error),
-    }
-}
-
-/// Puts the answer of `strict-month-day`.
-#[inline(never)]
-fn answer_strict_month_day<K: Sink>(output: &mut Output<'_, K>, text: &[u8]) -> Result<(), RunError> {
-    let outcome = strict(text).parse_month_day();
-    match &outcome {
-        Ok(parts) => put_record(output, parts),
-        Err(error) => put_error(output, *error),
-    }
-}
-
-/// Puts the answer of `strict-time`.
-#[inline(never)]
-fn answer_strict_time<K: Sink>(output: &mut Output<'_, K>, text: &[u8]) -> Result<(), RunError> {
-    let outcome = strict(text).parse_time();
-    match &outcome {
-        Ok(parts) => put_record(output, parts),
-        Err(error) => put_error(output, *error),
-    }
-}
-
-/// Puts the answer of `strict-duration`.
-#[inline(never)]
-fn answer_strict_duration<K: Sink>(output: &mut Output<'_, K>, text: &[u8]) -> Result<(), RunError> {
-    match strict_duration(text).parse() {
+fn answer_duration<K: Sink>(
+    output: &mut Output<'_, K>,
+    word: Word,
+    profile: Profile,
+    text: &[u8],
+) -> Result<(), RunError> {
+    let mut reader = IsoDurationParser::<Utf8>::from_utf8(text).with_profile(profile);
+    match reader.parse() {
         Ok(duration) => put_duration(output, duration),
         Err(error) => put_error(output, error),
     }
@@ -144,20 +139,19 @@ fn answer_strict_duration<K: Sink>(output: &mut Output<'_, K>, text: &[u8]) -> R
 
 /// Puts the answer of `canonical`.
 #[inline(never)]
-fn answer_canonical<K: Sink>(output: &mut Output<'_, K>, text: &[u8]) -> Result<(), RunError> {
+fn answer_canonical<K: Sink>(
+    output: &mut Output<'_, K>,
+    printed: &mut PrintedText<MOST_PRINTED>,
+    text: &[u8],
+) -> Result<(), RunError> {
     let read = IxdtfParser::from_utf8(text).parse();
     match &read {
-        Ok(parts) => put_canonical(output, parts),
+        Ok(parts) => put_canonical(output, printed, parts),
         Err(error) => put_error(output, *error),
     }
 }
 
-/// A parser of the text under the strict profile.
-fn strict(text: &[u8]) -> IxdtfParser<'_, Utf8> {
-    IxdtfParser::from_utf8(text).with_profile(Profile::Strict)
-}
-
-/// The same of a duration.
-fn strict_duration(text: &[u8]) -> IsoDurationParser<'_, Utf8> {
-    IsoDurationParser::<Utf8>::from_utf8(text).with_profile(Profile::Strict)
+/// A parser of the text under the profile.
+fn parser(profile: Profile, text: &[u8]) -> IxdtfParser<'_, Utf8> {
+    IxdtfParser::from_utf8(text).with_profile(profile)
 }

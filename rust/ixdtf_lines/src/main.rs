@@ -5,7 +5,6 @@ mod answer;
 mod arguments;
 mod fields;
 mod found;
-mod number;
 mod outcome;
 mod runner;
 mod word;

@@ -15,13 +15,7 @@ use ixdtf_buffers::adding::{ROOM, add_byte, add_bytes};
 use ixdtf_buffers::error::RunError;
 use ixdtf_buffers::output::Output;
 use ixdtf_buffers::sink::Sink;
-use ixdtf_print::{error_parts, length_of, print_with_room};
-
-/// At least as many bytes as the canonical text of a record that was read from a line has.
-const MOST_BYTES: usize = 4352;
-
-/// As many bytes as the canonical text of a record without a long name has.
-const USUAL_BYTES: usize = 256;
+use ixdtf_print::{PrintedText, error_parts};
 
 /// Puts each field that the record has.
 pub fn put_record<K: Sink>(
@@ -71,10 +65,7 @@ fn put_name_and_calendar<K: Sink>(
     name: &[u8],
     calendar: &[u8],
 ) -> Result<(), RunError> {
-    output.put(name)?;
-    output.put(b" calendar=")?;
-    output.put(calendar)?;
-    output.put(b"\n")
+    output.put_all(&[name, b" calendar=".as_slice(), calendar, b"\n".as_slice()])
 }
 
 /// The name of the zone, or no byte where it has none.
@@ -129,37 +120,15 @@ pub fn put_duration<K: Sink>(
     output.put(&room[..end])
 }
 
-/// Puts the canonical text of the record.
-///
-/// Nearly all texts are short, and are printed into a short array, since each array is cleared before it is written.
-pub fn put_canonical<K: Sink>(
+/// Prints the canonical text of the record, and puts it.
+pub fn put_canonical<K: Sink, const SIZE: usize>(
     output: &mut Output<'_, K>,
+    printed: &mut PrintedText<SIZE>,
     parts: &IxdtfParseRecord<'_, Utf8>,
 ) -> Result<(), RunError> {
-    if length_of(parts) > USUAL_BYTES as u128 {
-        return put_long_canonical(output, parts);
-    }
-    put_printed::<K, USUAL_BYTES>(output, parts)
-}
-
-/// Puts the canonical text of a record with a long name.
-#[cold]
-#[inline(never)]
-fn put_long_canonical<K: Sink>(
-    output: &mut Output<'_, K>,
-    parts: &IxdtfParseRecord<'_, Utf8>,
-) -> Result<(), RunError> {
-    put_printed::<K, MOST_BYTES>(output, parts)
-}
-
-/// Puts the canonical text of the record, which is printed into an array of so many bytes.
-fn put_printed<K: Sink, const MOST: usize>(
-    output: &mut Output<'_, K>,
-    parts: &IxdtfParseRecord<'_, Utf8>,
-) -> Result<(), RunError> {
-    let mut text = [0; MOST];
-    let count = print_with_room(parts, &mut text);
-    output.put_all(&[b"ok ".as_slice(), &text[..count], b"\n".as_slice()])
+    printed.print(parts);
+    output.put(b"ok ")?;
+    output.put(printed.as_line())
 }
 
 /// Puts the answer to a text that is refused, and a newline.

@@ -16,5 +16,5 @@ pub fn run<R: Read, W: Write>(reader: &mut R, writer: &mut W) -> Result<(), RunE
 
 /// Answers each line of the source on the sink.
 pub fn answer_lines<S: Source, K: Sink>(source: &mut S, sink: &mut K) -> Result<(), RunError> {
-    drive::<S, K, Answering, LINE_LIMIT>(source, sink, &mut Answering).end
+    drive::<S, K, Answering, LINE_LIMIT>(source, sink, &mut Answering::new()).end
 }

@@ -3,26 +3,11 @@
 //! Whether a record has a text.
 
 use ixdtf::encoding::Utf8;
-use ixdtf::parsers::TimeZoneParser;
+use ixdtf::parsers::{TimeZoneParser, days_in_month, is_annotation_value_component};
 use ixdtf::records::{
     DateRecord, Fraction, IxdtfParseRecord, MinutePrecisionOffset, TimeRecord, TimeZoneAnnotation,
     TimeZoneRecord, UtcOffsetRecord, UtcOffsetRecordOrZ,
 };
-
-/// How many days the month has.
-fn days_in_month(year: i32, month: u8) -> u8 {
-    match month {
-        2 => { if is_leap_year(year) { 29 } else { 28 } }
-        4 | 6 | 9 | 11 => 30,
-        _ => 31,
-    }
-}
-
-/// Whether the year has a 29th of February.
-fn is_leap_year(year: i32) -> bool {
-    let distance = year.unsigned_abs();
-    (distance % 4 == 0 && distance % 100 != 0) || distance % 400 == 0
-}
 
 /// Whether the date is a day of the Gregorian calendar, in a year of at most six digits.
 fn is_day(date: DateRecord) -> bool {
@@ -110,37 +95,11 @@ fn has_zone(note: &Option<TimeZoneAnnotation<'_, Utf8>>) -> bool {
     }
 }
 
-// Of each byte whether it may stand in a value. A look-up takes fewer instructions than the comparisons.
-static VALUE_BYTES: [u8; 256] = [
-    0, 0, 0, 0, 0, 0, 0, 0, 0, 0, 0, 0, 0, 0, 0, 0,
-    0, 0, 0, 0, 0, 0, 0, 0, 0, 0, 0, 0, 0, 0, 0, 0,
-    0, 0, 0, 0, 0, 0, 0, 0, 0, 0, 0, 0, 0, 0, 0, 0,
-    1, 1, 1, 1, 1, 1, 1, 1, 1, 1, 0, 0, 0, 0, 0, 0,
-    0, 1, 1, 1, 1, 1, 1, 1, 1, 1, 1, 1, 1, 1, 1, 1,
-    1, 1, 1, 1, 1, 1, 1, 1, 1, 1, 1, 0, 0, 0, 0, 0,
-    0, 1, 1, 1, 1, 1, 1, 1, 1, 1, 1, 1, 1, 1, 1, 1,
-    1, 1, 1, 1, 1, 1, 1, 1, 1, 1, 1, 0, 0, 0, 0, 0,
-    0, 0, 0, 0, 0, 0, 0, 0, 0, 0, 0, 0, 0, 0, 0, 0,
-    0, 0, 0, 0, 0, 0, 0, 0, 0, 0, 0, 0, 0, 0, 0, 0,
-    0, 0, 0, 0, 0, 0, 0, 0, 0, 0, 0, 0, 0, 0, 0, 0,
-    0, 0, 0, 0, 0, 0, 0, 0, 0, 0, 0, 0, 0, 0, 0, 0,
-    0, 0, 0, 0, 0, 0, 0, 0, 0, 0, 0, 0, 0, 0, 0, 0,
-    0, 0, 0, 0, 0, 0, 0, 0, 0, 0, 0, 0, 0, 0, 0, 0,
-    0, 0, 0, 0, 0, 0, 0, 0, 0, 0, 0, 0, 0, 0, 0, 0,
-    0, 0, 0, 0, 0, 0, 0, 0, 0, 0, 0, 0, 0, 0, 0, 0,
-];
-
-/// Whether the byte is an ASCII letter or digit.
-#[inline(always)]
-fn is_value_byte(byte: u8) -> bool {
-    VALUE_BYTES[byte as usize] != 0
-}
-
 /// Whether the bytes are the value of an annotation.
 fn is_value(bytes: &[u8]) -> bool {
     let mut in_run = false;
     for byte in bytes {
-        if is_value_byte(*byte) {
+        if is_annotation_value_component(*byte) {
             in_run = true;
         } else if *byte == b'-' && in_run {
             in_run = false;

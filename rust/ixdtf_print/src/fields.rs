@@ -2,7 +2,7 @@
 
 //! The fields of a record put into a slice.
 
-use crate::digits::{ones_of, put_digits, put_four, put_fraction, tens_of};
+use crate::digits::{ones_digit, put_digits, put_four, put_fraction, tens_digit};
 use crate::put::{put, put_byte, put_each};
 use ixdtf::encoding::Utf8;
 use ixdtf::records::{
@@ -42,11 +42,11 @@ fn put_days(out: &mut [u8], at: usize, month: u8, day: u8) -> usize {
         at,
         &[
             b'-',
-            tens_of(month),
-            ones_of(month),
+            tens_digit(month),
+            ones_digit(month),
             b'-',
-            tens_of(day),
-            ones_of(day),
+            tens_digit(day),
+            ones_digit(day),
         ],
     )
 }
@@ -66,11 +66,11 @@ fn put_minutes(out: &mut [u8], at: usize, mark: u8, hour: u8, minute: u8) -> usi
         at,
         &[
             mark,
-            tens_of(hour),
-            ones_of(hour),
+            tens_digit(hour),
+            ones_digit(hour),
             b':',
-            tens_of(minute),
-            ones_of(minute),
+            tens_digit(minute),
+            ones_digit(minute),
         ],
     )
 }
@@ -82,14 +82,14 @@ fn put_seconds(out: &mut [u8], at: usize, mark: u8, hour: u8, minute: u8, second
         at,
         &[
             mark,
-            tens_of(hour),
-            ones_of(hour),
+            tens_digit(hour),
+            ones_digit(hour),
             b':',
-            tens_of(minute),
-            ones_of(minute),
+            tens_digit(minute),
+            ones_digit(minute),
             b':',
-            tens_of(second),
-            ones_of(second),
+            tens_digit(second),
+            ones_digit(second),
         ],
     )
 }
@@ -125,7 +125,7 @@ fn put_time(out: &mut [u8], at: usize, time: Option<TimeRecord>) -> usize {
 }
 
 /// The byte of a sign.
-fn byte_of(sign: Sign) -> u8 {
+fn mark_of(sign: Sign) -> u8 {
     match sign {
         Sign::Positive => b'+',
         Sign::Negative => b'-',
@@ -134,7 +134,7 @@ fn byte_of(sign: Sign) -> u8 {
 
 /// Puts an offset of hours and minutes at the place, and returns the place behind it.
 pub fn put_minute_offset(out: &mut [u8], at: usize, offset: MinutePrecisionOffset) -> usize {
-    put_minutes(out, at, byte_of(offset.sign), offset.hour, offset.minute)
+    put_minutes(out, at, mark_of(offset.sign), offset.hour, offset.minute)
 }
 
 /// Puts the offset at the place, where there is one, and returns the place behind it.
@@ -147,7 +147,7 @@ fn put_offset(out: &mut [u8], at: usize, offset: Option<UtcOffsetRecordOrZ>) -> 
         }
         Some(UtcOffsetRecordOrZ::Offset(UtcOffsetRecord::FullPrecisionOffset(offset))) => {
             let minutes = offset.minute_precision_offset;
-            let mark = byte_of(minutes.sign);
+            let mark = mark_of(minutes.sign);
             put_clock(
                 out,
                 at,

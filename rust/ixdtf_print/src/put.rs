@@ -24,7 +24,11 @@ pub fn put_each(out: &mut [u8], at: usize, bytes: &[u8]) -> usize {
         place = put_sixteen(out, place, front);
         rest = back;
     }
-    put_below_sixteen(out, place, rest)
+    let (place, rest) = put_first::<8>(out, place, rest);
+    let (place, rest) = put_first::<4>(out, place, rest);
+    let (place, rest) = put_first::<2>(out, place, rest);
+    let (place, _none) = put_first::<1>(out, place, rest);
+    place
 }
 
 /// Puts sixteen bytes. It is a call of its own for [`put_each`].
@@ -33,46 +37,16 @@ fn put_sixteen(out: &mut [u8], at: usize, bytes: &[u8; 16]) -> usize {
     put(out, at, bytes)
 }
 
-/// Puts fewer than sixteen bytes.
+/// Puts the first bytes, where there are so many, and returns the place behind them and the other bytes.
 #[inline(always)]
-fn put_below_sixteen(out: &mut [u8], at: usize, bytes: &[u8]) -> usize {
-    match bytes.split_first_chunk::<8>() {
-        None => put_below_eight(out, at, bytes),
-        Some((front, back)) => {
-            let place = put(out, at, front);
-            put_below_eight(out, place, back)
-        }
-    }
-}
-
-/// Puts fewer than eight bytes.
-fn put_below_eight(out: &mut [u8], at: usize, bytes: &[u8]) -> usize {
-    match bytes.split_first_chunk::<4>() {
-        None => put_below_four(out, at, bytes),
-        Some((front, back)) => {
-            let place = put(out, at, front);
-            put_below_four(out, place, back)
-        }
-    }
-}
-
-/// Puts fewer than four bytes.
-fn put_below_four(out: &mut [u8], at: usize, bytes: &[u8]) -> usize {
-    match bytes.split_first_chunk::<2>() {
-        None => put_below_two(out, at, bytes),
-        Some((front, back)) => {
-            let place = put(out, at, front);
-            put_below_two(out, place, back)
-        }
-    }
-}
-
-/// Puts one byte or none.
-#[inline(always)]
-fn put_below_two(out: &mut [u8], at: usize, bytes: &[u8]) -> usize {
-    match bytes.first_chunk::<1>() {
-        None => at,
-        Some(byte) => put(out, at, byte),
+fn put_first<'a, const COUNT: usize>(
+    out: &mut [u8],
+    at: usize,
+    bytes: &'a [u8],
+) -> (usize, &'a [u8]) {
+    match bytes.split_first_chunk::<COUNT>() {
+        None => (at, bytes),
+        Some((front, back)) => (put(out, at, front), back),
     }
 }
 

@@ -3,7 +3,7 @@ use Rattle.std.proofs.Common.{ℕ, zero, suc, ◌+◌, ◌-◌, ◌/◌, ◌%◌
 use Rattle.std.proofs.{Common.{append-nil, subst}, Math.Nat.{pow-succ', div-one, div-div-eq-div-mul}, lemmas.List.length-append}
 use Rattle.ixdtf.specs.language.{Letters.{Text, Letter.Plain}, Digits.padded_digits}
 use Rattle.ixdtf_grammar.proofs.PaddedDigits.{length-padded}
-use Rattle.ixdtf_print.specs.Puts.{HasRoom, Puts}
+use Rattle.ixdtf_print.specs.Prints.{HasRoom, Prints}
 use Rattle.ixdtf_print.proofs.code.PutBytes.{text_long, puts_length, puts_nothing, puts_before}
 
 -- the digits of a number are those of its tenth, and its last digit
@@ -18,7 +18,7 @@ last_digit (suc count) number =
 pub record LastDigits (old new : List ℕ) (from place to left count number : ℕ) : Type 0 where
   pub begun : from ≤ place
   pub done : Text
-  pub puts : Puts old new place to done
+  pub puts : Prints old new place to done
   pub whole : padded_digits (place - from) left ++ done ≡ padded_digits count number
 
 pub no_digit : (out : List ℕ) (from count number : ℕ) → LastDigits out out from (from + count) (from + count) number count number
@@ -64,11 +64,11 @@ module _ {old new : List ℕ} {from place to left count number : ℕ} where
             ∙ ap (λ t. t ++ d.done) (sym (last_digit (place - 1 - from) left)) ∙ ap (λ k. padded_digits k left ++ d.done) (sym one_less) ∙ d.whole;
       }
 
-  pub all_digits : place ≤ from → LastDigits old new from place to left count number → Puts old new from to (padded_digits count number)
+  pub all_digits : place ≤ from → LastDigits old new from place to left count number → Prints old new from to (padded_digits count number)
   all_digits least d =
       let here : place ≡ from = omega (arith, d.begun) in
       let none : place - from ≡ 0 = omega arith in
-      subst (Puts old new from to) (ap (λ k. padded_digits k left ++ d.done) (sym none) ∙ d.whole) (subst (λ k. Puts old new k to d.done) here d.puts)
+      subst (Prints old new from to) (ap (λ k. padded_digits k left ++ d.done) (sym none) ∙ d.whole) (subst (λ k. Prints old new k to d.done) here d.puts)
 
 -- two digits at once
 pub next_pair : {old new : List ℕ} {from place to left count number : ℕ} (pair here rest tens ones : ℕ) → HasRoom old from (padded_digits count number)
@@ -83,10 +83,10 @@ next_pair {place = place} {left = left} pair here rest tens ones room more p t o
 
 -- the first digit, where their number is odd
 pub first_digit : {old new : List ℕ} {from place to left count number : ℕ} → HasRoom old from (padded_digits count number) → place ≡ from + 1
-    → LastDigits old new from place to left count number → Puts old (set new from (48 + left % 10)) from to (padded_digits count number)
+    → LastDigits old new from place to left count number → Prints old (set new from (48 + left % 10)) from to (padded_digits count number)
 first_digit {old = old} {new = new} {from = from} {place = place} {to = to} {left = left} {count = count} {number = number} room e d =
     let before : place - 1 ≡ from = omega arith in
     let all : LastDigits old (set new (place - 1) (48 + left % 10)) from (place - 1) to (left / 10) count number = next_digit room (omega arith) d in
-    subst (λ k. Puts old (set new k (48 + left % 10)) from to (padded_digits count number)) before (all_digits (omega arith) all)
+    subst (λ k. Prints old (set new k (48 + left % 10)) from to (padded_digits count number)) before (all_digits (omega arith) all)
 
 pub ruleset digit_steps = (length-padded, inside_room)

@@ -3,7 +3,7 @@ use Rattle.std.proofs.Common.{ℕ, ◌+◌, ◌<◌, ◌≡◌, List, [], ◌∷
 use Rattle.std.proofs.{Common.take_all, Math.Seq.take-suc, lemmas.{List.map-append, Str.encodes-append}}
 use Rattle.std.specs.{Char.encode_utf8, Str.encode_utf8_all}
 use Rattle.ixdtf.specs.language.{Letters.{Text, Letter.Plain}, Brackets.ZoneNote, Languages.Parsed}
-use Rattle.ixdtf_print.specs.{Canonical.{opening_text, zone_text, bracket_text, calendar_text, core_text, canonical_text}, Puts.Puts}
+use Rattle.ixdtf_print.specs.{Canonical.{opening_text, zone_text, bracket_text, calendar_text, core_text, canonical_text}, Prints.Prints}
 use Rattle.ixdtf_print.specs.Shown.{code_point, bytes_of, shown_text}
 use Rattle.ixdtf_print.proofs.code.PutBytes.{front_of_new, text_long, puts_length}
 
@@ -29,17 +29,17 @@ one_more bytes i d more =
 
 -- ---- what was put at the front
 
-front_bytes : (old new : List ℕ) (to : ℕ) (text : Text) → Puts old new 0 to text → encode_utf8_all (take to new) ≡ bytes_of text
+front_bytes : (old new : List ℕ) (to : ℕ) (text : Text) → Prints old new 0 to text → encode_utf8_all (take to new) ≡ bytes_of text
 front_bytes old new to text p =
     ap encode_utf8_all (front_of_new old new 0 to text p (omega arith)) ∙ sym (bytes-plain p.bytes) ∙ ap bytes_of p.spelled
 
-pub counted_bytes : (old new : List ℕ) (to count : ℕ) (text : Text) → Puts old new 0 to text → count ≡ length text
+pub counted_bytes : (old new : List ℕ) (to count : ℕ) (text : Text) → Prints old new 0 to text → count ≡ length text
     → encode_utf8_all (take count new) ≡ bytes_of text
 counted_bytes old new to count text p counted =
     let same : count ≡ to = omega (arith, text_long old new 0 to text p, counted) in
     ap (λ n. encode_utf8_all (take n new)) same ∙ front_bytes old new to text p
 
-pub whole_bytes : (old new : List ℕ) (to : ℕ) (text : Text) → Puts old new 0 to text → length old ≡ length text → encode_utf8_all new ≡ bytes_of text
+pub whole_bytes : (old new : List ℕ) (to : ℕ) (text : Text) → Prints old new 0 to text → length old ≡ length text → encode_utf8_all new ≡ bytes_of text
 whole_bytes old new to text p same =
     let long = text_long old new 0 to text p in
     let kept = puts_length old new 0 to text p (omega (arith, long, same)) in

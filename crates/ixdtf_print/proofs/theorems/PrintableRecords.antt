@@ -1,11 +1,11 @@
 -- The records that have a text are those whose fields have texts, and the canonical text is one of these texts.
-use Rattle.std.proofs.Common.{ℕ, ◌+◌, ◌≤◌, ◌≡◌, ◌↔◌, Bool, IsTrue, List, ◌++◌, length, Option, Some, None, refl, sym, ap, inl, inr, arith, append-nil, subst}
-use Rattle.std.proofs.lemmas.List.{length-append}
-use Rattle.ixdtf.specs.language.{Letters.{Letter, Text}, Cores.{Core, OptionalOffset, IsDateTimeCore}, Brackets.ZoneNote, Languages.Parsed, Readers.parse}
+use Rattle.std.proofs.Common.{ℕ, ◌+◌, ◌<◌, ◌≤◌, ◌≡◌, ◌↔◌, Bool, IsTrue, List, ◌++◌, length, map, Option, Some, None, refl, sym, ap, inl, inr, arith, append-nil, subst}
+use Rattle.std.proofs.lemmas.List.{length-append, length-map}
+use Rattle.ixdtf.specs.language.{Letters.{Letter, Text, byte_letter}, Cores.{Core, OptionalOffset, IsDateTimeCore}, Brackets.ZoneNote, Languages.Parsed, Readers.parse}
 use Rattle.ixdtf.specs.Handlers.{UnhandledRecord, own_replies, calendar_value, first_calendar}
 use Rattle.ixdtf_grammar.specs.declared.records.{DateRecord.DateRecord, TimeRecord.TimeRecord, UtcOffsetRecordOrZ.UtcOffsetRecordOrZ}
 use Rattle.ixdtf_print.specs.Canonical.{date_text, time_text, offset_text, bracket_text, calendar_text, optional_date_text, core_text, canonical_text}
-use Rattle.ixdtf_print.specs.{Printable.{IsPrintable, IsReadBack}, Spelled.{HasDay, HasTime, HasZone, HasCalendar, IsSpelled}}
+use Rattle.ixdtf_print.specs.{Printable.{IsPrintable, IsReadBack}, Printed.FitsArray, Spelled.{HasDay, HasTime, HasZone, HasCalendar, IsSpelled}}
 use Rattle.ixdtf_print.proofs.{parts.ParsedParts.{HasParts, to_parts, of_parts, one_record}, theorems.ReadBack.canonical_reads_back, parts.DerivedDates.of_date}
 use Rattle.ixdtf_print.proofs.parts.DerivedTimes.{of_time, of_offset, of_bracket, of_pairs}
 
@@ -63,6 +63,13 @@ of_record text found h =
     subst (Fitting text) (sym h.has)
     (of_fields text h.cores (h.zones ++ h.pair_texts) h.zones h.pair_texts h.core h.zone (calendar_value (first_calendar (own_replies h.pairs))) h.is refl
     (of_core h.cores h.core h.is_core) (of_bracket h.zones h.zone h.is_bracket) (of_pairs h.pair_texts h.pairs h.are_pairs))
+
+-- the canonical text of a record that is read from bytes fits where 14 bytes more and a newline do
+pub read_fits : (size : ℕ) (bytes : List ℕ) (found : Parsed) → UnhandledRecord parse (map byte_letter bytes) found → length bytes + 14 < size → FitsArray size found
+read_fits size bytes found given room =
+    let spell : ℕ → Letter = λ n. byte_letter n in
+    let most = (of_record (map byte_letter bytes) found (to_parts (map byte_letter bytes) found given)).1 in
+    omega (arith, most, length-map bytes spell)
 
 pub printable_iff : (found : Parsed) → IsPrintable found ↔ IsSpelled found
 printable_iff found = (

@@ -18,7 +18,7 @@ use Rattle.ixdtf.specs.language.ZoneNames.{Zone, IsZone, Zone.{Name, Offset}}
 use Rattle.ixdtf.specs.language.Brackets.{ZoneNote, Opens, OptionalBracket, Pair, Key, Value, IsPair, ArePairs}
 use Rattle.ixdtf.specs.{language.{Cores.{core_of, OptionalOffset, IsDateTimeCore}, Languages.Parsed}, table.Faults.{Fault, Fault.UnrecognizedCritical}}
 use Rattle.ixdtf.specs.Handlers.{RefusedBeside, NoneRefused, own_replies, calendar_key, calendar_value, first_calendar}
-use Rattle.ixdtf_print.specs.Canonical.{two_digits, year_text, date_text, minutes_text, seconds_text, fraction_digits, clock_text, time_text, sign_of}
+use Rattle.ixdtf_print.specs.Canonical.{two_digits, year_text, date_text, minutes_text, seconds_text, fraction_digits, clock_text, time_text, mark_of}
 use Rattle.ixdtf_print.specs.Canonical.{minute_offset_text, offset_text, zone_text, opening_text, bracket_text, calendar_text, optional_date_text, core_text}
 use Rattle.ixdtf_print.specs.{Canonical.canonical_text, Spelled.{IsDay, AreDigits, HasDigits, IsClock, IsDayTime, IsMinuteClock, IsShift, HasDay, HasTime}}
 use Rattle.ixdtf_print.specs.Spelled.{IsZoneText, HasZone, HasCalendar, IsSpelled}
@@ -159,21 +159,21 @@ minute_clock clock offset at = record {
   no_fraction = refl;
 }
 
-is_sign : (s : Sign) → IsTrue (sign (sign_of s)) × (s ≡ sign_at (sign_of s))
+is_sign : (s : Sign) → IsTrue (sign (mark_of s)) × (s ≡ sign_at (mark_of s))
 is_sign Positive = (refl, refl)
 is_sign Negative = (refl, refl)
 
 -- a sign, and what is written after it
 signed : {O : Type 0} {clock : Clock} {record_of : ℕ → TimeShape → TimeRecord → O} {body : Text} {offset : O} (s : Sign) (shape : TimeShape) (time : TimeRecord)
-    → ClockOf clock shape body time → offset ≡ record_of (sign_of s) shape time → IsSigned clock record_of (Plain (sign_of s) ∷ body) offset
-signed s shape time clock value = record { c = sign_of s; body = _; shape = shape; time = time; is = refl; sign = (is_sign s).0; clock = clock; value = value }
+    → ClockOf clock shape body time → offset ≡ record_of (mark_of s) shape time → IsSigned clock record_of (Plain (mark_of s) ∷ body) offset
+signed s shape time clock value = record { c = mark_of s; body = _; shape = shape; time = time; is = refl; sign = (is_sign s).0; clock = clock; value = value }
 
 same_minutes : (offset : MinutePrecisionOffset) (second : ℕ) (part : Option FractionParts)
-    → offset ≡ minutes_at (sign_of offset.sign) (time_of offset.hour offset.minute second part)
+    → offset ≡ minutes_at (mark_of offset.sign) (time_of offset.hour offset.minute second part)
 same_minutes offset second part = λ i. record { sign = (is_sign offset.sign).1 i; hour = offset.hour; minute = offset.minute }
 
 minute_signed : {O : Type 0} (clock : Clock) (record_of : ℕ → TimeShape → TimeRecord → O) (offset : MinutePrecisionOffset) (value : O) → IsMinuteClock offset
-    → value ≡ record_of (sign_of offset.sign) colon_minutes (time_of offset.hour offset.minute 0 None)
+    → value ≡ record_of (mark_of offset.sign) colon_minutes (time_of offset.hour offset.minute 0 None)
     → IsSigned clock record_of (minute_offset_text offset) value
 minute_signed clock record_of offset value at is = signed offset.sign colon_minutes (time_of offset.hour offset.minute 0 None) (minute_clock clock offset at) is
 

@@ -1,18 +1,7 @@
--- A text that is read, and one that is refused.
+-- What the reader returned.
 use Rattle.ixdtf_answers.proofs.found.answer_month_day.Goals as goal
-use Rattle.std.proofs.Common.{refl}
-use Rattle.ixdtf.specs.{Views.parsed_of, table.Faults.fault_of, language.Languages.Found.parsed}
-use Rattle.ixdtf_answers.proofs.PartsLemmas.{puts_found, puts_refused, refused_short}
-use Rattle.ixdtf_answers.specs.declared.word.Word.TheVariants.{MonthDay}
+use Rattle.ixdtf_answers.proofs.PartsLemmas.{record_returned}
 
-pub returns-in-Ok : goal.returns-in-Ok
-returns-in-Ok g c =
-    let found = parsed_of (λ byte. byte) c.in-Ok.parts in
-    puts_found _ c.args.text.now (parsed found) (rw (c.from_utf8.ensures.profile, c.from_utf8.ensures.rest) at ((c.parse_month_day-outcome.ensures.reads.ok found).0 (rw c.in-Ok.is refl))) c.put_record.ensures
-
-pub put_error-requires : goal.put_error-requires
-put_error-requires g c = refused_short MonthDay c.args.text.now (fault_of c.in-Err.error) (rw (c.from_utf8.ensures.profile, c.from_utf8.ensures.rest) at (rw c.in-Err.is at c.parse_month_day-outcome.ensures.reads.err))
-
-pub returns-in-Err : goal.returns-in-Err
-returns-in-Err g c =
-    puts_refused _ c.args.text.now (fault_of c.in-Err.error) (rw (c.from_utf8.ensures.profile, c.from_utf8.ensures.rest) at (rw c.in-Err.is at c.parse_month_day-outcome.ensures.reads.err)) c.put_error.ensures
+pub put_found-requires-clause-returned : goal.put_found-requires-clause-returned
+put_found-requires-clause-returned g c =
+    record_returned _ _ _ _ c.requires.reader c.parser.ensures.rest (rw c.parser.ensures.profile at c.parse_month_day-outcome.ensures.reads)

@@ -1,14 +1,14 @@
 -- A record that is read from a line fits.
 use Rattle.ixdtf_checks.proofs.reading.read_to_print.Goals as goal
-use Rattle.std.proofs.Common.{refl}
+use Rattle.std.proofs.Common.{refl, arith}
 use Rattle.ixdtf_grammar.specs.Views.{parsed_of}
-use Rattle.ixdtf_checks.proofs.VerdictLemmas.{read_fits}
+use Rattle.ixdtf_print.proofs.theorems.PrintableRecords.{read_fits}
 
 pub print-requires : goal.print-requires
 print-requires c =
     let found = parsed_of (λ byte. byte) c.in-Ok.parts in
     let given = rw c.from_utf8.ensures.rest at ((c.in-Ok.ensures.reads.ok found).0 refl) in
-    read_fits c.args.text.now found c.canonical_fits.ensures given c.requires
+    (omega arith, read_fits 65792 c.args.text.now found given (omega (arith, c.requires)))
 
 pub returns-in-Ok-clause-ok : goal.returns-in-Ok-clause-ok
 returns-in-Ok-clause-ok c =

@@ -1,7 +1,7 @@
 use Rattle.ixdtf_print.proofs.check.is_value.Goals as goal
 use Rattle.std.proofs.Common.{◌+◌, ◌∙◌, sym, ap, inl, inr}
 use Rattle.ixdtf_print.proofs.code.ValueLoop.{from_place, over_value_byte, over_mark, value_refused, value_ends}
-use Rattle.ixdtf_print.proofs.check.is_value.Goals.{then-is_value_byte, else-is_value_byte+then-byte-eq45+then-in_run}
+use Rattle.ixdtf_print.proofs.check.is_value.Goals.{then-is_annotation_value_component, else-is_annotation_value_component+then-byte-eq45+then-in_run}
 use Rattle.ixdtf_print.proofs.check.is_value.Goals.{else-byte-eq45-via-then-byte-eq45+else-in_run, else-byte-eq45-via-else-byte-eq45}
 
 pub returns : goal.returns
@@ -11,21 +11,21 @@ pub loop-byte-preserved : goal.loop-byte-preserved
 loop-byte-preserved c =
     let l = c.loop-byte in
     let bytes = c.args.bytes.now in
-    let e = c.is_value_byte.ensures in
-    elim c.if-is_value_byte.branch [
-      | then-is_value_byte w ↦
-          l.invariant ∙ over_value_byte l.in_run bytes l.byte-index c.loop-byte-test.true (sym e ∙ w.if-is_value_byte.true)
+    let e = c.is_annotation_value_component.ensures in
+    elim c.if-is_annotation_value_component.branch [
+      | then-is_annotation_value_component w ↦
+          l.invariant ∙ over_value_byte l.in_run bytes l.byte-index c.loop-byte-test.true (sym e ∙ w.if-is_annotation_value_component.true)
           ∙ ap (λ b. from_place b bytes (l.byte-index + 1)) (sym w.in_run-is)
-      | else-is_value_byte+then-byte-eq45+then-in_run w ↦
+      | else-is_annotation_value_component+then-byte-eq45+then-in_run w ↦
           l.invariant
-          ∙ over_mark l.in_run bytes l.byte-index c.loop-byte-test.true (sym e ∙ w.if-is_value_byte.false) w.if-byte-eq45.true w.if-in_run.true
+          ∙ over_mark l.in_run bytes l.byte-index c.loop-byte-test.true (sym e ∙ w.if-is_annotation_value_component.false) w.if-byte-eq45.true w.if-in_run.true
           ∙ ap (λ b. from_place b bytes (l.byte-index + 1)) (sym w.in_run-is)
     ]
 
 pub returns-else-byte-eq45 : goal.returns-else-byte-eq45
 returns-else-byte-eq45 c =
     value_refused c.loop-byte.in_run c.args.bytes.now c.loop-byte.byte-index c.loop-byte.invariant c.loop-byte-test.true
-    (sym c.is_value_byte.ensures ∙ c.if-is_value_byte.false)
+    (sym c.is_annotation_value_component.ensures ∙ c.if-is_annotation_value_component.false)
     (elim c.else-byte-eq45.branch [
       | else-byte-eq45-via-then-byte-eq45+else-in_run w ↦ inr w.if-in_run.false
       | else-byte-eq45-via-else-byte-eq45 w ↦ inl w.if-byte-eq45.false

@@ -14,8 +14,8 @@ set_byte-requires-in-loop-place c =
 
 pub loop-place-preserved : goal.loop-place-preserved
 loop-place-preserved c =
-    let both = next_pair (c.loop-place.left % 100) (c.loop-place.place - 2) (c.loop-place.left / 100) c.tens_of.result c.ones_of.result c.requires
-    c.loop-place-test.true refl c.tens_of.ensures c.ones_of.ensures refl refl c.loop-place.invariant in
+    let both = next_pair (c.loop-place.left % 100) (c.loop-place.place - 2) (c.loop-place.left / 100) c.tens_digit.result c.ones_digit.result c.requires
+    c.loop-place-test.true refl c.tens_digit.ensures c.ones_digit.ensures refl refl c.loop-place.invariant in
     rw (c.set_byte-in-loop-place.ensures, c.set_byte.ensures) both
 
 pub returns : goal.returns
