@@ -44,20 +44,25 @@
  * record. A call may be made in a signal handler.
  *
  * VERSIONS. Names, numbers, sizes and places of fields do not change within a version of the
- * interface; a later one adds calls and numbers. This one is version 2. ixdtf_interface_version()
- * is that of the library, and is to be IXDTF_INTERFACE_VERSION.
+ * interface, and none is taken away. Calls and numbers may be added: then its revision is raised.
+ * A program runs with each library of its version and of its own revision or a later one. This is
+ * version 2. ixdtf_interface_version() is that of the library, and is to be
+ * IXDTF_INTERFACE_VERSION. The shared library has the version in its file name.
  */
 #ifndef IXDTF_H
 #define IXDTF_H
 #include <stdbool.h>
 #include <stddef.h>
 #include <stdint.h>
+#include <string.h>
 #ifdef __cplusplus
 extern "C" {
 #endif
 
 /* The version of the interface that this header is of. */
 #define IXDTF_INTERFACE_VERSION 2
+/* How often calls or numbers were added within this version. */
+#define IXDTF_INTERFACE_REVISION 0
 
 /* What a call returns is looked at: else there is no record. */
 #if defined(__cplusplus) && __cplusplus >= 201703L
@@ -392,6 +397,45 @@ IXDTF_CHECKED_ uint32_t ixdtf_interface_version(void);
 
 /* What follows is compiled into the program. It is tested, and not proved. */
 
+/* Readers of C strings: ixdtf_parse_text, ixdtf_parse_duration_strict_text and so on, one for each
+ * reader of 8-bit texts. Each reads the bytes before the zero as the reader without _text does:
+ *     uint32_t ixdtf_parse_text(const char *text, ixdtf_record *out);
+ *     uint32_t ixdtf_parse_with_annotations_text(const char *text, ixdtf_annotation *annotations,
+ *         size_t room, size_t *count, ixdtf_record *out);
+ * From C++17 on each takes a std::string_view too. */
+#define IXDTF_READERS_(one) \
+    one(ixdtf_parse, ixdtf_record) \
+    one(ixdtf_parse_year_month, ixdtf_record) \
+    one(ixdtf_parse_month_day, ixdtf_record) \
+    one(ixdtf_parse_time, ixdtf_record) \
+    one(ixdtf_parse_offset, ixdtf_record) \
+    one(ixdtf_parse_identifier, ixdtf_record) \
+    one(ixdtf_parse_iana_identifier, ixdtf_record) \
+    one(ixdtf_parse_duration, ixdtf_duration) \
+    one(ixdtf_parse_month_day_strict, ixdtf_record) \
+    one(ixdtf_parse_time_strict, ixdtf_record) \
+    one(ixdtf_parse_duration_strict, ixdtf_duration)
+#define IXDTF_LISTING_READERS_(one) \
+    one(ixdtf_parse_with_annotations) \
+    one(ixdtf_parse_year_month_with_annotations) \
+    one(ixdtf_parse_month_day_with_annotations) \
+    one(ixdtf_parse_time_with_annotations) \
+    one(ixdtf_parse_month_day_with_annotations_strict) \
+    one(ixdtf_parse_time_with_annotations_strict)
+#define IXDTF_OF_TEXT_(reader, type) \
+    IXDTF_CHECKED_ static inline uint32_t reader##_text(const char *text, type *out) { \
+        return reader(IXDTF_AT_(uint8_t, text), strlen(text), out); \
+    }
+#define IXDTF_LISTING_OF_TEXT_(reader) \
+    IXDTF_CHECKED_ static inline uint32_t reader##_text(const char *text, \
+        ixdtf_annotation *annotations, size_t room, size_t *count, ixdtf_record *out) { \
+        return reader(IXDTF_AT_(uint8_t, text), strlen(text), annotations, room, count, out); \
+    }
+IXDTF_READERS_(IXDTF_OF_TEXT_)
+IXDTF_LISTING_READERS_(IXDTF_LISTING_OF_TEXT_)
+#undef IXDTF_OF_TEXT_
+#undef IXDTF_LISTING_OF_TEXT_
+
 /* The name of what a call returns, as "IXDTF_DATE_MONTH", or "IXDTF_OK"; of another number "". */
 static inline const char *ixdtf_error_name(uint32_t error) {
 #define IXDTF_NAMED_(name) \
@@ -715,4 +759,34 @@ IXDTF_PLACE_(ixdtf_duration, place, 72);
 #ifdef __cplusplus
 }
 #endif
+
+#if defined(__cplusplus) && __cplusplus >= 201703L
+#include <string_view>
+
+/* The readers of C strings for each text that C++ has. */
+#define IXDTF_OF_VIEW_(reader, type) \
+    [[nodiscard]] inline uint32_t reader##_text(std::string_view text, type *out) { \
+        return reader(IXDTF_AT_(uint8_t, text.data()), text.size(), out); \
+    }
+#define IXDTF_LISTING_OF_VIEW_(reader) \
+    [[nodiscard]] inline uint32_t reader##_text(std::string_view text, \
+        ixdtf_annotation *annotations, size_t room, size_t *count, ixdtf_record *out) { \
+        return reader(IXDTF_AT_(uint8_t, text.data()), text.size(), annotations, room, count, \
+            out); \
+    }
+IXDTF_READERS_(IXDTF_OF_VIEW_)
+IXDTF_LISTING_READERS_(IXDTF_LISTING_OF_VIEW_)
+#undef IXDTF_OF_VIEW_
+#undef IXDTF_LISTING_OF_VIEW_
+
+/* A slice of a record, or a text of the library, as C++ has it. It is valid as long as the slice. */
+inline std::string_view ixdtf_view(ixdtf_units units) {
+    return std::string_view(reinterpret_cast<const char *>(units.at), units.length);
+}
+inline std::string_view ixdtf_view(ixdtf_text text) {
+    return std::string_view(text.at, text.length);
+}
+#endif
+#undef IXDTF_READERS_
+#undef IXDTF_LISTING_READERS_
 #endif

@@ -329,6 +329,72 @@ static void test_functions(void) {
     row_shown = "";
 }
 
+/* Each reader of C strings reads as the reader of bytes does. */
+static void test_texts(void) {
+#define READ_ALIKE(reader, type, initial, text) do { \
+        type by_bytes = initial, by_text = initial; \
+        uint32_t error = reader((const uint8_t *)text, strlen(text), &by_bytes); \
+        check(reader##_text(text, &by_text) == error, "what the reader of a C string returns"); \
+        check(by_text.place == by_bytes.place && same_text(by_text.location, by_bytes.location), "the place that it tells"); \
+    } while (0)
+#define READ_RECORD_ALIKE(reader) do { \
+        ixdtf_record by_bytes = IXDTF_RECORD, by_text = IXDTF_RECORD; \
+        READ_ALIKE(reader, ixdtf_record, IXDTF_RECORD, texts[i]); \
+        error = reader((const uint8_t *)texts[i], strlen(texts[i]), &by_bytes); \
+        check(reader##_text(texts[i], &by_text) == error && narrow_same_but_error(&by_bytes, &by_text), "the record that it writes"); \
+    } while (0)
+#define LISTED_ALIKE(reader) do { \
+        ixdtf_record by_bytes = IXDTF_RECORD, by_text = IXDTF_RECORD; \
+        ixdtf_annotation list[2]; \
+        size_t count_by_bytes = 9, count_by_text = 7; \
+        ixdtf_set_annotations(list, 2); \
+        error = reader((const uint8_t *)texts[i], strlen(texts[i]), list, 2, &count_by_bytes, &by_bytes); \
+        ixdtf_set_annotations(list, 2); \
+        check(reader##_text(texts[i], list, 2, &count_by_text, &by_text) == error && count_by_text == count_by_bytes, "what it lists"); \
+        check(narrow_same_but_error(&by_bytes, &by_text) && by_text.place == by_bytes.place, "the record beside the list"); \
+        check((count_by_text > 0) == (list[0].key.length > 0), "the list is that of the caller"); \
+    } while (0)
+    static const char *const texts[] = {
+        "", "2024-03-02T08:48:00-05:00[Europe/Paris][u-ca=hebrew][a=b]", "2024-03-02[!a=b]", "2024-11[u-ca=iso8601]", "11-00[a=b]", "--11-07[a=b][c=d]",
+        "T12:30:45.25+01[x=y]", "1200", "+05:30", "-05:00:30.5", "Europe/Berlin", "P1Y2Y", "-P1DT2H0.5M", "2024-", "2024-03-0x",
+    };
+    size_t i;
+    uint32_t error;
+    for (i = 0; i < COUNT(texts); i++) {
+        row_shown = texts[i];
+        READ_RECORD_ALIKE(ixdtf_parse);
+        READ_RECORD_ALIKE(ixdtf_parse_year_month);
+        READ_RECORD_ALIKE(ixdtf_parse_month_day);
+        READ_RECORD_ALIKE(ixdtf_parse_time);
+        READ_RECORD_ALIKE(ixdtf_parse_offset);
+        READ_RECORD_ALIKE(ixdtf_parse_identifier);
+        READ_RECORD_ALIKE(ixdtf_parse_iana_identifier);
+        READ_RECORD_ALIKE(ixdtf_parse_month_day_strict);
+        READ_RECORD_ALIKE(ixdtf_parse_time_strict);
+        READ_ALIKE(ixdtf_parse_duration, ixdtf_duration, IXDTF_DURATION, texts[i]);
+        READ_ALIKE(ixdtf_parse_duration_strict, ixdtf_duration, IXDTF_DURATION, texts[i]);
+        LISTED_ALIKE(ixdtf_parse_with_annotations);
+        LISTED_ALIKE(ixdtf_parse_year_month_with_annotations);
+        LISTED_ALIKE(ixdtf_parse_month_day_with_annotations);
+        LISTED_ALIKE(ixdtf_parse_time_with_annotations);
+        LISTED_ALIKE(ixdtf_parse_month_day_with_annotations_strict);
+        LISTED_ALIKE(ixdtf_parse_time_with_annotations_strict);
+    }
+    row_shown = "";
+#undef READ_ALIKE
+#undef READ_RECORD_ALIKE
+#undef LISTED_ALIKE
+#if defined(__cplusplus) && __cplusplus >= 201703L
+    /* a part of a longer text, and the empty one of C++, which is at NULL */
+    ixdtf_record record = IXDTF_RECORD;
+    ixdtf_duration duration = IXDTF_DURATION;
+    std::string_view whole = "2024-03-02[u-ca=hebrew]junk";
+    check(ixdtf_parse_text(whole.substr(0, 23), &record) == IXDTF_OK && ixdtf_view(record.calendar) == "hebrew", "a text of C++ is read");
+    check(ixdtf_parse_text(whole, &record) == IXDTF_INVALID_END && record.place == 23, "a text of C++ has its length");
+    check(ixdtf_parse_duration_text(std::string_view(), &duration) == IXDTF_ABRUPT_END && ixdtf_view(duration.location) == "DurationStart", "the empty text of C++");
+#endif
+}
+
 /* Each line of tools/places.tsv, in its width, and where its units are letters of both in both. */
 static void test_places(const char *path) {
     char line[512];
@@ -653,6 +719,7 @@ int main(int count, char **arguments) {
     test_numbers();
     test_errors();
     test_functions();
+    test_texts();
     test_layout();
     narrow_test_all();
     wide_test_all();

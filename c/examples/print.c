@@ -35,7 +35,7 @@ int main(int count, char **arguments) {
         if (out == NULL) {
             return 1;
         }
-        uint32_t error = ixdtf_parse((const uint8_t *)arguments[i], length, &record);
+        uint32_t error = ixdtf_parse_text(arguments[i], &record);
         if (error == IXDTF_OK) {
             error = ixdtf_print(&record, out, room, &written); /* 0: there is a text, and room for it */
         }

@@ -6,7 +6,6 @@
  */
 #include <ixdtf.h>
 #include <stdio.h>
-#include <string.h>
 
 static void print_error(const char *text, uint32_t error, const ixdtf_record *record) {
     printf("%s: %s", text, ixdtf_error_message(error));
@@ -22,7 +21,7 @@ int main(int count, char **arguments) {
     for (int i = 1; i < count; i++) {
         const char *text = arguments[i];
         ixdtf_record record = IXDTF_RECORD;
-        uint32_t error = ixdtf_parse((const uint8_t *)text, strlen(text), &record);
+        uint32_t error = ixdtf_parse_text(text, &record);
         if (error == IXDTF_OK) {
             printf("%s: valid\n", text);
         } else {
