@@ -1,7 +1,8 @@
--- The errors that no row of the fault table has: those that never come, and those of refused replies; and that of Bad, which stands at Bad alone.
-use Rattle.std.proofs.Common.{◌≡◌, ◌⊎◌, ℕ, Bool, true, false, ◌||◌, cond, IsFalse, List, ◌∷◌, ◌++◌, refl, sym, ap, subst, ◌∙◌, ◌≢◌, inl, inr, append_assoc}
-use Rattle.std.proofs.lemmas.Bool.{both_ways, or_parts}
-use Rattle.ixdtf_grammar.specs.language.{Letters.{Text, hyphen, colon, digit, Letter.Bad}, Times.{Clock, Clock as clocks}, Durations.{Half, Half as halves}}
+-- The errors that no row of the fault table has: those that never come, those of refused replies, and those of which much is written; and that of Bad,
+-- which stands at Bad alone.
+use Rattle.std.proofs.Common.{◌≡◌, ◌⊎◌, ℕ, ◌≤◌, length, nat_lt, arith, Bool, true, false, ◌||◌, cond, IsFalse, List, ◌∷◌, ◌++◌, refl, sym, ap, subst, ◌∙◌, ◌≢◌, inl, inr, append_assoc}
+use Rattle.std.proofs.lemmas.Bool.{both_ways, or_parts, Decides.nat_tests}
+use Rattle.ixdtf_grammar.specs.language.{Letters.{Text, hyphen, colon, digit, closing, Letter.Bad}, Times.{Clock, Clock as clocks}, Durations.{Half, Half as halves}}
 use Rattle.ixdtf_grammar.specs.{language.{Brackets.Pair, Readers.{Reader, has_brackets}}, table.Faults.{Fault, never_comes, is_refusal}}
 use Rattle.ixdtf_grammar.specs.table.Faults.Fault.{NonAsciiCodePoint, UnrecognizedCritical, CriticalDuplicateCalendar, DateSeparator, DateDay, InvalidEnd}
 use Rattle.ixdtf_grammar.specs.table.{Faults.Fault.IanaChar, LineNames.{LineName, of_date, of_year_month, of_month_day, of_time, DateLine.after_basic_month}}
@@ -12,16 +13,20 @@ use Rattle.ixdtf_grammar.specs.table.LineNames.{ClockLine.after_fraction, ZoneLi
 use Rattle.ixdtf_grammar.specs.table.LineNames.LineName.{of_clock, of_offset, of_zone, of_bracket, of_pair, of_duration}
 use Rattle.ixdtf_grammar.specs.table.Lines.{Line, Ending, Follow, follow_of, mixed, second_fault, after_minute, zone_line, no_designator, order_fault, line_of}
 use Rattle.ixdtf_grammar.specs.table.{Lines.{Line.{line, scanned, whole}, Ending.{ok, error}}, Rows.{Place, Stops, Place.{end, other, bad, anywhere}}}
-use Rattle.ixdtf_grammar.specs.table.Outcomes.{HasFault}
+use Rattle.ixdtf_grammar.specs.table.{ErrorTexts.message_of, Outcomes.HasFault}
 
 -- the fault of Bad
 abbrev is_of_bad : Fault → Bool
 is_of_bad NonAsciiCodePoint = true
 is_of_bad fault = false
 
+-- more is written of the fault than of any in the table, in which few locations stand
+abbrev is_long : Fault → Bool
+is_long fault = nat_lt 69 (length (message_of fault))
+
 -- no line has the fault: it stands at Bad alone, or nowhere
 abbrev no_row : Fault → Bool
-no_row fault = (never_comes fault || is_refusal fault) || is_of_bad fault
+no_row fault = ((never_comes fault || is_refusal fault) || is_of_bad fault) || is_long fault
 
 -- the text may end here, or its end is an error that a row may have
 abbrev EndHas : Ending → Type 0
@@ -53,7 +58,7 @@ clock_has clocks.MinuteOffset = (refl, refl)
 
 zone_has : (brackets : Bool) → LineHas (zone_line brackets in_zone_name)
 zone_has true = (refl, λ c. refl)
-zone_has false = (refl, λ c. either_has _ InvalidEnd IanaChar refl refl)
+zone_has false = (refl, λ c. either_has (closing c) InvalidEnd IanaChar refl refl)
 
 half_has : (half : Half) → IsFalse (no_row (no_designator half)) × IsFalse (no_row (order_fault half))
 half_has halves.date = (refl, refl)
@@ -124,14 +129,21 @@ row_has reader text pairs fault (row, (before, rest, is, stands, (front, stop, s
 pub fault_comes : (reader : Reader) (text : Text) (pairs : List Pair) (fault : Fault) → HasFault reader text pairs fault → IsFalse (never_comes fault)
 fault_comes reader text pairs fault h = elim (row_has reader text pairs fault h) [
   | inl p ↦ ap never_comes p.1
-  | inr never ↦ (or_parts _ _ (or_parts _ _ never).0).0
+  | inr never ↦ (or_parts _ _ (or_parts _ _ (or_parts _ _ never).0).0).0
 ]
 
 -- a fault that a text has is no refusal of a reply
 pub fault_refuses_none : (reader : Reader) (text : Text) (pairs : List Pair) (fault : Fault) → HasFault reader text pairs fault → IsFalse (is_refusal fault)
 fault_refuses_none reader text pairs fault h = elim (row_has reader text pairs fault h) [
   | inl p ↦ ap is_refusal p.1
-  | inr never ↦ (or_parts _ _ (or_parts _ _ never).0).1
+  | inr never ↦ (or_parts _ _ (or_parts _ _ (or_parts _ _ never).0).0).1
+]
+
+-- little is written of a fault that a text has
+pub fault_short : (reader : Reader) (text : Text) (pairs : List Pair) (fault : Fault) → HasFault reader text pairs fault → length (message_of fault) ≤ 69
+fault_short reader text pairs fault h = elim (row_has reader text pairs fault h) [
+  | inl p ↦ rw p.1 (omega arith)
+  | inr never ↦ (let short = (or_parts _ _ never).1 in grind (arith, nat_tests, short))
 ]
 
 -- only a text with a Bad has the fault of Bad
