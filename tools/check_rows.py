@@ -16,7 +16,11 @@ The tool also checks the names of the mutations, crates/*/must-fail/FILE.FUNCTIO
 FUNCTION the function that contains the text after `old:`. The type of the function may come before it. For a mutation of a definition,
 FILE and FUNCTION are the file and the definition.
 
-The tool prints each difference as one line, and then the numbers of rows and mutations that it read. The exit status is 1 if there is a
+The tool also looks at the comparisons of the library. Each access of a code unit is counted, and a comparison of code units makes some
+accesses. So only the functions of `COMPARE` may compare something that is not a literal, by `==` or by a method. Code units have a type that
+is a parameter, so a code unit is never compared with a literal.
+
+The tool prints each difference as one line, and then how many rows, mutations and functions it read. The exit status is 1 if there is a
 difference. It is also 1 if a source has fewer rows than `LEAST` says, because then a table is probably no longer read."""
 import os
 import re
@@ -664,6 +668,42 @@ def findings_in_edits() -> tuple[list[str], int]:
 
 
 # ---------------------------------------------------------------------------------------------------------------------------------
+# Comparisons
+
+# the crates of the library whose functions have code units
+LIBRARY = ('ixdtf_reading', 'ixdtf_times', 'ixdtf_brackets', 'ixdtf_durations', 'ixdtf')
+# the functions that may compare: the first compares code units, and `has_same_units` counts them; the other a byte with a byte that was read
+COMPARE = {('cursor', 'are_equal'), ('cursor', 'fixed_letter')}
+NO_CODE = re.compile(r'//[^\n]*|b?"(?:[^"\\]|\\.)*"')
+LITERAL = r"(?:b?'(?:[^'\\]|\\.)+'|\b\d\w*)"
+EQUALITY = re.compile(rf'({LITERAL})?\s*(?<![<>=!])([=!]=)(?!=)\s*({LITERAL})?')
+BY_METHOD = re.compile(r'(?:\.|::)(eq|ne|cmp|partial_cmp|starts_with|ends_with|contains|strip_prefix|strip_suffix)\s*(?:::<[^>]*>)?\(')
+
+
+def comparisons_in(body: str) -> Iterator[str]:
+    """The comparisons in a body whose sides may both be of code units: those of which no side is a literal, and the calls of methods."""
+    code = NO_CODE.sub(' ', body)
+    yield from (found[2] for found in EQUALITY.finditer(code) if not (found[1] or found[3]))
+    yield from (found[1] for found in BY_METHOD.finditer(code))
+
+
+def findings_in_comparisons(path: str, source: str) -> Iterator[str]:
+    """The functions of a source that compare, and may not."""
+    file = os.path.splitext(os.path.basename(path))[0]
+    for _, _, part in functions_in(source.splitlines()):
+        if part.kind == 'function' and (file, part.name) not in COMPARE:
+            yield from (f'{path}: {part.name} compares by `{mark}`: only `has_same_units` compares code units, since it counts them'
+                        for mark in comparisons_in(part.text))
+
+
+def findings_in_readers() -> tuple[list[str], int]:
+    """What is found in the readers of the library, and how many functions they have."""
+    sources = {path: read(path) for crate in LIBRARY for path in files(f'crates/{crate}/src', '.rt')}
+    found = [what for path, source in sources.items() for what in findings_in_comparisons(path, source)]
+    return found, sum(part.kind == 'function' for source in sources.values() for _, _, part in functions_in(source.splitlines()))
+
+
+# ---------------------------------------------------------------------------------------------------------------------------------
 # All of it
 
 def read(path: str) -> str:
@@ -718,10 +758,12 @@ def main() -> int:
     found += [f'{source}: {len(rows[source])} rows were read, and at least {least} were expected' for source, least in LEAST.items()
               if len(rows[source]) < least]
     of_edits, edits = findings_in_edits()
-    found += of_edits
+    of_readers, functions = findings_in_readers()
+    found += of_edits + of_readers
     for it in found:
         print(it)
-    print(f'rows: {", ".join(f"{len(of_source)} of {source}" for source, of_source in rows.items())}; {edits} edits; {len(found)} findings')
+    print(f'rows: {", ".join(f"{len(of_source)} of {source}" for source, of_source in rows.items())}; {edits} edits; '
+          f'{functions} functions of readers; {len(found)} findings')
     return 1 if found else 0
 
 

@@ -308,8 +308,39 @@ class Edits(unittest.TestCase):
                              [f'crates/ixdtf_digits/must-fail/digits.put.puts_zero.edit: `{old}` occurs {times} times in src/digits.rt, and must occur once'])
 
 
+class Comparisons(unittest.TestCase):
+    """Comparisons of code units."""
+
+    def marks(self, body: str) -> list[str]:
+        """How the body compares what may be code units."""
+        return list(check.comparisons_in(body))
+
+    def test_with_a_literal(self):
+        for body in ["byte == b'-'", "b'\\'' != byte", 'count==0', '5 == cursor.remaining()', 'distance % 400 == 0', 'rank <= least', 'at >= end',
+                     '// left == right', 'say("left == right")', 'Some(byte) => byte', 'self.position(start)']:
+            self.assertEqual(self.marks(body), [], body)
+
+    def test_of_code_units(self):
+        for body, mark in [('left == right', '=='), ('self.rest[0] != other[0]', '!='), ('key.eq(calendar)', 'eq'), ('PartialEq::ne(a, b)', 'ne'),
+                           ('rest.starts_with(key)', 'starts_with'), ('units.contains(&unit)', 'contains'), ('first.cmp(&second)', 'cmp')]:
+            self.assertEqual(self.marks(body), [mark], body)
+
+    def test_who_may_compare(self):
+        source = 'fn are_equal(left: &[u8], right: &[u8]) -> bool {\n    left == right\n}\n'
+        self.assertEqual(list(check.findings_in_comparisons('crates/ixdtf_reading/src/cursor.rt', source)), [])
+        for path in ['crates/ixdtf_reading/src/letters.rt', 'crates/ixdtf/src/parsers/replies.rt']:
+            self.assertEqual(list(check.findings_in_comparisons(path, source)), [
+                f'{path}: are_equal compares by `==`: only `has_same_units` compares code units, since it counts them'])
+        self.assertTrue(list(check.findings_in_comparisons('crates/ixdtf_reading/src/cursor.rt', source.replace('are_equal', 'is_same'))))
+
+
 class Repository(unittest.TestCase):
     """Tests of the rows of the repository."""
+
+    def test_each_function_is_read(self):
+        found, functions = check.findings_in_readers()
+        self.assertEqual(found, [])
+        self.assertGreater(functions, 200)
 
     def test_each_edit_is_read(self):
         self.assertGreater(check.findings_in_edits()[1], 400)
