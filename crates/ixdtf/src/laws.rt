@@ -1,8 +1,8 @@
-//! What follows from the readers' contracts, for callers to cite.
+//! Theorems for callers, which follow from the contracts of the readers.
 //!
-//! A law is a function whose contract states it. A caller cites a law by calling the function: what it ensures is known
-//! from there on. A law without parameters does nothing when it runs. [`parse_unanswered`] reads, and its contract is
-//! that of [`IxdtfParser::parse_with_annotation_handler`] with the law beside it.
+//! A law is a function whose contract states the theorem. To use a law, call the function: after the call, the prover
+//! knows what the function ensures. A law without parameters does nothing when it runs. [`parse_unanswered`] parses its
+//! input. Its contract is that of [`IxdtfParser::parse_with_annotation_handler`], and also states the law.
 
 ghost use Rattle.std.specs.Prelude.{◌≡◌, ◌≢◌, map, IfOk, IfErr, IfSome, None, pos};
 ghost use Rattle.ixdtf_grammar.specs.table.Faults.{fault_of};
@@ -29,57 +29,66 @@ use ixdtf_grammar::records::{
 };
 use ixdtf_reading::stop::FromStop;
 
-/// Every date-time of RFC 3339, section 5.6, is read: [`IxdtfParser::parse`] returns `Ok` for it. That section's `T`
-/// and `Z` may be lowercase.
+/// States that [`IxdtfParser::parse`] accepts every date-time of RFC 3339, section 5.6. Its `T` and `Z` may be
+/// lowercase.
 ///
-/// The law speaks of texts, and so of sources in every encoding: what it says of a text is the right side of `ok` of
-/// `parse`.
+/// The law is about texts, and so about sources in every encoding. What it states about a text is the right side of the
+/// clause `ok` of `parse`.
 pub fn every_rfc3339_date_time_is_read()
     ensures { EveryDateTimeIsRead }
 {}
 
-/// Every name that [`TimeZoneParser::parse_iana_identifier`](crate::parsers::TimeZoneParser::parse_iana_identifier)
-/// reads is the whole of its text, and
-/// [`TimeZoneParser::parse_identifier`](crate::parsers::TimeZoneParser::parse_identifier) reads the text as `Name` of
-/// the same code units.
+/// States that an accepted name is the complete text, and that `parse_identifier` returns it too.
+///
+/// If [`TimeZoneParser::parse_iana_identifier`](crate::parsers::TimeZoneParser::parse_iana_identifier) accepts a text,
+/// its result is the complete text. Then
+/// [`TimeZoneParser::parse_identifier`](crate::parsers::TimeZoneParser::parse_identifier) returns a `Name` with the
+/// same code units.
 pub fn every_name_is_an_identifier()
     ensures { EveryNameIsAnIdentifier }
 {}
 
-/// Where [`TimeZoneParser::parse_offset`](crate::parsers::TimeZoneParser::parse_offset) and
-/// [`TimeZoneParser::parse_identifier`](crate::parsers::TimeZoneParser::parse_identifier) both read a text, it is a sign, an
-/// hour and a minute, or a sign and an hour, and both return these: the one as `MinutePrecision`, the other as `Offset`.
+/// States that `parse_offset` and `parse_identifier` return the same offset, if both accept a text.
+///
+/// If [`TimeZoneParser::parse_offset`](crate::parsers::TimeZoneParser::parse_offset) and
+/// [`TimeZoneParser::parse_identifier`](crate::parsers::TimeZoneParser::parse_identifier) both accept a text, the text
+/// is a sign and an hour, with or without a minute. Then both return this offset: the first as `MinutePrecision`, and
+/// the second as `Offset`.
 pub fn offsets_agree()
     ensures { OffsetsAgree }
 {}
 
-/// The hyphens of a date, under [`IxdtfParser::parse`]. A date here is a year, a month from 01 to 12 and two digits of a day.
+/// States that the two hyphens of a date do not change the result of [`IxdtfParser::parse`].
 ///
-/// - `same`: for a date without hyphens and for the same date with both, `parse` returns the same record or error,
-///   whatever follows.
-/// - `one`: with one hyphen alone the error is `DateSeparator`, whatever follows.
+/// A date here is a year, a month from 01 to 12, and two digits for the day.
+///
+/// - `same`: for a date without hyphens, and for the same date with both hyphens, `parse` returns the same record or
+///   error, whatever follows the date.
+/// - `one`: for a date with only one of the two hyphens, the error is `DateSeparator`, whatever follows the date.
 pub fn hyphens_say_nothing()
     ensures same { HyphensSayNothing }
     ensures one { OneHyphenIsRefused }
 {}
 
-/// Each text has exactly one outcome in each reader: either one value is derived from it, or one row of the fault table
-/// (`docs/FAULTS.md`) fits it. Never both, never neither, and never two values or two rows. A row that fits has its place in
-/// it, so there are never two places.
+/// States that each text has exactly one outcome in each reader.
 ///
-/// The annotations are part of the outcome: those of the text where a value is derived, and else the whole ones before
-/// the row. What a handler replies to them is not: where a reply is refused, a reader refuses a text from which a value
-/// is derived.
+/// Either the grammar derives one value from the text, or one row of the table of errors (`docs/FAULTS.md`) fits the
+/// text. There are never two values, two rows, both, or neither. A row contains its position, so there are never two
+/// positions.
 ///
-/// - `outcome`: this.
-/// - `begins`: the annotations of a front from which a value is derived are the first of the text's outcome, whether a value
-///   is derived from the text or a row fits it.
-/// - `chain`: a text with these annotations and these replies to them has one result, a record or an error.
-/// - `place`: a text with these annotations and as many replies has one error at one place.
-/// - `replied`: a handler that replies to each annotation by the annotations so far is called with one list of them,
-///   and there is exactly one result.
+/// The outcome contains annotations. If the grammar derives a value, these are the annotations of the text. Otherwise
+/// they are the complete annotations before the row. The outcome does not contain the replies of a handler. If a reply
+/// is refused, a reader refuses a text from which the grammar derives a value.
 ///
-/// The contract of each reader says this of a call that returned, as `no_row` and `only`.
+/// - `outcome`: this law.
+/// - `begins`: if the grammar derives a value from a prefix of the text, the annotations of this prefix are the first
+///   annotations in the outcome of the text.
+/// - `chain`: a text, its annotations, and the replies to them give at most one result, a record or an error.
+/// - `place`: a text, its annotations, and one reply for each annotation give at most one position of an error.
+/// - `replied`: suppose that a handler decides about each annotation by the annotations so far. Then it is called with
+///   exactly one list of annotations, and there is exactly one result.
+///
+/// The contract of each reader has clauses that say this about one call: `no_row` and `only`.
 pub fn one_outcome()
     ensures outcome { OneOutcome }
     ensures begins { FrontsBegin }
@@ -88,26 +97,29 @@ pub fn one_outcome()
     ensures replied { OneChain }
 {}
 
-/// No text is read by two of the five readers of dates, times and durations under one profile: [`IxdtfParser::parse`],
-/// [`IxdtfParser::parse_year_month`], [`IxdtfParser::parse_month_day`], [`IxdtfParser::parse_time`] and
-/// [`IsoDurationParser::parse`](crate::parsers::IsoDurationParser::parse).
+/// States that at most one of the five readers of dates, times and durations accepts a text, under one profile.
 ///
-/// The law speaks of what is derived from a text, and so of the readers with a handler too, whatever it replies. The
-/// contract of each of these readers says this of a call that returned `Ok`, as `no_other_reader`.
+/// The five readers are [`IxdtfParser::parse`], [`IxdtfParser::parse_year_month`], [`IxdtfParser::parse_month_day`],
+/// [`IxdtfParser::parse_time`] and [`IsoDurationParser::parse`](crate::parsers::IsoDurationParser::parse).
+///
+/// The law is about what the grammar derives from a text. So it is also true for the readers with a handler, whatever
+/// the handler replies. The contract of each of these readers says this about a call that returned `Ok`:
+/// `no_other_reader`.
 pub fn languages_disjoint()
     ensures { LanguagesDisjoint }
 {}
 
-/// What each reader without a handler returns for 16-bit and for 8-bit code units of the same numbers.
+/// Compares 8-bit and 16-bit text, for each reader without a handler.
 ///
-/// - A text has exactly one outcome there: what is read, with each slice by the numbers of its code units, or an error.
-/// - On numbers from 1 to 126 the two widths have the same outcome.
-/// - With any other number the 16-bit text has an error: `NonAsciiCodePoint`, or the one that the 8-bit text has with
-///   128 in the place of each such number.
-/// - The places of errors agree too: on numbers from 1 to 126 the two widths have the same errors at the same places.
-///   With any other number the error of the 16-bit text is `NonAsciiCodePoint`, or has the place that the 8-bit text
-///   with 128 has.
-/// - `NonAsciiCodePoint` has the place of the first number that is not from 1 to 126. No 8-bit text has it.
+/// A *bad* number is one outside 1 to 126.
+///
+/// - A text has exactly one outcome: a value, in which a slice is the list of the numbers of its code units, or an
+///   error.
+/// - If no number is bad, the 8-bit text and the 16-bit text have the same outcome, and the same errors at the same
+///   positions.
+/// - If a number is bad, the 16-bit text has an error. It is `NonAsciiCodePoint`, or the error, at its position, of the
+///   8-bit text that has 128 instead of each bad number.
+/// - The position of `NonAsciiCodePoint` is that of the first bad number. No 8-bit text has this error.
 pub fn widths_agree()
     ensures one { OneUnhandledOutcome }
     ensures same { SameWhereShared }
@@ -118,16 +130,18 @@ pub fn widths_agree()
     ensures wide { NonAsciiIsWide }
 {}
 
-/// Where [`Fraction::to_nanoseconds`] returns `Some`, [`Fraction::to_truncated_nanoseconds`] returns the same number.
+/// States that [`Fraction::to_truncated_nanoseconds`] returns the same number as [`Fraction::to_nanoseconds`], if the
+/// latter returns `Some`.
 pub fn exact_nanoseconds_are_the_truncated_ones(fraction: &Fraction)
     ensures { IfSome (exact_nanoseconds_of fraction.now) (λ n. nanoseconds_of fraction.now ≡ n) }
 {
     let _ = fraction.to_nanoseconds();
 }
 
-/// Equality of slices of code units, of each record and of errors is equality of what a contract sees of them: slices
-/// by the numbers of their code units, and locations by their bytes. So it is reflexive, symmetric and transitive, in
-/// every encoding.
+/// States that two values are equal exactly if a contract sees them as the same value.
+///
+/// The law is about slices of code units, records and errors, in every encoding. A contract sees a slice as the numbers
+/// of its code units, and a location as its bytes. So equality is reflexive, symmetric and transitive.
 pub fn equality_is_of_what_is_seen<'a, T: EncodingType>()
 where
     T::CodeUnit: 'a,
@@ -154,8 +168,10 @@ where
     ensures error { IsEqualityBy fault_of ⟦<ParseError as PartialEq>⟧.eq }
 {}
 
-/// `default` of a date, of a time and of the date units of a duration is 0 in each field, and the time has no fraction.
-/// The default [`IxdtfParseRecord`] is empty, as its own contract says.
+/// States that the default date, time and date units of a duration are 0 in each field. The default time has no
+/// fraction.
+///
+/// The default [`IxdtfParseRecord`] is empty: its own contract says so.
 pub fn defaults_are_zero()
     ensures date { DefaultIs ⟦<DateRecord as Default>⟧.is_default
         (record { year = pos 0; month = 0; day = 0 }) }
@@ -165,7 +181,7 @@ pub fn defaults_are_zero()
         (record { years = 0; months = 0; weeks = 0; days = 0 }) }
 {}
 
-/// `clone` of each record and of an error is `Ok`, and what it returns is the value, in every encoding.
+/// States that `clone` of a record or of an error returns `Ok` with the same value, in every encoding.
 pub fn clones_are_equal<'a, T: EncodingType>()
 where
     T::CodeUnit: 'a,
@@ -201,12 +217,14 @@ where
         ⟦<ParseError as Clone>⟧.is_infallible }
 {}
 
-/// Reads as [`IxdtfParser::parse_with_annotation_handler`] does, with a handler that replies `None` to each annotation: the
-/// record has no calendar, and no reply is refused.
+/// Calls [`IxdtfParser::parse_with_annotation_handler`] with a handler that returns only `None`, and states what
+/// follows.
+///
+/// The record has no calendar, and no reply is refused.
 ///
 /// # Errors
 ///
-/// Those of [`IxdtfParser::parse`], but for `CriticalDuplicateCalendar` and `UnrecognizedCritical`.
+/// The errors of [`IxdtfParser::parse`], except `CriticalDuplicateCalendar` and `UnrecognizedCritical`.
 pub fn parse_unanswered<'a, T: EncodingType, F>(
     parser: &mut IxdtfParser<'a, T>,
     handler: F,
@@ -225,7 +243,7 @@ where
     parse_unanswered_as::<T, ParseError, F>(parser, handler)
 }
 
-/// Reads as [`parse_unanswered`] does, with an error made of a stop.
+/// Does the work of [`parse_unanswered`]. The error is made from a `Stop`.
 #[inline(always)]
 fn parse_unanswered_as<'a, T: EncodingType, E: FromStop, F>(
     parser: &mut IxdtfParser<'a, T>,

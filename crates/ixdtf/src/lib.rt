@@ -1,27 +1,32 @@
-//! A reader of the Internet Extended Date/Time Format (RFC 9557), proved in Rattle.
+//! A parser of the Internet Extended Date/Time Format (RFC 9557), proved in Rattle.
 //!
-//! [`parsers::IxdtfParser::parse`] reads a date, or a date and a time with its offset, and the brackets after it, in
-//! 8-bit or in 16-bit code units. It reads the forms of RFC 3339, the shorter ones of ISO 8601, and `suffix` of RFC
-//! 9557, section 4.1, which is a time zone and annotations of a key and a value, as `[u-ca=hebrew]`.
-//! `parse_year_month`, `parse_month_day` and `parse_time` of the same parser read a year and a month, a month and a
-//! day, and a time alone, with the same brackets. Each has a form `.._with_annotation_handler`, which calls the
-//! caller's handler with each annotation. [`parsers::TimeZoneParser`] reads a text that is an offset, a time zone or
-//! the name of one alone, and [`parsers::IsoDurationParser`] a duration, as `P1Y2M3DT4H`. [`parsers::Profile`] has a
-//! stricter profile for months with a day, for times and for durations.
+//! [`parsers::IxdtfParser::parse`] parses a date, or a date and a time with its offset, and the brackets after it. A
+//! text has 8-bit or 16-bit code units. The forms of dates and times are those of RFC 3339 and shorter ones of ISO
+//! 8601. The brackets are those of RFC 9557, section 4.1 (`suffix`): a time zone, and annotations with a key and a
+//! value, such as `[u-ca=hebrew]`.
 //!
-//! Each reader accepts every text of the grammar and no other, except those with a refused reply to an annotation. For
-//! any other text it returns the error that the fault table has for it, or that of the refused reply. It does not
-//! allocate, and returns on every input.
+//! - `parse_year_month`, `parse_month_day` and `parse_time` of the same parser parse a year and a month, a month and a
+//!   day, and a time, each with the same brackets.
+//! - Each of these four methods has a variant `*_with_annotation_handler`. It calls a closure of the caller with each
+//!   annotation.
+//! - [`parsers::TimeZoneParser`] parses a text that is only an offset, or only a time zone.
+//! - [`parsers::IsoDurationParser`] parses a duration, such as `P1Y2M3DT4H`.
+//! - Each method has a variant `*_located`, whose error has a position.
+//! - [`parsers::Profile`] has stricter rules for months with a day, for times and for durations.
 //!
-//! - [`parsers`]: the readers.
+//! The grammar is written down. A reader accepts every text of its grammar, unless an annotation must be refused, and
+//! accepts no other text. For any other text it returns one error: that of a written table, or that of a refused
+//! annotation. A reader does not allocate, and returns on every input.
+//!
+//! - [`parsers`]: the parsers.
 //! - [`records`]: what they return.
 //! - [`ParseError`]: their errors.
-//! - [`encoding`]: the code units of a source.
-//! - [`laws`]: what follows from their contracts, for callers to cite.
+//! - [`encoding`]: the code units of a text.
+//! - [`laws`]: theorems that follow from their contracts, for callers.
 //!
-//! The repository has the grammar in words in `docs/GRAMMAR.md`, and the fault table in `docs/FAULTS.md`. The
-//! definitions are in `crates/ixdtf_grammar/specs`: the grammar in `language`, the fault table in `table`, and what
-//! replies to annotations make of a text in `Handlers`.
+//! In the repository, `docs/GRAMMAR.md` describes the grammar, and `docs/FAULTS.md` has the table of errors. The
+//! definitions are in `crates/ixdtf_grammar/specs`: the grammar in `language`, the table of errors in `table`, and what
+//! the replies of a handler change in `Handlers`.
 #![tactic(auto)]
 
 pub mod laws;

@@ -1,12 +1,16 @@
 // Made by tools/to_rust.py of crates/ixdtf/src/parsers.rt. Do not edit.
 
-//! The readers: [`IxdtfParser`] of dates and times, [`TimeZoneParser`] of offsets and zones alone, and [`IsoDurationParser`]
-//! of durations.
+//! The parsers: [`IxdtfParser`] for dates and times, [`TimeZoneParser`] for offsets and time zones, and
+//! [`IsoDurationParser`] for durations.
 //!
-//! A reader reads the whole of its input, or returns an error. It returns `Ok` exactly where a written grammar derives
-//! the input and no reply of a handler is refused. It returns an error only where a row of a written table with this
-//! error fits the input, or a reply is refused with it. The repository has both, as `docs/GRAMMAR.md` and
-//! `docs/FAULTS.md`.
+//! A parsing method accepts its complete input, or returns an error:
+//!
+//! - It returns `Ok` exactly if the grammar derives the input, and no annotation is refused.
+//! - It returns an error only if a row of the table of errors with this error fits the input, or an annotation is
+//!   refused with this error.
+//!
+//! With a handler, the annotations that can be refused are those that the handler returned. In the repository,
+//! `docs/GRAMMAR.md` describes the grammar, and `docs/FAULTS.md` has the table of errors.
 
 mod unhandled;
 mod annotations;
@@ -29,7 +33,8 @@ mod time_groups;
 mod time_zone_parser;
 mod zone;
 
-// Only for crates of this repository; not part of the public interface: what `read_lending_handler` is generic in.
+// These are only for crates of this repository, and not a part of the public interface. `read_lending_handler` is
+// generic in them.
 #[doc(hidden)]
 pub use self::cores::{CoreReader, DateTimes, MonthDays, Times, YearMonths};
 pub use self::time_zone_parser::TimeZoneParser;
@@ -46,9 +51,11 @@ pub use crate::stop::FromStop;
 #[doc(hidden)]
 pub use self::dates::days_in_month;
 
-/// A reader of dates and times, with an offset, a time zone and annotations.
+/// A parser of dates and times, with an offset, a time zone and annotations.
 ///
-/// It borrows its source. It is as large as a slice, the remaining input, and its profile.
+/// It borrows its source. It is as large as a slice and a profile.
+///
+/// # Examples
 ///
 /// ```rust
 /// use ixdtf::parsers::IxdtfParser;
@@ -63,7 +70,9 @@ pub struct IxdtfParser<'a, T: EncodingType> {
 }
 
 impl<'a> IxdtfParser<'a, Utf8> {
-    /// A parser of a text's UTF-8 bytes.
+    /// Creates a parser of the UTF-8 bytes of a text.
+    ///
+    /// # Examples
     ///
     /// ```rust
     /// use ixdtf::parsers::IxdtfParser;
@@ -76,7 +85,9 @@ impl<'a> IxdtfParser<'a, Utf8> {
         Self::new(source.as_bytes())
     }
 
-    /// A parser of bytes, which need not be UTF-8.
+    /// Creates a parser of bytes. They need not be UTF-8.
+    ///
+    /// # Examples
     ///
     /// ```rust
     /// use ixdtf::parsers::IxdtfParser;
@@ -92,7 +103,9 @@ impl<'a> IxdtfParser<'a, Utf8> {
 }
 
 impl<'a> IxdtfParser<'a, Utf16> {
-    /// A parser of 16-bit code units, which need not be UTF-16.
+    /// Creates a parser of 16-bit code units. They need not be UTF-16.
+    ///
+    /// # Examples
     ///
     /// ```rust
     /// use ixdtf::ParseError;
@@ -114,7 +127,9 @@ impl<'a> IxdtfParser<'a, Utf16> {
 }
 
 impl<'a, T: EncodingType> IxdtfParser<'a, T> {
-    /// A parser of code units of any encoding.
+    /// Creates a parser of code units of any encoding.
+    ///
+    /// # Examples
     ///
     /// ```rust
     /// use ixdtf::encoding::EncodingType;
@@ -135,8 +150,11 @@ impl<'a, T: EncodingType> IxdtfParser<'a, T> {
         }
     }
 
-    /// The parser with this profile, which decides what a month and a day are, also where a time may not begin as one. The
-    /// remaining input is unchanged.
+    /// Returns the parser with another profile. The remaining input is unchanged.
+    ///
+    /// The profile decides which texts are a month and a day. So it also decides which times are ambiguous.
+    ///
+    /// # Examples
     ///
     /// ```rust
     /// use ixdtf::ParseError;

@@ -1,4 +1,4 @@
-//! Reading cores into a record. A core is what stands before the brackets of a text.
+//! Functions that read a core into a record. A core is the part of a text before its first `[`.
 
 ghost use Rattle.std.specs.Prelude.{◌≡◌, ◌+◌, map, length, Ok, OnOk, Some, None, refl};
 ghost use Rattle.ixdtf_grammar.specs.Laws.{IsKindUnder};
@@ -33,12 +33,14 @@ use ixdtf_times::months::{
 use ixdtf_times::offsets::{AfterCore, offset_from, take_fixed_offset};
 use ixdtf_times::time::{Clock, TimeShape, WholeTime, parse_after_second, parse_clock};
 
-/// Reads cores of one kind. What reads whole texts is generic in it, so that no code tests the kind when it runs.
+/// A type that reads cores of one kind.
+///
+/// The functions that read complete texts are generic in it. So no code tests the kind while it runs.
 pub trait CoreReader {
-    /// Their kind, under a profile.
+    /// The kind of the cores, under a profile.
     ghost kind: { Profile → CoreKind };
 
-    /// Reads a core into an empty record, and returns what stands behind it.
+    /// Reads a core into an empty record. Returns what follows the core: the end of the input or a bracket.
     fn parse_core<'a, T: EncodingType>(
         cursor: &mut Cursor<'a, T>,
         profile: Profile,
@@ -52,11 +54,11 @@ pub trait CoreReader {
         ensures kept { KeepsBrackets found.old found.new }
         ensures looks { Spends (length cursor.old.rest + 37) cursor.old cursor.new };
 
-    /// The kind is one of the profile.
+    /// The kind belongs to the profile.
     ghost is_under: { (profile : Profile) → IsKindUnder profile (kind profile) };
 }
 
-/// A date, and a time and an offset where there are any.
+/// The reader of a date, with a time and an offset if the text has them.
 pub struct DateTimes;
 
 impl CoreReader for DateTimes {
@@ -76,7 +78,7 @@ impl CoreReader for DateTimes {
     }
 }
 
-/// A year and a month, of which the record has the first day.
+/// The reader of a year and a month. The record has the first day of the month.
 pub struct YearMonths;
 
 impl CoreReader for YearMonths {
@@ -98,7 +100,7 @@ impl CoreReader for YearMonths {
     }
 }
 
-/// A month and a day, of which the record has the year 0.
+/// The reader of a month and a day. The record has the year 0.
 pub struct MonthDays;
 
 impl CoreReader for MonthDays {
@@ -120,7 +122,7 @@ impl CoreReader for MonthDays {
     }
 }
 
-/// A time, and an offset where there is one.
+/// The reader of a time, with an offset if the text has one.
 pub struct Times;
 
 impl CoreReader for Times {
@@ -153,7 +155,7 @@ impl CoreReader for Times {
 
 // ==== Dates and times ====
 
-/// Reads a date, and a time and an offset where they stand, into the record.
+/// Reads a date into the record, and a time and an offset if the text has them.
 #[inline(always)]
 fn parse_date_time<'a, T: EncodingType>(
     cursor: &mut Cursor<'a, T>,
@@ -172,10 +174,10 @@ fn parse_date_time<'a, T: EncodingType>(
     }
 }
 
-/// Reads what follows a date and a time at their fixed places, which are in the record then.
+/// Reads what follows a date and a time in fixed columns, and writes all into the record.
 ///
-/// Its time is a value of its own, and not that of other readers: what a call writes stands in memory, and a copy of bytes
-/// that were just written one by one waits for them.
+/// `time` is a local variable of this function, for speed. If a function that is not inlined wrote it, it would be in
+/// memory, and the processor would have to wait for single bytes before it could copy them as one block.
 #[inline(always)]
 #[tactic(auto, unfolding(ixdtf_reading::specs::reading::Cores::whole_time_core_at))]
 fn parse_after_fixed<'a, T: EncodingType>(
@@ -196,7 +198,7 @@ fn parse_after_fixed<'a, T: EncodingType>(
     parse_after_time(cursor, time, found)
 }
 
-/// Reads a date part by part, and a time and an offset where a separator follows, into the record.
+/// Reads a date part by part into the record. If a separator follows, reads a time and an offset too.
 #[inline(always)]
 #[tactic(auto, unfolding(ixdtf_reading::specs::reading::Cores::date_time_readings, ixdtf_reading::specs::reading::Clauses::timed_core_at))]
 fn parse_date_by_parts<'a, T: EncodingType>(
@@ -223,7 +225,7 @@ fn parse_date_by_parts<'a, T: EncodingType>(
 
 // ==== Times ====
 
-/// Reads a time, and an offset or `Z` where there is one, after the date in the record where there is one.
+/// Reads a time into the record, and `Z` or an offset if it follows. The record may already have a date.
 #[inline(always)]
 #[tactic(auto, unfolding(ixdtf_reading::specs::reading::Clauses::timed_core_at))]
 fn parse_timed<'a, T: EncodingType>(
@@ -242,7 +244,7 @@ fn parse_timed<'a, T: EncodingType>(
     parse_after_time(cursor, time, found)
 }
 
-/// Reads a time as far as it goes, with a second cursor, so that this one stays a local value.
+/// Reads a time as far as it goes. It works on a second cursor, so that `cursor` can stay a local variable.
 #[inline(always)]
 fn parse_time_of_day<'a, T: EncodingType>(
     cursor: &mut Cursor<'a, T>,
@@ -258,8 +260,11 @@ fn parse_time_of_day<'a, T: EncodingType>(
     read
 }
 
-/// Refuses a time whose text begins as a month-day or as a year-month does, with the cursor behind these. Otherwise the
-/// cursor does not move. No such text has a colon at its third place, where most times have one.
+/// Refuses a time that begins with a month-day or a year-month.
+///
+/// `start` is the input from the beginning of the time on. On failure, the cursor is after the month-day or the
+/// year-month. On success, it does not move. Most times have a colon at index 2. A month-day or a year-month never has
+/// one there, so the colon saves both tests.
 #[inline(always)]
 fn check_front<'a, T: EncodingType>(
     cursor: &mut Cursor<'a, T>,
@@ -286,12 +291,12 @@ fn check_front<'a, T: EncodingType>(
         *cursor = again;
         return Err(Stop::AmbiguousTimeYearMonth);
     }
-    // The accesses at the start count.
+    // The accesses from `start` on count too.
     cursor.keep_looks(again);
     Ok(())
 }
 
-/// Reads an offset or `Z` after a time, where there is one.
+/// Writes the time into the record, and reads `Z` or an offset if it follows.
 #[inline(always)]
 #[tactic(auto, unfolding(ixdtf_reading::specs::reading::Cores::after_time_at, ixdtf_reading::specs::reading::Cores::offset_core_at))]
 fn parse_after_time<'a, T: EncodingType>(
@@ -321,8 +326,10 @@ fn parse_after_time<'a, T: EncodingType>(
     }
 }
 
-/// Reads an offset after its sign: at fixed places where it has no seconds and the core ends with it, and else with a
-/// second cursor.
+/// Reads an offset after its sign.
+///
+/// If the offset is in fixed columns, has no seconds, and ends the core, it is read there. Otherwise a second cursor
+/// reads it.
 #[inline(always)]
 fn parse_signed<'a, T: EncodingType>(
     cursor: &mut Cursor<'a, T>,
@@ -344,7 +351,8 @@ fn parse_signed<'a, T: EncodingType>(
     read
 }
 
-/// Reads an offset of any form after its sign. It is not inlined, since most texts have their offset at fixed places.
+/// Reads an offset of any form after its sign. It is not inlined, because most texts have their offset in fixed
+/// columns.
 #[inline(never)]
 #[tactic(auto, unfolding(ixdtf_reading::specs::reading::Cores::offset_core_at))]
 fn parse_offset_part_by_part<'a, T: EncodingType>(
@@ -365,8 +373,8 @@ fn parse_offset_part_by_part<'a, T: EncodingType>(
     close_core(cursor)
 }
 
-/// Expects the end of the input or a `[` after a core, and returns which of the two it is. Any other code unit is
-/// `InvalidEnd`.
+/// Expects the end of the input or a `[` after a core. Returns which of the two it is, or `InvalidEnd` for any other
+/// code unit.
 #[inline(always)]
 #[tactic(auto, unfolding(ixdtf_reading::specs::reading::Cores::core_end_at, ixdtf_reading::specs::reading::Looks::peek_by))]
 fn close_core<'a, T: EncodingType>(cursor: &mut Cursor<'a, T>) -> Result<AfterCore, Stop>

@@ -1,4 +1,4 @@
-//! Calling the handler, and keeping its first calendar.
+//! Functions that call the handler, and keep its first calendar.
 
 #![tactic(auto, unfolding(ixdtf_reading::specs::reading::Pairs::pair_readings))]
 
@@ -15,7 +15,7 @@ use ixdtf_reading::annotations::next_annotation;
 use ixdtf_reading::cursor::Cursor;
 use ixdtf_reading::stop::Stop;
 
-/// Calls the handler with an annotation. This is the only call of it.
+/// Calls the handler with an annotation. This is the only function that calls it.
 #[inline(always)]
 fn ask<'a, T: EncodingType, F>(
     handler: &mut F,
@@ -30,9 +30,11 @@ where
     handler(annotation)
 }
 
-/// Keeps the calendar of a reply where it is the first one. A critical reply that is not a calendar is
-/// `UnrecognizedCritical`. A calendar with another value than the first is `CriticalDuplicateCalendar` where at least
-/// one of the two is critical. The cursor counts the units that are compared, and stays where it is.
+/// Keeps the calendar of a reply, if it is the first one.
+///
+/// Returns `UnrecognizedCritical` if the reply is critical and is not a calendar. Returns `CriticalDuplicateCalendar`
+/// if it is a calendar, its value differs from that of the first one, and at least one of the two is critical. The
+/// cursor counts the code units that are compared, and does not move.
 #[inline(always)]
 pub(crate) fn keep_first_calendar<'a, T: EncodingType>(
     cursor: &mut Cursor<'a, T>,
@@ -79,8 +81,9 @@ pub(crate) fn keep_first_calendar<'a, T: EncodingType>(
     }
 }
 
-/// Reads the pairs to the end of the input, calls the handler with each as soon as it was read whole, and returns the
-/// calendar that is kept. A first pair may have been read already.
+/// Reads the annotations up to the end of the input, and calls the handler with each after its bracket has been read.
+///
+/// Returns the calendar that is kept. `first` is an annotation that has already been read, if there is one.
 #[inline(always)]
 pub fn parse_annotations<'a, T: EncodingType, F>(
     cursor: &mut Cursor<'a, T>,

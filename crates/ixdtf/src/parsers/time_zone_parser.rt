@@ -1,4 +1,4 @@
-//! The reader of offsets and zones alone.
+//! The parser of texts that are only an offset or a time zone.
 
 ghost use Rattle.std.specs.Prelude.{◌≡◌, map};
 ghost use Rattle.ixdtf_grammar.specs.table.Faults.{fault_of};
@@ -16,9 +16,11 @@ use ixdtf_reading::cursor::Cursor;
 use ixdtf_times::offsets::parse_offset_text;
 use std::marker::Model;
 
-/// A reader of texts that are an offset from UTC or a time zone alone.
+/// A parser of texts that are only an offset from UTC, or only a time zone.
 ///
-/// It borrows its source. It is as large as a slice, the remaining input.
+/// It borrows its source. It is as large as a slice.
+///
+/// # Examples
 ///
 /// ```rust
 /// use ixdtf::parsers::TimeZoneParser;
@@ -33,14 +35,14 @@ pub struct TimeZoneParser<'a, T: EncodingType> {
 }
 
 impl<'a, T: EncodingType> Model for TimeZoneParser<'a, T> {
-    // A contract sees a parser as the numbers of the remaining code units, and the count of code unit accesses.
+    // In a contract, a parser is the numbers of the remaining code units, and the count of accesses to code units.
     ghost Value = { Unread };
 
     ghost view = { λ p. p.cursor };
 }
 
 impl<'a> TimeZoneParser<'a, Utf8> {
-    /// A parser of a text's UTF-8 bytes.
+    /// Creates a parser of the UTF-8 bytes of a text.
     pub fn from_str(source: &'a str) -> Self
         ensures rest { result.rest ≡ source.now }
         ensures looks { result.looks ≡ 0 }
@@ -48,7 +50,7 @@ impl<'a> TimeZoneParser<'a, Utf8> {
         TimeZoneParser::new(source.as_bytes())
     }
 
-    /// A parser of bytes, which need not be UTF-8.
+    /// Creates a parser of bytes. They need not be UTF-8.
     pub fn from_utf8(source: &'a [u8]) -> Self
         ensures rest { result.rest ≡ source.now }
         ensures looks { result.looks ≡ 0 }
@@ -58,7 +60,9 @@ impl<'a> TimeZoneParser<'a, Utf8> {
 }
 
 impl<'a> TimeZoneParser<'a, Utf16> {
-    /// A parser of 16-bit code units, which need not be UTF-16.
+    /// Creates a parser of 16-bit code units. They need not be UTF-16.
+    ///
+    /// # Examples
     ///
     /// ```rust
     /// use ixdtf::parsers::TimeZoneParser;
@@ -75,7 +79,7 @@ impl<'a> TimeZoneParser<'a, Utf16> {
 }
 
 impl<'a, T: EncodingType> TimeZoneParser<'a, T> {
-    /// A parser of code units of any encoding.
+    /// Creates a parser of code units of any encoding.
     pub fn new(source: &'a [T::CodeUnit]) -> Self
         ensures rest { result.rest ≡ map T.number source.now }
         ensures looks { result.looks ≡ 0 }
@@ -84,12 +88,19 @@ impl<'a, T: EncodingType> TimeZoneParser<'a, T> {
         TimeZoneParser { cursor }
     }
 
-    /// Reads the remaining input as a time zone: a name (`time-zone-name` of RFC 9557, section 4.1), or an offset without
-    /// seconds.
+    /// Parses the remaining input as a time zone, such as `Europe/Berlin` or `+05:30`.
     ///
-    /// A name begins with an ASCII letter, `_` or `.`, and goes on with these, digits, `+`, `-`, and `/` where another
-    /// character of a name follows it. The record has its code units as they stand. Whether there is such a zone is not
-    /// checked. An offset is as in [`parse_offset`](Self::parse_offset), without seconds.
+    /// A time zone is a name (`time-zone-name` of RFC 9557, section 4.1), or an offset without seconds:
+    ///
+    /// - A name begins with an ASCII letter, `_` or `.`, and continues with these, digits, `+`, `-` and `/`. A
+    ///   character of a name other than `/` must follow each `/`. The result is a slice of the text. It is not checked
+    ///   that such a zone exists.
+    /// - An offset is as in [`parse_offset`](Self::parse_offset), but without seconds.
+    ///
+    /// If the call succeeds, no input remains, and a second call returns the error of the empty text. If it fails, the
+    /// input is unchanged, and a second call returns the same error.
+    ///
+    /// # Examples
     ///
     /// ```rust
     /// use ixdtf::ParseError;
@@ -109,18 +120,21 @@ impl<'a, T: EncodingType> TimeZoneParser<'a, T> {
     /// # Ok::<(), ParseError>(())
     /// ```
     ///
-    /// After `Ok` the remaining input is empty, so a later call returns the error of the empty text. After an error it is
-    /// unchanged, so a second call returns the same.
-    ///
     /// # Errors
     ///
-    /// - `AbruptEnd` for the empty text (at `TimeZoneAnnotation`), and where a digit has to follow (at `digit`);
-    /// - `TzLeadingChar` at a character that neither a name nor an offset begins with;
-    /// - `IanaChar` at another character in a name, and `IanaCharPostSeparator` where no character of a name follows a `/`;
-    /// - `TimeHour` and `TimeMinuteSecond` as in [`parse_offset`](Self::parse_offset);
-    /// - `InvalidMinutePrecisionOffset` at a colon or a digit after an offset's minute;
-    /// - `InvalidEnd` at a `]` after a name, and at any other character after an offset;
-    /// - `NonAsciiCodePoint` at a 16-bit code unit that is not from 1 to 126.
+    /// The error is the first one from the left. To get its position, call
+    /// [`parse_identifier_located`](Self::parse_identifier_located).
+    ///
+    /// - `AbruptEnd`: the text is empty (location `TimeZoneAnnotation`), or it ends where a digit is required (location
+    ///   `digit`).
+    /// - `TzLeadingChar`: the text begins with a character that can begin neither a name nor an offset.
+    /// - `IanaChar`: a name contains a character that a name cannot contain.
+    /// - `IanaCharPostSeparator`: in a name, a `/` is not followed by a character of a name.
+    /// - `TimeHour`: the hour of an offset contains a character that is not a digit, or is greater than 23.
+    /// - `TimeMinuteSecond`: the minute of an offset contains a character that is not a digit, or is greater than 59.
+    /// - `InvalidMinutePrecisionOffset`: a colon or a digit follows the minute of an offset.
+    /// - `InvalidEnd`: a `]` follows a name, or any other character follows an offset.
+    /// - `NonAsciiCodePoint`: 16-bit text has a code unit outside 1 to 126. 8-bit text never has this error.
     pub fn parse_identifier(&mut self) -> ParserResult<TimeZoneRecord<'a, T>>
         ensures reads { ReadsPart T.letter fault_of (zone_of T.number) identified parse_identifier self.old result self.new }
     {
@@ -129,12 +143,24 @@ impl<'a, T: EncodingType> TimeZoneParser<'a, T> {
         self.cursor.settle(here, read)
     }
 
-    /// Reads the remaining input as an offset from UTC (`time-numoffset` of RFC 3339, section 5.6, and longer and shorter
-    /// forms).
+    /// Parses the remaining input as an offset from UTC, such as `+05:30`.
     ///
-    /// An offset is a sign and `05`, `0530`, `05:30`, `053045` or `05:30:45`. The last two may have a fraction, as `.25` or
-    /// `,25`. With seconds the record is a `FullPrecisionOffset`, without them a `MinutePrecision`, with minute 0 where
-    /// none is written. Seconds are at most 59.
+    /// Nothing may come before or after the offset. An offset is a sign (`+` or `-`) and one of these:
+    ///
+    /// | Form | Example | Result |
+    /// |---|---|---|
+    /// | hour | `+05` | `MinutePrecision`, with minute 0 |
+    /// | hour and minute | `+05:30`, `+0530` | `MinutePrecision` |
+    /// | hour, minute and second | `-05:30:45`, `-053045` | `FullPrecisionOffset` |
+    /// | hour, minute, second and fraction | `-05:30:45.25`, `-053045,25` | `FullPrecisionOffset` |
+    ///
+    /// The hour is 00 to 23. The minute and the second are 00 to 59. RFC 3339 has only the form `+05:30`
+    /// (`time-numoffset`, section 5.6). The other forms come from ISO 8601 and from the Temporal grammar.
+    ///
+    /// If the call succeeds, no input remains, and a second call returns the error of the empty text. If it fails, the
+    /// input is unchanged, and a second call returns the same error.
+    ///
+    /// # Examples
     ///
     /// ```rust
     /// use ixdtf::ParseError;
@@ -142,29 +168,38 @@ impl<'a, T: EncodingType> TimeZoneParser<'a, T> {
     /// use ixdtf::records::Sign;
     ///
     /// let offset = TimeZoneParser::from_str("-05:00").parse_offset()?;
-    /// assert_eq!((offset.sign(), offset.hour(), offset.minute(), offset.second()), (Sign::Negative, 5, 0, None));
+    /// assert_eq!((offset.sign(), offset.hour(), offset.minute()), (Sign::Negative, 5, 0));
+    /// assert_eq!(offset.second(), None);
+    ///
     /// let offset = TimeZoneParser::from_str("+05:30:15.5").parse_offset()?;
     /// assert_eq!((offset.hour(), offset.minute(), offset.second()), (5, 30, Some(15)));
     /// assert_eq!(offset.fraction().unwrap().to_nanoseconds(), Some(500_000_000));
-    /// for (text, error) in [("05:00", ParseError::OffsetNeedsSign), ("+0530:15", ParseError::UtcTimeSeparator)] {
+    ///
+    /// for (text, error) in [
+    ///     ("05:00", ParseError::OffsetNeedsSign),
+    ///     ("+24", ParseError::TimeHour),
+    ///     ("+0530:15", ParseError::UtcTimeSeparator),
+    ///     ("+05:30Z", ParseError::InvalidEnd),
+    /// ] {
     ///     assert_eq!(TimeZoneParser::from_str(text).parse_offset(), Err(error));
     /// }
     /// # Ok::<(), ParseError>(())
     /// ```
     ///
-    /// After `Ok` the remaining input is empty, so a later call returns the error of the empty text. After an error it is
-    /// unchanged, so a second call returns the same.
-    ///
     /// # Errors
     ///
-    /// - `AbruptEnd` for the empty text (at `time-numoffset`), and where a digit has to follow (at `digit`);
-    /// - `OffsetNeedsSign` where the text does not begin with a sign;
-    /// - `TimeHour` and `TimeMinuteSecond` where another character stands in the place of a digit of the hour, or of the
-    ///   minute and the second, and where they are out of their range;
-    /// - `UtcTimeSeparator` where it has one of two colons;
-    /// - `FractionPart` where no digit follows a decimal mark;
-    /// - `InvalidEnd` at any other character after it;
-    /// - `NonAsciiCodePoint` at a 16-bit code unit that is not from 1 to 126.
+    /// The error is the first one from the left. To get its position, call
+    /// [`parse_offset_located`](Self::parse_offset_located).
+    ///
+    /// - `AbruptEnd`: the text is empty (location `time-numoffset`), or it ends where a digit is required (location
+    ///   `digit`).
+    /// - `OffsetNeedsSign`: the text does not begin with `+` or `-`.
+    /// - `TimeHour`: the hour contains a character that is not a digit, or is greater than 23.
+    /// - `TimeMinuteSecond`: the minute or the second contains a character that is not a digit, or is greater than 59.
+    /// - `UtcTimeSeparator`: the offset has only one of its two colons.
+    /// - `FractionPart`: no digit follows the `.` or `,`. This is also the error if the text ends there.
+    /// - `InvalidEnd`: any other character follows the offset.
+    /// - `NonAsciiCodePoint`: 16-bit text has a code unit outside 1 to 126. 8-bit text never has this error.
     pub fn parse_offset(&mut self) -> ParserResult<UtcOffsetRecord>
         ensures reads { ReadsPart T.letter fault_of (λ offset. offset) shifted parse_offset self.old result self.new }
     {
@@ -173,8 +208,16 @@ impl<'a, T: EncodingType> TimeZoneParser<'a, T> {
         self.cursor.settle(here, read)
     }
 
-    /// Reads the remaining input as the name of a time zone (`time-zone-name` of RFC 9557, section 4.1), and returns its
-    /// code units, all of the remaining input. Whether there is such a zone is not checked.
+    /// Parses the remaining input as the name of a time zone, such as `Europe/Berlin`.
+    ///
+    /// A name has the form that it has in [`parse_identifier`](Self::parse_identifier) (`time-zone-name` of RFC 9557,
+    /// section 4.1). The result is the slice with all code units of the remaining input. It is not checked that such a
+    /// zone exists.
+    ///
+    /// If the call succeeds, no input remains, and a second call returns the error of the empty text. If it fails, the
+    /// input is unchanged, and a second call returns the same error.
+    ///
+    /// # Examples
     ///
     /// ```rust
     /// use ixdtf::ParseError;
@@ -190,20 +233,21 @@ impl<'a, T: EncodingType> TimeZoneParser<'a, T> {
     /// }
     /// ```
     ///
-    /// After `Ok` the remaining input is empty, so a later call returns the error of the empty text. After an error it is
-    /// unchanged, so a second call returns the same.
-    ///
     /// # Errors
     ///
-    /// - `TzLeadingChar` for the empty text, and at a character that no name begins with;
-    /// - `IanaChar` at another character in a name, and `IanaCharPostSeparator` where no character of a name follows a `/`;
-    /// - `InvalidEnd` at a `]` after a name;
-    /// - `NonAsciiCodePoint` at a 16-bit code unit that is not from 1 to 126.
+    /// The error is the first one from the left. To get its position, call
+    /// [`parse_iana_identifier_located`](Self::parse_iana_identifier_located).
+    ///
+    /// - `TzLeadingChar`: the text is empty, or begins with a character that cannot begin a name.
+    /// - `IanaChar`: the name contains a character that a name cannot contain.
+    /// - `IanaCharPostSeparator`: in the name, a `/` is not followed by a character of a name.
+    /// - `InvalidEnd`: a `]` follows the name.
+    /// - `NonAsciiCodePoint`: 16-bit text has a code unit outside 1 to 126. 8-bit text never has this error.
     pub fn parse_iana_identifier(&mut self) -> ParserResult<&'a [T::CodeUnit]>
         ensures reads { ReadsPart T.letter fault_of (λ units. map T.number units.now) named parse_iana_identifier self.old result self.new }
     {
         let mut here = self.cursor.fork();
-        // By hand, since rustc makes three instructions more of `settle` here.
+        // This is `settle`, written out. By `rustc`, a call of it takes three instructions more here.
         match parse_iana_identifier_text(&mut here) {
             Ok(name) => {
                 self.cursor = here;
@@ -216,15 +260,21 @@ impl<'a, T: EncodingType> TimeZoneParser<'a, T> {
         }
     }
 
-    /// Reads as [`parse_offset`](Self::parse_offset) does, and returns an error with its place: the number of code units
-    /// before it in the remaining input. The place of a number out of its range is after its second digit.
+    /// Parses the remaining input as an offset from UTC, like [`parse_offset`](Self::parse_offset). An error has its
+    /// position.
+    ///
+    /// The position is the number of code units before the error. It is the index of the code unit that does not fit,
+    /// or the end of the input if the input ends too early. For a number out of its range, the position is after its
+    /// second digit.
+    ///
+    /// # Examples
     ///
     /// ```rust
     /// use ixdtf::ParseError;
     /// use ixdtf::parsers::TimeZoneParser;
     ///
     /// for (text, error, at) in [
-    ///     ("+05:30x", ParseError::InvalidEnd, 6), // where the x stands
+    ///     ("+05:30x", ParseError::InvalidEnd, 6), // at the x
     ///     ("+05:60", ParseError::TimeMinuteSecond, 6), // after the 60
     ///     ("+05:", ParseError::AbruptEnd { location: "digit" }, 4), // the end
     /// ] {
@@ -235,7 +285,7 @@ impl<'a, T: EncodingType> TimeZoneParser<'a, T> {
     ///
     /// # Errors
     ///
-    /// Those of [`parse_offset`](Self::parse_offset), each with its place.
+    /// The errors of [`parse_offset`](Self::parse_offset), each with its position.
     pub fn parse_offset_located(&mut self) -> Result<UtcOffsetRecord, LocatedError>
         ensures reads { ReadsPartAt T.letter (λ offset. offset) shifted parse_offset self.old result self.new }
     {
@@ -244,15 +294,20 @@ impl<'a, T: EncodingType> TimeZoneParser<'a, T> {
         self.cursor.settle(here, outcome)
     }
 
-    /// Reads as [`parse_iana_identifier`](Self::parse_iana_identifier) does, and returns an error with its place: the
-    /// number of code units before it in the remaining input.
+    /// Parses the remaining input as the name of a time zone, like
+    /// [`parse_iana_identifier`](Self::parse_iana_identifier). An error has its position.
+    ///
+    /// The position is the number of code units before the error. It is the index of the code unit that does not fit,
+    /// or the end of the input if the input ends too early.
+    ///
+    /// # Examples
     ///
     /// ```rust
     /// use ixdtf::ParseError;
     /// use ixdtf::parsers::TimeZoneParser;
     ///
     /// for (text, error, at) in [
-    ///     ("America/!", ParseError::IanaCharPostSeparator, 8), // where the ! stands
+    ///     ("America/!", ParseError::IanaCharPostSeparator, 8), // at the !
     ///     ("America/", ParseError::IanaCharPostSeparator, 8), // the end
     /// ] {
     ///     let located = TimeZoneParser::from_str(text).parse_iana_identifier_located().unwrap_err();
@@ -262,7 +317,7 @@ impl<'a, T: EncodingType> TimeZoneParser<'a, T> {
     ///
     /// # Errors
     ///
-    /// Those of [`parse_iana_identifier`](Self::parse_iana_identifier), each with its place.
+    /// The errors of [`parse_iana_identifier`](Self::parse_iana_identifier), each with its position.
     pub fn parse_iana_identifier_located(&mut self) -> Result<&'a [T::CodeUnit], LocatedError>
         ensures reads { ReadsPartAt T.letter (λ units. map T.number units.now) named parse_iana_identifier self.old result self.new }
     {
@@ -271,16 +326,22 @@ impl<'a, T: EncodingType> TimeZoneParser<'a, T> {
         self.cursor.settle(here, outcome)
     }
 
-    /// Reads as [`parse_identifier`](Self::parse_identifier) does, and returns an error with its place: the number of code
-    /// units before it in the remaining input.
+    /// Parses the remaining input as a time zone, like [`parse_identifier`](Self::parse_identifier). An error has its
+    /// position.
+    ///
+    /// The position is the number of code units before the error. It is the index of the code unit that does not fit,
+    /// or the end of the input if the input ends too early. For a number out of its range, the position is after its
+    /// second digit.
+    ///
+    /// # Examples
     ///
     /// ```rust
     /// use ixdtf::ParseError;
     /// use ixdtf::parsers::TimeZoneParser;
     ///
     /// for (text, error, at) in [
-    ///     ("+04:30:15", ParseError::InvalidMinutePrecisionOffset, 6), // where the second colon stands
-    ///     ("Europe//Berlin", ParseError::IanaCharPostSeparator, 7), // where the second / stands
+    ///     ("+04:30:15", ParseError::InvalidMinutePrecisionOffset, 6), // at the second colon
+    ///     ("Europe//Berlin", ParseError::IanaCharPostSeparator, 7), // at the second /
     /// ] {
     ///     let located = TimeZoneParser::from_str(text).parse_identifier_located().unwrap_err();
     ///     assert_eq!((located.error, located.at), (error, at));
@@ -289,7 +350,7 @@ impl<'a, T: EncodingType> TimeZoneParser<'a, T> {
     ///
     /// # Errors
     ///
-    /// Those of [`parse_identifier`](Self::parse_identifier), each with its place.
+    /// The errors of [`parse_identifier`](Self::parse_identifier), each with its position.
     pub fn parse_identifier_located(&mut self) -> Result<TimeZoneRecord<'a, T>, LocatedError>
         ensures reads { ReadsPartAt T.letter (zone_of T.number) identified parse_identifier self.old result self.new }
     {

@@ -1,4 +1,4 @@
-//! The forms of [`IxdtfParser`] without a handler.
+//! The readers of [`IxdtfParser`] without a handler.
 
 ghost use Rattle.std.specs.Prelude.{◌≡◌, is_some, not};
 ghost use Rattle.ixdtf_grammar.specs.table.Faults.{fault_of};
@@ -16,21 +16,31 @@ use ixdtf_grammar::records::IxdtfParseRecord;
 use ixdtf_reading::stop::StopAt;
 
 impl<'a, T: EncodingType> IxdtfParser<'a, T> {
-    /// Reads the remaining input as a date, or as a date and a time with an offset (RFC 3339, section 5.6, and ISO 8601's
-    /// forms of it), and then, in brackets, one time zone where there is one and annotations of a key and a value (`suffix`
-    /// of RFC 9557, section 4.1).
+    /// Parses the remaining input as a date, or as a date and a time, such as `2024-03-02T08:48:00Z[Europe/Paris]`.
     ///
-    /// A date is `2020-11-08` or `20201108`, where the year is four digits or a sign and six digits. `T`, `t` or a space
-    /// and a time may follow: `12`, `12:30`, `1230`, `12:30:45` or `123045`. The last two may have a fraction, as `.25` or
-    /// `,25`. `Z`, `z` or an offset may follow a time, as in [`TimeZoneParser::parse_offset`]. Then `[`, an optional `!`, a
-    /// zone as in [`TimeZoneParser::parse_identifier`], and `]` may follow; and then any number of annotations, each of
-    /// them `[`, an optional `!`, a key, `=`, a value and `]`. A key begins with a lowercase ASCII letter or `_`, and goes
-    /// on with these, digits and `-`. A value is runs of ASCII letters and digits, with a single `-` between two runs.
+    /// A text consists of these parts, in this order. Only the date is required.
     ///
-    /// The record has `date`, and `time`, `offset` and `tz` where the text has them. `calendar` is the value of the first
-    /// annotation with the key `u-ca`, and `None` without one. Other annotations are ignored, except that a critical one,
-    /// which has the `!`, is an error. So is a calendar that differs from the first one, where at least one of the two is
-    /// critical. [`parse_with_annotation_handler`](Self::parse_with_annotation_handler) lets the caller decide.
+    /// 1. A date: `2020-11-08` or `20201108`. The year has four digits, or a sign and six digits.
+    /// 2. `T`, `t` or a space, and a time: `12`, `12:30`, `1230`, `12:30:45` or `123045`. The last two can have a
+    ///    fraction, such as `.25` or `,25`.
+    /// 3. After a time, `Z`, `z` or an offset, as in [`TimeZoneParser::parse_offset`].
+    /// 4. A time zone in brackets: `[`, an optional `!`, a zone as in [`TimeZoneParser::parse_identifier`], and `]`.
+    /// 5. Any number of annotations: `[`, an optional `!`, a key, `=`, a value and `]`. A key begins with a lowercase
+    ///    ASCII letter or `_`, and continues with these, digits and `-`. A value consists of groups of ASCII letters
+    ///    and digits, with a single `-` between two groups.
+    ///
+    /// The forms of dates and times come from RFC 3339, section 5.6, and from ISO 8601. The brackets come from RFC
+    /// 9557, section 4.1 (`suffix`).
+    ///
+    /// The record has the fields `date`, `time`, `offset` and `tz` for the parts that the text has. `calendar` is the
+    /// value of the first annotation with the key `u-ca`. All other annotations are ignored, unless they are critical:
+    /// a critical annotation has the `!`. To decide about annotations yourself, call
+    /// [`parse_with_annotation_handler`](Self::parse_with_annotation_handler).
+    ///
+    /// If the call succeeds, no input remains, and a second call returns the error of the empty text. If it fails, the
+    /// input is unchanged, and a second call returns the same error.
+    ///
+    /// # Examples
     ///
     /// ```rust
     /// use ixdtf::ParseError;
@@ -63,45 +73,52 @@ impl<'a, T: EncodingType> IxdtfParser<'a, T> {
     /// # Ok::<(), ParseError>(())
     /// ```
     ///
-    /// After `Ok` the remaining input is empty, so a later call returns the error of the empty text. After an error it is
-    /// unchanged, so a second call returns the same.
-    ///
     /// # Errors
     ///
-    /// The first part that is wrong decides. A month, day, hour, minute or second out of its range is an error before the
-    /// next code unit is read.
+    /// The first part that is wrong decides. A month, day, hour, minute or second out of its range is an error before
+    /// the next code unit is read. To get the position of the error, call [`parse_located`](Self::parse_located).
     ///
-    /// - `AbruptEnd` where the input ends after a year (at `Date`), where a digit has to follow (at `digit`), and after the
-    ///   `[` or `[!` of a first bracket, or in a first bracket that begins with a lowercase letter or `_` and has no `=` and
-    ///   no `]` (at `AmbiguousAnnotation`);
-    /// - `DateYear`, `DateExtendedYear`, `DateMonth`, `DateDay`, `TimeHour`, `TimeMinuteSecond` and `TimeSecond` where
-    ///   another character stands in the place of a digit of the year, the year with a sign, the month, the day, the hour,
-    ///   the minute and the second; an offset's second is `TimeMinuteSecond`;
-    /// - `InvalidMonthRange`, `InvalidDayRange`, `TimeHour`, `TimeMinuteSecond` and `TimeSecond` where the month, the day,
-    ///   the hour, the minute and the second are out of their range, and `DateExtendedYear` for the year `-000000`;
-    /// - `DateSeparator`, `TimeSeparator` and `UtcTimeSeparator` where a date has one of two hyphens, or a time or an offset
-    ///   one of two colons;
-    /// - `InvalidMinutePrecisionOffset` at a colon or a digit after the minute of an offset in brackets;
-    /// - `FractionPart` where no digit follows a decimal mark;
-    /// - in a first bracket, `TzLeadingChar` at a character that neither a zone nor a key begins with, `IanaChar` at
-    ///   another character in a name, and `IanaCharPostSeparator` where no character of a name follows a `/`;
-    /// - `AnnotationKeyLeadingChar` in a bracket after others where no key begins, `AnnotationKeyChar` at another character
-    ///   in a key, and `AnnotationKeyValueSeparator` where the input ends in a key;
-    /// - `AnnotationValueChar` where no value begins, or at another character in it, and `AnnotationValueCharPostHyphen`
-    ///   where no ASCII letter or digit follows a `-`;
-    /// - `AnnotationClose` where the input ends after the name or the value in a bracket, or where no `]` follows the
-    ///   offset in it;
-    /// - `UnrecognizedCritical` for an annotation that is critical and has another key than `u-ca`, and
-    ///   `CriticalDuplicateCalendar` for one with the key `u-ca` and another value than the first such one, where at least
-    ///   one of the two is critical; what follows this annotation is not read;
-    /// - `InvalidEnd` at any other character after a date, a time, an offset or a bracket;
-    /// - `NonAsciiCodePoint` at a 16-bit code unit that is not from 1 to 126.
+    /// - `AbruptEnd`: the text ends too early. The location is `Date` if it ends after the year, and `digit` if it ends
+    ///   where a digit is required. It is `AmbiguousAnnotation` if the text ends after the `[` or `[!` of the first
+    ///   bracket, or in a first bracket that begins with a lowercase letter or `_` and contains neither `=` nor `]`.
+    /// - `DateYear`: another character occurs instead of a digit of the year.
+    /// - `DateExtendedYear`: another character occurs instead of a digit of a year with a sign, or the year is
+    ///   `-000000`.
+    /// - `DateMonth`, `DateDay`: another character occurs instead of a digit of the month, or of the day.
+    /// - `InvalidMonthRange`: the month is not 01 to 12.
+    /// - `InvalidDayRange`: the month does not have this day in this year.
+    /// - `DateSeparator`: the date has only one of its two hyphens.
+    /// - `TimeHour`: another character occurs instead of a digit of the hour, or the hour is greater than 23.
+    /// - `TimeMinuteSecond`: another character occurs instead of a digit of the minute, or the minute is greater than
+    ///   59. The second of an offset has this error too.
+    /// - `TimeSecond`: another character occurs instead of a digit of the second of the time, or this second is greater
+    ///   than 60.
+    /// - `TimeSeparator`, `UtcTimeSeparator`: a time, or an offset, has only one of its two colons.
+    /// - `FractionPart`: no digit follows the `.` or `,`. This is also the error if the text ends there.
+    /// - `InvalidMinutePrecisionOffset`: a colon or a digit follows the minute of an offset in brackets.
+    /// - `TzLeadingChar`: the first bracket begins with a character that can begin neither a zone nor a key.
+    /// - `IanaChar`: the name of a zone contains a character that a name cannot contain.
+    /// - `IanaCharPostSeparator`: in the name of a zone, a `/` is not followed by a character of a name.
+    /// - `AnnotationKeyLeadingChar`: in a bracket that is not the first one, no key begins.
+    /// - `AnnotationKeyChar`: a key contains a character that a key cannot contain.
+    /// - `AnnotationKeyValueSeparator`: the text ends in a key.
+    /// - `AnnotationValueChar`: no value begins after the `=`, or a value contains a character that a value cannot
+    ///   contain.
+    /// - `AnnotationValueCharPostHyphen`: in a value, a `-` is not followed by an ASCII letter or digit.
+    /// - `AnnotationClose`: the text ends after the name or the value in a bracket, or no `]` follows the offset in a
+    ///   bracket.
+    /// - `UnrecognizedCritical`: an annotation is critical, and its key is not `u-ca`. What follows this annotation is
+    ///   not read.
+    /// - `CriticalDuplicateCalendar`: an annotation with the key `u-ca` has a value that differs from that of the first
+    ///   such annotation, and at least one of the two is critical. What follows this annotation is not read.
+    /// - `InvalidEnd`: any other character follows a date, a time, an offset or a bracket.
+    /// - `NonAsciiCodePoint`: 16-bit text has a code unit outside 1 to 126. 8-bit text never has this error.
     #[inline(always)]
     pub fn parse(&mut self) -> ParserResult<IxdtfParseRecord<'a, T>>
         ensures reads { ReadsText T.letter fault_of (parsed_of T.number) reader_parse self.old result self.new }
     {
-        // A refusal returns in an arm of its own. Where both arms met, a caller that takes the record apart would read all
-        // its fields before it knows that there is none (docs/PERF.md).
+        // The error returns in an arm of its own. If both arms ended in one value, a caller that takes the record apart
+        // would read all its fields before it knows whether there is a record (docs/PERF.md).
         let mut found = IxdtfParseRecord::default();
         match self.read_unhandled::<DateTimes>(&mut found) {
             Ok(()) => Ok(found),
@@ -109,11 +126,18 @@ impl<'a, T: EncodingType> IxdtfParser<'a, T> {
         }
     }
 
-    /// Reads the remaining input as a year and a month (ISO 8601; `DateSpecYearMonth` of the Temporal grammar), and then,
-    /// in brackets, what [`parse`](Self::parse) reads there.
+    /// Parses the remaining input as a year and a month, such as `2020-11[u-ca=hebrew]`.
     ///
-    /// A year and a month are `2020-11` or `202011`, where the year is as in [`parse`](Self::parse). The record has `date`,
-    /// whose day is 1, and `tz` and `calendar` as that of [`parse`](Self::parse).
+    /// A year and a month are `2020-11` or `202011` (ISO 8601; `DateSpecYearMonth` of the Temporal grammar). The year
+    /// has the forms that it has in [`parse`](Self::parse), and the same brackets can follow.
+    ///
+    /// The record has the field `date`, with the day 1. The fields `tz` and `calendar` are as in
+    /// [`parse`](Self::parse).
+    ///
+    /// If the call succeeds, no input remains, and a second call returns the error of the empty text. If it fails, the
+    /// input is unchanged, and a second call returns the same error.
+    ///
+    /// # Examples
     ///
     /// ```rust
     /// use ixdtf::ParseError;
@@ -133,19 +157,20 @@ impl<'a, T: EncodingType> IxdtfParser<'a, T> {
     /// # Ok::<(), ParseError>(())
     /// ```
     ///
-    /// After `Ok` the remaining input is empty, so a later call returns the error of the empty text. After an error it is
-    /// unchanged, so a second call returns the same.
-    ///
     /// # Errors
     ///
-    /// The first part that is wrong decides. Brackets have the errors that they have in [`parse`](Self::parse). Before them:
+    /// The first part that is wrong decides. To get the position of the error, call
+    /// [`parse_year_month_located`](Self::parse_year_month_located). Brackets have the errors that they have in
+    /// [`parse`](Self::parse). These are the errors before the brackets:
     ///
-    /// - `AbruptEnd` where a digit has to follow, and where the input ends after a year (at `digit`);
-    /// - `DateYear`, `DateExtendedYear` and `DateMonth` where another character stands in the place of a digit of the year,
-    ///   the year with a sign and the month;
-    /// - `InvalidMonthRange` where the month is not from 1 to 12, and `DateExtendedYear` for the year `-000000`;
-    /// - `InvalidEnd` at any other character after the month;
-    /// - `NonAsciiCodePoint` at a 16-bit code unit that is not from 1 to 126.
+    /// - `AbruptEnd`: the text ends after the year, or where a digit is required (location `digit`).
+    /// - `DateYear`: another character occurs instead of a digit of the year.
+    /// - `DateExtendedYear`: another character occurs instead of a digit of a year with a sign, or the year is
+    ///   `-000000`.
+    /// - `DateMonth`: another character occurs instead of a digit of the month.
+    /// - `InvalidMonthRange`: the month is not 01 to 12.
+    /// - `InvalidEnd`: any other character follows the month.
+    /// - `NonAsciiCodePoint`: 16-bit text has a code unit outside 1 to 126. 8-bit text never has this error.
     #[inline(always)]
     pub fn parse_year_month(&mut self) -> ParserResult<IxdtfParseRecord<'a, T>>
         ensures reads { ReadsText T.letter fault_of (parsed_of T.number) reader_parse_year_month self.old result self.new }
@@ -158,12 +183,19 @@ impl<'a, T: EncodingType> IxdtfParser<'a, T> {
         }
     }
 
-    /// Reads the remaining input as a month and a day (ISO 8601; `DateSpecMonthDay` of the Temporal grammar), and then, in
-    /// brackets, what [`parse`](Self::parse) reads there.
+    /// Parses the remaining input as a month and a day, such as `11-07`.
     ///
-    /// A month and a day are `11-07`, `1107`, `--11-07` or `--1107`. The day is from 0 to the greatest that the month has in
-    /// any year, which is 29 for February; under [`Profile::Strict`] it is at least 1. The record has `date`, whose year is 0,
-    /// and `tz` and `calendar` as that of [`parse`](Self::parse).
+    /// A month and a day are `11-07`, `1107`, `--11-07` or `--1107` (ISO 8601; `DateSpecMonthDay` of the Temporal
+    /// grammar). The least day is 0, or 1 under [`Profile::Strict`]. The greatest day is the greatest one that the
+    /// month has in any year: for February, it is 29. The same brackets as in [`parse`](Self::parse) can follow.
+    ///
+    /// The record has the field `date`, with the year 0. The fields `tz` and `calendar` are as in
+    /// [`parse`](Self::parse).
+    ///
+    /// If the call succeeds, no input remains, and a second call returns the error of the empty text. If it fails, the
+    /// input is unchanged, and a second call returns the same error.
+    ///
+    /// # Examples
     ///
     /// ```rust
     /// use ixdtf::ParseError;
@@ -185,20 +217,20 @@ impl<'a, T: EncodingType> IxdtfParser<'a, T> {
     /// # Ok::<(), ParseError>(())
     /// ```
     ///
-    /// After `Ok` the remaining input is empty, so a later call returns the error of the empty text. After an error it is
-    /// unchanged, so a second call returns the same.
-    ///
     /// # Errors
     ///
-    /// The first part that is wrong decides. Brackets have the errors that they have in [`parse`](Self::parse). Before them:
+    /// The first part that is wrong decides. To get the position of the error, call
+    /// [`parse_month_day_located`](Self::parse_month_day_located). Brackets have the errors that they have in
+    /// [`parse`](Self::parse). These are the errors before the brackets:
     ///
-    /// - `AbruptEnd` for the empty text and for one hyphen (at `MonthDay`), and where a digit has to follow (at `digit`);
-    /// - `MonthDayHyphen` where another character than a second hyphen follows the first;
-    /// - `DateMonth` and `DateDay` where another character stands in the place of a digit of the month and the day;
-    /// - `InvalidMonthRange` where the month is not from 1 to 12;
-    /// - `InvalidMonthDay` where the month has the day in no year, and for day 0 under [`Profile::Strict`];
-    /// - `InvalidEnd` at any other character after the day;
-    /// - `NonAsciiCodePoint` at a 16-bit code unit that is not from 1 to 126.
+    /// - `AbruptEnd`: the text is empty or is one hyphen (location `MonthDay`), or it ends where a digit is required
+    ///   (location `digit`).
+    /// - `MonthDayHyphen`: the text begins with a hyphen, and another character than a hyphen follows it.
+    /// - `DateMonth`, `DateDay`: another character occurs instead of a digit of the month, or of the day.
+    /// - `InvalidMonthRange`: the month is not 01 to 12.
+    /// - `InvalidMonthDay`: the month has this day in no year, or the day is 00 under [`Profile::Strict`].
+    /// - `InvalidEnd`: any other character follows the day.
+    /// - `NonAsciiCodePoint`: 16-bit text has a code unit outside 1 to 126. 8-bit text never has this error.
     #[inline(always)]
     pub fn parse_month_day(&mut self) -> ParserResult<IxdtfParseRecord<'a, T>>
         ensures reads { ReadsText T.letter fault_of (parsed_of T.number) (reader_parse_month_day self.old.profile) self.old result self.new }
@@ -211,14 +243,22 @@ impl<'a, T: EncodingType> IxdtfParser<'a, T> {
         }
     }
 
-    /// Reads the remaining input as a time (RFC 3339, section 5.6, and ISO 8601's forms of it), and then, in brackets, what
-    /// [`parse`](Self::parse) reads there.
+    /// Parses the remaining input as a time, such as `12:30:45.25` or `T1200`.
     ///
-    /// `T` or `t` may stand before the time. The time is as in [`parse`](Self::parse), and so is what may stand after it, `Z`,
-    /// `z` or an offset. A text that begins as [`parse_month_day`](Self::parse_month_day) or
-    /// [`parse_year_month`](Self::parse_year_month) reads, as `1214Z` does, is refused unless it begins with `T` or `t`; what a
-    /// month and a day are depends on the profile. The record has `time`, `offset` where it stands, and `tz` and `calendar` as
-    /// that of [`parse`](Self::parse).
+    /// A time has the forms that it has in [`parse`](Self::parse), with or without a `T` or `t` before it. `Z`, `z` or
+    /// an offset can follow, and then the same brackets as in [`parse`](Self::parse).
+    ///
+    /// A text without `T` or `t` must not begin with a text that [`parse_month_day`](Self::parse_month_day) or
+    /// [`parse_year_month`](Self::parse_year_month) accepts. For example, `1214Z` is refused, because `1214` is also
+    /// month 12, day 14. The profile decides which texts are a month and a day.
+    ///
+    /// The record has the fields `time` and, if the text has an offset, `offset`. The fields `tz` and `calendar` are as
+    /// in [`parse`](Self::parse).
+    ///
+    /// If the call succeeds, no input remains, and a second call returns the error of the empty text. If it fails, the
+    /// input is unchanged, and a second call returns the same error.
+    ///
+    /// # Examples
     ///
     /// ```rust
     /// use ixdtf::ParseError;
@@ -229,11 +269,11 @@ impl<'a, T: EncodingType> IxdtfParser<'a, T> {
     /// assert_eq!(time.fraction.unwrap().digit_count(), 2);
     /// let time = IxdtfParser::from_str("T1200").parse_time()?.time.unwrap();
     /// assert_eq!((time.hour, time.minute, time.second), (12, 0, 0));
-    /// // 20:21, and 13 hours behind UTC: there is no month 13
+    /// // 20:21, 13 hours behind UTC: there is no month 13
     /// let record = IxdtfParser::from_str("2021-13").parse_time()?;
     /// assert_eq!(record.time.unwrap().minute, 21);
     /// assert_eq!(record.offset.unwrap().resolve_rfc_9557().hour(), 13);
-    /// // under the strict profile 1200 is no month and day
+    /// // under the strict profile, 1200 is not a month and a day
     /// assert!(IxdtfParser::from_str("1200").with_profile(Profile::Strict).parse_time().is_ok());
     /// for (text, error) in [
     ///     ("1200", ParseError::AmbiguousTimeMonthDay),
@@ -248,22 +288,22 @@ impl<'a, T: EncodingType> IxdtfParser<'a, T> {
     /// # Ok::<(), ParseError>(())
     /// ```
     ///
-    /// After `Ok` the remaining input is empty, so a later call returns the error of the empty text. After an error it is
-    /// unchanged, so a second call returns the same.
-    ///
     /// # Errors
     ///
-    /// The first part that is wrong decides. Brackets, a time and an offset have the errors that they have in
-    /// [`parse`](Self::parse), also where the time is the start of the text. Beside them:
+    /// The first part that is wrong decides. To get the position of the error, call
+    /// [`parse_time_located`](Self::parse_time_located). Times, offsets and brackets have the errors that they have in
+    /// [`parse`](Self::parse), also at the beginning of the text. Two more errors occur only if the text does not begin
+    /// with `T` or `t`, and is a time with its offset up to its end or up to a `[`. Nothing in a bracket is read before
+    /// them:
     ///
-    /// - `AmbiguousTimeMonthDay` where a text that does not begin with `T` or `t` begins as a month and a day do, and
-    ///   `AmbiguousTimeYearMonth` where it begins as a year and a month do, and not as a month and a day; both only where
-    ///   the input ends after the time and its offset, or `[` follows, and before anything in a bracket is looked at.
+    /// - `AmbiguousTimeMonthDay`: the text begins like a month and a day.
+    /// - `AmbiguousTimeYearMonth`: the text begins like a year and a month, and not like a month and a day.
     #[inline(always)]
     pub fn parse_time(&mut self) -> ParserResult<IxdtfParseRecord<'a, T>>
         ensures reads { ReadsText T.letter fault_of (parsed_of T.number) (reader_parse_time self.old.profile) self.old result self.new }
     {
-        // The record is made in the result, which is moved once less than a record is that is handed on.
+        // Build the record inside `outcome`. A record that is built on its own and then put into `Ok` is copied once
+        // more.
         let mut outcome = Ok(IxdtfParseRecord::default());
         if let Ok(found) = &mut outcome {
             if let Err(why) = self.read_unhandled::<Times>(found) {
@@ -273,11 +313,14 @@ impl<'a, T: EncodingType> IxdtfParser<'a, T> {
         outcome
     }
 
-    /// Reads as [`parse`](Self::parse) does, and returns an error with its place: the number of code units before it in the
-    /// remaining input.
+    /// Parses the remaining input as a date, or as a date and a time, like [`parse`](Self::parse). An error has its
+    /// position.
     ///
-    /// The place is that of the code unit that does not fit, or the end of the input where more has to follow. The place of
-    /// a number out of its range is after the number. The place of a refused annotation is after its bracket.
+    /// The position is the number of code units before the error. It is the index of the code unit that does not fit,
+    /// or the end of the input if the input ends too early. For a number out of its range, the position is after the
+    /// number. For a refused annotation, it is after its bracket.
+    ///
+    /// # Examples
     ///
     /// ```rust
     /// use ixdtf::ParseError;
@@ -285,7 +328,7 @@ impl<'a, T: EncodingType> IxdtfParser<'a, T> {
     ///
     /// for (text, error, at) in [
     ///     ("2021-02-29", ParseError::InvalidDayRange, 10), // after the day
-    ///     ("2024-03-02T08:4800", ParseError::TimeSeparator, 16), // where the next digit stands
+    ///     ("2024-03-02T08:4800", ParseError::TimeSeparator, 16), // at the next digit
     ///     ("2024-03-02[!a=b][c=d]", ParseError::UnrecognizedCritical, 16), // after the bracket
     ///     ("2024-03-02T08:", ParseError::AbruptEnd { location: "digit" }, 14), // the end
     /// ] {
@@ -296,7 +339,7 @@ impl<'a, T: EncodingType> IxdtfParser<'a, T> {
     ///
     /// # Errors
     ///
-    /// Those of [`parse`](Self::parse), each with its place.
+    /// The errors of [`parse`](Self::parse), each with its position.
     #[inline(always)]
     pub fn parse_located(&mut self) -> Result<IxdtfParseRecord<'a, T>, LocatedError>
         ensures reads { ReadsTextAt T.letter (parsed_of T.number) reader_parse self.old result self.new }
@@ -311,11 +354,14 @@ impl<'a, T: EncodingType> IxdtfParser<'a, T> {
         }
     }
 
-    /// Reads as [`parse_year_month`](Self::parse_year_month) does, and returns an error with its place: the number of code
-    /// units before it in the remaining input.
+    /// Parses the remaining input as a year and a month, like [`parse_year_month`](Self::parse_year_month). An error
+    /// has its position.
     ///
-    /// The place is that of the code unit that does not fit, or the end of the input where more has to follow. The place of
-    /// a number out of its range is after the number. The place of a refused annotation is after its bracket.
+    /// The position is the number of code units before the error. It is the index of the code unit that does not fit,
+    /// or the end of the input if the input ends too early. For a number out of its range, the position is after the
+    /// number. For a refused annotation, it is after its bracket.
+    ///
+    /// # Examples
     ///
     /// ```rust
     /// use ixdtf::ParseError;
@@ -323,7 +369,7 @@ impl<'a, T: EncodingType> IxdtfParser<'a, T> {
     ///
     /// for (text, error, at) in [
     ///     ("2020-13", ParseError::InvalidMonthRange, 7), // after the month
-    ///     ("2020-11-08", ParseError::InvalidEnd, 7), // where the second hyphen stands
+    ///     ("2020-11-08", ParseError::InvalidEnd, 7), // at the second hyphen
     /// ] {
     ///     let located = IxdtfParser::from_str(text).parse_year_month_located().unwrap_err();
     ///     assert_eq!((located.error, located.at), (error, at));
@@ -332,7 +378,7 @@ impl<'a, T: EncodingType> IxdtfParser<'a, T> {
     ///
     /// # Errors
     ///
-    /// Those of [`parse_year_month`](Self::parse_year_month), each with its place.
+    /// The errors of [`parse_year_month`](Self::parse_year_month), each with its position.
     #[inline(always)]
     pub fn parse_year_month_located(&mut self) -> Result<IxdtfParseRecord<'a, T>, LocatedError>
         ensures reads { ReadsTextAt T.letter (parsed_of T.number) reader_parse_year_month self.old result self.new }
@@ -347,11 +393,14 @@ impl<'a, T: EncodingType> IxdtfParser<'a, T> {
         }
     }
 
-    /// Reads as [`parse_month_day`](Self::parse_month_day) does, and returns an error with its place: the number of code
-    /// units before it in the remaining input.
+    /// Parses the remaining input as a month and a day, like [`parse_month_day`](Self::parse_month_day). An error has
+    /// its position.
     ///
-    /// The place is that of the code unit that does not fit, or the end of the input where more has to follow. The place of
-    /// a number out of its range is after the number. The place of a refused annotation is after its bracket.
+    /// The position is the number of code units before the error. It is the index of the code unit that does not fit,
+    /// or the end of the input if the input ends too early. For a number out of its range, the position is after the
+    /// number. For a refused annotation, it is after its bracket.
+    ///
+    /// # Examples
     ///
     /// ```rust
     /// use ixdtf::ParseError;
@@ -368,7 +417,7 @@ impl<'a, T: EncodingType> IxdtfParser<'a, T> {
     ///
     /// # Errors
     ///
-    /// Those of [`parse_month_day`](Self::parse_month_day), each with its place.
+    /// The errors of [`parse_month_day`](Self::parse_month_day), each with its position.
     #[inline(always)]
     pub fn parse_month_day_located(&mut self) -> Result<IxdtfParseRecord<'a, T>, LocatedError>
         ensures reads { ReadsTextAt T.letter (parsed_of T.number) (reader_parse_month_day self.old.profile) self.old result self.new }
@@ -383,11 +432,13 @@ impl<'a, T: EncodingType> IxdtfParser<'a, T> {
         }
     }
 
-    /// Reads as [`parse_time`](Self::parse_time) does, and returns an error with its place: the number of code units before
-    /// it in the remaining input.
+    /// Parses the remaining input as a time, like [`parse_time`](Self::parse_time). An error has its position.
     ///
-    /// The place is that of the code unit that does not fit, or the end of the input where more has to follow. The place of
-    /// a number out of its range is after the number. The place of a refused annotation is after its bracket.
+    /// The position is the number of code units before the error. It is the index of the code unit that does not fit,
+    /// or the end of the input if the input ends too early. For a number out of its range, the position is after the
+    /// number. For a refused annotation, it is after its bracket.
+    ///
+    /// # Examples
     ///
     /// ```rust
     /// use ixdtf::ParseError;
@@ -404,7 +455,7 @@ impl<'a, T: EncodingType> IxdtfParser<'a, T> {
     ///
     /// # Errors
     ///
-    /// Those of [`parse_time`](Self::parse_time), each with its place.
+    /// The errors of [`parse_time`](Self::parse_time), each with its position.
     #[inline(always)]
     pub fn parse_time_located(&mut self) -> Result<IxdtfParseRecord<'a, T>, LocatedError>
         ensures reads { ReadsTextAt T.letter (parsed_of T.number) (reader_parse_time self.old.profile) self.old result self.new }
@@ -419,7 +470,7 @@ impl<'a, T: EncodingType> IxdtfParser<'a, T> {
         }
     }
 
-    /// Reads as [`read_into`](Self::read_into) does, with a handler that returns each annotation.
+    /// Calls [`read_into`](Self::read_into) with a handler that returns each annotation.
     #[inline(always)]
     fn read_unhandled<C: CoreReader>(
         &mut self,
@@ -432,8 +483,10 @@ impl<'a, T: EncodingType> IxdtfParser<'a, T> {
     }
 }
 
-/// Whether the record has no date. It stays as it is. A year and a month have one, and so have a month and a day: where their
-/// readers return once for each answer, a compiler knows of the record that it has a date, and so that it is no error.
+/// Returns whether the record has no date. Does not change the record.
+///
+/// A year and a month have a date, and so have a month and a day. Their readers return separately for each answer. So
+/// the compiler knows that the returned record has a date, and therefore that the result is not an error.
 #[inline(always)]
 fn lacks_date<'a, T: EncodingType>(found: &mut IxdtfParseRecord<'a, T>) -> bool
     ensures none { is_some found.old.date ≡ not result }

@@ -1,6 +1,6 @@
 // Made by tools/to_rust.py of crates/ixdtf/src/parsers/handled.rt. Do not edit.
 
-//! The forms of [`IxdtfParser`] with a handler.
+//! The readers of [`IxdtfParser`] with a handler.
 
 use crate::parsers::replies::keep_first_calendar;
 use crate::parsers::{CoreReader, DateTimes, FromStop, IxdtfParser, MonthDays, Times, YearMonths};
@@ -10,19 +10,32 @@ use crate::records::{Annotation, IxdtfParseRecord};
 use crate::stop::{Stop, error_of_stop};
 
 impl<'a, T: EncodingType> IxdtfParser<'a, T> {
-    /// Reads as [`parse`](Self::parse) does, and calls the handler on each annotation of a key and a value.
+    /// Parses the remaining input like [`parse`](Self::parse), and lets a handler decide about each annotation.
     ///
-    /// The handler is called once on each annotation whose bracket was read whole, in order, up to the first refused reply
-    /// or the first error of the text. What it returns, its reply, replaces the annotation, and may be another annotation;
-    /// `None` drops it. The record's `calendar` is the value of the first reply whose key is `u-ca`, a slice of that reply,
-    /// which need not be of the source. With `|annotation| Some(annotation)` it returns what [`parse`](Self::parse)
-    /// returns.
+    /// The handler is called with each annotation, in order, up to the first error. It is called when the bracket of
+    /// the annotation has been read completely. What the handler returns, its *reply*, takes the place of the
+    /// annotation:
+    ///
+    /// - `Some` with the same annotation keeps it.
+    /// - `Some` with another annotation replaces it.
+    /// - `None` drops it, even if it is critical.
+    ///
+    /// The reader then tests the reply: see the errors below. With `|annotation| Some(annotation)` as the handler, the
+    /// result is that of [`parse`](Self::parse).
+    ///
+    /// `calendar` is the value of the first reply with the key `u-ca`. It is a slice of this reply, which need not be a
+    /// slice of the source.
+    ///
+    /// If the call succeeds, no input remains, and a second call returns the error of the empty text. If it fails, the
+    /// input is unchanged. Calls of the handler are not undone.
+    ///
+    /// # Examples
     ///
     /// ```rust
     /// use ixdtf::ParseError;
     /// use ixdtf::parsers::IxdtfParser;
     ///
-    /// // each annotation stands: the second one is critical, and is refused
+    /// // The handler keeps each annotation. The second one is critical, so it is refused.
     /// let mut calls = 0;
     /// let read = IxdtfParser::from_str("2020-01-01[a=b][!c=d][e=f]").parse_with_annotation_handler(|annotation| {
     ///     calls += 1;
@@ -30,7 +43,7 @@ impl<'a, T: EncodingType> IxdtfParser<'a, T> {
     /// });
     /// assert_eq!((read, calls), (Err(ParseError::UnrecognizedCritical), 2));
     ///
-    /// // no annotation stands
+    /// // The handler drops each annotation.
     /// let mut keys = Vec::new();
     /// let read = IxdtfParser::from_str("2020-01-01[a=b][!c=d][e=f]").parse_with_annotation_handler(|annotation| {
     ///     keys.push(annotation.key);
@@ -39,7 +52,7 @@ impl<'a, T: EncodingType> IxdtfParser<'a, T> {
     /// assert!(read.is_ok());
     /// assert_eq!(keys, [b"a", b"c", b"e"]);
     ///
-    /// // what comes after the annotations is read after them
+    /// // The error after the annotations comes after the calls of the handler.
     /// let mut calls = 0;
     /// let read = IxdtfParser::from_str("2020-01-01[a=b][c=d]junk").parse_with_annotation_handler(|_| {
     ///     calls += 1;
@@ -48,7 +61,7 @@ impl<'a, T: EncodingType> IxdtfParser<'a, T> {
     /// assert_eq!((read, calls), (Err(ParseError::InvalidEnd), 2));
     /// ```
     ///
-    /// A function that takes a handler has the bound of this one:
+    /// A function that passes a handler on needs the bound of this function:
     ///
     /// ```rust
     /// use ixdtf::ParserResult;
@@ -67,13 +80,11 @@ impl<'a, T: EncodingType> IxdtfParser<'a, T> {
     /// assert_eq!(calendar_of("2024-03-02[u-ca=hebrew]", |_| None), Ok(None));
     /// ```
     ///
-    /// After `Ok` the remaining input is empty, so a later call returns the error of the empty text. After an error it is
-    /// unchanged. Calls of the handler are not undone.
-    ///
     /// # Errors
     ///
-    /// Those of [`parse`](Self::parse), where only replies have `CriticalDuplicateCalendar` and `UnrecognizedCritical`. The
-    /// first refused reply ends the call, and what follows its bracket is not read.
+    /// The errors of [`parse`](Self::parse). `CriticalDuplicateCalendar` and `UnrecognizedCritical` are about the
+    /// annotations that the handler returns, and not about those in the text. After the first of these two errors, the
+    /// rest of the text is not read.
     pub fn parse_with_annotation_handler<F>(
         &mut self,
         handler: F,
@@ -84,13 +95,12 @@ impl<'a, T: EncodingType> IxdtfParser<'a, T> {
         self.read_as::<ParseError, DateTimes, F>(handler)
     }
 
-    /// Reads as [`parse_year_month`](Self::parse_year_month) does, and calls the handler as
-    /// [`parse_with_annotation_handler`](Self::parse_with_annotation_handler) does.
+    /// Parses the remaining input as a year and a month, like [`parse_year_month`](Self::parse_year_month), and lets a
+    /// handler decide about each annotation.
     ///
-    /// # Errors
+    /// [`parse_with_annotation_handler`](Self::parse_with_annotation_handler) describes the handler.
     ///
-    /// Those of [`parse_year_month`](Self::parse_year_month), where only replies have `CriticalDuplicateCalendar` and
-    /// `UnrecognizedCritical`.
+    /// # Examples
     ///
     /// ```rust
     /// use ixdtf::parsers::IxdtfParser;
@@ -100,6 +110,11 @@ impl<'a, T: EncodingType> IxdtfParser<'a, T> {
     /// });
     /// assert_eq!(record.unwrap().calendar, Some(b"hebrew".as_slice()));
     /// ```
+    ///
+    /// # Errors
+    ///
+    /// The errors of [`parse_year_month`](Self::parse_year_month). `CriticalDuplicateCalendar` and
+    /// `UnrecognizedCritical` are about the annotations that the handler returns.
     pub fn parse_year_month_with_annotation_handler<F>(
         &mut self,
         handler: F,
@@ -110,13 +125,12 @@ impl<'a, T: EncodingType> IxdtfParser<'a, T> {
         self.read_as::<ParseError, YearMonths, F>(handler)
     }
 
-    /// Reads as [`parse_month_day`](Self::parse_month_day) does, and calls the handler as
-    /// [`parse_with_annotation_handler`](Self::parse_with_annotation_handler) does.
+    /// Parses the remaining input as a month and a day, like [`parse_month_day`](Self::parse_month_day), and lets a
+    /// handler decide about each annotation.
     ///
-    /// # Errors
+    /// [`parse_with_annotation_handler`](Self::parse_with_annotation_handler) describes the handler.
     ///
-    /// Those of [`parse_month_day`](Self::parse_month_day), where only replies have `CriticalDuplicateCalendar` and
-    /// `UnrecognizedCritical`.
+    /// # Examples
     ///
     /// ```rust
     /// use ixdtf::parsers::IxdtfParser;
@@ -126,6 +140,11 @@ impl<'a, T: EncodingType> IxdtfParser<'a, T> {
     /// });
     /// assert_eq!(record.unwrap().calendar, Some(b"hebrew".as_slice()));
     /// ```
+    ///
+    /// # Errors
+    ///
+    /// The errors of [`parse_month_day`](Self::parse_month_day). `CriticalDuplicateCalendar` and `UnrecognizedCritical`
+    /// are about the annotations that the handler returns.
     pub fn parse_month_day_with_annotation_handler<F>(
         &mut self,
         handler: F,
@@ -136,13 +155,12 @@ impl<'a, T: EncodingType> IxdtfParser<'a, T> {
         self.read_as::<ParseError, MonthDays, F>(handler)
     }
 
-    /// Reads as [`parse_time`](Self::parse_time) does, and calls the handler as
-    /// [`parse_with_annotation_handler`](Self::parse_with_annotation_handler) does.
+    /// Parses the remaining input as a time, like [`parse_time`](Self::parse_time), and lets a handler decide about
+    /// each annotation.
     ///
-    /// # Errors
+    /// [`parse_with_annotation_handler`](Self::parse_with_annotation_handler) describes the handler.
     ///
-    /// Those of [`parse_time`](Self::parse_time), where only replies have `CriticalDuplicateCalendar` and
-    /// `UnrecognizedCritical`.
+    /// # Examples
     ///
     /// ```rust
     /// use ixdtf::parsers::IxdtfParser;
@@ -152,6 +170,11 @@ impl<'a, T: EncodingType> IxdtfParser<'a, T> {
     /// });
     /// assert_eq!(record.unwrap().calendar, Some(b"hebrew".as_slice()));
     /// ```
+    ///
+    /// # Errors
+    ///
+    /// The errors of [`parse_time`](Self::parse_time). `CriticalDuplicateCalendar` and `UnrecognizedCritical` are about
+    /// the annotations that the handler returns.
     pub fn parse_time_with_annotation_handler<F>(
         &mut self,
         handler: F,
@@ -162,13 +185,12 @@ impl<'a, T: EncodingType> IxdtfParser<'a, T> {
         self.read_as::<ParseError, Times, F>(handler)
     }
 
-    /// Reads as [`parse_with_annotation_handler`](Self::parse_with_annotation_handler) does, and returns an error with its
-    /// place, as [`parse_located`](Self::parse_located) does.
+    /// Parses the remaining input as a date, or as a date and a time, with a handler. An error has its position.
     ///
-    /// # Errors
+    /// This is [`parse_with_annotation_handler`](Self::parse_with_annotation_handler) with positions as in
+    /// [`parse_located`](Self::parse_located).
     ///
-    /// Those of [`parse_with_annotation_handler`](Self::parse_with_annotation_handler), each with its place: the place of a
-    /// refused reply is after its annotation's bracket.
+    /// # Examples
     ///
     /// ```rust
     /// use ixdtf::ParseError;
@@ -177,6 +199,11 @@ impl<'a, T: EncodingType> IxdtfParser<'a, T> {
     /// let located = IxdtfParser::from_str("2020-11-08[!a=b]").parse_with_annotation_handler_located(Some).unwrap_err();
     /// assert_eq!((located.error, located.at), (ParseError::UnrecognizedCritical, 16));
     /// ```
+    ///
+    /// # Errors
+    ///
+    /// The errors of [`parse_with_annotation_handler`](Self::parse_with_annotation_handler), each with its position. If
+    /// a reply is refused, the position is after the bracket of its annotation.
     pub fn parse_with_annotation_handler_located<F>(
         &mut self,
         handler: F,
@@ -187,13 +214,12 @@ impl<'a, T: EncodingType> IxdtfParser<'a, T> {
         self.read_as::<LocatedError, DateTimes, F>(handler)
     }
 
-    /// Reads as [`parse_year_month_with_annotation_handler`](Self::parse_year_month_with_annotation_handler) does, and
-    /// returns an error with its place, as [`parse_year_month_located`](Self::parse_year_month_located) does.
+    /// Parses the remaining input as a year and a month, with a handler. An error has its position.
     ///
-    /// # Errors
+    /// This is [`parse_year_month_with_annotation_handler`](Self::parse_year_month_with_annotation_handler) with
+    /// positions as in [`parse_year_month_located`](Self::parse_year_month_located).
     ///
-    /// Those of [`parse_year_month_with_annotation_handler`](Self::parse_year_month_with_annotation_handler), each with its
-    /// place: the place of a refused reply is after its annotation's bracket.
+    /// # Examples
     ///
     /// ```rust
     /// use ixdtf::ParseError;
@@ -202,6 +228,11 @@ impl<'a, T: EncodingType> IxdtfParser<'a, T> {
     /// let located = IxdtfParser::from_str("2020-11[!a=b]").parse_year_month_with_annotation_handler_located(Some).unwrap_err();
     /// assert_eq!((located.error, located.at), (ParseError::UnrecognizedCritical, 13));
     /// ```
+    ///
+    /// # Errors
+    ///
+    /// The errors of [`parse_year_month_with_annotation_handler`](Self::parse_year_month_with_annotation_handler), each
+    /// with its position. If a reply is refused, the position is after the bracket of its annotation.
     pub fn parse_year_month_with_annotation_handler_located<F>(
         &mut self,
         handler: F,
@@ -212,13 +243,12 @@ impl<'a, T: EncodingType> IxdtfParser<'a, T> {
         self.read_as::<LocatedError, YearMonths, F>(handler)
     }
 
-    /// Reads as [`parse_month_day_with_annotation_handler`](Self::parse_month_day_with_annotation_handler) does, and returns
-    /// an error with its place, as [`parse_month_day_located`](Self::parse_month_day_located) does.
+    /// Parses the remaining input as a month and a day, with a handler. An error has its position.
     ///
-    /// # Errors
+    /// This is [`parse_month_day_with_annotation_handler`](Self::parse_month_day_with_annotation_handler) with
+    /// positions as in [`parse_month_day_located`](Self::parse_month_day_located).
     ///
-    /// Those of [`parse_month_day_with_annotation_handler`](Self::parse_month_day_with_annotation_handler), each with its
-    /// place: the place of a refused reply is after its annotation's bracket.
+    /// # Examples
     ///
     /// ```rust
     /// use ixdtf::ParseError;
@@ -227,6 +257,11 @@ impl<'a, T: EncodingType> IxdtfParser<'a, T> {
     /// let located = IxdtfParser::from_str("11-07[!a=b]").parse_month_day_with_annotation_handler_located(Some).unwrap_err();
     /// assert_eq!((located.error, located.at), (ParseError::UnrecognizedCritical, 11));
     /// ```
+    ///
+    /// # Errors
+    ///
+    /// The errors of [`parse_month_day_with_annotation_handler`](Self::parse_month_day_with_annotation_handler), each
+    /// with its position. If a reply is refused, the position is after the bracket of its annotation.
     pub fn parse_month_day_with_annotation_handler_located<F>(
         &mut self,
         handler: F,
@@ -237,13 +272,12 @@ impl<'a, T: EncodingType> IxdtfParser<'a, T> {
         self.read_as::<LocatedError, MonthDays, F>(handler)
     }
 
-    /// Reads as [`parse_time_with_annotation_handler`](Self::parse_time_with_annotation_handler) does, and returns an error
-    /// with its place, as [`parse_time_located`](Self::parse_time_located) does.
+    /// Parses the remaining input as a time, with a handler. An error has its position.
     ///
-    /// # Errors
+    /// This is [`parse_time_with_annotation_handler`](Self::parse_time_with_annotation_handler) with positions as in
+    /// [`parse_time_located`](Self::parse_time_located).
     ///
-    /// Those of [`parse_time_with_annotation_handler`](Self::parse_time_with_annotation_handler), each with its place: the
-    /// place of a refused reply is after its annotation's bracket.
+    /// # Examples
     ///
     /// ```rust
     /// use ixdtf::ParseError;
@@ -252,6 +286,11 @@ impl<'a, T: EncodingType> IxdtfParser<'a, T> {
     /// let located = IxdtfParser::from_str("T1200[!a=b]").parse_time_with_annotation_handler_located(Some).unwrap_err();
     /// assert_eq!((located.error, located.at), (ParseError::UnrecognizedCritical, 11));
     /// ```
+    ///
+    /// # Errors
+    ///
+    /// The errors of [`parse_time_with_annotation_handler`](Self::parse_time_with_annotation_handler), each with its
+    /// position. If a reply is refused, the position is after the bracket of its annotation.
     pub fn parse_time_with_annotation_handler_located<F>(
         &mut self,
         handler: F,
@@ -262,8 +301,8 @@ impl<'a, T: EncodingType> IxdtfParser<'a, T> {
         self.read_as::<LocatedError, Times, F>(handler)
     }
 
-    /// Reads a text with a core of the kind, as [`parse_with_annotation_handler`](Self::parse_with_annotation_handler)
-    /// does, with an error made of a stop.
+    /// Reads a text with a core of the kind, like
+    /// [`parse_with_annotation_handler`](Self::parse_with_annotation_handler). The error is made from a `Stop`.
     #[inline(always)]
     pub(crate) fn read_as<E: FromStop, C: CoreReader, F>(
         &mut self,
@@ -279,15 +318,15 @@ impl<'a, T: EncodingType> IxdtfParser<'a, T> {
         }
     }
 
-    /// Reads a text with a core of the kind, as [`parse_with_annotation_handler`](Self::parse_with_annotation_handler)
-    /// does, and leaves the handler in the state after its last call, so that the caller can use it. The error is made of a
-    /// stop.
+    /// Reads a text with a core of the kind, like
+    /// [`parse_with_annotation_handler`](Self::parse_with_annotation_handler).
     ///
-    /// Only for crates of this repository; not part of the public interface.
+    /// The handler is left in the state after its last call, so the caller can use it. The error is made from a `Stop`.
+    /// This function is only for crates of this repository, and not a part of the public interface.
     ///
     /// # Errors
     ///
-    /// Those of the reader of the kind, with a handler.
+    /// The errors of the reader of this kind with a handler.
     #[doc(hidden)]
     #[inline(always)]
     pub fn read_lending_handler<E: FromStop, C: CoreReader, F>(
@@ -304,12 +343,13 @@ impl<'a, T: EncodingType> IxdtfParser<'a, T> {
         }
     }
 
-    /// Keeps the calendar of a reply as the readers do: where it is the first one. Only for crates of this repository; not part
-    /// of the public interface.
+    /// Keeps the calendar of a reply, if it is the first one, as the readers do.
+    ///
+    /// This function is only for crates of this repository, and not a part of the public interface.
     ///
     /// # Errors
     ///
-    /// The two that only replies have.
+    /// - `UnrecognizedCritical`, `CriticalDuplicateCalendar`: the reply is refused.
     #[doc(hidden)]
     #[inline(always)]
     pub fn keep_first_calendar(

@@ -1,6 +1,6 @@
 // Made by tools/to_rust.py of crates/ixdtf/src/parsers/texts.rt. Do not edit.
 
-//! Reading whole texts: a core, a first bracket and the brackets after it.
+//! Functions that read complete texts: a core, a first bracket, and the brackets after it.
 
 use crate::parsers::IxdtfParser;
 use crate::parsers::cores::CoreReader;
@@ -13,11 +13,12 @@ use crate::cursor::Cursor;
 use crate::stop::{Stop, StopAt};
 
 impl<'a, T: EncodingType> IxdtfParser<'a, T> {
-    /// Reads all of the remaining input into an empty record. After an error the remaining input is unchanged.
+    /// Reads all of the remaining input into an empty record. After an error, the remaining input is unchanged.
     ///
-    /// All public readers of records read by this one: those without a handler through `read_unhandled`, and those with one
-    /// through `read_as` or `read_lending_handler`. What makes the record apart returns it in an arm of its own. Where arms
-    /// meet before the return, and where a result is handed on, the whole record is copied once more.
+    /// All public readers of `IxdtfParser` call this function: those without a handler through `read_unhandled`, and
+    /// those with a handler through `read_as` or `read_lending_handler`. A function that makes a record on its own must
+    /// return it in an arm of its own. If two arms end in one value, or if a result is passed on, the record is copied
+    /// once more.
     #[inline(always)]
     pub(crate) fn read_into<C: CoreReader, F>(
         &mut self,
@@ -41,8 +42,8 @@ impl<'a, T: EncodingType> IxdtfParser<'a, T> {
     }
 }
 
-/// Reads a core of the kind under the profile, and the brackets after it to the end of the input, into an empty record.
-/// The handler is called with each annotation of a key and a value.
+/// Reads a core of the kind under the profile, and the brackets after it up to the end of the input, into an empty
+/// record. Calls the handler with each annotation.
 fn parse_text<'a, T: EncodingType, C: CoreReader, F>(
     cursor: &mut Cursor<'a, T>,
     profile: Profile,
@@ -61,7 +62,8 @@ where
     Ok(())
 }
 
-/// Reads the brackets after a core and the first `[`, to the end of the input: a first one, and the pairs after it.
+/// Reads the brackets after a core and the first `[`, up to the end of the input: the first bracket, and the
+/// annotations after it.
 #[inline(never)]
 fn parse_brackets<'a, T: EncodingType, F>(
     cursor: &mut Cursor<'a, T>,
@@ -82,7 +84,7 @@ where
     Ok(())
 }
 
-/// Writes the zone of a first bracket into the record, or returns its pair.
+/// Writes the zone of a first bracket into the record. If the bracket is an annotation, returns it.
 #[inline(always)]
 fn place_bracket<'a, T: EncodingType>(
     bracket: Bracket<'a, T>,
@@ -97,7 +99,7 @@ fn place_bracket<'a, T: EncodingType>(
     }
 }
 
-/// Writes the value of the calendar that is kept into the record.
+/// Writes the value of the calendar that was kept into the record.
 #[inline(always)]
 fn place_calendar<'a, T: EncodingType>(
     calendar: Option<Annotation<'a, T>>,
