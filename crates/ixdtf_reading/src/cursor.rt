@@ -63,10 +63,13 @@ impl<'a, T: EncodingType> Cursor<'a, T> {
         self.rest.len()
     }
 
-    /// A second cursor at the same place, which takes over the count of accesses. This one keeps its remaining input. So a
-    /// reader and its loops work on a local value, and store it at their end.
+    /// Returns a second cursor at the same position. `self` keeps its remaining input.
+    ///
+    /// A reader that must stand still on an error works on the second cursor. A function with a loop, or with a call that
+    /// is not inlined, does so too: a local cursor stays in registers, and is stored in `self` at the end.
     #[inline(always)]
     pub fn fork(&mut self) -> Self
+        // The count of accesses moves to the second cursor.
         ensures same { result ≡ self.old }
         ensures rest { self.new.rest ≡ self.old.rest }
     {
@@ -77,10 +80,10 @@ impl<'a, T: EncodingType> Cursor<'a, T> {
         }
     }
 
-    /// A second cursor at remaining input that was kept, which takes over the count of accesses. This one keeps its
-    /// remaining input.
+    /// Returns a second cursor at `rest`, a remaining input that the caller kept. `self` keeps its own.
     #[inline(always)]
     pub fn fork_at(&mut self, rest: &'a [T::CodeUnit]) -> Self
+        // The count of accesses moves to the second cursor.
         ensures there { result.rest ≡ map T.number rest.now }
         ensures looks { result.looks ≡ self.old.looks }
         ensures rest { self.new.rest ≡ self.old.rest }
@@ -166,8 +169,10 @@ impl<'a, T: EncodingType> Cursor<'a, T> {
         }
     }
 
-    /// Takes a digit, and returns it as an ASCII byte. The end of the input is `AbruptDigit`, a bad code unit is
-    /// `NonAsciiCodePoint`, and another code unit is this stop. None of these is taken.
+    /// Consumes one digit, and returns it as an ASCII byte.
+    ///
+    /// Returns `AbruptDigit` at the end of the input, `NonAsciiCodePoint` at a bad code unit, and `other` at any other code
+    /// unit. Then nothing is consumed.
     #[inline(always)]
     pub fn next_digit(&mut self, other: Stop) -> Result<u8, Stop>
         ensures digit { Reads T.letter (λ byte. byte) self.old result self.new
@@ -186,8 +191,10 @@ impl<'a, T: EncodingType> Cursor<'a, T> {
         }
     }
 
-    /// The digit at an index of the remaining input, as an ASCII byte. The end of the input is `AbruptDigit`. Another code
-    /// unit is this stop.
+    /// Returns the digit at `index` of the remaining input, as an ASCII byte.
+    ///
+    /// Returns `AbruptDigit` if the input is too short, `NonAsciiCodePoint` at a bad code unit, and `other` at any other
+    /// code unit.
     #[inline(always)]
     fn digit_at(&mut self, index: usize, other: Stop) -> Result<u8, Stop>
         ensures digit { Yields (λ byte. byte) result
@@ -203,8 +210,11 @@ impl<'a, T: EncodingType> Cursor<'a, T> {
         }
     }
 
-    /// Takes two digits, and returns their number, with one test for the end, and one of what the tables say of both. The end of the
-    /// input is `AbruptDigit`. Another code unit is this stop, and is not taken.
+    /// Consumes two digits, and returns their number.
+    ///
+    /// One test finds the end of the input, and one comparison tests both digits. Returns `AbruptDigit` at the end of the
+    /// input, `NonAsciiCodePoint` at a bad code unit, and `other` at any other code unit. Then the code unit of the error
+    /// is not consumed, but a digit before it is.
     #[inline(always)]
     pub fn two_digits(&mut self, other: Stop) -> Result<u8, Stop>
         ensures digits { Reads T.letter two_digits_of self.old result self.new
@@ -246,8 +256,10 @@ impl<'a, T: EncodingType> Cursor<'a, T> {
         self.rest = &self.rest[count..];
     }
 
-    /// The code unit at a fixed index of the remaining input, as an ASCII byte, or 0 where there is none or a bad one: 0 is
-    /// in no class of `grammar`.
+    /// Returns the code unit at `index` of the remaining input as a byte.
+    ///
+    /// Returns 0 if the input is too short, or if the code unit is bad. Callers need not test for this, because no class of
+    /// characters contains 0.
     #[inline(always)]
     #[tactic(auto, using(crate::proofs::code::FixedPlaces::byte_looked))]
     pub fn byte_at(&mut self, index: usize) -> u8
@@ -297,26 +309,31 @@ impl<'a, T: EncodingType> Cursor<'a, T> {
         Some(number)
     }
 
-    /// Whether two slices have equal code units. At each index that both have, the code units of both are counted. This is
-    /// the only comparison of code units, but for that with the key of calendars.
+    /// Tests whether two slices have equal code units.
+    ///
+    /// This is the only comparison of code units with each other. `is_calendar_key` compares them with the key of
+    /// calendars.
     #[inline(always)]
     pub fn has_same_units(&mut self, left: &[T::CodeUnit], right: &[T::CodeUnit]) -> bool
         ensures same { IsTrue result ↔ (map T.number left.now ≡ map T.number right.now) }
         ensures rest { self.new.rest ≡ self.old.rest }
+        // At each index that both slices have, one code unit of each is accessed.
         ensures looks { self.new.looks ≡
             self.old.looks + 2 * min (length left.now) (length right.now) }
     {
         let common = left.len().min(right.len());
+        // One call for each slice: `2 * common` could overflow.
         self.looks.tick_by(common);
         self.looks.tick_by(common);
         are_equal::<T>(left, right)
     }
 
-    /// Whether a key is that of calendars. Four code units are counted. This is the only call of `check_calendar_key`.
+    /// Tests whether a key is `u-ca`, the key of calendars. This is the only call of `check_calendar_key`.
     #[inline(always)]
     pub fn is_calendar_key(&mut self, key: &[T::CodeUnit]) -> bool
         ensures calendar { IsTrue result ↔ (map T.number key.now ≡ codes "u-ca") }
         ensures rest { self.new.rest ≡ self.old.rest }
+        // At most the four code units of `u-ca` are accessed.
         ensures looks { self.new.looks ≡ self.old.looks + 4 }
     {
         self.looks.tick_by(4);
@@ -337,7 +354,7 @@ impl<'a, T: EncodingType> Cursor<'a, T> {
     }
 }
 
-/// Whether two slices have equal code units. Only `has_same_units` calls this, and counts them.
+/// Tests whether two slices have equal code units. Only `has_same_units` calls this.
 fn are_equal<T: EncodingType>(left: &[T::CodeUnit], right: &[T::CodeUnit]) -> bool
     ensures { IsTrue result ↔ (map T.number left.now ≡ map T.number right.now) }
 {

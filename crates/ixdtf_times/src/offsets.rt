@@ -107,9 +107,10 @@ fn fixed_minute<'a, T: EncodingType>(cursor: &mut Cursor<'a, T>) -> Option<u8>
     Some(minute)
 }
 
-/// Takes off an offset that stands behind its sign at the first five places, where the text ends there or a `[` follows,
-/// and that `[`, writes the offset and returns which of the two it was. It is `None`, with the rest unchanged, where one of
-/// them does not fit.
+/// Consumes an offset `HH:MM` after its sign, if the text ends after it or continues with `[`.
+///
+/// Writes the offset to `found`, and consumes the `[` too. Returns which of the two followed the offset. Returns `None`, and
+/// consumes nothing, if the input has another form or a number is out of range.
 #[inline(always)]
 pub fn take_fixed_offset<'a, T: EncodingType>(
     cursor: &mut Cursor<'a, T>,

@@ -154,8 +154,10 @@ fn check_most(number: u8, greatest: u8, stop: Stop) -> Result<u8, Stop>
     Ok(number)
 }
 
-/// Takes two digits off and returns their number, which is at most the greatest of its place. The end is `AbruptDigit`, and
-/// another code unit or a greater number this stop.
+/// Consumes two digits, and returns their number, which is at most `greatest`.
+///
+/// Returns `AbruptDigit` at the end of the input, `NonAsciiCodePoint` at a bad code unit, and `stop` at any other code unit and
+/// for a greater number.
 #[inline(always)]
 #[tactic(auto, unfolding(ixdtf_reading::specs::reading::Looks::number_by, ixdtf_reading::specs::reading::Looks::in_range))]
 fn next_number<'a, T: EncodingType>(
@@ -231,7 +233,7 @@ fn parse_minute<'a, T: EncodingType>(
     }
 }
 
-/// Takes the two digits of a second off and returns their number.
+/// Consumes the two digits of a second, and returns their number: at most 60 in a time, and 59 in an offset.
 #[inline(always)]
 fn next_second<'a, T: EncodingType>(cursor: &mut Cursor<'a, T>, clock: Clock) -> Result<u8, Stop>
     ensures second { Reads T.letter (λ number. number) cursor.old result cursor.new

@@ -35,8 +35,10 @@ impl<'a, T: EncodingType> Cursor<'a, T> {
         self.rest.len()
     }
 
-    /// A second cursor at the same place, which takes over the count of accesses. This one keeps its remaining input. So a
-    /// reader and its loops work on a local value, and store it at their end.
+    /// Returns a second cursor at the same position. `self` keeps its remaining input.
+    ///
+    /// A reader that must stand still on an error works on the second cursor. A function with a loop, or with a call that
+    /// is not inlined, does so too: a local cursor stays in registers, and is stored in `self` at the end.
     #[inline(always)]
     pub fn fork(&mut self) -> Self {
         Cursor {
@@ -44,8 +46,7 @@ impl<'a, T: EncodingType> Cursor<'a, T> {
         }
     }
 
-    /// A second cursor at remaining input that was kept, which takes over the count of accesses. This one keeps its
-    /// remaining input.
+    /// Returns a second cursor at `rest`, a remaining input that the caller kept. `self` keeps its own.
     #[inline(always)]
     pub fn fork_at(&mut self, rest: &'a [T::CodeUnit]) -> Self {
         Cursor {
@@ -93,8 +94,10 @@ impl<'a, T: EncodingType> Cursor<'a, T> {
         }
     }
 
-    /// Takes a digit, and returns it as an ASCII byte. The end of the input is `AbruptDigit`, a bad code unit is
-    /// `NonAsciiCodePoint`, and another code unit is this stop. None of these is taken.
+    /// Consumes one digit, and returns it as an ASCII byte.
+    ///
+    /// Returns `AbruptDigit` at the end of the input, `NonAsciiCodePoint` at a bad code unit, and `other` at any other code
+    /// unit. Then nothing is consumed.
     #[inline(always)]
     pub fn next_digit(&mut self, other: Stop) -> Result<u8, Stop> {
         match self.look()? {
@@ -107,8 +110,10 @@ impl<'a, T: EncodingType> Cursor<'a, T> {
         }
     }
 
-    /// The digit at an index of the remaining input, as an ASCII byte. The end of the input is `AbruptDigit`. Another code
-    /// unit is this stop.
+    /// Returns the digit at `index` of the remaining input, as an ASCII byte.
+    ///
+    /// Returns `AbruptDigit` if the input is too short, `NonAsciiCodePoint` at a bad code unit, and `other` at any other
+    /// code unit.
     #[inline(always)]
     fn digit_at(&mut self, index: usize, other: Stop) -> Result<u8, Stop> {
         match self.look_at(index)? {
@@ -118,8 +123,11 @@ impl<'a, T: EncodingType> Cursor<'a, T> {
         }
     }
 
-    /// Takes two digits, and returns their number, with one test for the end, and one of what the tables say of both. The end of the
-    /// input is `AbruptDigit`. Another code unit is this stop, and is not taken.
+    /// Consumes two digits, and returns their number.
+    ///
+    /// One test finds the end of the input, and one comparison tests both digits. Returns `AbruptDigit` at the end of the
+    /// input, `NonAsciiCodePoint` at a bad code unit, and `other` at any other code unit. Then the code unit of the error
+    /// is not consumed, but a digit before it is.
     #[inline(always)]
     pub fn two_digits(&mut self, other: Stop) -> Result<u8, Stop> {
         if self.rest.len() < 2 {
@@ -149,8 +157,10 @@ impl<'a, T: EncodingType> Cursor<'a, T> {
         self.rest = &self.rest[count..];
     }
 
-    /// The code unit at a fixed index of the remaining input, as an ASCII byte, or 0 where there is none or a bad one: 0 is
-    /// in no class of `grammar`.
+    /// Returns the code unit at `index` of the remaining input as a byte.
+    ///
+    /// Returns 0 if the input is too short, or if the code unit is bad. Callers need not test for this, because no class of
+    /// characters contains 0.
     #[inline(always)]
     pub fn byte_at(&mut self, index: usize) -> u8 {
         match self.look_at(index) {
@@ -181,14 +191,16 @@ impl<'a, T: EncodingType> Cursor<'a, T> {
         Some(number)
     }
 
-    /// Whether two slices have equal code units. At each index that both have, the code units of both are counted. This is
-    /// the only comparison of code units, but for that with the key of calendars.
+    /// Tests whether two slices have equal code units.
+    ///
+    /// This is the only comparison of code units with each other. `is_calendar_key` compares them with the key of
+    /// calendars.
     #[inline(always)]
     pub fn has_same_units(&mut self, left: &[T::CodeUnit], right: &[T::CodeUnit]) -> bool {
         are_equal::<T>(left, right)
     }
 
-    /// Whether a key is that of calendars. Four code units are counted. This is the only call of `check_calendar_key`.
+    /// Tests whether a key is `u-ca`, the key of calendars. This is the only call of `check_calendar_key`.
     #[inline(always)]
     pub fn is_calendar_key(&mut self, key: &[T::CodeUnit]) -> bool {
         T::check_calendar_key(key)
@@ -204,7 +216,7 @@ impl<'a, T: EncodingType> Cursor<'a, T> {
     }
 }
 
-/// Whether two slices have equal code units. Only `has_same_units` calls this, and counts them.
+/// Tests whether two slices have equal code units. Only `has_same_units` calls this.
 fn are_equal<T: EncodingType>(left: &[T::CodeUnit], right: &[T::CodeUnit]) -> bool {
     left == right
 }

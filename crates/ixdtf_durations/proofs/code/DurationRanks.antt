@@ -1,5 +1,5 @@
--- The ranks of the units of durations: their tables, and what a rank says of a code unit.
-use Rattle.std.proofs.Common.{◌≡◌, ℕ, zero, suc, ◌+◌, ◌<◌, ◌≤◌, Bool, true, false, nat_eq, nat_le, List, [], ◌∷◌, slice_index_or, if◌then◌else◌, refl, arith}
+-- The ranks of the units of durations: how great they are in their tables, and what a rank says of a code unit.
+use Rattle.std.proofs.Common.{◌≡◌, ℕ, ◌+◌, ◌<◌, ◌≤◌, Bool, true, false, nat_le, if◌then◌else◌, refl, arith}
 use Rattle.std.proofs.lemmas.Bool.Decides.{nat_tests}
 use Rattle.ixdtf_grammar.specs.language.{Letters.{year_letter, month_letter, week_letter, hour_letter, minute_letter}, Durations.{Half, unit_of, place}}
 use Rattle.ixdtf_grammar.specs.language.Durations.{Half.{date, time}, DurationUnit.{years, months, weeks, days, hours, minutes, seconds}}
@@ -8,36 +8,13 @@ use Rattle.ixdtf_reading.proofs.code.Tables.{agree_below, agree_at}
 
 -- ---- the tables
 
--- what the table of a half has from a place on, so many places
-unfoldable pub ranks_from : Half → ℕ → ℕ → List ℕ
-ranks_from half zero c = []
-ranks_from half (suc n) c = rank_seen half c ∷ ranks_from half n (c + 1)
-
--- what it has at a place
-abbrev pub rank_at : Half → ℕ → ℕ
-rank_at half c = slice_index_or (ranks_from half 256 0) c 0
-
-same : (a b : ℕ) → nat_eq a b ≡ true → a ≡ b
-same a b is = grind (arith, nat_tests)
-
 pub below : (a b : ℕ) → nat_le a b ≡ true → a ≤ b
 below a b is = grind (arith, nat_tests)
 
-pub date_rank_is : (c : ℕ) → c < 256 → rank_at date c ≡ rank_seen date c
-unfolding agree_below ranks_from
-date_rank_is c lt = same _ _ (agree_at (λ c. nat_eq (rank_at date c) (rank_seen date c)) (λ c. true) 256 refl c lt)
-
-pub date_rank_small : (c : ℕ) → c < 256 → rank_at date c ≤ 4
-unfolding agree_below ranks_from
-date_rank_small c lt = below _ _ (agree_at (λ c. nat_le (rank_at date c) 4) (λ c. true) 256 refl c lt)
-
-pub time_rank_is : (c : ℕ) → c < 256 → rank_at time c ≡ rank_seen time c
-unfolding agree_below ranks_from
-time_rank_is c lt = same _ _ (agree_at (λ c. nat_eq (rank_at time c) (rank_seen time c)) (λ c. true) 256 refl c lt)
-
-pub time_rank_small : (c : ℕ) → c < 256 → rank_at time c ≤ 3
-unfolding agree_below ranks_from
-time_rank_small c lt = below _ _ (agree_at (λ c. nat_le (rank_at time c) 3) (λ c. true) 256 refl c lt)
+-- every rank of a half is at most this, where a computed look at all bytes says so
+pub rank_small : (half : Half) (most : ℕ) → agree_below (λ c. nat_le (rank_seen half c) most) (λ c. true) 256 ≡ true
+    → (c : ℕ) → c < 256 → rank_seen half c ≤ most
+rank_small half most agrees c lt = below _ _ (agree_at (λ c. nat_le (rank_seen half c) most) (λ c. true) 256 agrees c lt)
 
 -- ---- places
 

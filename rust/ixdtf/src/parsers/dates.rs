@@ -199,7 +199,9 @@ fn parse_six_digits<'a, T: EncodingType>(cursor: &mut Cursor<'a, T>) -> Result<u
     Ok(10_000 * u32::from(high) + 100 * u32::from(middle) + u32::from(low))
 }
 
-/// Reads three digits, and returns their number. The end is `AbruptDigit`, and another code unit this stop.
+/// Consumes three digits, and returns their number.
+///
+/// Returns `AbruptDigit` at the end of the input, `NonAsciiCodePoint` at a bad code unit, and `other` at any other code unit.
 #[inline(always)]
 fn parse_three_digits<'a, T: EncodingType>(
     cursor: &mut Cursor<'a, T>,
@@ -213,8 +215,10 @@ fn parse_three_digits<'a, T: EncodingType>(
 
 // ==== Months and days ====
 
-/// Takes a hyphen off, and returns whether one stands there: a digit stays. The end is one stop, another code unit the
-/// other.
+/// Consumes a hyphen, if one is next, and returns whether it did.
+///
+/// If a digit is next, returns `false` and consumes nothing. Returns the error `at_end` at the end of the input,
+/// `NonAsciiCodePoint` at a bad code unit, and `other` at any other code unit.
 #[inline(always)]
 pub fn take_hyphen<'a, T: EncodingType>(
     cursor: &mut Cursor<'a, T>,
@@ -259,7 +263,12 @@ fn parse_day<'a, T: EncodingType>(
     check_date(year, month, day)
 }
 
-/// Takes the hyphen after a month off where one stands before the month, and else wants a digit, which stays.
+/// Consumes the hyphen after a month, if one stands before the month. Otherwise tests that a digit is next, and consumes
+/// nothing.
+///
+/// Returns `NonAsciiCodePoint` at a bad code unit, and `DateSeparator` where one of the two hyphens is missing. Where no
+/// hyphen stands before the month, returns `AbruptDigit` at the end of the input, and `DateDay` at any code unit that is
+/// neither a digit nor a hyphen.
 #[inline(always)]
 fn take_separator<'a, T: EncodingType>(
     cursor: &mut Cursor<'a, T>,

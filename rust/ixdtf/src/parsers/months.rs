@@ -170,8 +170,11 @@ fn parse_day_of_month<'a, T: EncodingType>(
     check_month_day(profile, month, day)
 }
 
-/// Takes two hyphens off, and returns whether they stand. A digit stays. The end is `AbruptMonthDay`, a code unit behind one
-/// hyphen `MonthDayHyphen`, and another `DateMonth`.
+/// Consumes two hyphens, if one is next, and returns whether it did.
+///
+/// If a digit is next, returns `false` and consumes nothing. Returns `AbruptMonthDay` at the end of the input,
+/// `NonAsciiCodePoint` at a bad code unit, `MonthDayHyphen` at any other code unit after one hyphen, and `DateMonth` at any
+/// other first code unit.
 #[inline(always)]
 fn take_marks<'a, T: EncodingType>(cursor: &mut Cursor<'a, T>) -> Result<bool, Stop> {
     if !take_hyphen(cursor, Stop::AbruptMonthDay, Stop::DateMonth)? {

@@ -1,11 +1,14 @@
 use Rattle.ixdtf_durations.proofs.date_groups.date_rank.Goals as goal
-use Rattle.std.proofs.Common.{arith}
-use Rattle.ixdtf_durations.proofs.code.DurationRanks.{ranks_from, date_rank_is, date_rank_small}
+use Rattle.std.proofs.Common.{refl, arith}
+use Rattle.ixdtf_grammar.specs.language.Durations.Half.{date}
+use Rattle.ixdtf_durations.specs.reading.DurationClauses.{rank_seen}
+use Rattle.ixdtf_reading.proofs.code.Tables.{agree_below, listed_from, in_table}
+use Rattle.ixdtf_durations.proofs.code.DurationRanks.{rank_small}
 
 pub returns-clause-rank : goal.returns-clause-rank
-unfolding ranks_from
-returns-clause-rank c = date_rank_is c.args.letter (omega arith)
+unfolding agree_below listed_from
+returns-clause-rank c = in_table (rank_seen date) refl c.args.letter (omega arith)
 
 pub returns-clause-small : goal.returns-clause-small
-unfolding ranks_from
-returns-clause-small c = date_rank_small c.args.letter (omega arith)
+unfolding agree_below listed_from
+returns-clause-small c = rw (in_table (rank_seen date) refl c.args.letter (omega arith)) (rank_small date 4 refl c.args.letter (omega arith))
