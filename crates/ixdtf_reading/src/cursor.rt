@@ -1,7 +1,8 @@
 //! A cursor: the remaining code units of a source.
 //!
-//! A cursor has no index. It keeps the remaining code units as one slice, so it cannot point past the end. A private
-//! reader leaves its cursor where it stopped, which is the place of the error; a public one puts it back (`settle`).
+//! A cursor has no index. It keeps the remaining code units as one slice, so it cannot point past the end. When a
+//! private function stops with an error, it leaves its cursor at the position of the error. A public reader puts it
+//! back (`settle`).
 
 #![tactic(auto, unfolding(crate::specs::reading::Looks::look_readings))]
 
@@ -25,7 +26,7 @@ use std::marker::Model;
 #[derive_where(Debug)]
 pub struct Cursor<'a, T: EncodingType> {
     rest: &'a [T::CodeUnit],
-    // The count of code unit accesses. It takes no byte.
+    // The count of accesses to code units. It takes no bytes.
     looks: Looks,
 }
 
@@ -36,7 +37,7 @@ impl<'a, T: EncodingType> Model for Cursor<'a, T> {
 }
 
 impl<'a, T: EncodingType> Cursor<'a, T> {
-    /// A cursor at the front of a source.
+    /// Creates a cursor at the beginning of a source.
     pub fn new(source: &'a [T::CodeUnit]) -> Self
         ensures rest { result.rest ≡ map T.number source.now }
         ensures looks { result.looks ≡ 0 }
@@ -47,7 +48,7 @@ impl<'a, T: EncodingType> Cursor<'a, T> {
         }
     }
 
-    /// The remaining code units. They are borrowed from the source, and outlive the cursor.
+    /// Returns the remaining code units. They are borrowed from the source, so they can outlive the cursor.
     #[inline(always)]
     pub fn rest(&self) -> &'a [T::CodeUnit]
         ensures { map T.number result.now ≡ self.now.rest }
@@ -55,7 +56,7 @@ impl<'a, T: EncodingType> Cursor<'a, T> {
         self.rest
     }
 
-    /// How many code units remain.
+    /// Returns the number of remaining code units.
     #[inline(always)]
     pub fn remaining(&self) -> usize
         ensures { result ≡ length self.now.rest }
@@ -75,7 +76,7 @@ impl<'a, T: EncodingType> Cursor<'a, T> {
     {
         Cursor {
             rest: self.rest,
-            // The count of accesses moves to it.
+            // The count of accesses moves to the second cursor.
             looks: std::mem::replace(&mut self.looks, Looks::none()),
         }
     }
@@ -90,12 +91,12 @@ impl<'a, T: EncodingType> Cursor<'a, T> {
     {
         Cursor {
             rest,
-            // The count of accesses moves to it.
+            // The count of accesses moves to the second cursor.
             looks: std::mem::replace(&mut self.looks, Looks::none()),
         }
     }
 
-    /// Stays where it is, and takes over the count of a second cursor.
+    /// Takes over the count of accesses of a second cursor. The position does not change.
     #[inline(always)]
     pub fn keep_looks(&mut self, here: Self)
         ensures rest { self.new.rest ≡ self.old.rest }
@@ -104,8 +105,10 @@ impl<'a, T: EncodingType> Cursor<'a, T> {
         self.looks = here.looks;
     }
 
-    /// Ends a reader that worked on a second cursor. After `Ok` this cursor goes on from there. After a stop this cursor
-    /// keeps its remaining input, and the stop becomes the error, at the place where the reader stopped.
+    /// Ends a function that worked on a second cursor, `here`.
+    ///
+    /// After `Ok`, `self` continues where `here` is. After a `Stop`, `self` keeps its remaining input. The `Stop`
+    /// becomes an error, and the position of `here` becomes its position.
     #[inline(always)]
     pub fn settle<R, E: FromStop>(&mut self, here: Self, read: Result<R, Stop>) -> Result<R, E>
         ensures settled { Settles E.fault read result }
@@ -128,8 +131,9 @@ impl<'a, T: EncodingType> Cursor<'a, T> {
         }
     }
 
-    /// The code unit at an index of the remaining input, as a byte: `None` past its end, and `NonAsciiCodePoint` for a bad
-    /// one. This is the only call of `get_ascii`.
+    /// Returns the code unit at an index of the remaining input, as a byte.
+    ///
+    /// Returns `None` after the end, and `NonAsciiCodePoint` for a bad code unit. Only this function calls `get_ascii`.
     #[inline(always)]
     pub fn look_at(&mut self, index: usize) -> Result<Option<u8>, Stop>
         ensures letter { Yields (λ found. found) result (ascii_at T.letter index self.old.rest) }
@@ -143,7 +147,7 @@ impl<'a, T: EncodingType> Cursor<'a, T> {
         }
     }
 
-    /// The first code unit of the remaining input, as a byte.
+    /// Returns the first code unit of the remaining input, as a byte. Returns `None` at the end of the input.
     #[inline(always)]
     #[tactic(auto, using(crate::proofs::code::Units::first_look))]
     pub fn look(&mut self) -> Result<Option<u8>, Stop>
@@ -155,7 +159,7 @@ impl<'a, T: EncodingType> Cursor<'a, T> {
         self.look_at(0)
     }
 
-    /// Skips the first code unit, where there is one.
+    /// Consumes the first code unit, if there is one.
     #[inline(always)]
     #[tactic(auto, using(crate::proofs::code::Units::texts))]
     pub fn advance(&mut self)
@@ -245,7 +249,7 @@ impl<'a, T: EncodingType> Cursor<'a, T> {
         Err(no_digit(second, other))
     }
 
-    /// Skips `count` code units.
+    /// Consumes `count` code units.
     #[inline(always)]
     pub fn advance_by(&mut self, count: usize)
         requires { count ≤ length self.old.rest }
@@ -273,7 +277,7 @@ impl<'a, T: EncodingType> Cursor<'a, T> {
         }
     }
 
-    /// The code unit at a fixed index of the remaining input, where it is this one, or `None`.
+    /// Returns `letter` if it is the code unit at `index` of the remaining input, and otherwise `None`.
     #[inline(always)]
     #[tactic(auto, using(crate::proofs::code::FixedPlaces::place_looked))]
     pub fn fixed_letter(&mut self, index: usize, letter: u8) -> Option<u8>
@@ -288,8 +292,9 @@ impl<'a, T: EncodingType> Cursor<'a, T> {
         }
     }
 
-    /// The number of the two digits at a fixed index of the remaining input and the next, or `None` where one of them is no
-    /// digit. Both are looked at.
+    /// Returns the number of the two digits at `index` of the remaining input and at the next index.
+    ///
+    /// Returns `None` if one of them is not a digit. Both are read in any case.
     #[inline(always)]
     #[tactic(auto, unfolding(crate::specs::reading::FixedPlaces::number_place))]
     pub fn fixed_number(&mut self, index: usize) -> Option<u8>
@@ -340,7 +345,7 @@ impl<'a, T: EncodingType> Cursor<'a, T> {
         T::check_calendar_key(key)
     }
 
-    /// Expects the end of the input: any code unit is `InvalidEnd`.
+    /// Expects the end of the input. Returns `InvalidEnd` if there is a code unit.
     #[inline(always)]
     pub fn close(&mut self) -> Result<(), Stop>
         ensures end { Reads T.letter (λ _. None) self.old result self.new (peek_by end_look) }
@@ -361,7 +366,7 @@ fn are_equal<T: EncodingType>(left: &[T::CodeUnit], right: &[T::CodeUnit]) -> bo
     left == right
 }
 
-/// The letter that a look found, as an ASCII byte, or 0 where it found none.
+/// Returns the code unit that was read, as an ASCII byte, or 0 if there is none.
 #[inline(always)]
 fn byte_of(found: Result<Option<u8>, Stop>) -> u8
     ensures { result ≡ byte_of_look found }
@@ -372,7 +377,7 @@ fn byte_of(found: Result<Option<u8>, Stop>) -> u8
     }
 }
 
-/// Why a look that found no digit stops: another letter is this stop.
+/// Returns the `Stop` for a code unit that is not a digit: `other`, unless the input ends or the code unit is bad.
 #[inline(always)]
 fn no_digit(found: Result<Option<u8>, Stop>, other: Stop) -> Stop
     requires { IsFalse (digit (byte_of_look found)) }

@@ -1,4 +1,4 @@
-//! Why a reading stopped, in one byte.
+//! The error inside the library, of one byte.
 
 ghost use Rattle.std.specs.Prelude.{◌≡◌, ℕ};
 ghost use Rattle.ixdtf_grammar.specs.table.Faults.{Fault, fault_of};
@@ -6,8 +6,9 @@ ghost use Rattle.ixdtf_reading.specs.reading.Clauses.{fault_of_stop};
 
 use ixdtf_grammar::{LocatedError, ParseError};
 
-/// Why a reading stopped: an error that a reader returns, with `AbruptEnd` once for each location. It takes one byte.
-/// The error is made of it only where a public reader returns.
+/// The reason why a function stopped: an error of a reader, with one variant for each location of `AbruptEnd`.
+///
+/// It takes one byte. Only the public readers make a `ParseError` from it.
 #[derive(Clone, Copy)]
 pub enum Stop {
     NonAsciiCodePoint,
@@ -61,7 +62,7 @@ pub enum Stop {
 }
 
 impl Stop {
-    /// Its error. It is inlined, so that a reader of records makes no call for it.
+    /// Returns the error. It is inlined, so that the readers of `IxdtfParser` need no function call for it.
     #[inline(always)]
     pub fn error(self) -> ParseError
         ensures { fault_of result ≡ fault_of_stop self }
@@ -70,7 +71,7 @@ impl Stop {
     }
 }
 
-// The error of each stop, in the order of the stops.
+// The error of each `Stop`, in the order of the variants.
 const ERRORS: &[ParseError; 48] = &[
     ParseError::NonAsciiCodePoint,
     ParseError::AbruptEnd { location: "digit" },
@@ -142,27 +143,27 @@ const ERRORS: &[ParseError; 48] = &[
 
 const _: () = prove!(size_of::<Stop>() == 1);
 
-/// A stop and its place.
+/// A `Stop` and its position.
 #[derive(Clone, Copy)]
 pub struct StopAt {
-    /// The stop.
+    /// The `Stop`.
     pub stop: Stop,
-    /// How many code units stand before its place.
+    /// The position: the number of code units before the error.
     pub at: usize,
 }
 
-/// An error made of a stop, with its place or without.
+/// An error that can be made from a `Stop`: `ParseError`, or `LocatedError` with the position.
 ///
-/// What calls a handler is generic in its error by this bound, and is used at `ParseError` and at `LocatedError`. So its own
-/// signature does not name `'static`, as `ParseError` does.
+/// A function that calls a handler is generic in its error, with this bound. So its own signature does not name
+/// `'static`, as `ParseError` does.
 pub trait FromStop {
-    /// The fault that an error names.
+    /// The fault of an error, as the definitions name it.
     ghost fault: { Self → Fault };
 
-    /// That the place of an error is behind so many code units, where it has a place.
+    /// The statement that the position of an error is this number of code units, if the error has a position.
     ghost stands: { ℕ → Self → Type 0 };
 
-    /// The error of a stop, whose place is behind `at` code units.
+    /// Makes the error from a `Stop` with position `at`.
     fn of_stop(stop: Stop, at: usize) -> Self
         ensures fault { fault result ≡ fault_of_stop stop }
         ensures place { stands at result };
@@ -175,7 +176,7 @@ impl FromStop for LocatedError {
 
     ghost stands = { stands_behind };
 
-    /// The error of the stop, with its place.
+    /// Makes the error with its position.
     #[inline(always)]
     fn of_stop(stop: Stop, at: usize) -> LocatedError {
         LocatedError {
@@ -192,15 +193,17 @@ impl FromStop for ParseError {
 
     ghost stands = { stands_anywhere };
 
-    /// The error of the stop, whatever stands before it.
+    /// Makes the error, without its position.
     #[inline(always)]
     fn of_stop(stop: Stop, _at: usize) -> ParseError {
         stop.error()
     }
 }
 
-/// The error of a stop, whose place is behind `at` code units. It is not inlined, so that a loop over a name stays small. It
-/// is generic, so that a compiler sees its body where it is called, and leaves the call out where the error is not used.
+/// Makes the error from a `Stop` with position `at`.
+///
+/// It is not inlined, so that a loop over a name stays small. It is generic, so that the compiler sees its body at each
+/// call, and removes a call whose error is not used.
 #[cold]
 #[inline(never)]
 pub fn error_of_stop<E: FromStop>(stop: Stop, at: usize) -> E

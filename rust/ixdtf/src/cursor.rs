@@ -2,8 +2,9 @@
 
 //! A cursor: the remaining code units of a source.
 //!
-//! A cursor has no index. It keeps the remaining code units as one slice, so it cannot point past the end. A private
-//! reader leaves its cursor where it stopped, which is the place of the error; a public one puts it back (`settle`).
+//! A cursor has no index. It keeps the remaining code units as one slice, so it cannot point past the end. When a
+//! private function stops with an error, it leaves its cursor at the position of the error. A public reader puts it
+//! back (`settle`).
 
 use crate::grammar::two_digit_number;
 use crate::stop::{FromStop, Stop, error_of_stop};
@@ -16,20 +17,20 @@ pub struct Cursor<'a, T: EncodingType> {
 }
 
 impl<'a, T: EncodingType> Cursor<'a, T> {
-    /// A cursor at the front of a source.
+    /// Creates a cursor at the beginning of a source.
     pub fn new(source: &'a [T::CodeUnit]) -> Self {
         Cursor {
             rest: source,
         }
     }
 
-    /// The remaining code units. They are borrowed from the source, and outlive the cursor.
+    /// Returns the remaining code units. They are borrowed from the source, so they can outlive the cursor.
     #[inline(always)]
     pub fn rest(&self) -> &'a [T::CodeUnit] {
         self.rest
     }
 
-    /// How many code units remain.
+    /// Returns the number of remaining code units.
     #[inline(always)]
     pub fn remaining(&self) -> usize {
         self.rest.len()
@@ -54,8 +55,10 @@ impl<'a, T: EncodingType> Cursor<'a, T> {
         }
     }
 
-    /// Ends a reader that worked on a second cursor. After `Ok` this cursor goes on from there. After a stop this cursor
-    /// keeps its remaining input, and the stop becomes the error, at the place where the reader stopped.
+    /// Ends a function that worked on a second cursor, `here`.
+    ///
+    /// After `Ok`, `self` continues where `here` is. After a `Stop`, `self` keeps its remaining input. The `Stop`
+    /// becomes an error, and the position of `here` becomes its position.
     #[inline(always)]
     pub fn settle<R, E: FromStop>(&mut self, here: Self, read: Result<R, Stop>) -> Result<R, E> {
         match read {
@@ -70,8 +73,9 @@ impl<'a, T: EncodingType> Cursor<'a, T> {
         }
     }
 
-    /// The code unit at an index of the remaining input, as a byte: `None` past its end, and `NonAsciiCodePoint` for a bad
-    /// one. This is the only call of `get_ascii`.
+    /// Returns the code unit at an index of the remaining input, as a byte.
+    ///
+    /// Returns `None` after the end, and `NonAsciiCodePoint` for a bad code unit. Only this function calls `get_ascii`.
     #[inline(always)]
     pub fn look_at(&mut self, index: usize) -> Result<Option<u8>, Stop> {
         match T::get_ascii(self.rest, index) {
@@ -80,13 +84,13 @@ impl<'a, T: EncodingType> Cursor<'a, T> {
         }
     }
 
-    /// The first code unit of the remaining input, as a byte.
+    /// Returns the first code unit of the remaining input, as a byte. Returns `None` at the end of the input.
     #[inline(always)]
     pub fn look(&mut self) -> Result<Option<u8>, Stop> {
         self.look_at(0)
     }
 
-    /// Skips the first code unit, where there is one.
+    /// Consumes the first code unit, if there is one.
     #[inline(always)]
     pub fn advance(&mut self) {
         if let [_, rest @ ..] = self.rest {
@@ -151,7 +155,7 @@ impl<'a, T: EncodingType> Cursor<'a, T> {
         Err(no_digit(second, other))
     }
 
-    /// Skips `count` code units.
+    /// Consumes `count` code units.
     #[inline(always)]
     pub fn advance_by(&mut self, count: usize) {
         self.rest = &self.rest[count..];
@@ -169,7 +173,7 @@ impl<'a, T: EncodingType> Cursor<'a, T> {
         }
     }
 
-    /// The code unit at a fixed index of the remaining input, where it is this one, or `None`.
+    /// Returns `letter` if it is the code unit at `index` of the remaining input, and otherwise `None`.
     #[inline(always)]
     pub fn fixed_letter(&mut self, index: usize, letter: u8) -> Option<u8> {
         match self.look_at(index) {
@@ -178,8 +182,9 @@ impl<'a, T: EncodingType> Cursor<'a, T> {
         }
     }
 
-    /// The number of the two digits at a fixed index of the remaining input and the next, or `None` where one of them is no
-    /// digit. Both are looked at.
+    /// Returns the number of the two digits at `index` of the remaining input and at the next index.
+    ///
+    /// Returns `None` if one of them is not a digit. Both are read in any case.
     #[inline(always)]
     pub fn fixed_number(&mut self, index: usize) -> Option<u8> {
         let tens = self.byte_at(index);
@@ -206,7 +211,7 @@ impl<'a, T: EncodingType> Cursor<'a, T> {
         T::check_calendar_key(key)
     }
 
-    /// Expects the end of the input: any code unit is `InvalidEnd`.
+    /// Expects the end of the input. Returns `InvalidEnd` if there is a code unit.
     #[inline(always)]
     pub fn close(&mut self) -> Result<(), Stop> {
         match self.look()? {
@@ -221,7 +226,7 @@ fn are_equal<T: EncodingType>(left: &[T::CodeUnit], right: &[T::CodeUnit]) -> bo
     left == right
 }
 
-/// The letter that a look found, as an ASCII byte, or 0 where it found none.
+/// Returns the code unit that was read, as an ASCII byte, or 0 if there is none.
 #[inline(always)]
 fn byte_of(found: Result<Option<u8>, Stop>) -> u8 {
     match found {
@@ -230,7 +235,7 @@ fn byte_of(found: Result<Option<u8>, Stop>) -> u8 {
     }
 }
 
-/// Why a look that found no digit stops: another letter is this stop.
+/// Returns the `Stop` for a code unit that is not a digit: `other`, unless the input ends or the code unit is bad.
 #[inline(always)]
 fn no_digit(found: Result<Option<u8>, Stop>, other: Stop) -> Stop {
     match found {

@@ -1,8 +1,9 @@
 // Made by tools/to_rust.py of crates/ixdtf_reading/src/grammar.rt. Do not edit.
 
-//! The classes of characters.
+//! Classes of characters, and the values of digits.
 
-// The bits of classes: the characters of a key, of a zone name and of a value, and what a key and a zone name begin with.
+// One bit for each class: the characters of a key, of the name of a zone and of a value, and the characters with which
+// a key and the name of a zone can begin.
 const KEY_CHAR: u8 = 1;
 
 const TZ_CHAR: u8 = 2;
@@ -13,7 +14,7 @@ const KEY_LEAD: u8 = 8;
 
 const TZ_LEAD: u8 = 16;
 
-// The classes of each byte, one bit for each.
+// The classes of each byte, as bits.
 static CLASSES: [u8; 256] = [
     0, 0, 0, 0, 0, 0, 0, 0, 0, 0, 0, 0, 0, 0, 0, 0,
     0, 0, 0, 0, 0, 0, 0, 0, 0, 0, 0, 0, 0, 0, 0, 0,
@@ -33,8 +34,8 @@ static CLASSES: [u8; 256] = [
     0, 0, 0, 0, 0, 0, 0, 0, 0, 0, 0, 0, 0, 0, 0, 0,
 ];
 
-// Of each byte ten times its value as a digit, and its value, and 100 for any byte that is no digit. It is one table, so that
-// one address is enough for both.
+// For each byte, ten times its value as a digit, and its value. For a byte that is not a digit, both are 100. Both are
+// in one table, so that one address is enough.
 struct DigitValues {
     tens: [u8; 256],
     ones: [u8; 256],
@@ -79,127 +80,127 @@ static DIGIT_VALUES: DigitValues = DigitValues {
     ],
 };
 
-/// `+` or `-`.
+/// Returns whether the byte is `+` or `-`.
 #[inline(always)]
 pub fn is_ascii_sign(byte: u8) -> bool {
     byte == b'+' || byte == b'-'
 }
 
-/// `-`.
+/// Returns whether the byte is `-`.
 #[inline(always)]
 pub fn is_hyphen(byte: u8) -> bool {
     byte == b'-'
 }
 
-/// `:`.
+/// Returns whether the byte is `:`.
 #[inline(always)]
 pub fn is_time_separator(byte: u8) -> bool {
     byte == b':'
 }
 
-/// `.` or `,`.
+/// Returns whether the byte is `.` or `,`.
 #[inline(always)]
 pub fn is_decimal_separator(byte: u8) -> bool {
     byte == b'.' || byte == b','
 }
 
-/// `T`, `t` or a space.
+/// Returns whether the byte is `T`, `t` or a space.
 #[inline(always)]
 pub fn is_date_time_separator(byte: u8) -> bool {
     byte == b'T' || byte == b't' || byte == b' '
 }
 
-/// `T` or `t`.
+/// Returns whether the byte is `T` or `t`.
 #[inline(always)]
 pub fn is_time_designator(byte: u8) -> bool {
     byte == b'T' || byte == b't'
 }
 
-/// `P` or `p`.
+/// Returns whether the byte is `P` or `p`.
 #[inline(always)]
 pub fn is_duration_designator(byte: u8) -> bool {
     byte == b'P' || byte == b'p'
 }
 
-/// `Z` or `z`.
+/// Returns whether the byte is `Z` or `z`.
 #[inline(always)]
 pub fn is_utc_designator(byte: u8) -> bool {
     byte == b'Z' || byte == b'z'
 }
 
-/// `[`.
+/// Returns whether the byte is `[`.
 #[inline(always)]
 pub fn is_annotation_open(byte: u8) -> bool {
     byte == b'['
 }
 
-/// `]`.
+/// Returns whether the byte is `]`.
 #[inline(always)]
 pub fn is_annotation_close(byte: u8) -> bool {
     byte == b']'
 }
 
-/// `!`.
+/// Returns whether the byte is `!`.
 #[inline(always)]
 pub fn is_critical_flag(byte: u8) -> bool {
     byte == b'!'
 }
 
-/// `=`.
+/// Returns whether the byte is `=`.
 #[inline(always)]
 pub fn is_annotation_key_value_separator(byte: u8) -> bool {
     byte == b'='
 }
 
-/// `/`.
+/// Returns whether the byte is `/`.
 #[inline(always)]
 pub fn is_tz_name_separator(byte: u8) -> bool {
     byte == b'/'
 }
 
-/// What a zone name begins with: an ASCII letter, `_` or `.`.
+/// Returns whether the name of a zone can begin with the byte: an ASCII letter, `_` or `.`.
 #[inline(always)]
 pub fn is_tz_leading_char(byte: u8) -> bool {
     CLASSES[byte as usize] & TZ_LEAD != 0
 }
 
-/// What follows in a zone name: what begins one, a digit, `+` or `-`.
+/// Returns whether the name of a zone can contain the byte: an ASCII letter, `_`, `.`, a digit, `+` or `-`.
 #[inline(always)]
 pub fn is_tz_char(byte: u8) -> bool {
     CLASSES[byte as usize] & TZ_CHAR != 0
 }
 
-/// What a key begins with: a lowercase ASCII letter or `_`.
+/// Returns whether a key can begin with the byte: a lowercase ASCII letter or `_`.
 #[inline(always)]
 pub fn is_a_key_leading_char(byte: u8) -> bool {
     CLASSES[byte as usize] & KEY_LEAD != 0
 }
 
-/// What follows in a key: what begins one, a digit or `-`.
+/// Returns whether a key can contain the byte: a lowercase ASCII letter, `_`, a digit or `-`.
 #[inline(always)]
 pub fn is_a_key_char(byte: u8) -> bool {
     CLASSES[byte as usize] & KEY_CHAR != 0
 }
 
-/// What a component of a value has: ASCII letters and digits.
+/// Returns whether a component of a value can contain the byte: an ASCII letter or a digit.
 #[inline(always)]
 pub fn is_annotation_value_component(byte: u8) -> bool {
     CLASSES[byte as usize] & VALUE_CHAR != 0
 }
 
-/// The value of two digits, or at least 100 where one of the bytes is not a digit.
+/// Returns the value of two digits, or at least 100 if one of the bytes is not a digit.
 #[inline(always)]
 pub fn two_digit_number(tens: u8, ones: u8) -> u8 {
     tens_of(tens) + ones_of(ones)
 }
 
-/// Ten times the value of a digit, or 100 for any other byte.
+/// Returns ten times the value of a digit, or 100 for any other byte.
 #[inline(always)]
 fn tens_of(byte: u8) -> u8 {
     DIGIT_VALUES.tens[byte as usize]
 }
 
-/// The value of a digit, or 100 for any other byte.
+/// Returns the value of a digit, or 100 for any other byte.
 #[inline(always)]
 fn ones_of(byte: u8) -> u8 {
     DIGIT_VALUES.ones[byte as usize]

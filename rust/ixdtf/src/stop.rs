@@ -1,11 +1,12 @@
 // Made by tools/to_rust.py of crates/ixdtf_reading/src/stop.rt. Do not edit.
 
-//! Why a reading stopped, in one byte.
+//! The error inside the library, of one byte.
 
 use crate::{LocatedError, ParseError};
 
-/// Why a reading stopped: an error that a reader returns, with `AbruptEnd` once for each location. It takes one byte.
-/// The error is made of it only where a public reader returns.
+/// The reason why a function stopped: an error of a reader, with one variant for each location of `AbruptEnd`.
+///
+/// It takes one byte. Only the public readers make a `ParseError` from it.
 #[derive(Clone, Copy)]
 pub enum Stop {
     NonAsciiCodePoint,
@@ -59,14 +60,14 @@ pub enum Stop {
 }
 
 impl Stop {
-    /// Its error. It is inlined, so that a reader of records makes no call for it.
+    /// Returns the error. It is inlined, so that the readers of `IxdtfParser` need no function call for it.
     #[inline(always)]
     pub fn error(self) -> ParseError {
         ERRORS[self as usize]
     }
 }
 
-// The error of each stop, in the order of the stops.
+// The error of each `Stop`, in the order of the variants.
 const ERRORS: &[ParseError; 48] = &[
     ParseError::NonAsciiCodePoint,
     ParseError::AbruptEnd { location: "digit" },
@@ -138,26 +139,26 @@ const ERRORS: &[ParseError; 48] = &[
 
 const _: () = assert!(size_of::<Stop>() == 1);
 
-/// A stop and its place.
+/// A `Stop` and its position.
 #[derive(Clone, Copy)]
 pub struct StopAt {
-    /// The stop.
+    /// The `Stop`.
     pub stop: Stop,
-    /// How many code units stand before its place.
+    /// The position: the number of code units before the error.
     pub at: usize,
 }
 
-/// An error made of a stop, with its place or without.
+/// An error that can be made from a `Stop`: `ParseError`, or `LocatedError` with the position.
 ///
-/// What calls a handler is generic in its error by this bound, and is used at `ParseError` and at `LocatedError`. So its own
-/// signature does not name `'static`, as `ParseError` does.
+/// A function that calls a handler is generic in its error, with this bound. So its own signature does not name
+/// `'static`, as `ParseError` does.
 pub trait FromStop {
-    /// The error of a stop, whose place is behind `at` code units.
+    /// Makes the error from a `Stop` with position `at`.
     fn of_stop(stop: Stop, at: usize) -> Self;
 }
 
 impl FromStop for LocatedError {
-    /// The error of the stop, with its place.
+    /// Makes the error with its position.
     #[inline(always)]
     fn of_stop(stop: Stop, at: usize) -> LocatedError {
         LocatedError {
@@ -168,15 +169,17 @@ impl FromStop for LocatedError {
 }
 
 impl FromStop for ParseError {
-    /// The error of the stop, whatever stands before it.
+    /// Makes the error, without its position.
     #[inline(always)]
     fn of_stop(stop: Stop, _at: usize) -> ParseError {
         stop.error()
     }
 }
 
-/// The error of a stop, whose place is behind `at` code units. It is not inlined, so that a loop over a name stays small. It
-/// is generic, so that a compiler sees its body where it is called, and leaves the call out where the error is not used.
+/// Makes the error from a `Stop` with position `at`.
+///
+/// It is not inlined, so that a loop over a name stays small. It is generic, so that the compiler sees its body at each
+/// call, and removes a call whose error is not used.
 #[cold]
 #[inline(never)]
 pub fn error_of_stop<E: FromStop>(stop: Stop, at: usize) -> E {

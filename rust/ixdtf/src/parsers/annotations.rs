@@ -1,6 +1,6 @@
 // Made by tools/to_rust.py of crates/ixdtf_reading/src/annotations.rt. Do not edit.
 
-//! Reading annotations of a key and a value.
+//! Functions that read annotations: a key and a value in brackets.
 
 use crate::cursor::Cursor;
 use crate::grammar::{
@@ -24,7 +24,7 @@ impl Letters for KeyLetters {
     }
 }
 
-/// Reads a key and the `=` after it, and returns the key's code units. Its first code unit has been seen.
+/// Reads a key and the `=` after it. Returns the code units of the key. The caller has tested its first code unit.
 #[inline(always)]
 pub fn parse_annotation_key<'a, T: EncodingType>(
     cursor: &mut Cursor<'a, T>,
@@ -32,7 +32,8 @@ pub fn parse_annotation_key<'a, T: EncodingType>(
     let start = cursor.rest();
     cursor.advance();
     let next = pass_letters::<T, KeyLetters>(cursor)?;
-    // It always is there: with this test a compiler sees it too, and keeps no panic.
+    // This slice always exists, as the proof shows. The compiler does not know the proof: because of this test, it
+    // compiles no code for a panic.
     let Some(key) = start.get(..start.len() - cursor.rest().len()) else {
         return Err(Stop::AnnotationKeyChar);
     };
@@ -56,8 +57,8 @@ impl Letters for ComponentLetters {
     }
 }
 
-/// Takes the first code unit of a component. Another code unit, or the end of the input, is this stop, and is not
-/// taken.
+/// Consumes the first code unit of a component. Returns `other` at any other code unit and at the end of the input.
+/// Then nothing is consumed.
 #[inline(always)]
 fn start_component<'a, T: EncodingType>(cursor: &mut Cursor<'a, T>, other: Stop) -> Result<(), Stop> {
     match cursor.look()? {
@@ -69,7 +70,7 @@ fn start_component<'a, T: EncodingType>(cursor: &mut Cursor<'a, T>, other: Stop)
     }
 }
 
-/// Reads a value, component by component between its hyphens, and the `]` after it, and returns the value's code units.
+/// Reads a value and the `]` after it, component by component. Returns the code units of the value.
 #[inline(always)]
 pub fn parse_annotation_value<'a, T: EncodingType>(
     cursor: &mut Cursor<'a, T>,
@@ -92,9 +93,9 @@ pub fn parse_annotation_value<'a, T: EncodingType>(
     }
 }
 
-// ==== Pairs ====
+// ==== Annotations ====
 
-/// Reads a key, `=`, a value and `]`.
+/// Reads a key, `=`, a value and `]`. These are an annotation after its `[` or `[!`.
 #[inline(always)]
 fn parse_pair<'a, T: EncodingType>(
     cursor: &mut Cursor<'a, T>,
@@ -109,7 +110,7 @@ fn parse_pair<'a, T: EncodingType>(
     })
 }
 
-/// Reads a pair after the `[` of a bracket after others.
+/// Reads an annotation after its `[`. Its bracket is not the first one.
 #[inline(always)]
 fn parse_later_pair<'a, T: EncodingType>(
     cursor: &mut Cursor<'a, T>,
@@ -124,7 +125,7 @@ fn parse_later_pair<'a, T: EncodingType>(
     }
 }
 
-/// Reads a pair after the `[` and the `!` of a bracket after others.
+/// Reads an annotation after its `[!`. Its bracket is not the first one.
 #[inline(always)]
 fn parse_critical_pair<'a, T: EncodingType>(
     cursor: &mut Cursor<'a, T>,
@@ -135,7 +136,7 @@ fn parse_critical_pair<'a, T: EncodingType>(
     }
 }
 
-/// Reads the next pair after whole brackets, or returns `None` at the end of the input.
+/// Reads the next annotation after a complete bracket. Returns `None` at the end of the input.
 #[inline(always)]
 pub fn next_annotation<'a, T: EncodingType>(
     cursor: &mut Cursor<'a, T>,

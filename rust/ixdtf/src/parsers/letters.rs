@@ -1,6 +1,6 @@
 // Made by tools/to_rust.py of crates/ixdtf_reading/src/letters.rt. Do not edit.
 
-//! Passing over code units one by one.
+//! The function that consumes code units of one class.
 
 use crate::cursor::Cursor;
 use crate::stop::Stop;
@@ -8,18 +8,18 @@ use crate::encoding::EncodingType;
 
 /// A class of code units, such as those of a key.
 pub trait Letters {
-    /// Whether the code unit is one of the class.
+    /// Returns whether the class contains the code unit.
     fn has(byte: u8) -> bool;
 }
 
-/// Passes over the run of code units of a class, and returns the one that ends it, which is not taken, or
-/// `None` at the end of the input.
+/// Consumes code units as long as they are in the class. Returns the next code unit, which is not consumed, or `None`
+/// at the end of the input.
 #[inline(always)]
 pub fn pass_letters<'a, T: EncodingType, S: Letters>(
     cursor: &mut Cursor<'a, T>,
 ) -> Result<Option<u8>, Stop> {
     let mut here = cursor.fork();
-    // Four steps in a row: one test of the length serves for four looks, and the cursor moves once.
+    // Each round has four accesses: they need only one test of the length, and the cursor moves once.
     let found = loop {
         if here.remaining() >= 4 {
             let first = here.look();
@@ -54,7 +54,7 @@ pub fn pass_letters<'a, T: EncodingType, S: Letters>(
     found
 }
 
-/// Whether a look found a code unit of the class.
+/// Returns whether the code unit that was read is in the class.
 #[inline(always)]
 fn goes_on<S: Letters>(found: Result<Option<u8>, Stop>) -> bool {
     match found {
