@@ -1,4 +1,4 @@
-//! Reading a date, a separator and a time at the first nineteen places of a text, as most have them: `YYYY-MM-DDTHH:MM:SS`.
+//! Functions that read `YYYY-MM-DDTHH:MM:SS` in the first nineteen columns of a text. Most texts begin in this form.
 
 #![tactic(auto, unfolding(ixdtf_reading::specs::reading::FixedPlaces::fixed_readings))]
 
@@ -18,9 +18,10 @@ use ixdtf_grammar::records::DateRecord;
 use ixdtf_reading::cursor::Cursor;
 use ixdtf_reading::grammar::is_date_time_separator;
 
-/// Takes off the date, the separator and the time that stand at the first nineteen places. It is `None`, with the rest
-/// unchanged, at the first place that does not fit, and where the numbers are no date or no time. Of fewer
-/// than nineteen units none is looked at.
+/// Consumes a date, a separator and a time in the first nineteen columns.
+///
+/// Returns `None`, and consumes nothing, if a column does not fit, or if the numbers are not a date or not a time. If
+/// fewer than nineteen code units remain, none of them is read.
 #[inline(always)]
 #[tactic(auto, using(ixdtf_reading::proofs::code::FixedPlaces::date_time_at_place, ixdtf_reading::proofs::code::FixedPlaces::date_time_stands))]
 pub fn take_fixed_date_time<'a, T: EncodingType>(
@@ -40,7 +41,8 @@ pub fn take_fixed_date_time<'a, T: EncodingType>(
     Some(found)
 }
 
-/// The same, with nothing taken off.
+/// Reads a date, a separator and a time in the first nineteen columns, and consumes nothing. Returns `None` if they do
+/// not fit.
 #[inline(always)]
 #[tactic(auto, unfolding(ixdtf_reading::specs::reading::FixedPlaces::date_time_place))]
 fn fixed_date_time<'a, T: EncodingType>(
@@ -66,7 +68,7 @@ fn fixed_date_time<'a, T: EncodingType>(
     Some((date, time))
 }
 
-/// The separator of a date and a time, where one stands at a place, or `None`.
+/// Returns the code unit at index `place`, if it can separate a date from a time, and otherwise `None`.
 #[inline(always)]
 #[tactic(auto, using(ixdtf_reading::proofs::code::FixedPlaces::place_looked))]
 fn fixed_separator<'a, T: EncodingType>(cursor: &mut Cursor<'a, T>, place: usize) -> Option<u8>

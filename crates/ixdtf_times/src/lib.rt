@@ -1,8 +1,9 @@
 //! Dates, years with a month, months with a day, times and offsets.
 //!
-//! A layer of the library `ixdtf`, above `ixdtf_grammar` and `ixdtf_reading`. Each part is read at its fixed places where it has
-//! them, and else digit by digit: a module is a part. To the layers above it promises that each
-//! function is the reading of its part, whatever stands behind it, and how many looks it makes.
+//! This is a layer of the library `ixdtf`, above `ixdtf_grammar` and `ixdtf_reading`. Each module reads one kind of
+//! part. It reads a part in fixed columns if the part fits them, and otherwise digit by digit. The contracts promise to
+//! the layers above that each function does what the reading function of its part does, whatever comes after the part,
+//! and how many accesses it makes.
 #![tactic(auto)]
 
 pub mod date_times;

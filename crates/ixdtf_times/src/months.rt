@@ -1,4 +1,4 @@
-//! Reading year-months and month-days.
+//! Functions that read year-months and month-days.
 
 #![tactic(auto, unfolding(ixdtf_reading::specs::reading::Months::month_readings, ixdtf_reading::specs::reading::FixedPlaces::fixed_readings))]
 
@@ -24,7 +24,7 @@ use ixdtf_reading::stop::Stop;
 
 // ==== Year-months ====
 
-/// Reads a year-month, as a date with day 1: at its seven places or its six where these fit, and else part by part.
+/// Reads a year-month, as a date with day 1: in its seven or six fixed columns if they fit, and otherwise part by part.
 #[inline(always)]
 pub fn parse_year_month_date<'a, T: EncodingType>(
     cursor: &mut Cursor<'a, T>,
@@ -39,7 +39,7 @@ pub fn parse_year_month_date<'a, T: EncodingType>(
     }
 }
 
-/// The first day of a year-month, where its month is from 1 to 12.
+/// Returns the first day of a year-month if its month is 1 to 12, and otherwise `InvalidMonthRange`.
 #[inline(always)]
 fn check_year_month(first: DateRecord) -> Result<DateRecord, Stop>
     ensures { (rest : Text) → YieldsAt (λ date. (date, rest)) result rest
@@ -49,8 +49,9 @@ fn check_year_month(first: DateRecord) -> Result<DateRecord, Stop>
     Ok(first)
 }
 
-/// Takes off the year-month that stands at the first seven places, or at the six of one without a hyphen, as a date with
-/// day 1. It is `None`, with the rest unchanged, at the first place that does not fit. Its month is not checked.
+/// Consumes the year-month in the first seven columns, or in the first six if it has no hyphen, as a date with day 1.
+///
+/// Returns `None`, and consumes nothing, if a column does not fit. The month is not checked.
 #[inline(always)]
 fn take_fixed_year_month<'a, T: EncodingType>(cursor: &mut Cursor<'a, T>) -> Option<DateRecord>
     ensures read { IfSome result (λ first. year_month_at error_of (map T.letter cursor.old.rest) ≡
@@ -77,7 +78,8 @@ fn take_fixed_year_month<'a, T: EncodingType>(cursor: &mut Cursor<'a, T>) -> Opt
     Some(first)
 }
 
-/// The first day of a month of the year, where its two digits stand at a place and the next, or `None`. It is not checked.
+/// Returns the first day of a month of the year. The two digits of the month are at index `place` and at the next
+/// index. Returns `None` if they are not digits. The month is not checked.
 #[inline(always)]
 fn fixed_month_of<'a, T: EncodingType>(
     cursor: &mut Cursor<'a, T>,
@@ -94,7 +96,7 @@ fn fixed_month_of<'a, T: EncodingType>(
     Some(first_day(year, month))
 }
 
-/// Reads the parts of a year-month.
+/// Reads a year-month part by part.
 #[inline(always)]
 pub fn parse_year_month_parts<'a, T: EncodingType>(
     cursor: &mut Cursor<'a, T>,
@@ -114,8 +116,8 @@ pub fn parse_year_month_parts<'a, T: EncodingType>(
 
 // ==== Month-days ====
 
-/// Reads a month-day, as a date with year 0: at its five places or its four where these fit, with two hyphens before them or
-/// none, and else part by part.
+/// Reads a month-day, as a date with year 0: in its five or four fixed columns if they fit, and otherwise part by part.
+/// Two hyphens can be before it.
 #[inline(always)]
 pub fn parse_month_day_date<'a, T: EncodingType>(
     cursor: &mut Cursor<'a, T>,
@@ -137,8 +139,8 @@ pub fn parse_month_day_date<'a, T: EncodingType>(
     parse_month_day_parts(cursor, profile)
 }
 
-/// Reads the month-day whose month stands at a place and the next: at its places where these fit, and else part by part from
-/// there.
+/// Reads the month-day whose month is at index `start` and at the next index: in fixed columns if they fit, and
+/// otherwise part by part from there on.
 #[inline(always)]
 fn parse_month_day_at<'a, T: EncodingType>(
     cursor: &mut Cursor<'a, T>,
@@ -172,7 +174,8 @@ fn parse_month_day_at<'a, T: EncodingType>(
     parse_day_of_month(cursor, profile, month)
 }
 
-/// The number of the two digits of a day at a place and the next, or `None`. It is not checked.
+/// Returns the number of the two digits of a day at index `place` and at the next index, or `None` if they are not
+/// digits. The day is not checked.
 #[inline(always)]
 fn fixed_day<'a, T: EncodingType>(cursor: &mut Cursor<'a, T>, place: usize) -> Option<u8>
     requires early { place < 18 }
@@ -188,7 +191,7 @@ fn fixed_day<'a, T: EncodingType>(cursor: &mut Cursor<'a, T>, place: usize) -> O
     cursor.fixed_number(place)
 }
 
-/// Reads the parts of a month-day.
+/// Reads a month-day part by part.
 #[inline(always)]
 pub fn parse_month_day_parts<'a, T: EncodingType>(
     cursor: &mut Cursor<'a, T>,
@@ -202,7 +205,7 @@ pub fn parse_month_day_parts<'a, T: EncodingType>(
     parse_unmarked(cursor, profile)
 }
 
-/// Reads the parts of a month-day without the hyphens that may stand before its month.
+/// Reads a month-day part by part, after the two hyphens that can be before its month.
 #[inline(always)]
 fn parse_unmarked<'a, T: EncodingType>(
     cursor: &mut Cursor<'a, T>,
@@ -216,7 +219,7 @@ fn parse_unmarked<'a, T: EncodingType>(
     parse_day_of_month(cursor, profile, month)
 }
 
-/// Reads the day after a month, with a hyphen before it or none.
+/// Reads the day after a month. A hyphen can be before it.
 #[inline(always)]
 fn parse_day_of_month<'a, T: EncodingType>(
     cursor: &mut Cursor<'a, T>,
@@ -256,7 +259,8 @@ fn take_marks<'a, T: EncodingType>(cursor: &mut Cursor<'a, T>) -> Result<bool, S
     }
 }
 
-/// The month-day, where its month has the day in some year. Day 0 is taken too, but not under the strict profile.
+/// Returns the month-day if its month has the day in some year, and otherwise `InvalidMonthDay`. Day 0 is accepted too,
+/// but not under the strict profile.
 #[inline(always)]
 pub fn check_month_day(profile: Profile, month: u8, day: u8) -> Result<DateRecord, Stop>
     ensures { Checks (λ date. date) result (date_of (pos 0) month day)
@@ -272,8 +276,8 @@ pub fn check_month_day(profile: Profile, month: u8, day: u8) -> Result<DateRecor
     })
 }
 
-/// Whether the month has the day in some year, such as the leap year 0, or the day is 0 and the profile is not the strict one.
-/// Each month has the first 28.
+/// Returns whether the month has the day in some year, for example in the leap year 0. Returns true for day 0 too, but
+/// not under the strict profile. Every month has the days 1 to 28.
 #[inline(always)]
 fn has_month_day(profile: Profile, month: u8, day: u8) -> bool
     ensures { result ≡ (nat_le (least_day profile) day && nat_le day (greatest_day month)) }

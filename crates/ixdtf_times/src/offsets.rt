@@ -1,4 +1,4 @@
-//! Reading offsets from UTC.
+//! Functions that read offsets from UTC.
 
 #![tactic(auto, unfolding(ixdtf_reading::specs::reading::Zones::zone_readings))]
 
@@ -27,17 +27,17 @@ use ixdtf_reading::cursor::Cursor;
 use ixdtf_reading::grammar::{is_annotation_open, is_ascii_sign, is_hyphen};
 use ixdtf_reading::stop::Stop;
 
-/// What stands behind a core.
+/// What follows a core.
 #[derive(Clone, Copy)]
 pub enum AfterCore {
     /// The end of the text.
     End,
-    /// A `[`, which is taken off.
+    /// A `[`, which has been consumed.
     Bracket,
 }
 
 impl AfterCore {
-    /// Whether it is a `[`.
+    /// Returns whether it is a `[`.
     #[inline(always)]
     pub fn opens_bracket(self) -> bool
         ensures { result ≡ opens_bracket self }
@@ -49,7 +49,7 @@ impl AfterCore {
     }
 }
 
-/// The sign of a `+` or a `-`.
+/// Returns the sign for a `+` or a `-`.
 #[inline(always)]
 pub fn sign_from(byte: u8) -> Sign
     ensures { result ≡ sign_of byte }
@@ -61,7 +61,7 @@ pub fn sign_from(byte: u8) -> Sign
     }
 }
 
-/// The sign, hour and minute of an offset.
+/// Returns the offset with this sign, and with the hour and the minute of `time`.
 #[inline(always)]
 pub fn minute_offset(sign: u8, time: TimeRecord) -> MinutePrecisionOffset
     ensures { result ≡ minutes_of sign time }
@@ -73,7 +73,8 @@ pub fn minute_offset(sign: u8, time: TimeRecord) -> MinutePrecisionOffset
     }
 }
 
-/// The hour of an offset at the first two places, or `None` where these do not fit, and where it is too great.
+/// Returns the hour of an offset in the first two columns. Returns `None` if they do not fit, or if the hour is too
+/// great.
 #[inline(always)]
 #[tactic(auto, unfolding(ixdtf_reading::specs::reading::FixedPlaces::hour_place))]
 fn fixed_hour<'a, T: EncodingType>(cursor: &mut Cursor<'a, T>) -> Option<u8>
@@ -89,8 +90,8 @@ fn fixed_hour<'a, T: EncodingType>(cursor: &mut Cursor<'a, T>) -> Option<u8>
     Some(hour)
 }
 
-/// The minute of an offset behind a colon at the third place, or `None` at the first place that does not fit, and where it is
-/// too great.
+/// Returns the minute of an offset after a colon at index 2. Returns `None` if a column does not fit, or if the minute
+/// is too great.
 #[inline(always)]
 #[tactic(auto, unfolding(ixdtf_reading::specs::reading::FixedPlaces::minute_place))]
 fn fixed_minute<'a, T: EncodingType>(cursor: &mut Cursor<'a, T>) -> Option<u8>
@@ -149,8 +150,10 @@ pub fn take_fixed_offset<'a, T: EncodingType>(
     Some(AfterCore::Bracket)
 }
 
-/// Takes off an offset that stands behind its sign at the last five places of a text. It is `None`, with the rest unchanged,
-/// where there are more or fewer, or one of them does not fit.
+/// Consumes an offset `HH:MM` after its sign, if it is the complete remaining input.
+///
+/// Returns `None`, and consumes nothing, if the input has another length or another form, or if a number is out of
+/// range.
 #[inline(always)]
 pub fn take_last_offset<'a, T: EncodingType>(
     cursor: &mut Cursor<'a, T>,
@@ -179,7 +182,7 @@ pub fn take_last_offset<'a, T: EncodingType>(
     Some(offset)
 }
 
-/// The record of an offset: in full where it has seconds.
+/// Returns the record of an offset: a `FullPrecisionOffset` if it has seconds, and otherwise a `MinutePrecision`.
 #[inline(always)]
 pub fn offset_from(sign: u8, shape: TimeShape, time: TimeRecord) -> UtcOffsetRecord
     ensures { result ≡ offset_of sign (writes_seconds (shape_of shape)) time }
@@ -197,7 +200,7 @@ pub fn offset_from(sign: u8, shape: TimeShape, time: TimeRecord) -> UtcOffsetRec
     })
 }
 
-/// Reads an offset, and wants the end.
+/// Reads an offset, and expects the end of the input.
 #[inline(always)]
 pub fn parse_offset_text<'a, T: EncodingType>(
     cursor: &mut Cursor<'a, T>,

@@ -1,4 +1,4 @@
-//! Reading times of day, and offsets after their sign, which are written as times are.
+//! Functions that read times of day, and offsets after their sign. Both are written in the same way.
 
 #![tactic(auto, unfolding(ixdtf_reading::specs::reading::Times::time_readings))]
 
@@ -20,7 +20,7 @@ use ixdtf_reading::cursor::Cursor;
 use ixdtf_reading::grammar::{is_decimal_separator, is_time_separator};
 use ixdtf_reading::stop::Stop;
 
-/// What is written as a time is.
+/// One of the three parts that are written like a time.
 #[derive(Clone, Copy)]
 pub enum Clock {
     /// A time of day.
@@ -32,7 +32,8 @@ pub enum Clock {
 }
 
 impl Clock {
-    /// Whether a second starts at the byte after a minute: at a colon where colons are written, and else at a digit.
+    /// Returns whether a second begins at the byte after a minute: at a colon if the time has colons, and otherwise at
+    /// a digit.
     #[inline(always)]
     fn starts_second(self, colons: bool, byte: u8) -> bool
         ensures { result ≡ seconds_after (clock_of self) (second_start colons) byte }
@@ -44,7 +45,7 @@ impl Clock {
         }
     }
 
-    /// Why reading stops at a colon or a digit after a minute that no second may follow so.
+    /// Returns the `Stop` for a colon or a digit after a minute, if no second may follow in this way.
     #[inline(always)]
     fn mixed(self) -> Stop
         ensures { fault_of_stop result ≡ mixed (clock_of self) }
@@ -57,23 +58,23 @@ impl Clock {
     }
 }
 
-/// How far a time was written.
+/// The parts that a time has.
 #[derive(Clone, Copy)]
 pub enum TimeShape {
-    /// An hour alone.
+    /// Only an hour.
     Hours,
-    /// An hour and a minute right after it.
+    /// An hour and a minute, without a colon between them.
     BasicMinutes,
-    /// An hour, a colon and a minute.
+    /// An hour and a minute, with a colon between them.
     ColonMinutes,
-    /// A second too.
+    /// An hour, a minute and a second.
     Seconds,
-    /// A fraction of a second too.
+    /// An hour, a minute, a second and a fraction.
     Fractions,
 }
 
 impl TimeShape {
-    /// Whether a second stands in it.
+    /// Returns whether the time has a second.
     #[inline(always)]
     pub fn writes_seconds(self) -> bool
         ensures { result ≡ writes_seconds (shape_of self) }
@@ -85,9 +86,9 @@ impl TimeShape {
     }
 }
 
-// ==== The time at its places after a date ====
+// ==== The time in its fixed columns after a date ====
 
-/// A time to its second.
+/// A time with hour, minute and second.
 #[derive(Clone, Copy)]
 pub struct WholeTime {
     pub hour: u8,
@@ -96,7 +97,7 @@ pub struct WholeTime {
 }
 
 impl WholeTime {
-    /// Whether the hour, the minute and the second are at most the greatest of their places.
+    /// Returns whether the hour, the minute and the second are in their ranges.
     #[inline(always)]
     pub fn is_time(self) -> bool
         ensures { result ≡ time_in_range (time_to_second self) }
@@ -105,8 +106,8 @@ impl WholeTime {
     }
 }
 
-/// The time at the eight places after a date and a separator, or `None` at the first that does not fit. Its numbers are not
-/// checked.
+/// Returns the time in the eight columns after a date and a separator, or `None` if a column does not fit. The ranges
+/// of the numbers are not checked.
 #[inline(always)]
 #[tactic(auto, unfolding(ixdtf_reading::specs::reading::FixedPlaces::fixed_readings))]
 pub fn fixed_time<'a, T: EncodingType>(cursor: &mut Cursor<'a, T>) -> Option<WholeTime>
@@ -129,7 +130,7 @@ pub fn fixed_time<'a, T: EncodingType>(cursor: &mut Cursor<'a, T>) -> Option<Who
 
 // ==== Times digit by digit ====
 
-/// Writes a time of these parts, as far as the shape.
+/// Writes the parts of a time into a record.
 #[inline(always)]
 fn write_time(time: &mut TimeRecord, hour: u8, minute: u8, second: u8, fraction: Option<Fraction>)
     ensures { time.new ≡ time_of hour minute second fraction }
@@ -142,7 +143,7 @@ fn write_time(time: &mut TimeRecord, hour: u8, minute: u8, second: u8, fraction:
     };
 }
 
-/// The number, where it is at most the greatest of its place, else the stop.
+/// Returns the number if it is at most `greatest`, and otherwise `stop`.
 #[inline(always)]
 fn check_most(number: u8, greatest: u8, stop: Stop) -> Result<u8, Stop>
     ensures { Checks (λ number. number) result number
@@ -173,7 +174,7 @@ fn next_number<'a, T: EncodingType>(
     check_most(number, greatest, stop)
 }
 
-/// Reads a time, as far as it goes.
+/// Reads a time as far as it goes, and writes it to `time`. Returns which parts it has.
 #[inline(always)]
 #[tactic(auto, using(crate::proofs::code::HourDigits::hour_is_number))]
 pub fn parse_clock<'a, T: EncodingType>(
@@ -199,8 +200,11 @@ pub fn parse_clock<'a, T: EncodingType>(
     }
 }
 
-/// Reads the minute, where its colon is taken off if colons are written, and what of the time stands after it. A colon and
-/// a digit go on there as they did before the minute, where seconds may be, and are errors else.
+/// Reads the minute, and the parts of the time after it. If the time has colons, the colon before the minute has been
+/// consumed.
+///
+/// A second can follow the minute, if the clock has seconds. It has a colon before it exactly if the minute has one.
+/// Any other colon or digit after the minute is an error.
 #[inline(always)]
 fn parse_minute<'a, T: EncodingType>(
     cursor: &mut Cursor<'a, T>,
@@ -247,7 +251,7 @@ fn next_second<'a, T: EncodingType>(cursor: &mut Cursor<'a, T>, clock: Clock) ->
     }
 }
 
-/// Reads the second, and a fraction where there is one.
+/// Reads the second, and a fraction if it follows.
 #[inline(always)]
 fn parse_second<'a, T: EncodingType>(
     cursor: &mut Cursor<'a, T>,
@@ -264,7 +268,7 @@ fn parse_second<'a, T: EncodingType>(
     parse_after_second(cursor, hour, minute, second, time)
 }
 
-/// Reads a fraction after a second, where there is one. It is read alike for each clock, as its digits are.
+/// Reads a fraction after a second, if there is one. Fractions have the same form for every clock.
 #[inline(always)]
 pub fn parse_after_second<'a, T: EncodingType>(
     cursor: &mut Cursor<'a, T>,
@@ -291,7 +295,7 @@ pub fn parse_after_second<'a, T: EncodingType>(
     }
 }
 
-/// Reads the digits of a fraction after its decimal mark: `FractionPart` where there is none.
+/// Reads the digits of a fraction after its `.` or `,`. Returns `FractionPart` if no digit follows.
 #[inline(always)]
 pub fn parse_fraction<'a, T: EncodingType>(cursor: &mut Cursor<'a, T>) -> Result<Fraction, Stop>
     ensures fraction { Reads T.letter (λ fraction. fraction) cursor.old result cursor.new
@@ -304,7 +308,7 @@ pub fn parse_fraction<'a, T: EncodingType>(cursor: &mut Cursor<'a, T>) -> Result
     read
 }
 
-/// Reads the digits of a fraction. It is not inlined: few texts have one.
+/// Reads the digits of a fraction. It is not inlined, because few texts have a fraction.
 #[inline(never)]
 fn parse_digits<'a, T: EncodingType>(cursor: &mut Cursor<'a, T>) -> Result<Fraction, Stop>
     ensures fraction { Reads T.letter (λ fraction. fraction) cursor.old result cursor.new
@@ -324,7 +328,8 @@ fn parse_digits<'a, T: EncodingType>(cursor: &mut Cursor<'a, T>) -> Result<Fract
     read
 }
 
-/// Reads the other digits of a fraction: of the first 18 it makes the number, and those behind them it only counts.
+/// Reads the digits of a fraction after the first one. The first 18 digits give the value. Later digits are only
+/// counted.
 #[inline(always)]
 fn parse_more_digits<'a, T: EncodingType>(
     cursor: &mut Cursor<'a, T>,
@@ -348,7 +353,7 @@ fn parse_more_digits<'a, T: EncodingType>(
     count_more_digits(cursor, fraction)
 }
 
-/// Counts the digits behind the first 18 of a fraction.
+/// Counts the digits of a fraction after the first 18.
 #[inline(always)]
 fn count_more_digits<'a, T: EncodingType>(
     cursor: &mut Cursor<'a, T>,

@@ -1,6 +1,6 @@
 // Made by tools/to_rust.py of crates/ixdtf_times/src/date_times.rt. Do not edit.
 
-//! Reading a date, a separator and a time at the first nineteen places of a text, as most have them: `YYYY-MM-DDTHH:MM:SS`.
+//! Functions that read `YYYY-MM-DDTHH:MM:SS` in the first nineteen columns of a text. Most texts begin in this form.
 
 use crate::parsers::dates::{fixed_date, is_date};
 use crate::parsers::time::{WholeTime, fixed_time};
@@ -9,9 +9,10 @@ use crate::records::DateRecord;
 use crate::cursor::Cursor;
 use crate::grammar::is_date_time_separator;
 
-/// Takes off the date, the separator and the time that stand at the first nineteen places. It is `None`, with the rest
-/// unchanged, at the first place that does not fit, and where the numbers are no date or no time. Of fewer
-/// than nineteen units none is looked at.
+/// Consumes a date, a separator and a time in the first nineteen columns.
+///
+/// Returns `None`, and consumes nothing, if a column does not fit, or if the numbers are not a date or not a time. If
+/// fewer than nineteen code units remain, none of them is read.
 #[inline(always)]
 pub fn take_fixed_date_time<'a, T: EncodingType>(
     cursor: &mut Cursor<'a, T>,
@@ -21,7 +22,8 @@ pub fn take_fixed_date_time<'a, T: EncodingType>(
     Some(found)
 }
 
-/// The same, with nothing taken off.
+/// Reads a date, a separator and a time in the first nineteen columns, and consumes nothing. Returns `None` if they do
+/// not fit.
 #[inline(always)]
 fn fixed_date_time<'a, T: EncodingType>(
     cursor: &mut Cursor<'a, T>,
@@ -38,7 +40,7 @@ fn fixed_date_time<'a, T: EncodingType>(
     Some((date, time))
 }
 
-/// The separator of a date and a time, where one stands at a place, or `None`.
+/// Returns the code unit at index `place`, if it can separate a date from a time, and otherwise `None`.
 #[inline(always)]
 fn fixed_separator<'a, T: EncodingType>(cursor: &mut Cursor<'a, T>, place: usize) -> Option<u8> {
     match cursor.look_at(place) {

@@ -1,6 +1,6 @@
 // Made by tools/to_rust.py of crates/ixdtf_times/src/dates.rt. Do not edit.
 
-//! Reading dates.
+//! Functions that read dates.
 
 use crate::encoding::EncodingType;
 use crate::records::DateRecord;
@@ -8,7 +8,7 @@ use crate::cursor::Cursor;
 use crate::grammar::{is_ascii_sign, is_hyphen, two_digit_number};
 use crate::stop::Stop;
 
-/// Reads a date: at its ten places or its eight where these fit, and else part by part.
+/// Reads a date: in its ten or eight fixed columns if they fit, and otherwise part by part.
 #[inline(always)]
 pub fn parse_date<'a, T: EncodingType>(cursor: &mut Cursor<'a, T>) -> Result<DateRecord, Stop> {
     match take_fixed_date(cursor) {
@@ -17,9 +17,9 @@ pub fn parse_date<'a, T: EncodingType>(cursor: &mut Cursor<'a, T>) -> Result<Dat
     }
 }
 
-// ==== At fixed places ====
+// ==== In fixed columns ====
 
-/// The first day of a month, which is not checked.
+/// Returns the first day of a month. The month is not checked.
 #[inline(always)]
 pub fn first_day(year: u16, month: u8) -> DateRecord {
     DateRecord {
@@ -29,13 +29,14 @@ pub fn first_day(year: u16, month: u8) -> DateRecord {
     }
 }
 
-/// Whether the month is from 1 to 12 and has the day.
+/// Returns whether the month is 1 to 12, and has the day.
 #[inline(always)]
 pub fn is_date(date: DateRecord) -> bool {
     date.month >= 1 && date.month <= 12 && has_day(date.year, date.month, date.day)
 }
 
-/// The date at the first ten places, or `None` at the first that does not fit. Its month and its day are not checked.
+/// Returns the date in the first ten columns, or `None` if a column does not fit. The month and the day are not
+/// checked.
 #[inline(always)]
 pub fn fixed_date<'a, T: EncodingType>(cursor: &mut Cursor<'a, T>) -> Option<DateRecord> {
     if cursor.remaining() < 10 {
@@ -46,9 +47,10 @@ pub fn fixed_date<'a, T: EncodingType>(cursor: &mut Cursor<'a, T>) -> Option<Dat
     fixed_days(cursor, year)
 }
 
-/// Reads the date that stands at the first ten places, or at the eight of one without hyphens. Where only its year does, what
-/// follows is read on part by part. It is `None`, with the rest unchanged, where its year does not fit, and for fewer than eight
-/// units.
+/// Reads the date in the first ten columns, or in the first eight if it has no hyphens.
+///
+/// If only the year fits, the rest of the date is read part by part. Returns `None`, and consumes nothing, if the year
+/// does not fit, or if fewer than eight code units remain.
 #[inline(always)]
 fn take_fixed_date<'a, T: EncodingType>(
     cursor: &mut Cursor<'a, T>,
@@ -68,8 +70,9 @@ fn take_fixed_date<'a, T: EncodingType>(
     Some(parse_days(cursor, year))
 }
 
-/// Takes a date off, whose month and whose day end behind so many units. Where its month is not from 1 to 12, what stands
-/// behind the month stays.
+/// Consumes a date and checks it. Its month ends at index `month_end`, and its day at index `day_end`.
+///
+/// If the month is not 1 to 12, only the code units up to the end of the month are consumed.
 #[inline(always)]
 fn take_date<'a, T: EncodingType>(
     cursor: &mut Cursor<'a, T>,
@@ -85,7 +88,7 @@ fn take_date<'a, T: EncodingType>(
     check_date(date.year, date.month, date.day)
 }
 
-/// The year at the first four places, or `None` where one of them is no digit.
+/// Returns the year in the first four columns, or `None` if one of them is not a digit.
 #[inline(always)]
 pub fn fixed_year<'a, T: EncodingType>(cursor: &mut Cursor<'a, T>) -> Option<u16> {
     let century = cursor.fixed_number(0)?;
@@ -93,8 +96,8 @@ pub fn fixed_year<'a, T: EncodingType>(cursor: &mut Cursor<'a, T>) -> Option<u16
     Some(100 * u16::from(century) + u16::from(year))
 }
 
-/// The date of a year and of the month and the day at their places behind a hyphen, or `None` at the first place that does
-/// not fit. Its month and its day are not checked.
+/// Returns the date of a year, with the month and the day in their columns after a hyphen. Returns `None` if a column
+/// does not fit. The month and the day are not checked.
 #[inline(always)]
 fn fixed_days<'a, T: EncodingType>(cursor: &mut Cursor<'a, T>, year: u16) -> Option<DateRecord> {
     if cursor.remaining() < 10 {
@@ -110,7 +113,8 @@ fn fixed_days<'a, T: EncodingType>(cursor: &mut Cursor<'a, T>, year: u16) -> Opt
     })
 }
 
-/// The same at their places in a date without hyphens.
+/// Returns the date of a year, with the month and the day in their columns in a date without hyphens. Returns `None` if
+/// a column does not fit. The month and the day are not checked.
 #[inline(always)]
 fn fixed_basic_days<'a, T: EncodingType>(
     cursor: &mut Cursor<'a, T>,
@@ -127,7 +131,7 @@ fn fixed_basic_days<'a, T: EncodingType>(
 
 // ==== Part by part ====
 
-/// Reads the parts of a date.
+/// Reads a date part by part.
 #[inline(always)]
 fn parse_date_parts<'a, T: EncodingType>(cursor: &mut Cursor<'a, T>) -> Result<DateRecord, Stop> {
     let year = parse_date_year(cursor)?;
@@ -164,7 +168,7 @@ pub fn parse_date_year<'a, T: EncodingType>(cursor: &mut Cursor<'a, T>) -> Resul
     }
 }
 
-/// Reads the other three digits of a year of four.
+/// Reads the last three digits of a year with four digits.
 #[inline(always)]
 fn parse_four_digit_year<'a, T: EncodingType>(
     cursor: &mut Cursor<'a, T>,
@@ -236,8 +240,8 @@ pub fn take_hyphen<'a, T: EncodingType>(
     }
 }
 
-/// Reads a month after a year, and returns whether a hyphen stands before it. The end of the text after the year is this
-/// stop.
+/// Reads a month after a year. Returns the month, and whether a hyphen is before it. Returns `at_end` if the text
+/// ends after the year.
 #[inline(always)]
 pub fn parse_month<'a, T: EncodingType>(
     cursor: &mut Cursor<'a, T>,
@@ -250,7 +254,7 @@ pub fn parse_month<'a, T: EncodingType>(
     Ok((month, hyphened))
 }
 
-/// Reads the day after a month, with a hyphen before it where one stands before the month.
+/// Reads the day after a month. A hyphen must be before it if one is before the month.
 #[inline(always)]
 fn parse_day<'a, T: EncodingType>(
     cursor: &mut Cursor<'a, T>,
@@ -292,7 +296,7 @@ fn take_separator<'a, T: EncodingType>(
     }
 }
 
-/// The month, where it is from 1 to 12.
+/// Returns the month if it is 1 to 12, and otherwise `InvalidMonthRange`.
 #[inline(always)]
 pub fn check_month(month: u8) -> Result<u8, Stop> {
     if month < 1 || month > 12 {
@@ -301,7 +305,7 @@ pub fn check_month(month: u8) -> Result<u8, Stop> {
     Ok(month)
 }
 
-/// The date, where its month, which is from 1 to 12, has the day.
+/// Returns the date if the month has the day, and otherwise `InvalidDayRange`. The month must be 1 to 12.
 #[inline(always)]
 pub fn check_date(year: i32, month: u8, day: u8) -> Result<DateRecord, Stop> {
     if !has_day(year, month, day) {
@@ -310,13 +314,13 @@ pub fn check_date(year: i32, month: u8, day: u8) -> Result<DateRecord, Stop> {
     Ok(DateRecord { year, month, day })
 }
 
-/// Whether the month of the year has the day. Each month has the first 28.
+/// Returns whether the month of the year has the day. Every month has the days 1 to 28.
 #[inline(always)]
 pub fn has_day(year: i32, month: u8, day: u8) -> bool {
     (day >= 1 && day <= 28) || (day > 28 && day <= days_in_month(year, month))
 }
 
-/// The length of a month in the Gregorian calendar.
+/// Returns the number of days of a month in the Gregorian calendar.
 #[inline(always)]
 pub fn days_in_month(year: i32, month: u8) -> u8 {
     match month {
@@ -326,7 +330,7 @@ pub fn days_in_month(year: i32, month: u8) -> u8 {
     }
 }
 
-/// Whether the year has 29 days in February.
+/// Returns whether February has 29 days in this year.
 #[inline(always)]
 fn is_leap_year(year: i32) -> bool {
     let distance = year.unsigned_abs();

@@ -1,6 +1,6 @@
 // Made by tools/to_rust.py of crates/ixdtf_times/src/offsets.rt. Do not edit.
 
-//! Reading offsets from UTC.
+//! Functions that read offsets from UTC.
 
 use crate::parsers::time::{Clock, TimeShape, parse_clock};
 use crate::encoding::EncodingType;
@@ -12,17 +12,17 @@ use crate::cursor::Cursor;
 use crate::grammar::{is_annotation_open, is_ascii_sign, is_hyphen};
 use crate::stop::Stop;
 
-/// What stands behind a core.
+/// What follows a core.
 #[derive(Clone, Copy)]
 pub enum AfterCore {
     /// The end of the text.
     End,
-    /// A `[`, which is taken off.
+    /// A `[`, which has been consumed.
     Bracket,
 }
 
 impl AfterCore {
-    /// Whether it is a `[`.
+    /// Returns whether it is a `[`.
     #[inline(always)]
     pub fn opens_bracket(self) -> bool {
         match self {
@@ -32,7 +32,7 @@ impl AfterCore {
     }
 }
 
-/// The sign of a `+` or a `-`.
+/// Returns the sign for a `+` or a `-`.
 #[inline(always)]
 pub fn sign_from(byte: u8) -> Sign {
     if is_hyphen(byte) {
@@ -42,7 +42,7 @@ pub fn sign_from(byte: u8) -> Sign {
     }
 }
 
-/// The sign, hour and minute of an offset.
+/// Returns the offset with this sign, and with the hour and the minute of `time`.
 #[inline(always)]
 pub fn minute_offset(sign: u8, time: TimeRecord) -> MinutePrecisionOffset {
     MinutePrecisionOffset {
@@ -52,7 +52,8 @@ pub fn minute_offset(sign: u8, time: TimeRecord) -> MinutePrecisionOffset {
     }
 }
 
-/// The hour of an offset at the first two places, or `None` where these do not fit, and where it is too great.
+/// Returns the hour of an offset in the first two columns. Returns `None` if they do not fit, or if the hour is too
+/// great.
 #[inline(always)]
 fn fixed_hour<'a, T: EncodingType>(cursor: &mut Cursor<'a, T>) -> Option<u8> {
     let hour = cursor.fixed_number(0)?;
@@ -62,8 +63,8 @@ fn fixed_hour<'a, T: EncodingType>(cursor: &mut Cursor<'a, T>) -> Option<u8> {
     Some(hour)
 }
 
-/// The minute of an offset behind a colon at the third place, or `None` at the first place that does not fit, and where it is
-/// too great.
+/// Returns the minute of an offset after a colon at index 2. Returns `None` if a column does not fit, or if the minute
+/// is too great.
 #[inline(always)]
 fn fixed_minute<'a, T: EncodingType>(cursor: &mut Cursor<'a, T>) -> Option<u8> {
     cursor.fixed_letter(2, b':')?;
@@ -108,8 +109,10 @@ pub fn take_fixed_offset<'a, T: EncodingType>(
     Some(AfterCore::Bracket)
 }
 
-/// Takes off an offset that stands behind its sign at the last five places of a text. It is `None`, with the rest unchanged,
-/// where there are more or fewer, or one of them does not fit.
+/// Consumes an offset `HH:MM` after its sign, if it is the complete remaining input.
+///
+/// Returns `None`, and consumes nothing, if the input has another length or another form, or if a number is out of
+/// range.
 #[inline(always)]
 pub fn take_last_offset<'a, T: EncodingType>(
     cursor: &mut Cursor<'a, T>,
@@ -129,7 +132,7 @@ pub fn take_last_offset<'a, T: EncodingType>(
     Some(offset)
 }
 
-/// The record of an offset: in full where it has seconds.
+/// Returns the record of an offset: a `FullPrecisionOffset` if it has seconds, and otherwise a `MinutePrecision`.
 #[inline(always)]
 pub fn offset_from(sign: u8, shape: TimeShape, time: TimeRecord) -> UtcOffsetRecord {
     let second = time.second;
@@ -145,7 +148,7 @@ pub fn offset_from(sign: u8, shape: TimeShape, time: TimeRecord) -> UtcOffsetRec
     })
 }
 
-/// Reads an offset, and wants the end.
+/// Reads an offset, and expects the end of the input.
 #[inline(always)]
 pub fn parse_offset_text<'a, T: EncodingType>(
     cursor: &mut Cursor<'a, T>,
