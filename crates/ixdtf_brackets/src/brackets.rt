@@ -1,4 +1,4 @@
-//! Reading the first bracket, which may name a zone.
+//! Functions that read the first bracket, which can be a zone or an annotation.
 
 #![tactic(auto, unfolding(ixdtf_reading::specs::reading::Brackets::bracket_readings))]
 
@@ -22,7 +22,7 @@ use ixdtf_reading::grammar::{
 use ixdtf_reading::letters::{Letters, pass_letters};
 use ixdtf_reading::stop::Stop;
 
-/// A first bracket: a zone or a pair.
+/// A first bracket: a zone or an annotation.
 #[derive(Drop)]
 pub enum Bracket<'a, T: EncodingType> {
     Zone(TimeZoneAnnotation<'a, T>),
@@ -45,7 +45,8 @@ pub fn parse_first_bracket<'a, T: EncodingType>(
         cursor.advance();
         lead = cursor.look()?;
     }
-    // One call, since what stands in a bracket is much code: at two the compiler keeps it apart.
+    // Call `parse_inside` at one place only. Its code is large: with two calls it was compiled twice and not inlined,
+    // and its result went through memory.
     match lead {
         None => Err(Stop::AbruptBracket),
         Some(byte) if is_ascii_sign(byte) || is_tz_leading_char(byte) => {
@@ -55,7 +56,7 @@ pub fn parse_first_bracket<'a, T: EncodingType>(
     }
 }
 
-/// Whether the code unit is the `!` of a critical bracket.
+/// Returns whether the code unit is the `!` of a critical bracket.
 #[inline(always)]
 fn is_flag(next: Option<u8>) -> bool
     ensures { result ≡ next_is exclamation next }
@@ -63,7 +64,7 @@ fn is_flag(next: Option<u8>) -> bool
     matches!(next, Some(byte) if is_critical_flag(byte))
 }
 
-/// Reads what stands in a first bracket, and its `]`. Its first code unit has been seen.
+/// Reads the content of a first bracket, and its `]`. The caller has tested the first code unit of the content.
 #[inline(always)]
 fn parse_inside<'a, T: EncodingType>(
     cursor: &mut Cursor<'a, T>,
@@ -86,7 +87,7 @@ fn parse_inside<'a, T: EncodingType>(
     Ok(Bracket::Zone(TimeZoneAnnotation { critical, tz }))
 }
 
-/// Whether the code unit is the `=` after a key.
+/// Returns whether the code unit is the `=` after a key.
 #[inline(always)]
 fn ends_key(next: Option<u8>) -> bool
     ensures { result ≡ next_is equals next }
@@ -94,7 +95,7 @@ fn ends_key(next: Option<u8>) -> bool
     matches!(next, Some(byte) if is_annotation_key_value_separator(byte))
 }
 
-/// Whether the code unit is the `]` of a bracket.
+/// Returns whether the code unit is the `]` of a bracket.
 #[inline(always)]
 fn ends_bracket(next: Option<u8>) -> bool
     ensures { result ≡ next_is closing next }
@@ -102,8 +103,10 @@ fn ends_bracket(next: Option<u8>) -> bool
     matches!(next, Some(byte) if is_annotation_close(byte))
 }
 
-/// Reads a pair where an `=` comes before any `]`, else a name, and the bracket's `]`. A name may have all the code
-/// units of a key, so it takes these first. It looks further ahead only where it returns an error.
+/// Reads an annotation if an `=` comes before any `]`, and otherwise a name. Also reads the `]` of the bracket.
+///
+/// A name can contain every character of a key. So the function first consumes the characters of a name. It reads
+/// further ahead only if it returns an error.
 #[inline(always)]
 fn parse_name_or_pair<'a, T: EncodingType>(
     cursor: &mut Cursor<'a, T>,
@@ -143,7 +146,7 @@ fn parse_name_or_pair<'a, T: EncodingType>(
     Err(refused.stop)
 }
 
-/// The code units of a first bracket before an `=` or a `]`.
+/// The code units of a first bracket, without `=` and `]`.
 pub struct BracketLetters;
 
 impl Letters for BracketLetters {
@@ -155,16 +158,18 @@ impl Letters for BracketLetters {
     }
 }
 
-/// The error of a first bracket, and its place.
+/// The error of a first bracket, and a cursor at its position.
 #[derive(Drop)]
 struct Refused<'a, T: EncodingType> {
     stop: Stop,
     there: Cursor<'a, T>,
 }
 
-/// Why a first bracket is refused that is not a name, after the code units of one: with an `=` before any `]` it is a
-/// pair, whose key ends there. Its place is the end of the key or of the name, or where the look ahead ended. The
-/// cursor is passed by value, so that the compiler can keep the caller's in registers.
+/// Returns the error of a first bracket that is not a name, after the code units of a name have been consumed.
+///
+/// If an `=` comes before any `]`, the bracket is an annotation, and its key ends before the code unit that does not
+/// fit. The position is the end of the key or of the name, or the end of what was read ahead. The cursor is passed by
+/// value, so that the compiler can keep the cursor of the caller in registers.
 #[tactic(auto, using(crate::proofs::code::FirstPass::sights))]
 fn refuse_bracket<'a, T: EncodingType>(
     here: Cursor<'a, T>,

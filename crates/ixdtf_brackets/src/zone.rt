@@ -1,4 +1,4 @@
-//! Reading zone names, and texts that are a time zone.
+//! Functions that read names of zones, and texts that are a time zone.
 
 #![tactic(auto, unfolding(ixdtf_reading::specs::reading::Brackets::bracket_readings))]
 
@@ -37,14 +37,14 @@ impl Letters for PartLetters {
     }
 }
 
-/// The state of a name: whether it may end there. After a `/` it may not.
+/// The state while a name is read: whether the name can end here. After a `/` it cannot.
 #[derive(Clone, Copy)]
 pub struct NameState {
     pub may_end: bool,
 }
 
 impl NameState {
-    /// The error of a name that may not end where it does.
+    /// Returns the error of a name that ends where it must not end.
     #[inline(always)]
     pub fn stop(self) -> Stop
         ensures { fault_of_stop result ≡ name_fault self.may_end }
@@ -57,14 +57,14 @@ impl NameState {
     }
 }
 
-/// The state of a name that was passed over, and the code unit that ended it.
+/// The state at the end of a name that was consumed, and the code unit after it.
 #[derive(Clone, Copy)]
 pub struct PassedName {
     pub state: NameState,
     pub next: Option<u8>,
 }
 
-/// Whether the code unit is the `/` after a part of a name.
+/// Returns whether the code unit is the `/` after a part of a name.
 #[inline(always)]
 fn ends_part(next: Option<u8>) -> bool
     ensures { result ≡ next_is slash next }
@@ -72,7 +72,7 @@ fn ends_part(next: Option<u8>) -> bool
     matches!(next, Some(byte) if is_tz_name_separator(byte))
 }
 
-/// Whether the code unit is one of a part of a name.
+/// Returns whether a part of a name can contain the code unit.
 #[inline(always)]
 fn starts_part(next: Option<u8>) -> bool
     ensures { result ≡ next_is zone_char next }
@@ -80,7 +80,7 @@ fn starts_part(next: Option<u8>) -> bool
     matches!(next, Some(byte) if is_tz_char(byte))
 }
 
-/// Passes over the code units of a name, part by part between its slashes.
+/// Consumes the code units of a name, part by part between its slashes.
 #[inline(always)]
 pub fn pass_name<'a, T: EncodingType>(cursor: &mut Cursor<'a, T>) -> Result<PassedName, Stop>
     ensures letters { Passes T.letter cursor.old result cursor.new
@@ -94,7 +94,7 @@ pub fn pass_name<'a, T: EncodingType>(cursor: &mut Cursor<'a, T>) -> Result<Pass
     passed
 }
 
-/// Passes over the parts of a name, as `pass_name` does, with this cursor itself.
+/// Does the work of `pass_name` on the cursor itself.
 #[inline(always)]
 fn pass_parts<'a, T: EncodingType>(cursor: &mut Cursor<'a, T>) -> Result<PassedName, Stop>
     ensures letters { Passes T.letter cursor.old result cursor.new
@@ -129,7 +129,7 @@ pub struct ReadName<'a, T: EncodingType> {
     pub next: Option<u8>,
 }
 
-/// Reads a name, and returns its code units and the one after it. Its first code unit has been seen.
+/// Reads a name. Returns its code units, and the code unit after it. The caller has tested its first code unit.
 #[inline(always)]
 pub fn parse_tz_name<'a, T: EncodingType>(
     cursor: &mut Cursor<'a, T>,
@@ -151,7 +151,7 @@ pub fn parse_tz_name<'a, T: EncodingType>(
     })
 }
 
-/// Reads a name, and expects the end of the input. Its first code unit has been seen.
+/// Reads a name, and expects the end of the input. The caller has tested its first code unit.
 fn parse_name_alone<'a, T: EncodingType>(
     cursor: &mut Cursor<'a, T>,
 ) -> Result<&'a [T::CodeUnit], Stop>
@@ -211,7 +211,8 @@ pub fn parse_identifier_text<'a, T: EncodingType>(
 
 // ==== Brackets ====
 
-/// Expects `]`: the end of the input is `AnnotationClose`, and another code unit is this stop.
+/// Expects `]`. Returns `AnnotationClose` at the end of the input, `NonAsciiCodePoint` at a bad code unit, and `other`
+/// at any other code unit.
 #[inline(always)]
 fn close_bracket<'a, T: EncodingType>(cursor: &mut Cursor<'a, T>, other: Stop) -> Result<(), Stop>
     ensures end { Reads T.letter (λ _. 93) cursor.old result cursor.new
@@ -228,7 +229,7 @@ fn close_bracket<'a, T: EncodingType>(cursor: &mut Cursor<'a, T>, other: Stop) -
     }
 }
 
-/// Reads an offset after its sign, and its bracket's `]`.
+/// Reads an offset after its sign, and the `]` of its bracket.
 pub fn parse_offset_in_bracket<'a, T: EncodingType>(
     cursor: &mut Cursor<'a, T>,
     sign: u8,
@@ -243,7 +244,7 @@ pub fn parse_offset_in_bracket<'a, T: EncodingType>(
     Ok(TimeZoneRecord::Offset(minute_offset(sign, time)))
 }
 
-/// Reads a name and its bracket's `]`.
+/// Reads a name and the `]` of its bracket.
 #[inline(always)]
 pub fn parse_name_in_bracket<'a, T: EncodingType>(
     cursor: &mut Cursor<'a, T>,

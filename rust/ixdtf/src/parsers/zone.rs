@@ -1,6 +1,6 @@
 // Made by tools/to_rust.py of crates/ixdtf_brackets/src/zone.rt. Do not edit.
 
-//! Reading zone names, and texts that are a time zone.
+//! Functions that read names of zones, and texts that are a time zone.
 
 use crate::encoding::EncodingType;
 use crate::records::{TimeRecord, TimeZoneRecord};
@@ -25,14 +25,14 @@ impl Letters for PartLetters {
     }
 }
 
-/// The state of a name: whether it may end there. After a `/` it may not.
+/// The state while a name is read: whether the name can end here. After a `/` it cannot.
 #[derive(Clone, Copy)]
 pub struct NameState {
     pub may_end: bool,
 }
 
 impl NameState {
-    /// The error of a name that may not end where it does.
+    /// Returns the error of a name that ends where it must not end.
     #[inline(always)]
     pub fn stop(self) -> Stop {
         if self.may_end {
@@ -43,26 +43,26 @@ impl NameState {
     }
 }
 
-/// The state of a name that was passed over, and the code unit that ended it.
+/// The state at the end of a name that was consumed, and the code unit after it.
 #[derive(Clone, Copy)]
 pub struct PassedName {
     pub state: NameState,
     pub next: Option<u8>,
 }
 
-/// Whether the code unit is the `/` after a part of a name.
+/// Returns whether the code unit is the `/` after a part of a name.
 #[inline(always)]
 fn ends_part(next: Option<u8>) -> bool {
     matches!(next, Some(byte) if is_tz_name_separator(byte))
 }
 
-/// Whether the code unit is one of a part of a name.
+/// Returns whether a part of a name can contain the code unit.
 #[inline(always)]
 fn starts_part(next: Option<u8>) -> bool {
     matches!(next, Some(byte) if is_tz_char(byte))
 }
 
-/// Passes over the code units of a name, part by part between its slashes.
+/// Consumes the code units of a name, part by part between its slashes.
 #[inline(always)]
 pub fn pass_name<'a, T: EncodingType>(cursor: &mut Cursor<'a, T>) -> Result<PassedName, Stop> {
     let mut here = cursor.fork();
@@ -71,7 +71,7 @@ pub fn pass_name<'a, T: EncodingType>(cursor: &mut Cursor<'a, T>) -> Result<Pass
     passed
 }
 
-/// Passes over the parts of a name, as `pass_name` does, with this cursor itself.
+/// Does the work of `pass_name` on the cursor itself.
 #[inline(always)]
 fn pass_parts<'a, T: EncodingType>(cursor: &mut Cursor<'a, T>) -> Result<PassedName, Stop> {
     loop {
@@ -100,7 +100,7 @@ pub struct ReadName<'a, T: EncodingType> {
     pub next: Option<u8>,
 }
 
-/// Reads a name, and returns its code units and the one after it. Its first code unit has been seen.
+/// Reads a name. Returns its code units, and the code unit after it. The caller has tested its first code unit.
 #[inline(always)]
 pub fn parse_tz_name<'a, T: EncodingType>(
     cursor: &mut Cursor<'a, T>,
@@ -117,7 +117,7 @@ pub fn parse_tz_name<'a, T: EncodingType>(
     })
 }
 
-/// Reads a name, and expects the end of the input. Its first code unit has been seen.
+/// Reads a name, and expects the end of the input. The caller has tested its first code unit.
 fn parse_name_alone<'a, T: EncodingType>(
     cursor: &mut Cursor<'a, T>,
 ) -> Result<&'a [T::CodeUnit], Stop> {
@@ -165,7 +165,8 @@ pub fn parse_identifier_text<'a, T: EncodingType>(
 
 // ==== Brackets ====
 
-/// Expects `]`: the end of the input is `AnnotationClose`, and another code unit is this stop.
+/// Expects `]`. Returns `AnnotationClose` at the end of the input, `NonAsciiCodePoint` at a bad code unit, and `other`
+/// at any other code unit.
 #[inline(always)]
 fn close_bracket<'a, T: EncodingType>(cursor: &mut Cursor<'a, T>, other: Stop) -> Result<(), Stop> {
     match cursor.look()? {
@@ -178,7 +179,7 @@ fn close_bracket<'a, T: EncodingType>(cursor: &mut Cursor<'a, T>, other: Stop) -
     }
 }
 
-/// Reads an offset after its sign, and its bracket's `]`.
+/// Reads an offset after its sign, and the `]` of its bracket.
 pub fn parse_offset_in_bracket<'a, T: EncodingType>(
     cursor: &mut Cursor<'a, T>,
     sign: u8,
@@ -189,7 +190,7 @@ pub fn parse_offset_in_bracket<'a, T: EncodingType>(
     Ok(TimeZoneRecord::Offset(minute_offset(sign, time)))
 }
 
-/// Reads a name and its bracket's `]`.
+/// Reads a name and the `]` of its bracket.
 #[inline(always)]
 pub fn parse_name_in_bracket<'a, T: EncodingType>(
     cursor: &mut Cursor<'a, T>,
