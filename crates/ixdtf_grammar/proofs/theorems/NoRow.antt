@@ -143,7 +143,7 @@ fault_refuses_none reader text pairs fault h = elim (row_has reader text pairs f
 pub fault_short : (reader : Reader) (text : Text) (pairs : List Pair) (fault : Fault) → HasFault reader text pairs fault → length (message_of fault) ≤ 69
 fault_short reader text pairs fault h = elim (row_has reader text pairs fault h) [
   | inl p ↦ rw p.1 (omega arith)
-  | inr never ↦ (let short = (or_parts _ _ never).1 in grind (arith, nat_tests, short))
+  | inr never ↦ (let short : IsFalse (is_long fault) = (or_parts _ _ never).1 in grind (arith, nat_tests, short))
 ]
 
 -- only a text with a Bad has the fault of Bad
