@@ -61,7 +61,7 @@ def library(checkout, name, program):
     folder = os.path.join(checkout, 'rust', program, 'src')
     # The Rust program does not have some modules, such as the laws.
     modules = [it for it in re.findall(r'^(?:pub )?mod (\w+);$', root, re.M) if os.path.exists(os.path.join(folder, f'{it}.rs'))]
-    return '#![forbid(unsafe_code)]\n#![allow(unused_labels)]\n\n' + ''.join(
+    return '#![forbid(unsafe_code)]\n#![allow(unused_labels, unused_variables)]\n\n' + ''.join(
         f'#[path = "{folder}/{module}.rs"]\npub mod {module};\n' for module in modules)
 
 
