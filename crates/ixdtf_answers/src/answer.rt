@@ -1,11 +1,11 @@
 //! The answer to a line.
-ghost use Rattle.std.specs.Prelude.{[], ◌∷◌, ◌++◌, ◌≤◌, length};
+ghost use Rattle.std.specs.Prelude.{◌≡◌, [], ◌∷◌, ◌++◌, ◌≤◌, length};
 ghost use Rattle.ixdtf_answers.specs.Answer.{too_long, unknown_reader};
 ghost use Rattle.ixdtf_answers.specs.Parts.{PutsAnswer};
 ghost use Rattle.ixdtf_buffers.specs.Lines.{newline};
 ghost use Rattle.ixdtf_buffers.specs.Output.{Puts};
 
-use crate::found::{MOST_PRINTED, answer_text};
+use crate::readers::{MOST_PRINTED, answer_text};
 use crate::word::Word;
 use ixdtf_buffers::driver::LineTask;
 use ixdtf_buffers::error::RunError;
@@ -26,7 +26,9 @@ pub struct Answering {
 
 impl Answering {
     /// No line was answered.
-    pub fn new() -> Answering {
+    pub fn new() -> Answering
+        ensures { result.printed ≡ [] }
+    {
         Answering {
             printed: PrintedText::empty(),
         }
@@ -57,7 +59,7 @@ fn answer_short<K: Sink>(
     printed: &mut PrintedText<MOST_PRINTED>,
     line: &[u8],
 ) -> Result<(), RunError>
-    requires { length line.now ≤ 4096 }
+    requires { length line.now ≤ LINE_LIMIT }
     ensures { PutsAnswer K.contents K.failed output.old output.new result line.now }
 {
     let Some(place) = place_of(b' ', line) else {

@@ -7,8 +7,8 @@
 mod answer;
 pub mod arguments;
 mod fields;
-mod found;
 pub mod laws;
 mod outcome;
+mod readers;
 pub mod runner;
 mod word;

@@ -41,7 +41,7 @@ pub fn answer_lines<S: Source, K: Sink>(source: &mut S, sink: &mut K) -> Result<
     ensures read { result ≡ Err RunError.Read → (bytes : List ℕ)
         × Consumes (S.remaining source.old) (S.remaining source.new) bytes
         × WritesAnswers (K.contents sink.old) (K.contents sink.new) (ended_lines_of bytes)
-        × (S.failed source.new ⊎ (2 ^ 64 ≤ length bytes + 4096)) }
+        × (S.failed source.new ⊎ (2 ^ 64 ≤ length bytes + LINE_LIMIT)) }
 
     // A beginning of the answers to all lines of what was read was written.
     ensures write { result ≡ Err RunError.Write → (bytes : List ℕ)

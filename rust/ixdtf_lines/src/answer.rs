@@ -2,7 +2,7 @@
 
 //! The answer to a line.
 
-use crate::found::{MOST_PRINTED, answer_text};
+use crate::readers::{MOST_PRINTED, answer_text};
 use crate::word::Word;
 use ixdtf_buffers::driver::LineTask;
 use ixdtf_buffers::error::RunError;

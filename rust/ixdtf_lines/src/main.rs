@@ -4,8 +4,8 @@
 mod answer;
 mod arguments;
 mod fields;
-mod found;
 mod outcome;
+mod readers;
 mod runner;
 mod word;
 

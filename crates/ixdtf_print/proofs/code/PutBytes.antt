@@ -91,10 +91,6 @@ pieces n bytes front back f b = sym (take-append-drop n bytes) ∙ rw (f, b) ref
 pub none_so_far : (out bytes : List ℕ) (at : ℕ) → PrintsFront out out at at bytes bytes
 none_so_far out bytes at = record { done = []; whole = refl; puts = puts_nothing out at }
 
-module _ {old mid : List ℕ} {from between : ℕ} {bytes rest : List ℕ} where
-  pub room_so_far : HasRoom old from (map Plain bytes) → PrintsFront old mid from between bytes rest → HasRoom mid between (map Plain rest)
-  room_so_far room s = room_then s.puts (rw (letters_split bytes s.done rest s.whole) at room)
-
 -- the first of the bytes were put, and then the first of the others
 pub further : {old mid new : List ℕ} {from between to : ℕ} {bytes rest left : List ℕ} → HasRoom old from (map Plain bytes)
     → PrintsFront old mid from between bytes rest → PrintsFront mid new between to rest left → PrintsFront old new from to bytes left

@@ -1,0 +1,25 @@
+-- A text that is read, and one that is refused.
+use Rattle.ixdtf_answers.proofs.readers.answer_canonical.Goals as goal
+use Rattle.std.proofs.Common.{refl, arith}
+use Rattle.ixdtf.specs.{Views.parsed_of, table.Faults.fault_of, language.Languages.Found.parsed}
+use Rattle.ixdtf_print.proofs.theorems.PrintableRecords.{read_fits}
+use Rattle.ixdtf_answers.proofs.PartsLemmas.{puts_found, puts_refused, refused_short}
+use Rattle.ixdtf_answers.specs.declared.word.Word.TheVariants.{Canonical}
+
+pub put_canonical-requires : goal.put_canonical-requires
+put_canonical-requires g c =
+    let found = parsed_of (λ byte. byte) c.in-Ok.parts in
+    let given = rw c.from_utf8.ensures.rest at ((c.parse-read.ensures.reads.ok found).0 (rw c.in-Ok.is refl)) in
+    (omega arith, read_fits 4352 c.args.text.now found given (omega (arith, c.requires)))
+
+pub returns-in-Ok : goal.returns-in-Ok
+returns-in-Ok g c =
+    let found = parsed_of (λ byte. byte) c.in-Ok.parts in
+    puts_found _ c.args.text.now (parsed found) (rw c.from_utf8.ensures.rest at ((c.parse-read.ensures.reads.ok found).0 (rw c.in-Ok.is refl))) c.put_canonical.ensures
+
+pub put_error-requires : goal.put_error-requires
+put_error-requires g c = refused_short Canonical c.args.text.now (fault_of c.in-Err.error) (rw c.from_utf8.ensures.rest at (rw c.in-Err.is at c.parse-read.ensures.reads.err))
+
+pub returns-in-Err : goal.returns-in-Err
+returns-in-Err g c =
+    puts_refused _ c.args.text.now (fault_of c.in-Err.error) (rw c.from_utf8.ensures.rest at (rw c.in-Err.is at c.parse-read.ensures.reads.err)) c.put_error.ensures

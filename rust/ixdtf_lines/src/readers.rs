@@ -1,0 +1,157 @@
+// Made by tools/to_rust.py of crates/ixdtf_answers/src/readers.rt. Do not edit.
+
+//! The answers of the readers, one function for each.
+//!
+//! Each reads the text and puts its answer. None is inlined: what a reader finds stays in the frame of its own function, and no
+//! other's is cleared for a line. A record is looked at where its reader returned it, and is not moved.
+
+use crate::outcome::{put_canonical, put_duration, put_error, put_offset, put_record, put_zone};
+use crate::word::Word;
+use ixdtf::ParserResult;
+use ixdtf::encoding::Utf8;
+use ixdtf::parsers::{IsoDurationParser, IxdtfParser, Profile, TimeZoneParser};
+use ixdtf::records::{IxdtfParseRecord, TimeZoneRecord};
+use ixdtf_buffers::error::RunError;
+use ixdtf_buffers::output::Output;
+use ixdtf_buffers::sink::Sink;
+use ixdtf_print::PrintedText;
+
+/// More bytes than the canonical text of a record that was read from a line has.
+pub const MOST_PRINTED: usize = 4352;
+
+/// Puts the answer to the text by the reader that the word names.
+pub fn answer_text<K: Sink>(
+    output: &mut Output<'_, K>,
+    printed: &mut PrintedText<MOST_PRINTED>,
+    word: Word,
+    text: &[u8],
+) -> Result<(), RunError> {
+    match word {
+        Word::Parse => answer_parse(output, text),
+        Word::YearMonth => answer_year_month(output, text),
+        Word::MonthDay => answer_month_day(output, word, Profile::Crate, text),
+        Word::Time => answer_time(output, word, Profile::Crate, text),
+        Word::Offset => answer_offset(output, text),
+        Word::Zone => answer_zone(output, text),
+        Word::Iana => answer_iana(output, text),
+        Word::Duration => answer_duration(output, word, Profile::Crate, text),
+        Word::StrictMonthDay => answer_month_day(output, word, Profile::Strict, text),
+        Word::StrictTime => answer_time(output, word, Profile::Strict, text),
+        Word::StrictDuration => answer_duration(output, word, Profile::Strict, text),
+        Word::Canonical => answer_canonical(output, printed, text),
+    }
+}
+
+/// Puts the fields of the record that the word's reader found in the text, or why it refuses the text.
+#[inline(always)]
+fn put_found<K: Sink>(
+    output: &mut Output<'_, K>,
+    word: Word,
+    text: &[u8],
+    outcome: &ParserResult<IxdtfParseRecord<'_, Utf8>>,
+) -> Result<(), RunError> {
+    match outcome {
+        Ok(parts) => put_record(output, parts),
+        Err(error) => put_error(output, *error),
+    }
+}
+
+/// Puts the answer of `parse`.
+#[inline(never)]
+fn answer_parse<K: Sink>(output: &mut Output<'_, K>, text: &[u8]) -> Result<(), RunError> {
+    let outcome = IxdtfParser::from_utf8(text).parse();
+    put_found(output, Word::Parse, text, &outcome)
+}
+
+/// Puts the answer of `year-month`.
+#[inline(never)]
+fn answer_year_month<K: Sink>(output: &mut Output<'_, K>, text: &[u8]) -> Result<(), RunError> {
+    let outcome = IxdtfParser::from_utf8(text).parse_year_month();
+    put_found(output, Word::YearMonth, text, &outcome)
+}
+
+/// Puts the answer of `month-day`, or of `strict-month-day`.
+#[inline(never)]
+fn answer_month_day<K: Sink>(
+    output: &mut Output<'_, K>,
+    word: Word,
+    profile: Profile,
+    text: &[u8],
+) -> Result<(), RunError> {
+    let outcome = parser(profile, text).parse_month_day();
+    put_found(output, word, text, &outcome)
+}
+
+/// Puts the answer of `time`, or of `strict-time`.
+#[inline(never)]
+fn answer_time<K: Sink>(
+    output: &mut Output<'_, K>,
+    word: Word,
+    profile: Profile,
+    text: &[u8],
+) -> Result<(), RunError> {
+    let outcome = parser(profile, text).parse_time();
+    put_found(output, word, text, &outcome)
+}
+
+/// Puts the answer of `offset`.
+#[inline(never)]
+fn answer_offset<K: Sink>(output: &mut Output<'_, K>, text: &[u8]) -> Result<(), RunError> {
+    match TimeZoneParser::from_utf8(text).parse_offset() {
+        Ok(offset) => put_offset(output, offset),
+        Err(error) => put_error(output, error),
+    }
+}
+
+/// Puts the answer of `zone`.
+#[inline(never)]
+fn answer_zone<K: Sink>(output: &mut Output<'_, K>, text: &[u8]) -> Result<(), RunError> {
+    let outcome = TimeZoneParser::from_utf8(text).parse_identifier();
+    match &outcome {
+        Ok(zone) => put_zone(output, zone),
+        Err(error) => put_error(output, *error),
+    }
+}
+
+/// Puts the answer of `iana`.
+#[inline(never)]
+fn answer_iana<K: Sink>(output: &mut Output<'_, K>, text: &[u8]) -> Result<(), RunError> {
+    match TimeZoneParser::from_utf8(text).parse_iana_identifier() {
+        Ok(name) => put_zone(output, &TimeZoneRecord::Name(name)),
+        Err(error) => put_error(output, error),
+    }
+}
+
+/// Puts the answer of `duration`, or of `strict-duration`.
+#[inline(never)]
+fn answer_duration<K: Sink>(
+    output: &mut Output<'_, K>,
+    word: Word,
+    profile: Profile,
+    text: &[u8],
+) -> Result<(), RunError> {
+    let mut reader = IsoDurationParser::<Utf8>::from_utf8(text).with_profile(profile);
+    match reader.parse() {
+        Ok(duration) => put_duration(output, duration),
+        Err(error) => put_error(output, error),
+    }
+}
+
+/// Puts the answer of `canonical`.
+#[inline(never)]
+fn answer_canonical<K: Sink>(
+    output: &mut Output<'_, K>,
+    printed: &mut PrintedText<MOST_PRINTED>,
+    text: &[u8],
+) -> Result<(), RunError> {
+    let read = IxdtfParser::from_utf8(text).parse();
+    match &read {
+        Ok(parts) => put_canonical(output, printed, parts),
+        Err(error) => put_error(output, *error),
+    }
+}
+
+/// A parser of the text under the profile.
+fn parser(profile: Profile, text: &[u8]) -> IxdtfParser<'_, Utf8> {
+    IxdtfParser::from_utf8(text).with_profile(profile)
+}
