@@ -62,7 +62,7 @@ extern "C" {
 /* The version of the interface that this header is of. */
 #define IXDTF_INTERFACE_VERSION 2
 /* How often calls or numbers were added within this version. */
-#define IXDTF_INTERFACE_REVISION 0
+#define IXDTF_INTERFACE_REVISION 1
 
 /* What a call returns is looked at: else there is no record. */
 #if defined(__cplusplus) && __cplusplus >= 201703L
@@ -392,6 +392,25 @@ IXDTF_CHECKED_ uint32_t ixdtf16_reply(ixdtf16_calendar *calendar, const ixdtf16_
  * zero behind it. Any other number has the empty text. */
 void ixdtf_error_text(uint32_t error, ixdtf_text *out);
 
+/* The name of what a call returns, as "IXDTF_DATE_MONTH", or "IXDTF_OK". Any other number has the
+ * empty text. A zero stands behind it, which `length` does not count. */
+void ixdtf_error_constant(uint32_t error, ixdtf_text *out);
+
+/* The nanoseconds of a fraction of a second, cut behind the ninth digit; 0 where `digits` is 0, and
+ * where no fraction of so many digits has this number. */
+IXDTF_CHECKED_ uint32_t ixdtf_nanoseconds(uint64_t fraction, uint8_t digits);
+
+/* How many seconds local time is ahead of UTC, cut to whole ones; 0 of Z and of no offset. */
+IXDTF_CHECKED_ int32_t ixdtf_offset_seconds(const ixdtf_offset *offset);
+
+/* Puts the calendar that ixdtf_reply kept, or that there is none, into a record. */
+void ixdtf_keep_calendar(ixdtf_record *record, const ixdtf_calendar *calendar);
+void ixdtf16_keep_calendar(ixdtf16_record *record, const ixdtf16_calendar *calendar);
+
+/* How many bytes ixdtf_print writes of a record with room for them; 0 of one not printable, and of
+ * one whose text is longer than SIZE_MAX. */
+IXDTF_CHECKED_ size_t ixdtf_printed_length(const ixdtf_record *record);
+
 /* The version of the interface that the library has. */
 IXDTF_CHECKED_ uint32_t ixdtf_interface_version(void);
 
@@ -436,65 +455,11 @@ IXDTF_LISTING_READERS_(IXDTF_LISTING_OF_TEXT_)
 #undef IXDTF_OF_TEXT_
 #undef IXDTF_LISTING_OF_TEXT_
 
-/* The name of what a call returns, as "IXDTF_DATE_MONTH", or "IXDTF_OK"; of another number "". */
+/* The name of what a call returns, as ixdtf_error_constant has it, as a C string. */
 static inline const char *ixdtf_error_name(uint32_t error) {
-#define IXDTF_NAMED_(name) \
-    case name: \
-        return #name
-    switch (error) {
-        IXDTF_NAMED_(IXDTF_OK);
-        IXDTF_NAMED_(IXDTF_IMPL_ASSERT);
-        IXDTF_NAMED_(IXDTF_NON_ASCII_CODE_POINT);
-        IXDTF_NAMED_(IXDTF_PARSE_FLOAT);
-        IXDTF_NAMED_(IXDTF_ABRUPT_END);
-        IXDTF_NAMED_(IXDTF_INVALID_END);
-        IXDTF_NAMED_(IXDTF_INVALID_MONTH_RANGE);
-        IXDTF_NAMED_(IXDTF_INVALID_DAY_RANGE);
-        IXDTF_NAMED_(IXDTF_DATE_YEAR);
-        IXDTF_NAMED_(IXDTF_DATE_EXTENDED_YEAR);
-        IXDTF_NAMED_(IXDTF_DATE_MONTH);
-        IXDTF_NAMED_(IXDTF_DATE_DAY);
-        IXDTF_NAMED_(IXDTF_DATE_UNEXPECTED_END);
-        IXDTF_NAMED_(IXDTF_TIME_REQUIRED);
-        IXDTF_NAMED_(IXDTF_TIME_HOUR);
-        IXDTF_NAMED_(IXDTF_TIME_MINUTE_SECOND);
-        IXDTF_NAMED_(IXDTF_TIME_SECOND);
-        IXDTF_NAMED_(IXDTF_FRACTION_PART);
-        IXDTF_NAMED_(IXDTF_DATE_SEPARATOR);
-        IXDTF_NAMED_(IXDTF_TIME_SEPARATOR);
-        IXDTF_NAMED_(IXDTF_DECIMAL_SEPARATOR);
-        IXDTF_NAMED_(IXDTF_INVALID_ANNOTATION);
-        IXDTF_NAMED_(IXDTF_ANNOTATION_OPEN);
-        IXDTF_NAMED_(IXDTF_ANNOTATION_CLOSE);
-        IXDTF_NAMED_(IXDTF_ANNOTATION_CHAR);
-        IXDTF_NAMED_(IXDTF_ANNOTATION_KEY_VALUE_SEPARATOR);
-        IXDTF_NAMED_(IXDTF_ANNOTATION_KEY_LEADING_CHAR);
-        IXDTF_NAMED_(IXDTF_ANNOTATION_KEY_CHAR);
-        IXDTF_NAMED_(IXDTF_ANNOTATION_VALUE_CHAR_POST_HYPHEN);
-        IXDTF_NAMED_(IXDTF_ANNOTATION_VALUE_CHAR);
-        IXDTF_NAMED_(IXDTF_INVALID_MINUTE_PRECISION_OFFSET);
-        IXDTF_NAMED_(IXDTF_CRITICAL_DUPLICATE_CALENDAR);
-        IXDTF_NAMED_(IXDTF_UNRECOGNIZED_CRITICAL);
-        IXDTF_NAMED_(IXDTF_TZ_LEADING_CHAR);
-        IXDTF_NAMED_(IXDTF_IANA_CHAR_POST_SEPARATOR);
-        IXDTF_NAMED_(IXDTF_IANA_CHAR);
-        IXDTF_NAMED_(IXDTF_UTC_TIME_SEPARATOR);
-        IXDTF_NAMED_(IXDTF_OFFSET_NEEDS_SIGN);
-        IXDTF_NAMED_(IXDTF_MONTH_DAY_HYPHEN);
-        IXDTF_NAMED_(IXDTF_DURATION_DISGNATOR);
-        IXDTF_NAMED_(IXDTF_DURATION_VALUE_EXCEEDED_RANGE);
-        IXDTF_NAMED_(IXDTF_DATE_DURATION_PART_ORDER);
-        IXDTF_NAMED_(IXDTF_TIME_DURATION_PART_ORDER);
-        IXDTF_NAMED_(IXDTF_TIME_DURATION_DESIGNATOR);
-        IXDTF_NAMED_(IXDTF_AMBIGUOUS_TIME_MONTH_DAY);
-        IXDTF_NAMED_(IXDTF_AMBIGUOUS_TIME_YEAR_MONTH);
-        IXDTF_NAMED_(IXDTF_INVALID_MONTH_DAY);
-        IXDTF_NAMED_(IXDTF_NOT_PRINTABLE);
-        IXDTF_NAMED_(IXDTF_TOO_SHORT);
-    default:
-        return "";
-    }
-#undef IXDTF_NAMED_
+    ixdtf_text name = IXDTF_TEXT;
+    ixdtf_error_constant(error, &name);
+    return name.at;
 }
 
 /* The text of an error, as "Invalid character while parsing month value.": that of
@@ -602,45 +567,6 @@ static inline const char *ixdtf_error_message(uint32_t error) {
     }
 }
 
-/* The nanoseconds of a fraction of a second, cut behind the ninth digit; 0 where `digits` is 0. */
-static inline uint32_t ixdtf_nanoseconds(uint64_t fraction, uint8_t digits) {
-    unsigned known = digits < 18 ? digits : 18;
-    if (known == 0) {
-        return 0;
-    }
-    for (; known < 9; known++) {
-        fraction *= 10;
-    }
-    for (; known > 9; known--) {
-        fraction /= 10;
-    }
-    return IXDTF_AS_(uint32_t, fraction);
-}
-
-/* How many seconds local time is ahead of UTC, cut to whole ones; 0 of Z and of no offset. */
-static inline int32_t ixdtf_offset_seconds(const ixdtf_offset *offset) {
-    int32_t seconds = 0;
-    if (offset->form == IXDTF_MINUTES || offset->form == IXDTF_SECONDS) {
-        seconds = offset->hour * 3600 + offset->minute * 60;
-    }
-    if (offset->form == IXDTF_SECONDS) {
-        seconds += offset->second;
-    }
-    return offset->is_negative ? -seconds : seconds;
-}
-
-/* Puts the calendar that ixdtf_reply kept, or that there is none, into a record. */
-static inline void ixdtf_keep_calendar(ixdtf_record *record, const ixdtf_calendar *calendar) {
-    record->has_calendar = calendar->is_there;
-    record->calendar.at = calendar->value.at;
-    record->calendar.length = calendar->is_there ? calendar->value.length : 0;
-}
-static inline void ixdtf16_keep_calendar(ixdtf16_record *record, const ixdtf16_calendar *calendar) {
-    record->has_calendar = calendar->is_there;
-    record->calendar.at = calendar->value.at;
-    record->calendar.length = calendar->is_there ? calendar->value.length : 0;
-}
-
 /* The place of the error of a refused reply: behind the bracket of its annotation of the list. */
 static inline size_t ixdtf_reply_place(const uint8_t *text, const ixdtf_annotation *listed) {
     return IXDTF_AS_(size_t, listed->value.at + listed->value.length - text) + 1;
@@ -663,13 +589,6 @@ static inline void ixdtf16_set_annotations(ixdtf16_annotation *annotations, size
     for (i = 0; i < room; i++) {
         annotations[i] = none;
     }
-}
-
-/* How many bytes ixdtf_print writes of a record with room for them; 0 of one not printable. */
-static inline size_t ixdtf_printed_length(const ixdtf_record *record) {
-    uint8_t none[1] = { 0 };
-    size_t count = 0;
-    return ixdtf_print(record, none, 0, &count) == IXDTF_TOO_SHORT ? count : 0;
 }
 
 /* The layout is the library's: where it is another one for this compiler, nothing compiles. */

@@ -298,12 +298,26 @@ static void test_errors(void) {
     }
 }
 
-/* The functions of the header on fractions and offsets. */
+/* What the library tells as the name of each number is what the header tells, a C string. */
+static void test_names(void) {
+    uint32_t number;
+    for (number = 0; number < 300; number++) {
+        ixdtf_text name = IXDTF_TEXT;
+        ixdtf_error_constant(number, &name);
+        check(name.at != NULL && name.at[name.length] == 0 && name.length == strlen(name.at), "a zero stands behind a name");
+        check(!strcmp(name.at, ixdtf_error_name(number)), "the name of the library is that of the header");
+        check((name.length != 0) == (number <= 46 || number == 101 || number == 102), "what a call returns has a name, and no other number");
+    }
+}
+
+/* The functions on fractions and offsets. */
 static void test_functions(void) {
     static const struct { uint64_t fraction; uint8_t digits; uint32_t nanoseconds; } fractions[] = {
         { 0, 0, 0 }, { UINT64_MAX, 0, 0 }, { 5, 1, 500000000 }, { 0, 1, 0 }, { 250, 3, 250000000 }, { 1, 9, 1 }, { 987654321, 9, 987654321 },
         { 9876543219, 10, 987654321 }, { 1, 10, 0 }, { 123456789987654321, 18, 123456789 }, { 999999999999999999, 18, 999999999 },
         { 123456789987654321, 19, 123456789 }, { 999999999999999999, 255, 999999999 }, { 1, 18, 0 }, { 0, 255, 0 },
+        /* no fraction: a number of more digits */
+        { 10, 1, 0 }, { 1000000000, 9, 0 }, { UINT64_MAX, 18, 0 }, { UINT64_MAX, 255, 0 },
     };
     static const struct { const char *text; int32_t seconds; } offsets[] = {
         { "+00:00", 0 }, { "-00:00", 0 }, { "+05:30", 19800 }, { "-05:00", -18000 }, { "+23:59:59.999", 86399 }, { "-23:59:59.999", -86399 },
@@ -718,6 +732,7 @@ int main(int count, char **arguments) {
     make_room();
     test_numbers();
     test_errors();
+    test_names();
     test_functions();
     test_texts();
     test_layout();

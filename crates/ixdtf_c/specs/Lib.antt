@@ -1,8 +1,10 @@
+pub mod Computed
 pub mod Crossing
 pub mod Fielded
 pub mod Lasting
 pub mod Listing
 pub mod Located
+pub mod Names
 pub mod Narrow
 pub mod Numbers
 pub mod Outcomes

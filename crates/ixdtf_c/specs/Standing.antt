@@ -1,7 +1,7 @@
 -- What the numbers of a record stand for that is printed, where they stand for something: the fields of a part that is not there are not looked at.
 use Rattle.ixdtf_grammar.specs.declared.records.UtcOffsetRecord.TheVariants as offsets
 use Rattle.ixdtf_grammar.specs.declared.records.UtcOffsetRecordOrZ.TheVariants as shifts
-use Rattle.std.specs.Prelude.{ℕ, Bool, true, false, not, nat_eq, if◌then◌else◌, Option, Some, None}
+use Rattle.std.specs.Prelude.{ℕ, Bool, true, false, not, nat_eq, if◌then◌else◌, List, [], Option, Some, None}
 use Rattle.ixdtf_grammar.specs.declared.records.{DateRecord.DateRecord, TimeRecord.TimeRecord, MinutePrecisionOffset.MinutePrecisionOffset}
 use Rattle.ixdtf_grammar.specs.declared.records.UtcOffsetRecordOrZ.{UtcOffsetRecordOrZ}
 use Rattle.ixdtf.specs.language.{Brackets.ZoneNote, Fractions.FractionParts, Languages.Parsed, OffsetRecords.sign_for}
@@ -62,3 +62,8 @@ parsed_by r None _ = None
 
 abbrev pub record_by : Contents → Option Parsed
 record_by r = parsed_by r (offset_by r.offset) (zone_by r.zone)
+
+-- units, where they are there, and else none
+abbrev pub units_where : Bool → List ℕ → List ℕ
+units_where true units = units
+units_where false units = []

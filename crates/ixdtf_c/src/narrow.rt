@@ -1,9 +1,10 @@
 //! Records of 8-bit sources, as C sees them.
 
-ghost use Rattle.std.specs.Prelude.{◌≡◌, option_map};
+ghost use Rattle.std.specs.Prelude.{◌≡◌, map, option_map};
 ghost use Rattle.ixdtf.specs.Handlers.{pair_of};
 ghost use Rattle.ixdtf_c.specs.Fielded.{keyed};
 ghost use Rattle.ixdtf_c.specs.Narrow.{contents as record_contents, zone_contents, SameButError, annotation_by, calendar_by};
+ghost use Rattle.ixdtf_c.specs.Standing.{units_where};
 
 use crate::errors::number_and_location;
 use crate::forms::{Date, Offset, Time};
@@ -178,4 +179,22 @@ impl<'a> CalendarOf<'a, Utf8> for Calendar<'a> {
             }
         }
     }
+}
+
+/// Writes the calendar that was kept into a record, or that there is none.
+#[unsafe(no_mangle)]
+pub extern "C" fn ixdtf_keep_calendar<'a>(out: &mut Record<'a>, calendar: &Calendar<'a>)
+    ensures units { map (λ unit. unit) out.new.calendar.now ≡
+        units_where calendar.now.is_there (map (λ unit. unit) calendar.now.value.now) }
+    ensures rest { out.new ≡ record out.old {
+      calendar = out.new.calendar;
+      has_calendar = calendar.now.is_there;
+    } }
+{
+    out.has_calendar = calendar.is_there;
+    out.calendar = if calendar.is_there {
+        to_c(from_c(calendar.value))
+    } else {
+        to_c(&[])
+    };
 }

@@ -135,7 +135,7 @@ fn zone_of<'a>(zone: &Zone<'a>) -> Option<Option<TimeZoneAnnotation<'a, Utf8>>>
 }
 
 /// The record, where its forms have names and its fractions are such.
-fn record_of<'a>(given: &Record<'a>) -> Option<IxdtfParseRecord<'a, Utf8>>
+pub fn record_of<'a>(given: &Record<'a>) -> Option<IxdtfParseRecord<'a, Utf8>>
     ensures found { IfSome result
         (λ found. record_by (contents given.now) ≡ Some (parsed_of (λ unit. unit) found)) }
     ensures none { IfNone result (¬ (IsSomeAnd (record_by (contents given.now)) IsPrintable)) }

@@ -1,5 +1,6 @@
 //! Each call on its happy path, and once on a text that it refuses. What is tried stands in tables that both widths walk.
 
+mod fields;
 mod narrow;
 mod printing;
 mod rows;

@@ -7,7 +7,9 @@
 mod durations;
 mod errors;
 mod exports;
+mod fields;
 mod forms;
+mod names;
 pub mod narrow;
 mod narrow_annotations;
 mod printing;

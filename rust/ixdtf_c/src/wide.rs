@@ -164,3 +164,14 @@ impl<'a> CalendarOf<'a, Utf16> for Calendar<'a> {
         }
     }
 }
+
+/// Writes the calendar that was kept into a record, or that there is none.
+#[unsafe(no_mangle)]
+pub extern "C" fn ixdtf16_keep_calendar<'a>(out: &mut Record<'a>, calendar: &Calendar<'a>) {
+    out.has_calendar = calendar.is_there;
+    out.calendar = if calendar.is_there {
+        to_c(from_c(calendar.value))
+    } else {
+        to_c(&[])
+    };
+}

@@ -5,7 +5,7 @@ use crate::exports::*;
 use crate::wide::{Annotation, Calendar, Record, Zone};
 
 /// A record in which all fields are set.
-const RECORD: Record<'static> = Record {
+pub(super) const RECORD: Record<'static> = Record {
     date: DATE,
     time: TIME,
     offset: OFFSET,

@@ -1,0 +1,15 @@
+-- The name at the place of a number, with a zero behind it.
+use Rattle.std.proofs.Common.{◌≡◌, ℕ, ◌≤◌, List, [], ◌∷◌, ◌++◌, map, get_or, ◌∙◌, arith}
+use Rattle.std.proofs.Math.ListN.{get_or-map}
+use Rattle.std.proofs.lemmas.List.{get_or_default}
+use Rattle.std.proofs.lemmas.Bool.{le-leb}
+use Rattle.ixdtf_c.specs.Names.{names, name_of}
+
+-- a name with a zero behind it
+abbrev pub ended : List ℕ → List ℕ
+ended name = name ++ 0 ∷ []
+
+pub named : (number : ℕ) (other : List ℕ) → number ≤ 46 → get_or (map ended names) number other ≡ ended (name_of number)
+named number other less =
+    let at : get_or (map ended names) number other ≡ get_or (map ended names) number (ended []) = get_or_default (map ended names) number other (ended []) (omega (arith, less)) in
+    rw (le-leb number 46 less) (at ∙ get_or-map ended names number [])

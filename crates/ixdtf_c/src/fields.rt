@@ -1,0 +1,72 @@
+//! What programs compute of the fields of a record.
+
+ghost use Rattle.std.specs.Prelude.{◌≡◌, ◌<◌, ◌≤◌, ◌^◌, length, min, IsSomeAnd};
+ghost use Rattle.ixdtf.specs.language.Fractions.{nanoseconds_of};
+ghost use Rattle.ixdtf_c.specs.Computed.{offset_seconds, seconds_ahead};
+ghost use Rattle.ixdtf_c.specs.Narrow.{contents};
+ghost use Rattle.ixdtf_c.specs.Standing.{record_by};
+ghost use Rattle.ixdtf_print.specs.Canonical.{canonical_text};
+ghost use Rattle.ixdtf_print.specs.Printable.{IsPrintable};
+
+use crate::forms::Offset;
+use crate::narrow::Record;
+use crate::printing::record_of;
+use ixdtf::records::Fraction;
+use ixdtf_print::printed_length;
+
+/// The whole nanoseconds of a fraction of a second, by its value and by how many digits it has, and 0 where no fraction has both.
+#[unsafe(no_mangle)]
+pub extern "C" fn ixdtf_nanoseconds(fraction: u64, digits: u8) -> u32
+    ensures value { (1 ≤ digits) × (fraction < 10 ^ min digits 18) →
+        result ≡ nanoseconds_of (record { count = digits; value = fraction }) }
+    ensures none { ¬ ((1 ≤ digits) × (fraction < 10 ^ min digits 18)) → result ≡ 0 }
+    ensures small { result < 10 ^ 9 }
+{
+    match Fraction::of_parts(digits, fraction) {
+        None => 0,
+        Some(it) => it.to_truncated_nanoseconds(),
+    }
+}
+
+/// The seconds of an offset without its sign, cut to whole ones, and 0 where it has no numbers.
+fn whole_seconds(offset: &Offset) -> u32
+    ensures value { result ≡ offset_seconds offset.now }
+    ensures small { result < 10 ^ 6 }
+{
+    let minutes = u32::from(offset.hour) * 3600 + u32::from(offset.minute) * 60;
+    if offset.form == 2 {
+        return minutes;
+    }
+    if offset.form == 3 {
+        return minutes + u32::from(offset.second);
+    }
+    0
+}
+
+/// How many seconds local time is ahead of UTC, cut to whole ones, and 0 where the offset has no numbers.
+#[unsafe(no_mangle)]
+pub extern "C" fn ixdtf_offset_seconds(offset: &Offset) -> i32
+    ensures seconds { result ≡ seconds_ahead offset.now }
+{
+    let seconds = whole_seconds(offset) as i32;
+    if offset.is_negative {
+        -seconds
+    } else {
+        seconds
+    }
+}
+
+/// How many bytes the canonical text of the record has, and 0 where no text stands for the record, or its length is no `usize`.
+#[unsafe(no_mangle)]
+pub extern "C" fn ixdtf_printed_length(given: &Record<'_>) -> usize
+    ensures length { IsSomeAnd (record_by (contents given.now))
+        (λ found. IsPrintable found × (length (canonical_text found) ≤ usize.MAX)) →
+        IsSomeAnd (record_by (contents given.now)) (λ found. result ≡ length (canonical_text found)) }
+    ensures none { ¬ (IsSomeAnd (record_by (contents given.now))
+        (λ found. IsPrintable found × (length (canonical_text found) ≤ usize.MAX))) → result ≡ 0 }
+{
+    let Some(found) = record_of(given) else {
+        return 0;
+    };
+    printed_length(&found).unwrap_or(0)
+}

@@ -1,0 +1,119 @@
+//! What is computed of the fields of a record, and the names of what calls return.
+
+use super::narrow::RECORD;
+use super::wide;
+use crate::errors::Text;
+use crate::exports::{ixdtf_parse, ixdtf_parse_offset, ixdtf_reply, ixdtf16_reply};
+use crate::fields::{ixdtf_nanoseconds, ixdtf_offset_seconds, ixdtf_printed_length};
+use crate::names::ixdtf_error_constant;
+use crate::narrow::{Annotation, Calendar, ixdtf_keep_calendar};
+use crate::wide::ixdtf16_keep_calendar;
+
+/// Numbers of fractions with how many digits they have, and their nanoseconds.
+const FRACTIONS: [(u64, u8, u32); 7] = [
+    (5, 1, 500_000_000),
+    (987_654_321, 9, 987_654_321),
+    (9_876_543_219, 10, 987_654_321),
+    (123_456_789_987_654_321, 255, 123_456_789),
+    (0, 0, 0),
+    (7, 0, 0),
+    (10, 1, 0),
+];
+
+#[test]
+fn gives_nanoseconds(rt: HostRuntime) {
+    for (fraction, digits, nanoseconds) in FRACTIONS {
+        assert_eq!(rt; ixdtf_nanoseconds(fraction, digits), nanoseconds);
+    }
+}
+
+/// Offsets with their seconds.
+const OFFSETS: [(&[u8], i32); 4] = [
+    (b"+05:30", 19800),
+    (b"-05:00", -18000),
+    (b"-23:59:59.999", -86399),
+    (b"-00:00", 0),
+];
+
+#[test]
+fn gives_seconds(rt: HostRuntime) {
+    for (text, seconds) in OFFSETS {
+        let mut record = RECORD;
+        assert_eq!(rt; ixdtf_parse_offset(text, &mut record), 0);
+        assert_eq!(rt; ixdtf_offset_seconds(&record.offset), seconds);
+    }
+    let mut record = RECORD;
+    assert_eq!(rt; ixdtf_parse(b"2024-03-02T08:48Z", &mut record), 0);
+    assert_eq!(rt; ixdtf_offset_seconds(&record.offset), 0);
+}
+
+#[test]
+fn gives_lengths(rt: HostRuntime) {
+    let mut record = RECORD;
+    assert_eq!(rt; ixdtf_parse(b"20240302T0848Z", &mut record), 0);
+    assert_eq!(rt; ixdtf_printed_length(&record), 20);
+    record.date.day = 32;
+    assert_eq!(rt; ixdtf_printed_length(&record), 0);
+}
+
+/// Numbers with the names of what they are.
+const NAMES: [(u32, &[u8]); 6] = [
+    (0, b"IXDTF_OK"),
+    (10, b"IXDTF_DATE_MONTH"),
+    (46, b"IXDTF_INVALID_MONTH_DAY"),
+    (47, b""),
+    (101, b"IXDTF_NOT_PRINTABLE"),
+    (102, b"IXDTF_TOO_SHORT"),
+];
+
+#[test]
+fn gives_names(rt: HostRuntime) {
+    for (number, name) in NAMES {
+        let mut text = Text { bytes: &[] };
+        ixdtf_error_constant(number, &mut text);
+        assert_eq!(rt; text.bytes, name);
+    }
+}
+
+#[test]
+fn keeps_a_calendar(rt: HostRuntime) {
+    let mut record = RECORD;
+    let mut calendar = Calendar {
+        value: &[],
+        is_critical: false,
+        is_there: false,
+    };
+    ixdtf_keep_calendar(&mut record, &calendar);
+    assert!(rt; !record.has_calendar && record.calendar.is_empty());
+    let reply = Annotation {
+        key: b"u-ca",
+        value: b"hebrew",
+        is_critical: false,
+    };
+    assert_eq!(rt; ixdtf_reply(&mut calendar, &reply), 0);
+    ixdtf_keep_calendar(&mut record, &calendar);
+    assert!(rt; record.has_calendar);
+    assert_eq!(rt; record.calendar, b"hebrew".as_slice());
+    assert_eq!(rt; record.date.year, RECORD.date.year);
+}
+
+#[test]
+fn keeps_a_wide_calendar(rt: HostRuntime) {
+    let mut record = wide::RECORD;
+    let mut calendar = crate::wide::Calendar {
+        value: &[],
+        is_critical: false,
+        is_there: false,
+    };
+    ixdtf16_keep_calendar(&mut record, &calendar);
+    assert!(rt; !record.has_calendar && record.calendar.is_empty());
+    let reply = crate::wide::Annotation {
+        key: &[117, 45, 99, 97],
+        value: &[97, 98],
+        is_critical: false,
+    };
+    assert_eq!(rt; ixdtf16_reply(&mut calendar, &reply), 0);
+    ixdtf16_keep_calendar(&mut record, &calendar);
+    assert!(rt; record.has_calendar);
+    assert_eq!(rt; record.calendar, [97u16, 98].as_slice());
+}

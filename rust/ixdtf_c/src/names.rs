@@ -1,0 +1,78 @@
+// Made by tools/to_rust.py of crates/ixdtf_c/src/names.rt. Do not edit.
+
+//! The names that the header gives to what calls return.
+
+use crate::errors::Text;
+use crate::slices::to_c;
+
+/// The names of 0 to 46, each with a zero behind it.
+static NAMES: [&[u8]; 47] = [
+    b"IXDTF_OK\0",
+    b"IXDTF_IMPL_ASSERT\0",
+    b"IXDTF_NON_ASCII_CODE_POINT\0",
+    b"IXDTF_PARSE_FLOAT\0",
+    b"IXDTF_ABRUPT_END\0",
+    b"IXDTF_INVALID_END\0",
+    b"IXDTF_INVALID_MONTH_RANGE\0",
+    b"IXDTF_INVALID_DAY_RANGE\0",
+    b"IXDTF_DATE_YEAR\0",
+    b"IXDTF_DATE_EXTENDED_YEAR\0",
+    b"IXDTF_DATE_MONTH\0",
+    b"IXDTF_DATE_DAY\0",
+    b"IXDTF_DATE_UNEXPECTED_END\0",
+    b"IXDTF_TIME_REQUIRED\0",
+    b"IXDTF_TIME_HOUR\0",
+    b"IXDTF_TIME_MINUTE_SECOND\0",
+    b"IXDTF_TIME_SECOND\0",
+    b"IXDTF_FRACTION_PART\0",
+    b"IXDTF_DATE_SEPARATOR\0",
+    b"IXDTF_TIME_SEPARATOR\0",
+    b"IXDTF_DECIMAL_SEPARATOR\0",
+    b"IXDTF_INVALID_ANNOTATION\0",
+    b"IXDTF_ANNOTATION_OPEN\0",
+    b"IXDTF_ANNOTATION_CLOSE\0",
+    b"IXDTF_ANNOTATION_CHAR\0",
+    b"IXDTF_ANNOTATION_KEY_VALUE_SEPARATOR\0",
+    b"IXDTF_ANNOTATION_KEY_LEADING_CHAR\0",
+    b"IXDTF_ANNOTATION_KEY_CHAR\0",
+    b"IXDTF_ANNOTATION_VALUE_CHAR_POST_HYPHEN\0",
+    b"IXDTF_ANNOTATION_VALUE_CHAR\0",
+    b"IXDTF_INVALID_MINUTE_PRECISION_OFFSET\0",
+    b"IXDTF_CRITICAL_DUPLICATE_CALENDAR\0",
+    b"IXDTF_UNRECOGNIZED_CRITICAL\0",
+    b"IXDTF_TZ_LEADING_CHAR\0",
+    b"IXDTF_IANA_CHAR_POST_SEPARATOR\0",
+    b"IXDTF_IANA_CHAR\0",
+    b"IXDTF_UTC_TIME_SEPARATOR\0",
+    b"IXDTF_OFFSET_NEEDS_SIGN\0",
+    b"IXDTF_MONTH_DAY_HYPHEN\0",
+    b"IXDTF_DURATION_DISGNATOR\0",
+    b"IXDTF_DURATION_VALUE_EXCEEDED_RANGE\0",
+    b"IXDTF_DATE_DURATION_PART_ORDER\0",
+    b"IXDTF_TIME_DURATION_PART_ORDER\0",
+    b"IXDTF_TIME_DURATION_DESIGNATOR\0",
+    b"IXDTF_AMBIGUOUS_TIME_MONTH_DAY\0",
+    b"IXDTF_AMBIGUOUS_TIME_YEAR_MONTH\0",
+    b"IXDTF_INVALID_MONTH_DAY\0",
+];
+
+/// The name of what a call returns, with a zero behind it.
+fn name_and_zero(number: u32) -> &'static [u8] {
+    if number <= 46 {
+        return NAMES[number as usize];
+    }
+    if number == 101 {
+        return b"IXDTF_NOT_PRINTABLE\0";
+    }
+    if number == 102 {
+        return b"IXDTF_TOO_SHORT\0";
+    }
+    b"\0"
+}
+
+/// Writes the name of what a call returns, and no text for another number. A zero stands behind the text, and is not of it.
+#[unsafe(no_mangle)]
+pub extern "C" fn ixdtf_error_constant(number: u32, out: &mut Text<'_>) {
+    let name = name_and_zero(number);
+    out.bytes = to_c(&name[..name.len() - 1]);
+}
