@@ -1,0 +1,27 @@
+//! Says of each argument whether it is a date, or a date and a time, and why not, with a mark under the place of the error.
+//!
+//!     cargo run --example validate -- 2024-03-02T08:48:00Z 2024-02-30
+use ixdtf::parsers::IxdtfParser;
+
+/// One line for a text that is read, and for another one its error, the text and the mark.
+fn report(text: &str) -> String {
+    match IxdtfParser::from_str(text).parse_located() {
+        Ok(_) => format!("{text}: valid"),
+        Err(error) => format!("{text}: {}\n{}", error.error, error.in_text(text)),
+    }
+}
+
+fn main() {
+    for text in std::env::args().skip(1) {
+        println!("{}", report(&text));
+    }
+}
+
+#[test]
+fn reports() {
+    assert_eq!(report("2024-03-02T08:48:00Z"), "2024-03-02T08:48:00Z: valid");
+    assert_eq!(
+        report("2020-x1"),
+        "2020-x1: Invalid character while parsing month value.\n2020-x1\n     ^"
+    );
+}
