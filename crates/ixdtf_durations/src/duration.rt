@@ -1,4 +1,4 @@
-//! The reader of durations.
+//! The parser of durations.
 
 ghost use Rattle.std.specs.Prelude.{◌≡◌, ◌+◌, ◌≤◌, List, [], ◌∷◌, map, length};
 ghost use Rattle.std.specs.Prelude.{Ok, OnOk, OnErr, IsTrue};
@@ -29,9 +29,11 @@ use ixdtf_reading::stop::{FromStop, Stop};
 use ixdtf_times::offsets::sign_from;
 use std::marker::Model;
 
-/// A reader of durations.
+/// A parser of durations, such as `P1Y2M3DT4H`.
 ///
-/// It borrows its source. It is as large as a slice, the remaining input, and its profile.
+/// It borrows its source. It is as large as a slice and a profile.
+///
+/// # Examples
 ///
 /// ```rust
 /// use ixdtf::parsers::IsoDurationParser;
@@ -47,7 +49,7 @@ pub struct IsoDurationParser<'a, T: EncodingType> {
 }
 
 impl<'a, T: EncodingType> Model for IsoDurationParser<'a, T> {
-    // A contract sees a parser as the numbers of the remaining code units, the count of code unit accesses, and the
+    // In a contract, a parser is the numbers of the remaining code units, the count of accesses to code units, and the
     // profile.
     ghost Value = { UnreadUnder };
 
@@ -55,7 +57,7 @@ impl<'a, T: EncodingType> Model for IsoDurationParser<'a, T> {
 }
 
 impl<'a> IsoDurationParser<'a, Utf8> {
-    /// A parser of a text's UTF-8 bytes.
+    /// Creates a parser of the UTF-8 bytes of a text.
     pub fn from_str(value: &'a str) -> Self
         ensures rest { result.rest ≡ value.now }
         ensures looks { result.looks ≡ 0 }
@@ -64,7 +66,7 @@ impl<'a> IsoDurationParser<'a, Utf8> {
         Self::new(value.as_bytes())
     }
 
-    /// A parser of bytes, which need not be UTF-8.
+    /// Creates a parser of bytes. They need not be UTF-8.
     pub fn from_utf8(value: &'a [u8]) -> Self
         ensures rest { result.rest ≡ value.now }
         ensures looks { result.looks ≡ 0 }
@@ -75,8 +77,12 @@ impl<'a> IsoDurationParser<'a, Utf8> {
 }
 
 impl<'a> IsoDurationParser<'a, Utf16> {
-    /// A parser of 16-bit code units, which need not be UTF-16. It has the name that it has in `ixdtf` 0.6.7, so a caller
-    /// names the encoding, as `IsoDurationParser::<Utf16>::from_utf8`.
+    /// Creates a parser of 16-bit code units. They need not be UTF-16.
+    ///
+    /// This function has the name that it has in `ixdtf` 0.6.7. So a caller must name the encoding:
+    /// `IsoDurationParser::<Utf16>::from_utf8`.
+    ///
+    /// # Examples
     ///
     /// ```rust
     /// use ixdtf::encoding::Utf16;
@@ -96,7 +102,7 @@ impl<'a> IsoDurationParser<'a, Utf16> {
 }
 
 impl<'a, T: EncodingType> IsoDurationParser<'a, T> {
-    /// A parser of code units of any encoding.
+    /// Creates a parser of code units of any encoding.
     pub fn new(value: &'a [T::CodeUnit]) -> Self
         ensures rest { result.rest ≡ map T.number value.now }
         ensures looks { result.looks ≡ 0 }
@@ -108,7 +114,11 @@ impl<'a, T: EncodingType> IsoDurationParser<'a, T> {
         }
     }
 
-    /// The parser with this profile, which decides whether a unit may be repeated. The remaining input is unchanged.
+    /// Returns the parser with another profile. The remaining input is unchanged.
+    ///
+    /// The profile decides whether a duration may repeat a unit.
+    ///
+    /// # Examples
     ///
     /// ```rust
     /// use ixdtf::ParseError;
@@ -129,16 +139,27 @@ impl<'a, T: EncodingType> IsoDurationParser<'a, T> {
         }
     }
 
-    /// Reads the remaining input as a duration (`Duration` of the Temporal grammar; ISO 8601, section 5.5.2).
+    /// Parses the remaining input as a duration, such as `P1Y2M3DT4H` or `-PT1H30.5M`.
     ///
-    /// A duration is an optional sign, `P`, date groups, and then, where there are any, `T` and time groups. It has at
-    /// least one group. A group is a number and the letter of its unit: `Y`, `M`, `W` and `D` for years, months, weeks and
-    /// days, and `H`, `M` and `S` for hours, minutes and seconds. No unit may stand after a shorter one of its half. A unit
-    /// may be repeated, and its last number counts; under [`Profile::Strict`] none may. The last time group may have a
-    /// fraction, as `.25` or `,25`. All letters may be lowercase.
+    /// A duration is `Duration` of the Temporal grammar, and a form of ISO 8601, section 5.5.2. It consists of these
+    /// parts, and has at least one group. A group is a number and the letter of its unit.
     ///
-    /// A number is below 2^64, and below 2^32 for years, months and weeks. The record has a date where there are date
-    /// groups, and a time where there is a `T`.
+    /// 1. An optional sign, `+` or `-`.
+    /// 2. `P`.
+    /// 3. Date groups: years (`Y`), months (`M`), weeks (`W`) and days (`D`).
+    /// 4. If there are time groups, `T` and time groups: hours (`H`), minutes (`M`) and seconds (`S`). The last time
+    ///    group can have a fraction, such as `.25` or `,25`.
+    ///
+    /// All letters can be lowercase. Within the date groups, and within the time groups, no unit can come after a
+    /// shorter unit. A unit can be repeated, and then its last number counts. Under [`Profile::Strict`], no unit can be
+    /// repeated. A number must be less than 2^64. The number of years, months or weeks must be less than 2^32.
+    ///
+    /// The record has a date if the text has date groups, and a time if it has a `T`.
+    ///
+    /// If the call succeeds, no input remains, and a second call returns the error of the empty text. If it fails, the
+    /// input is unchanged, and a second call returns the same error.
+    ///
+    /// # Examples
     ///
     /// ```rust
     /// use ixdtf::ParseError;
@@ -167,29 +188,28 @@ impl<'a, T: EncodingType> IsoDurationParser<'a, T> {
     /// # Ok::<(), ParseError>(())
     /// ```
     ///
-    /// After `Ok` the remaining input is empty, so a later call returns the error of the empty text. After an error it is
-    /// unchanged, so a second call returns the same.
-    ///
     /// # Errors
     ///
-    /// The first part that is wrong decides. For a group the order is tested before the range of its unit.
+    /// The first part that is wrong decides. In a group, the order of its unit is tested before the range of its
+    /// number. To get the position of the error, call [`parse_located`](Self::parse_located).
     ///
-    /// - `AbruptEnd` where the input is empty (at `DurationStart`), where it ends after a sign (at `DurationDesignator`) or
-    ///   after `P` (at `Duration`), and where no unit of its half follows the digits of a group (at
-    ///   `DateDurationDesignator` and `TimeDurationDesignator`);
-    /// - `DurationDisgnator` where neither a sign nor `P` stands first, or no `P` after a sign;
-    /// - `TimeDurationDesignator` where no digit follows a `T`;
-    /// - `DateDurationPartOrder` and `TimeDurationPartOrder` for a group after one of a shorter unit, and under
-    ///   [`Profile::Strict`] for one after another of its unit;
-    /// - `DurationValueExceededRange` at a digit with which a number reaches 2^64, and for years, months and weeks of 2^32
-    ///   or more;
-    /// - `FractionPart` where no digit follows a decimal mark;
-    /// - `InvalidEnd` at any other character after `P` or after a group;
-    /// - `NonAsciiCodePoint` at a 16-bit code unit that is not from 1 to 126.
+    /// - `AbruptEnd`: the text is empty (location `DurationStart`), or ends after the sign (`DurationDesignator`) or
+    ///   after `P` (`Duration`). After the digits of a group, the text ends or has another character than the letter of
+    ///   a unit (`DateDurationDesignator`, `TimeDurationDesignator`).
+    /// - `DurationDisgnator`: the text begins with a character that is neither a sign nor `P`, or the sign is followed
+    ///   by another character than `P`.
+    /// - `TimeDurationDesignator`: no digit follows the `T`. This is also the error if the text ends there.
+    /// - `DateDurationPartOrder`, `TimeDurationPartOrder`: a group comes after a group with a shorter unit. Under
+    ///   [`Profile::Strict`], this is also the error if a unit is repeated.
+    /// - `DurationValueExceededRange`: a number is 2^64 or more, or the number of years, months or weeks is 2^32 or
+    ///   more.
+    /// - `FractionPart`: no digit follows the `.` or `,`. This is also the error if the text ends there.
+    /// - `InvalidEnd`: any other character follows `P` or a group.
+    /// - `NonAsciiCodePoint`: 16-bit text has a code unit outside 1 to 126. 8-bit text never has this error.
     #[inline(always)]
     pub fn parse(&mut self) -> ParserResult<DurationParseRecord>
         ensures reads { ReadsPart T.letter fault_of (λ duration. duration) lasting (parse_duration self.old.profile) (unread_of self.old) result (unread_of self.new) }
-        // `Ok` only where no other reader of dates, times and durations accepts the text.
+        // `Ok` only if no other reader of dates, times and durations accepts the text.
         ensures no_other_reader { OnOk result (InNoOther self.old.profile (parse_duration self.old.profile) (map T.letter self.old.rest)) }
         ensures profile { self.new.profile ≡ self.old.profile }
     {
@@ -200,19 +220,23 @@ impl<'a, T: EncodingType> IsoDurationParser<'a, T> {
         }
     }
 
-    /// Reads as [`parse`](Self::parse) does, and returns an error with its place: the number of code units before it in the
-    /// remaining input.
+    /// Parses the remaining input as a duration, like [`parse`](Self::parse). An error has its position.
     ///
-    /// The place is that of the code unit that does not fit, or the end of the input where more has to follow. The place of
-    /// a number out of range is after the digit with which it overflows, or after the letter of its unit for years, months
-    /// and weeks. The place of a group out of order is after the letter of its unit.
+    /// The position is the number of code units before the error. It is the index of the code unit that does not fit,
+    /// or the end of the input if the input ends too early. There are two exceptions:
+    ///
+    /// - If a number is out of range, the position is after the digit with which it becomes 2^64 or more. For years,
+    ///   months and weeks of 2^32 or more, it is after the letter of the unit.
+    /// - If a group is out of order, the position is after the letter of its unit.
+    ///
+    /// # Examples
     ///
     /// ```rust
     /// use ixdtf::ParseError;
     /// use ixdtf::parsers::IsoDurationParser;
     ///
     /// for (text, error, at) in [
-    ///     ("P1Y2X", ParseError::AbruptEnd { location: "DateDurationDesignator" }, 4), // where the X stands
+    ///     ("P1Y2X", ParseError::AbruptEnd { location: "DateDurationDesignator" }, 4), // at the X
     ///     ("P1D1Y", ParseError::DateDurationPartOrder, 5), // after the second group
     ///     ("PT", ParseError::TimeDurationDesignator, 2), // the end
     /// ] {
@@ -223,11 +247,11 @@ impl<'a, T: EncodingType> IsoDurationParser<'a, T> {
     ///
     /// # Errors
     ///
-    /// Those of [`parse`](Self::parse), each with its place.
+    /// The errors of [`parse`](Self::parse), each with its position.
     #[inline(always)]
     pub fn parse_located(&mut self) -> Result<DurationParseRecord, LocatedError>
         ensures reads { ReadsPartAt T.letter (λ duration. duration) lasting (parse_duration self.old.profile) (unread_of self.old) result (unread_of self.new) }
-        // `Ok` only where no other reader of dates, times and durations accepts the text.
+        // `Ok` only if no other reader of dates, times and durations accepts the text.
         ensures no_other_reader { OnOk result (InNoOther self.old.profile (parse_duration self.old.profile) (map T.letter self.old.rest)) }
         ensures profile { self.new.profile ≡ self.old.profile }
     {
@@ -238,11 +262,11 @@ impl<'a, T: EncodingType> IsoDurationParser<'a, T> {
         }
     }
 
-    /// Reads a duration after its sign and its `P` or `p`, from a second cursor on, and expects the end of the input.
+    /// Reads a duration after its sign and its `P`, on a second cursor, and expects the end of the input.
     ///
-    /// The two readers are inlined where they are called, and this function has no attribute. So what a duration begins
-    /// with is read at each call, and groups in one function for each error. With a whole reader in one function all calls
-    /// are slower.
+    /// The two public readers are inlined into their callers, and this function is not. So each caller has the code for
+    /// the beginning of a duration, and there is one function for the groups for each error type. With the complete
+    /// reader in one function, all calls are slower.
     fn parse_groups<E: FromStop>(
         &mut self,
         from: Cursor<'a, T>,
@@ -290,7 +314,7 @@ fn parse_times<'a, T: EncodingType>(
     }
 }
 
-/// Takes the `P` or `p` after a sign, and returns the sign.
+/// Consumes the `P` or `p` after a sign, and returns the sign.
 #[inline(always)]
 #[tactic(auto, using(crate::proofs::code::DurationSteps::openings))]
 fn parse_designator<'a, T: EncodingType>(
@@ -311,7 +335,7 @@ fn parse_designator<'a, T: EncodingType>(
     }
 }
 
-/// Reads what a duration begins with, up to `P` or `p`, and returns its sign.
+/// Reads the beginning of a duration, up to its `P` or `p`. Returns its sign.
 #[inline(always)]
 #[tactic(auto, using(crate::proofs::code::DurationSteps::openings))]
 fn parse_opening<'a, T: EncodingType>(cursor: &mut Cursor<'a, T>) -> Result<Sign, Stop>

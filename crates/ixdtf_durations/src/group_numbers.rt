@@ -12,14 +12,14 @@ use ixdtf_reading::cursor::Cursor;
 use ixdtf_reading::stop::Stop;
 use std::marker::Model;
 
-/// A number, and the code unit after it, which is not a digit and is not taken yet.
+/// A number, and the code unit after it, which is not a digit and has not been consumed.
 #[derive(Clone, Copy)]
 pub struct Number {
     pub value: u64,
     pub next: u8,
 }
 
-/// The number with one more digit, where it does not overflow.
+/// Returns the number with one more digit, or `DurationValueExceededRange` if it overflows.
 #[inline(always)]
 #[tactic(auto, unfolding(ixdtf_grammar::specs::language::Durations::greatest_value))]
 fn add_digit(value: u64, byte: u8) -> Result<u64, Stop>
@@ -36,8 +36,8 @@ fn add_digit(value: u64, byte: u8) -> Result<u64, Stop>
     }
 }
 
-/// Takes the other digits of a number, and returns it with the code unit after them, which is not taken. The end of the
-/// input is this stop.
+/// Consumes the digits of a number after the first one. Returns the number, and the code unit after it, which is not
+/// consumed. Returns `end` at the end of the input.
 #[inline(always)]
 pub fn parse_number<'a, T: EncodingType>(
     cursor: &mut Cursor<'a, T>,
@@ -62,14 +62,15 @@ pub fn parse_number<'a, T: EncodingType>(
     Err(end)
 }
 
-/// Keeps the number of a group by the rank of its unit.
+/// Stores the number of a group at the rank of its unit.
 #[inline(always)]
 pub fn keep_number(values: &mut [u64], rank: u8, number: u64)
     requires { rank < length values.old }
     ensures { values.new ≡ slice_set values.old rank number }
 {
     let place = usize::from(rank);
-    // It always is: with this test a compiler sees it too, and keeps no panic.
+    // The index is always in range, as the proof shows. The compiler does not know the proof: because of this test, it
+    // compiles no code for a panic.
     if place < values.len() {
         values[place] = number;
     }

@@ -1,9 +1,14 @@
-//! Durations, as `P1Y2M3DT4H`: the parser [`duration::IsoDurationParser`].
+//! Durations, such as `P1Y2M3DT4H`: the parser [`duration::IsoDurationParser`].
 //!
-//! A layer of the library `ixdtf`, above `ixdtf_grammar`, `ixdtf_reading` and `ixdtf_times`, whose fractions a duration
-//! may have. A state machine reads the groups of digits and a unit (`specs/reading`), since there may be any number of
-//! them: `date_groups` and `time_groups` read the two parts over `group_numbers`, and `duration` joins them. For callers
-//! it proves a whole reader: `Ok` exactly where the grammar derives the text, and else the error of the one row that fits.
+//! This is a layer of the library `ixdtf`, above `ixdtf_grammar`, `ixdtf_reading` and `ixdtf_times`. It uses
+//! `ixdtf_times`, because a duration can have a fraction. A *group* is a number and the letter of its unit. A state
+//! machine reads the groups (`specs/reading`), because there can be any number of them.
+//!
+//! - `date_groups` reads the date part, and `time_groups` the time part. Both use `group_numbers`.
+//! - `duration` puts the two parts together.
+//!
+//! For callers, this crate proves a complete reader: the result is `Ok` exactly if the grammar derives the text, and
+//! otherwise the error of the one row that fits.
 #![tactic(auto)]
 
 mod date_groups;

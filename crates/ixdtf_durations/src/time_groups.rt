@@ -1,4 +1,4 @@
-//! The time part of a duration: groups of hours, minutes and seconds, where the last may have a fraction.
+//! The time part of a duration: groups of hours, minutes and seconds. The last group can have a fraction.
 
 ghost use Rattle.std.specs.Prelude.{◌≡◌, ◌+◌, ◌≤◌, List, [], ◌∷◌, map, length, Ok, Some, OnOk, IfOk, IsTrue, IsSome};
 ghost use Rattle.ixdtf_grammar.specs.declared.profile.Profile.{Profile};
@@ -23,7 +23,7 @@ use ixdtf_reading::stop::Stop;
 use ixdtf_times::time::parse_fraction;
 use std::marker::Model;
 
-// The rank of the time unit that a code unit names: hours are 1, minutes 2 and seconds 3. Any other code unit has 0.
+// The rank of the time unit that a letter names: hours have 1, minutes 2 and seconds 3. Any other code unit has 0.
 #[rattlefmt::skip]
 static TIME_RANKS: [u8; 256] = [
     0, 0, 0, 0, 0, 0, 0, 0, 0, 0, 0, 0, 0, 0, 0, 0,
@@ -44,7 +44,7 @@ static TIME_RANKS: [u8; 256] = [
     0, 0, 0, 0, 0, 0, 0, 0, 0, 0, 0, 0, 0, 0, 0, 0,
 ];
 
-/// The rank of the time unit that the code unit names, or 0.
+/// Returns the rank of the time unit that the code unit names, or 0.
 #[inline(always)]
 fn time_rank(letter: u8) -> u8
     ensures rank { result ≡ rank_seen time letter }
@@ -53,7 +53,7 @@ fn time_rank(letter: u8) -> u8
     TIME_RANKS[letter as usize]
 }
 
-/// A time group: a number, its fraction, and the code unit after them, which is not taken yet.
+/// A time group: a number, its fraction, and the code unit after them, which has not been consumed.
 #[derive(Clone, Copy)]
 pub struct TimeGroup {
     pub value: u64,
@@ -61,7 +61,7 @@ pub struct TimeGroup {
     pub letter: u8,
 }
 
-/// Takes the letter of a time unit, and returns its rank where it is at least `least`. Another code unit is not taken.
+/// Consumes the letter of a time unit. Returns its rank if it is at least `least`. Any other code unit is not consumed.
 #[inline(always)]
 #[tactic(auto, using(crate::proofs::code::DurationSteps::letters_left))]
 fn take_time_unit<'a, T: EncodingType>(
@@ -91,7 +91,8 @@ fn take_time_unit<'a, T: EncodingType>(
     Ok(rank)
 }
 
-/// The record of the numbers of time groups, indexed by their ranks. The rank of the last is its variant.
+/// Returns the record of the numbers of time groups. The index of a number is its rank. The rank of the last group
+/// decides the variant.
 #[inline(always)]
 fn time_record(values: [u64; 4], rank: u8, fraction: Option<Fraction>) -> TimeDurationRecord
     requires rank { 1 ≤ rank }
@@ -116,8 +117,8 @@ fn time_record(values: [u64; 4], rank: u8, fraction: Option<Fraction>) -> TimeDu
     }
 }
 
-/// Reads the digits of a fraction after its decimal mark, and returns them with the code unit after them, which is not
-/// taken.
+/// Reads the digits of a fraction after its `.` or `,`. Returns the fraction, and the code unit after it, which is not
+/// consumed.
 #[inline(always)]
 fn parse_fraction_group<'a, T: EncodingType>(
     cursor: &mut Cursor<'a, T>,
@@ -141,8 +142,10 @@ fn parse_fraction_group<'a, T: EncodingType>(
     }
 }
 
-/// Reads time groups after their first digit, and expects the end of the input. Behind a fraction nothing else may stand, so
-/// only its group has one: the others are numbers, and none of them is copied with a place for a fraction.
+/// Reads time groups after their first digit, and expects the end of the input.
+///
+/// No group can follow a group with a fraction. So only the last group can have a fraction. The others are only
+/// numbers, and are not copied with a field for a fraction.
 #[inline(always)]
 pub fn parse_time_groups<'a, T: EncodingType>(
     cursor: &mut Cursor<'a, T>,

@@ -10,11 +10,10 @@ use crate::cursor::Cursor;
 use crate::grammar::is_time_designator;
 use crate::stop::Stop;
 
-// The greatest number of years, and of months, and of weeks.
+// The greatest number of years, of months and of weeks.
 const MOST_OF_LONG_UNITS: u64 = 0xffff_ffff;
 
-// The rank of the date unit that a code unit names: years are 1, months 2, weeks 3 and days 4. Any other code unit has
-// 0.
+// The rank of the date unit that a letter names: years have 1, months 2, weeks 3 and days 4. Any other code unit has 0.
 static DATE_RANKS: [u8; 256] = [
     0, 0, 0, 0, 0, 0, 0, 0, 0, 0, 0, 0, 0, 0, 0, 0,
     0, 0, 0, 0, 0, 0, 0, 0, 0, 0, 0, 0, 0, 0, 0, 0,
@@ -34,14 +33,14 @@ static DATE_RANKS: [u8; 256] = [
     0, 0, 0, 0, 0, 0, 0, 0, 0, 0, 0, 0, 0, 0, 0, 0,
 ];
 
-/// The rank of the date unit that the code unit names, or 0.
+/// Returns the rank of the date unit that the code unit names, or 0.
 #[inline(always)]
 fn date_rank(letter: u8) -> u8 {
     DATE_RANKS[letter as usize]
 }
 
-/// Takes the letter of a date unit after a number, and returns its rank where it is at least `least` and the number is
-/// in the range of the unit. Another code unit is not taken.
+/// Consumes the letter of a date unit after a number. Returns its rank if it is at least `least`, and the number is in
+/// the range of the unit. Any other code unit is not consumed.
 #[inline(always)]
 fn take_date_unit<'a, T: EncodingType>(
     cursor: &mut Cursor<'a, T>,
@@ -63,7 +62,7 @@ fn take_date_unit<'a, T: EncodingType>(
     Ok(rank)
 }
 
-/// The record of the numbers of date groups, indexed by their ranks.
+/// Returns the record of the numbers of date groups. The index of a number is its rank.
 #[inline(always)]
 fn date_record(values: [u64; 5]) -> DateDurationRecord {
     DateDurationRecord {
@@ -74,14 +73,14 @@ fn date_record(values: [u64; 5]) -> DateDurationRecord {
     }
 }
 
-/// Date groups that were read, and whether a `T` followed them. It is taken.
+/// The date groups that were read, and whether a `T` followed them. The `T` has been consumed.
 #[derive(Clone, Copy)]
 pub struct Dates {
     pub record: DateDurationRecord,
     pub timed: bool,
 }
 
-/// Reads date groups after their first digit, and what follows them: the end of the input, or a `T`.
+/// Reads date groups after their first digit, and then the end of the input or a `T`.
 #[inline(always)]
 pub fn parse_dates<'a, T: EncodingType>(
     cursor: &mut Cursor<'a, T>,

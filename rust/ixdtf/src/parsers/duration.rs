@@ -1,6 +1,6 @@
 // Made by tools/to_rust.py of crates/ixdtf_durations/src/duration.rt. Do not edit.
 
-//! The reader of durations.
+//! The parser of durations.
 
 use crate::parsers::date_groups::parse_dates;
 use crate::parsers::time_groups::parse_time_groups;
@@ -13,9 +13,11 @@ use crate::grammar::{is_ascii_sign, is_duration_designator, is_time_designator};
 use crate::stop::{FromStop, Stop};
 use crate::parsers::offsets::sign_from;
 
-/// A reader of durations.
+/// A parser of durations, such as `P1Y2M3DT4H`.
 ///
-/// It borrows its source. It is as large as a slice, the remaining input, and its profile.
+/// It borrows its source. It is as large as a slice and a profile.
+///
+/// # Examples
 ///
 /// ```rust
 /// use ixdtf::parsers::IsoDurationParser;
@@ -30,14 +32,14 @@ pub struct IsoDurationParser<'a, T: EncodingType> {
 }
 
 impl<'a> IsoDurationParser<'a, Utf8> {
-    /// A parser of a text's UTF-8 bytes.
+    /// Creates a parser of the UTF-8 bytes of a text.
     #[inline]
     #[must_use]
     pub fn from_str(value: &'a str) -> Self {
         Self::new(value.as_bytes())
     }
 
-    /// A parser of bytes, which need not be UTF-8.
+    /// Creates a parser of bytes. They need not be UTF-8.
     #[inline]
     #[must_use]
     pub fn from_utf8(value: &'a [u8]) -> Self {
@@ -46,8 +48,12 @@ impl<'a> IsoDurationParser<'a, Utf8> {
 }
 
 impl<'a> IsoDurationParser<'a, Utf16> {
-    /// A parser of 16-bit code units, which need not be UTF-16. It has the name that it has in `ixdtf` 0.6.7, so a caller
-    /// names the encoding, as `IsoDurationParser::<Utf16>::from_utf8`.
+    /// Creates a parser of 16-bit code units. They need not be UTF-16.
+    ///
+    /// This function has the name that it has in `ixdtf` 0.6.7. So a caller must name the encoding:
+    /// `IsoDurationParser::<Utf16>::from_utf8`.
+    ///
+    /// # Examples
     ///
     /// ```rust
     /// use ixdtf::encoding::Utf16;
@@ -65,7 +71,7 @@ impl<'a> IsoDurationParser<'a, Utf16> {
 }
 
 impl<'a, T: EncodingType> IsoDurationParser<'a, T> {
-    /// A parser of code units of any encoding.
+    /// Creates a parser of code units of any encoding.
     #[inline]
     #[must_use]
     pub fn new(value: &'a [T::CodeUnit]) -> Self {
@@ -75,7 +81,11 @@ impl<'a, T: EncodingType> IsoDurationParser<'a, T> {
         }
     }
 
-    /// The parser with this profile, which decides whether a unit may be repeated. The remaining input is unchanged.
+    /// Returns the parser with another profile. The remaining input is unchanged.
+    ///
+    /// The profile decides whether a duration may repeat a unit.
+    ///
+    /// # Examples
     ///
     /// ```rust
     /// use ixdtf::ParseError;
@@ -94,16 +104,27 @@ impl<'a, T: EncodingType> IsoDurationParser<'a, T> {
         }
     }
 
-    /// Reads the remaining input as a duration (`Duration` of the Temporal grammar; ISO 8601, section 5.5.2).
+    /// Parses the remaining input as a duration, such as `P1Y2M3DT4H` or `-PT1H30.5M`.
     ///
-    /// A duration is an optional sign, `P`, date groups, and then, where there are any, `T` and time groups. It has at
-    /// least one group. A group is a number and the letter of its unit: `Y`, `M`, `W` and `D` for years, months, weeks and
-    /// days, and `H`, `M` and `S` for hours, minutes and seconds. No unit may stand after a shorter one of its half. A unit
-    /// may be repeated, and its last number counts; under [`Profile::Strict`] none may. The last time group may have a
-    /// fraction, as `.25` or `,25`. All letters may be lowercase.
+    /// A duration is `Duration` of the Temporal grammar, and a form of ISO 8601, section 5.5.2. It consists of these
+    /// parts, and has at least one group. A group is a number and the letter of its unit.
     ///
-    /// A number is below 2^64, and below 2^32 for years, months and weeks. The record has a date where there are date
-    /// groups, and a time where there is a `T`.
+    /// 1. An optional sign, `+` or `-`.
+    /// 2. `P`.
+    /// 3. Date groups: years (`Y`), months (`M`), weeks (`W`) and days (`D`).
+    /// 4. If there are time groups, `T` and time groups: hours (`H`), minutes (`M`) and seconds (`S`). The last time
+    ///    group can have a fraction, such as `.25` or `,25`.
+    ///
+    /// All letters can be lowercase. Within the date groups, and within the time groups, no unit can come after a
+    /// shorter unit. A unit can be repeated, and then its last number counts. Under [`Profile::Strict`], no unit can be
+    /// repeated. A number must be less than 2^64. The number of years, months or weeks must be less than 2^32.
+    ///
+    /// The record has a date if the text has date groups, and a time if it has a `T`.
+    ///
+    /// If the call succeeds, no input remains, and a second call returns the error of the empty text. If it fails, the
+    /// input is unchanged, and a second call returns the same error.
+    ///
+    /// # Examples
     ///
     /// ```rust
     /// use ixdtf::ParseError;
@@ -132,25 +153,24 @@ impl<'a, T: EncodingType> IsoDurationParser<'a, T> {
     /// # Ok::<(), ParseError>(())
     /// ```
     ///
-    /// After `Ok` the remaining input is empty, so a later call returns the error of the empty text. After an error it is
-    /// unchanged, so a second call returns the same.
-    ///
     /// # Errors
     ///
-    /// The first part that is wrong decides. For a group the order is tested before the range of its unit.
+    /// The first part that is wrong decides. In a group, the order of its unit is tested before the range of its
+    /// number. To get the position of the error, call [`parse_located`](Self::parse_located).
     ///
-    /// - `AbruptEnd` where the input is empty (at `DurationStart`), where it ends after a sign (at `DurationDesignator`) or
-    ///   after `P` (at `Duration`), and where no unit of its half follows the digits of a group (at
-    ///   `DateDurationDesignator` and `TimeDurationDesignator`);
-    /// - `DurationDisgnator` where neither a sign nor `P` stands first, or no `P` after a sign;
-    /// - `TimeDurationDesignator` where no digit follows a `T`;
-    /// - `DateDurationPartOrder` and `TimeDurationPartOrder` for a group after one of a shorter unit, and under
-    ///   [`Profile::Strict`] for one after another of its unit;
-    /// - `DurationValueExceededRange` at a digit with which a number reaches 2^64, and for years, months and weeks of 2^32
-    ///   or more;
-    /// - `FractionPart` where no digit follows a decimal mark;
-    /// - `InvalidEnd` at any other character after `P` or after a group;
-    /// - `NonAsciiCodePoint` at a 16-bit code unit that is not from 1 to 126.
+    /// - `AbruptEnd`: the text is empty (location `DurationStart`), or ends after the sign (`DurationDesignator`) or
+    ///   after `P` (`Duration`). After the digits of a group, the text ends or has another character than the letter of
+    ///   a unit (`DateDurationDesignator`, `TimeDurationDesignator`).
+    /// - `DurationDisgnator`: the text begins with a character that is neither a sign nor `P`, or the sign is followed
+    ///   by another character than `P`.
+    /// - `TimeDurationDesignator`: no digit follows the `T`. This is also the error if the text ends there.
+    /// - `DateDurationPartOrder`, `TimeDurationPartOrder`: a group comes after a group with a shorter unit. Under
+    ///   [`Profile::Strict`], this is also the error if a unit is repeated.
+    /// - `DurationValueExceededRange`: a number is 2^64 or more, or the number of years, months or weeks is 2^32 or
+    ///   more.
+    /// - `FractionPart`: no digit follows the `.` or `,`. This is also the error if the text ends there.
+    /// - `InvalidEnd`: any other character follows `P` or a group.
+    /// - `NonAsciiCodePoint`: 16-bit text has a code unit outside 1 to 126. 8-bit text never has this error.
     #[inline(always)]
     pub fn parse(&mut self) -> ParserResult<DurationParseRecord> {
         let mut here = self.cursor.fork();
@@ -160,19 +180,23 @@ impl<'a, T: EncodingType> IsoDurationParser<'a, T> {
         }
     }
 
-    /// Reads as [`parse`](Self::parse) does, and returns an error with its place: the number of code units before it in the
-    /// remaining input.
+    /// Parses the remaining input as a duration, like [`parse`](Self::parse). An error has its position.
     ///
-    /// The place is that of the code unit that does not fit, or the end of the input where more has to follow. The place of
-    /// a number out of range is after the digit with which it overflows, or after the letter of its unit for years, months
-    /// and weeks. The place of a group out of order is after the letter of its unit.
+    /// The position is the number of code units before the error. It is the index of the code unit that does not fit,
+    /// or the end of the input if the input ends too early. There are two exceptions:
+    ///
+    /// - If a number is out of range, the position is after the digit with which it becomes 2^64 or more. For years,
+    ///   months and weeks of 2^32 or more, it is after the letter of the unit.
+    /// - If a group is out of order, the position is after the letter of its unit.
+    ///
+    /// # Examples
     ///
     /// ```rust
     /// use ixdtf::ParseError;
     /// use ixdtf::parsers::IsoDurationParser;
     ///
     /// for (text, error, at) in [
-    ///     ("P1Y2X", ParseError::AbruptEnd { location: "DateDurationDesignator" }, 4), // where the X stands
+    ///     ("P1Y2X", ParseError::AbruptEnd { location: "DateDurationDesignator" }, 4), // at the X
     ///     ("P1D1Y", ParseError::DateDurationPartOrder, 5), // after the second group
     ///     ("PT", ParseError::TimeDurationDesignator, 2), // the end
     /// ] {
@@ -183,7 +207,7 @@ impl<'a, T: EncodingType> IsoDurationParser<'a, T> {
     ///
     /// # Errors
     ///
-    /// Those of [`parse`](Self::parse), each with its place.
+    /// The errors of [`parse`](Self::parse), each with its position.
     #[inline(always)]
     pub fn parse_located(&mut self) -> Result<DurationParseRecord, LocatedError> {
         let mut here = self.cursor.fork();
@@ -193,11 +217,11 @@ impl<'a, T: EncodingType> IsoDurationParser<'a, T> {
         }
     }
 
-    /// Reads a duration after its sign and its `P` or `p`, from a second cursor on, and expects the end of the input.
+    /// Reads a duration after its sign and its `P`, on a second cursor, and expects the end of the input.
     ///
-    /// The two readers are inlined where they are called, and this function has no attribute. So what a duration begins
-    /// with is read at each call, and groups in one function for each error. With a whole reader in one function all calls
-    /// are slower.
+    /// The two public readers are inlined into their callers, and this function is not. So each caller has the code for
+    /// the beginning of a duration, and there is one function for the groups for each error type. With the complete
+    /// reader in one function, all calls are slower.
     fn parse_groups<E: FromStop>(
         &mut self,
         from: Cursor<'a, T>,
@@ -233,7 +257,7 @@ fn parse_times<'a, T: EncodingType>(
     }
 }
 
-/// Takes the `P` or `p` after a sign, and returns the sign.
+/// Consumes the `P` or `p` after a sign, and returns the sign.
 #[inline(always)]
 fn parse_designator<'a, T: EncodingType>(
     cursor: &mut Cursor<'a, T>,
@@ -249,7 +273,7 @@ fn parse_designator<'a, T: EncodingType>(
     }
 }
 
-/// Reads what a duration begins with, up to `P` or `p`, and returns its sign.
+/// Reads the beginning of a duration, up to its `P` or `p`. Returns its sign.
 #[inline(always)]
 fn parse_opening<'a, T: EncodingType>(cursor: &mut Cursor<'a, T>) -> Result<Sign, Stop> {
     match cursor.look()? {
