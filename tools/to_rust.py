@@ -67,7 +67,7 @@ FOR_C = ('#![cfg_attr(not(test), no_std)]\n', '\n#[cfg(not(test))]\nmod abort;\n
 # the layers of the library, and where their modules go in the crate that is made from all of them
 LAYERS = {
     'ixdtf_grammar': 'encoding error located packed pointed records parsers/profile'.split(),
-    'ixdtf_reading': 'cursor grammar stop parsers/annotations parsers/letters'.split(),
+    'ixdtf_reading': 'cursor classes stop parsers/annotations parsers/letters'.split(),
     'ixdtf_times': 'parsers/date_times parsers/dates parsers/months parsers/offsets parsers/time'.split(),
     'ixdtf_brackets': 'parsers/brackets parsers/zone'.split(),
     'ixdtf_durations': 'parsers/date_groups parsers/duration parsers/group_numbers parsers/time_groups'.split(),
@@ -142,7 +142,7 @@ MARKED = INLINED | {'error', 'located', 'records', 'canonical', 'length'}
 FARTHER = {'parsers/unhandled': ('Profile', 'TimeZoneParser')}
 RESULTS = {'Result', 'ParserResult'}
 # the types whose equality becomes a derived one, and the functions that this equality calls
-DERIVED = {('error', 'ParseError'): {'place', 'location'}, ('located', 'LocatedError'): set()}
+DERIVED = {('error', 'ParseError'): {'variant_index', 'location'}, ('located', 'LocatedError'): set()}
 UNSEEN = [phrase.split() for phrase in ['use crate :: looks :: Looks ;', 'looks : Looks ,', 'looks : Looks :: none ( ) ,', 'self . looks . tick ( ) ;',
                                         'let common = left . len ( ) . min ( right . len ( ) ) ;', 'self . looks . tick_by ( common ) ;', 'self . looks . tick_by ( 4 ) ;',
                                         'looks : std :: mem :: replace ( & mut self . looks , Looks :: none ( ) ) ,',

@@ -31,7 +31,7 @@ pub use ixdtf_grammar::profile::Profile;
 use ixdtf_reading::cursor::Cursor;
 // For the printer.
 #[doc(hidden)]
-pub use ixdtf_reading::grammar::is_annotation_value_component;
+pub use ixdtf_reading::classes::is_annotation_value_component;
 #[doc(hidden)]
 pub use ixdtf_reading::stop::FromStop;
 // For the printer.

@@ -14,11 +14,11 @@ use crate::zone::{NameState, parse_name_in_bracket, parse_offset_in_bracket, pas
 use ixdtf_grammar::encoding::EncodingType;
 use ixdtf_grammar::records::{Annotation, TimeZoneAnnotation, TimeZoneRecord};
 use ixdtf_reading::annotations::{KeyLetters, parse_annotation_value};
-use ixdtf_reading::cursor::Cursor;
-use ixdtf_reading::grammar::{
+use ixdtf_reading::classes::{
     is_a_key_leading_char, is_annotation_close, is_annotation_key_value_separator, is_ascii_sign,
     is_critical_flag, is_tz_leading_char,
 };
+use ixdtf_reading::cursor::Cursor;
 use ixdtf_reading::letters::{Letters, pass_letters};
 use ixdtf_reading::stop::Stop;
 

@@ -14,10 +14,10 @@ ghost use Rattle.ixdtf_reading.specs.reading.Brackets.{name_fault, next_is, name
 
 use ixdtf_grammar::encoding::EncodingType;
 use ixdtf_grammar::records::{TimeRecord, TimeZoneRecord};
-use ixdtf_reading::cursor::Cursor;
-use ixdtf_reading::grammar::{
+use ixdtf_reading::classes::{
     is_annotation_close, is_ascii_sign, is_tz_char, is_tz_leading_char, is_tz_name_separator,
 };
+use ixdtf_reading::cursor::Cursor;
 use ixdtf_reading::letters::{Letters, pass_letters};
 use ixdtf_reading::stop::Stop;
 use ixdtf_times::offsets::{minute_offset, take_last_offset};

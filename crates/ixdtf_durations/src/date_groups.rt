@@ -15,8 +15,8 @@ use crate::group_numbers::{Number, keep_number, parse_number};
 use ixdtf_grammar::encoding::EncodingType;
 use ixdtf_grammar::profile::Profile;
 use ixdtf_grammar::records::DateDurationRecord;
+use ixdtf_reading::classes::is_time_designator;
 use ixdtf_reading::cursor::Cursor;
-use ixdtf_reading::grammar::is_time_designator;
 use ixdtf_reading::stop::Stop;
 use std::marker::Model;
 

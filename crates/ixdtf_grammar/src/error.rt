@@ -3,7 +3,7 @@
 ghost use Rattle.std.specs.Prelude.{◌≡◌};
 ghost use Rattle.ixdtf_grammar.specs.table.Faults.{fault_of};
 ghost use Rattle.ixdtf_grammar.specs.table.ErrorTexts.{text_of};
-ghost use Rattle.ixdtf_grammar.specs.table.ErrorEquality.{place_of, location_of};
+ghost use Rattle.ixdtf_grammar.specs.table.ErrorEquality.{variant_index_of, location_of};
 
 use std::error::Error;
 use std::fmt;
@@ -246,8 +246,8 @@ impl ParseError {
 
 impl ParseError {
     /// Returns the index of the variant in the list of variants.
-    fn place(&self) -> u8
-        ensures { result ≡ place_of (fault_of self.now) }
+    fn variant_index(&self) -> u8
+        ensures { result ≡ variant_index_of (fault_of self.now) }
     {
         match *self {
             ParseError::ImplAssert => 0,
@@ -326,7 +326,7 @@ impl PartialEq for ParseError {
         ensures computes { result ≡ same_error self.now other.now }
         ensures equal { IsTrue result ↔ (fault_of self.now ≡ fault_of other.now) }
     {
-        self.place() == other.place() && self.location() == other.location()
+        self.variant_index() == other.variant_index() && self.location() == other.location()
     }
 }
 

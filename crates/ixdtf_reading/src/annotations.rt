@@ -9,11 +9,11 @@ ghost use Rattle.ixdtf_reading.specs.reading.Looks.{error_of, mark_by};
 ghost use Rattle.ixdtf_reading.specs.reading.Pairs.{AtStart, BeginsKey, key_run, component_look, value_run, pair_at, critical_pair_at, later_pair_at, next_pair_at};
 ghost use Rattle.ixdtf_grammar.specs.Handlers.{pair_of};
 
-use crate::cursor::Cursor;
-use crate::grammar::{
+use crate::classes::{
     is_a_key_char, is_a_key_leading_char, is_annotation_close, is_annotation_key_value_separator,
     is_annotation_open, is_annotation_value_component, is_critical_flag, is_hyphen,
 };
+use crate::cursor::Cursor;
 use crate::letters::{Letters, pass_letters};
 use crate::stop::Stop;
 use ixdtf_grammar::encoding::EncodingType;

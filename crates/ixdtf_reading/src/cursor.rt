@@ -15,7 +15,7 @@ ghost use Rattle.ixdtf_reading.specs.reading.Clauses.{Reads, Settles, Spends, Sp
 ghost use Rattle.ixdtf_reading.specs.reading.FixedPlaces.{letter_place, byte_place, byte_of_look, number_place};
 ghost use Rattle.ixdtf_reading.specs.reading.Looks.{seen, next_by, peek_by, digit_look, digits_by, two_digits_of};
 
-use crate::grammar::two_digit_number;
+use crate::classes::two_digit_number;
 use crate::looks::Looks;
 use crate::stop::{FromStop, Stop, error_of_stop};
 use ixdtf_grammar::encoding::EncodingType;

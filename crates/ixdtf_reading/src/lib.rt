@@ -9,8 +9,8 @@
 #![tactic(auto)]
 
 pub mod annotations;
+pub mod classes;
 pub mod cursor;
-pub mod grammar;
 pub mod letters;
 pub mod looks;
 pub mod stop;

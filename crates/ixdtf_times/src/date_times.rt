@@ -15,8 +15,8 @@ use crate::dates::{fixed_date, is_date};
 use crate::time::{WholeTime, fixed_time};
 use ixdtf_grammar::encoding::EncodingType;
 use ixdtf_grammar::records::DateRecord;
+use ixdtf_reading::classes::is_date_time_separator;
 use ixdtf_reading::cursor::Cursor;
-use ixdtf_reading::grammar::is_date_time_separator;
 
 /// Consumes a date, a separator and a time in the first nineteen columns.
 ///

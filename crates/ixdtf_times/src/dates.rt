@@ -13,8 +13,8 @@ ghost use Rattle.ixdtf_reading.specs.reading.Dates.{date_of, year_at, four_digit
 
 use ixdtf_grammar::encoding::EncodingType;
 use ixdtf_grammar::records::DateRecord;
+use ixdtf_reading::classes::{is_ascii_sign, is_hyphen, two_digit_number};
 use ixdtf_reading::cursor::Cursor;
-use ixdtf_reading::grammar::{is_ascii_sign, is_hyphen, two_digit_number};
 use ixdtf_reading::stop::Stop;
 
 /// Reads a date: in its ten or eight fixed columns if they fit, and otherwise part by part.

@@ -18,8 +18,8 @@ use crate::dates::{
 use ixdtf_grammar::encoding::EncodingType;
 use ixdtf_grammar::profile::Profile;
 use ixdtf_grammar::records::DateRecord;
+use ixdtf_reading::classes::is_hyphen;
 use ixdtf_reading::cursor::Cursor;
-use ixdtf_reading::grammar::is_hyphen;
 use ixdtf_reading::stop::Stop;
 
 // ==== Year-months ====

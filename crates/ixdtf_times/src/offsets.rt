@@ -23,8 +23,8 @@ use ixdtf_grammar::records::{
     FullPrecisionOffset, MinutePrecisionOffset, Sign, TimeRecord, UtcOffsetRecord,
     UtcOffsetRecordOrZ,
 };
+use ixdtf_reading::classes::{is_annotation_open, is_ascii_sign, is_hyphen};
 use ixdtf_reading::cursor::Cursor;
-use ixdtf_reading::grammar::{is_annotation_open, is_ascii_sign, is_hyphen};
 use ixdtf_reading::stop::Stop;
 
 /// What follows a core.

@@ -16,8 +16,8 @@ ghost use Rattle.ixdtf_reading.specs.reading.Times.{time_of, second_start, clock
 
 use ixdtf_grammar::encoding::EncodingType;
 use ixdtf_grammar::records::{Fraction, TimeRecord};
+use ixdtf_reading::classes::{is_decimal_separator, is_time_separator};
 use ixdtf_reading::cursor::Cursor;
-use ixdtf_reading::grammar::{is_decimal_separator, is_time_separator};
 use ixdtf_reading::stop::Stop;
 
 /// One of the three parts that are written like a time.

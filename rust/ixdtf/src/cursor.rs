@@ -6,7 +6,7 @@
 //! private function stops with an error, it leaves its cursor at the position of the error. A public reader puts it
 //! back (`settle`).
 
-use crate::grammar::two_digit_number;
+use crate::classes::two_digit_number;
 use crate::stop::{FromStop, Stop, error_of_stop};
 use crate::encoding::EncodingType;
 

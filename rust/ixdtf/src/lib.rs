@@ -7,10 +7,10 @@
 #[cfg(test)]
 extern crate self as ixdtf;
 
+mod classes;
 mod cursor;
 pub mod encoding;
 mod error;
-mod grammar;
 mod located;
 mod packed;
 pub mod parsers;

@@ -44,7 +44,7 @@ pub use self::profile::Profile;
 use crate::cursor::Cursor;
 // For the printer.
 #[doc(hidden)]
-pub use crate::grammar::is_annotation_value_component;
+pub use crate::classes::is_annotation_value_component;
 #[doc(hidden)]
 pub use crate::stop::FromStop;
 // For the printer.

@@ -19,11 +19,11 @@ ghost use Rattle.ixdtf_reading.specs.reading.Cores.{ClosedCore, core_end_at, off
 use ixdtf_grammar::encoding::EncodingType;
 use ixdtf_grammar::profile::Profile;
 use ixdtf_grammar::records::{DateRecord, IxdtfParseRecord, TimeRecord, UtcOffsetRecordOrZ};
-use ixdtf_reading::cursor::Cursor;
-use ixdtf_reading::grammar::{
+use ixdtf_reading::classes::{
     is_annotation_open, is_ascii_sign, is_date_time_separator, is_time_designator,
     is_time_separator, is_utc_designator,
 };
+use ixdtf_reading::cursor::Cursor;
 use ixdtf_reading::stop::Stop;
 use ixdtf_times::date_times::take_fixed_date_time;
 use ixdtf_times::dates::parse_date;

@@ -2,13 +2,13 @@
 use Rattle.std.proofs.Common.{◌≡◌, ℕ, ◌+◌, ◌≤◌, Bool, true, false, [], ◌∷◌, List, None, Result, Ok, Err, refl, sym, arith, nat_le, ◌&&◌, slice_set}
 use Rattle.std.proofs.{Common.if◌then◌else◌, lemmas.Bool.Decides.nat_tests}
 use Rattle.ixdtf_grammar.specs.{declared.profile.Profile.Profile, language.Letters.{year_letter, month_letter, week_letter, hour_letter, minute_letter}}
-use Rattle.ixdtf_grammar.specs.language.Durations.{Half, Group, place, unit_of, designator, greatest, least_step, in_order, number_of, Half.{date, time}}
+use Rattle.ixdtf_grammar.specs.language.Durations.{Half, Group, unit_index, unit_of, designator, greatest, least_step, in_order, number_of, Half.{date, time}}
 use Rattle.ixdtf_grammar.specs.{language.Durations.DurationUnit.{years, months, weeks, days, hours, minutes, seconds}, table.Faults.Fault}
 use Rattle.ixdtf_grammar.specs.table.Faults.Fault.{DurationValueExceededRange, DateDurationPartOrder, TimeDurationPartOrder}
 use Rattle.ixdtf_grammar.specs.table.Lines.{abrupt_date_designator, abrupt_time_designator}
 use Rattle.ixdtf_durations.specs.{declared.{group_numbers.Number.Number, time_groups.TimeGroup.TimeGroup}, reading.DurationClauses.{rank, date_numbers, time_numbers}}
 use Rattle.ixdtf_durations.specs.reading.DurationClauses.{date_group_of, time_group_of, date_rank_from, time_rank_from, date_read, time_read}
-use Rattle.ixdtf_durations.proofs.code.DurationRanks.{below, date_place, time_place}
+use Rattle.ixdtf_durations.proofs.code.DurationRanks.{below, date_unit_index, time_unit_index}
 
 -- a unit of the half may follow these groups from this rank on
 abbrev pub MayFollowFrom : Profile → Half → ℕ → List Group → Type 0
@@ -113,12 +113,12 @@ module _ (profile : Profile) (values : List ℕ) (least : ℕ) (dates : List Gro
   date_added r is =
       let p = three_hold (designator date n.next) (nat_le least (rank (unit_of date n.next))) (nat_le n.value (greatest (unit_of date n.next)))
       (rank (unit_of date n.next)) r abrupt_date_designator DateDurationPartOrder DurationValueExceededRange is in
-      let high : least ≤ place (unit_of date n.next) + 1 = rw (date_place n.next) (below _ _ p.1) in (
+      let high : least ≤ unit_index (unit_of date n.next) + 1 = rw (date_unit_index n.next) (below _ _ p.1) in (
         rw (p.0, has.follows n.next, p.1, p.2) refl,
         record {
           numbers = rw (← p.3, has.numbers) numbers_with;
           small = small_with p.2;
-          follows = λ c. rw (← p.3, has.follows c, ← date_place n.next, ← date_place c) (dates_absorb _ _ _ (least_step profile) high);
+          follows = λ c. rw (← p.3, has.follows c, ← date_unit_index n.next, ← date_unit_index c) (dates_absorb _ _ _ (least_step profile) high);
         },
       )
 
@@ -150,7 +150,7 @@ module _ (profile : Profile) (values : List ℕ) (least : ℕ) (times : List Gro
         sym p.2,
         record {
           numbers = rw (← p.2, has.numbers) times_with;
-          follows = λ c. rw (← p.2, has.follows c, time_place g.letter, time_place c) (times_absorb _ _ _ (least_step profile) high);
+          follows = λ c. rw (← p.2, has.follows c, time_unit_index g.letter, time_unit_index c) (times_absorb _ _ _ (least_step profile) high);
         },
       )
 

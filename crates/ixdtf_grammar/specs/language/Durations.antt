@@ -19,17 +19,17 @@ pub data DurationUnit : Type 0 where
   years months weeks days hours minutes seconds : DurationUnit
 
 -- the index of a unit in the list of them, from the longest to the shortest
-abbrev pub place : DurationUnit → ℕ
-place years = 0
-place months = 1
-place weeks = 2
-place days = 3
-place hours = 4
-place minutes = 5
-place seconds = 6
+abbrev pub unit_index : DurationUnit → ℕ
+unit_index years = 0
+unit_index months = 1
+unit_index weeks = 2
+unit_index days = 3
+unit_index hours = 4
+unit_index minutes = 5
+unit_index seconds = 6
 
 abbrev pub same_unit : DurationUnit → DurationUnit → Bool
-same_unit a b = nat_eq (place a) (place b)
+same_unit a b = nat_eq (unit_index a) (unit_index b)
 
 -- the letters of the units of the half
 abbrev pub designator : Half → Class
@@ -97,7 +97,7 @@ least_step Strict = 1
 
 -- whether a group of the second unit may stand behind one of the first
 abbrev pub may_follow : Profile → DurationUnit → DurationUnit → Bool
-may_follow profile before after = nat_le (place before + least_step profile) (place after)
+may_follow profile before after = nat_le (unit_index before + least_step profile) (unit_index after)
 
 -- whether a group of the unit may stand behind all of these
 abbrev pub in_order : Profile → List Group → DurationUnit → Bool

@@ -13,53 +13,53 @@ use Rattle.ixdtf_grammar.specs.table.Faults.Fault.{DurationDisgnator, DurationVa
 use Rattle.ixdtf_grammar.specs.table.Faults.Fault.{TimeDurationDesignator, AmbiguousTimeMonthDay, AmbiguousTimeYearMonth, InvalidMonthDay}
 
 -- the index of a fault in the list of faults
-abbrev pub place_of : Fault → ℕ
-place_of ImplAssert = 0
-place_of NonAsciiCodePoint = 1
-place_of ParseFloat = 2
-place_of (AbruptEnd location) = 3
-place_of InvalidEnd = 4
-place_of InvalidMonthRange = 5
-place_of InvalidDayRange = 6
-place_of DateYear = 7
-place_of DateExtendedYear = 8
-place_of DateMonth = 9
-place_of DateDay = 10
-place_of DateUnexpectedEnd = 11
-place_of TimeRequired = 12
-place_of TimeHour = 13
-place_of TimeMinuteSecond = 14
-place_of TimeSecond = 15
-place_of FractionPart = 16
-place_of DateSeparator = 17
-place_of TimeSeparator = 18
-place_of DecimalSeparator = 19
-place_of InvalidAnnotation = 20
-place_of AnnotationOpen = 21
-place_of AnnotationClose = 22
-place_of AnnotationChar = 23
-place_of AnnotationKeyValueSeparator = 24
-place_of AnnotationKeyLeadingChar = 25
-place_of AnnotationKeyChar = 26
-place_of AnnotationValueCharPostHyphen = 27
-place_of AnnotationValueChar = 28
-place_of InvalidMinutePrecisionOffset = 29
-place_of CriticalDuplicateCalendar = 30
-place_of UnrecognizedCritical = 31
-place_of TzLeadingChar = 32
-place_of IanaCharPostSeparator = 33
-place_of IanaChar = 34
-place_of UtcTimeSeparator = 35
-place_of OffsetNeedsSign = 36
-place_of MonthDayHyphen = 37
-place_of DurationDisgnator = 38
-place_of DurationValueExceededRange = 39
-place_of DateDurationPartOrder = 40
-place_of TimeDurationPartOrder = 41
-place_of TimeDurationDesignator = 42
-place_of AmbiguousTimeMonthDay = 43
-place_of AmbiguousTimeYearMonth = 44
-place_of InvalidMonthDay = 45
+abbrev pub variant_index_of : Fault → ℕ
+variant_index_of ImplAssert = 0
+variant_index_of NonAsciiCodePoint = 1
+variant_index_of ParseFloat = 2
+variant_index_of (AbruptEnd location) = 3
+variant_index_of InvalidEnd = 4
+variant_index_of InvalidMonthRange = 5
+variant_index_of InvalidDayRange = 6
+variant_index_of DateYear = 7
+variant_index_of DateExtendedYear = 8
+variant_index_of DateMonth = 9
+variant_index_of DateDay = 10
+variant_index_of DateUnexpectedEnd = 11
+variant_index_of TimeRequired = 12
+variant_index_of TimeHour = 13
+variant_index_of TimeMinuteSecond = 14
+variant_index_of TimeSecond = 15
+variant_index_of FractionPart = 16
+variant_index_of DateSeparator = 17
+variant_index_of TimeSeparator = 18
+variant_index_of DecimalSeparator = 19
+variant_index_of InvalidAnnotation = 20
+variant_index_of AnnotationOpen = 21
+variant_index_of AnnotationClose = 22
+variant_index_of AnnotationChar = 23
+variant_index_of AnnotationKeyValueSeparator = 24
+variant_index_of AnnotationKeyLeadingChar = 25
+variant_index_of AnnotationKeyChar = 26
+variant_index_of AnnotationValueCharPostHyphen = 27
+variant_index_of AnnotationValueChar = 28
+variant_index_of InvalidMinutePrecisionOffset = 29
+variant_index_of CriticalDuplicateCalendar = 30
+variant_index_of UnrecognizedCritical = 31
+variant_index_of TzLeadingChar = 32
+variant_index_of IanaCharPostSeparator = 33
+variant_index_of IanaChar = 34
+variant_index_of UtcTimeSeparator = 35
+variant_index_of OffsetNeedsSign = 36
+variant_index_of MonthDayHyphen = 37
+variant_index_of DurationDisgnator = 38
+variant_index_of DurationValueExceededRange = 39
+variant_index_of DateDurationPartOrder = 40
+variant_index_of TimeDurationPartOrder = 41
+variant_index_of TimeDurationDesignator = 42
+variant_index_of AmbiguousTimeMonthDay = 43
+variant_index_of AmbiguousTimeYearMonth = 44
+variant_index_of InvalidMonthDay = 45
 
 -- the location of a fault, or nothing
 abbrev pub location_of : Fault → List ℕ
@@ -68,7 +68,7 @@ location_of fault = []
 
 -- the index and the location in one list
 abbrev pub spelled : Fault → List ℕ
-spelled f = place_of f ∷ location_of f
+spelled f = variant_index_of f ∷ location_of f
 
 -- whether two errors are equal
 abbrev pub same_error : ParseError → ParseError → Bool

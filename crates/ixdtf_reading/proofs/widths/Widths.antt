@@ -99,9 +99,9 @@ unhandled_place reader text fault (pairs, inl h) =
     let front = h.0 in (length front.0, (pairs, inl ((front.0, front.1, front.2, refl, front.3, front.4), h.1)))
 unhandled_place reader text fault (pairs, inr h) = let placed = row_place reader text pairs fault h.0 in (placed.0, (pairs, inr (placed.1, h.1)))
 
-place_of : (reader : Reader) (text : Text) (fault : Fault) → HasUnhandledOutcome reader text (faulted fault) → (at : ℕ) × HasUnhandledFaultAt reader text fault at
-place_of (bracketed kind) text fault h = unhandled_place (bracketed kind) text fault h
-place_of reader text fault h = row_place reader text [] fault h
+outcome_place : (reader : Reader) (text : Text) (fault : Fault) → HasUnhandledOutcome reader text (faulted fault) → (at : ℕ) × HasUnhandledFaultAt reader text fault at
+outcome_place (bracketed kind) text fault h = unhandled_place (bracketed kind) text fault h
+outcome_place reader text fault h = row_place reader text [] fault h
 
 -- and without it, is the outcome
 fault_of_place : (reader : Reader) (text : Text) (fault : Fault) (at : ℕ) → HasUnhandledFaultAt reader text fault at → HasUnhandledOutcome reader text (faulted fault)
@@ -149,7 +149,7 @@ place_where_not_shared reader numbers some =
     let outcome = unhandled_outcome reader (wide_text numbers) in
     let sees = sees_where_not_shared numbers some in
     let (fault, has) = outcome_fault _ _ sees reader outcome.0 outcome.1 in
-    let (at, there) = place_of reader (wide_text numbers) fault has in (
+    let (at, there) = outcome_place reader (wide_text numbers) fault has in (
       fault,
       at,
       there,

@@ -2,11 +2,11 @@
 
 //! Functions that read annotations: a key and a value in brackets.
 
-use crate::cursor::Cursor;
-use crate::grammar::{
+use crate::classes::{
     is_a_key_char, is_a_key_leading_char, is_annotation_close, is_annotation_key_value_separator,
     is_annotation_open, is_annotation_value_component, is_critical_flag, is_hyphen,
 };
+use crate::cursor::Cursor;
 use crate::parsers::letters::{Letters, pass_letters};
 use crate::stop::Stop;
 use crate::encoding::EncodingType;

@@ -6,11 +6,11 @@ use crate::parsers::zone::{NameState, parse_name_in_bracket, parse_offset_in_bra
 use crate::encoding::EncodingType;
 use crate::records::{Annotation, TimeZoneAnnotation, TimeZoneRecord};
 use crate::parsers::annotations::{KeyLetters, parse_annotation_value};
-use crate::cursor::Cursor;
-use crate::grammar::{
+use crate::classes::{
     is_a_key_leading_char, is_annotation_close, is_annotation_key_value_separator, is_ascii_sign,
     is_critical_flag, is_tz_leading_char,
 };
+use crate::cursor::Cursor;
 use crate::parsers::letters::{Letters, pass_letters};
 use crate::stop::Stop;
 

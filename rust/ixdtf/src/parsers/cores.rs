@@ -5,11 +5,11 @@
 use crate::encoding::EncodingType;
 use crate::parsers::profile::Profile;
 use crate::records::{DateRecord, IxdtfParseRecord, TimeRecord, UtcOffsetRecordOrZ};
-use crate::cursor::Cursor;
-use crate::grammar::{
+use crate::classes::{
     is_annotation_open, is_ascii_sign, is_date_time_separator, is_time_designator,
     is_time_separator, is_utc_designator,
 };
+use crate::cursor::Cursor;
 use crate::stop::Stop;
 use crate::parsers::date_times::take_fixed_date_time;
 use crate::parsers::dates::parse_date;

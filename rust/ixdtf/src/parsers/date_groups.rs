@@ -6,8 +6,8 @@ use crate::parsers::group_numbers::{Number, keep_number, parse_number};
 use crate::encoding::EncodingType;
 use crate::parsers::profile::Profile;
 use crate::records::DateDurationRecord;
+use crate::classes::is_time_designator;
 use crate::cursor::Cursor;
-use crate::grammar::is_time_designator;
 use crate::stop::Stop;
 
 // The greatest number of years, of months and of weeks.

@@ -6,8 +6,8 @@ use crate::parsers::dates::{fixed_date, is_date};
 use crate::parsers::time::{WholeTime, fixed_time};
 use crate::encoding::EncodingType;
 use crate::records::DateRecord;
+use crate::classes::is_date_time_separator;
 use crate::cursor::Cursor;
-use crate::grammar::is_date_time_separator;
 
 /// Consumes a date, a separator and a time in the first nineteen columns.
 ///

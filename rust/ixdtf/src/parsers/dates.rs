@@ -4,8 +4,8 @@
 
 use crate::encoding::EncodingType;
 use crate::records::DateRecord;
+use crate::classes::{is_ascii_sign, is_hyphen, two_digit_number};
 use crate::cursor::Cursor;
-use crate::grammar::{is_ascii_sign, is_hyphen, two_digit_number};
 use crate::stop::Stop;
 
 /// Reads a date: in its ten or eight fixed columns if they fit, and otherwise part by part.

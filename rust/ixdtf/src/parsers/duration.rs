@@ -8,8 +8,8 @@ use crate::encoding::{EncodingType, Utf8, Utf16};
 use crate::parsers::profile::Profile;
 use crate::records::{DateDurationRecord, DurationParseRecord, Sign};
 use crate::{LocatedError, ParseError, ParserResult};
+use crate::classes::{is_ascii_sign, is_duration_designator, is_time_designator};
 use crate::cursor::Cursor;
-use crate::grammar::{is_ascii_sign, is_duration_designator, is_time_designator};
 use crate::stop::{FromStop, Stop};
 use crate::parsers::offsets::sign_from;
 

@@ -8,8 +8,8 @@ use crate::parsers::dates::{
 use crate::encoding::EncodingType;
 use crate::parsers::profile::Profile;
 use crate::records::DateRecord;
+use crate::classes::is_hyphen;
 use crate::cursor::Cursor;
-use crate::grammar::is_hyphen;
 use crate::stop::Stop;
 
 // ==== Year-months ====

@@ -8,8 +8,8 @@ use crate::records::{
     FullPrecisionOffset, MinutePrecisionOffset, Sign, TimeRecord, UtcOffsetRecord,
     UtcOffsetRecordOrZ,
 };
+use crate::classes::{is_annotation_open, is_ascii_sign, is_hyphen};
 use crate::cursor::Cursor;
-use crate::grammar::{is_annotation_open, is_ascii_sign, is_hyphen};
 use crate::stop::Stop;
 
 /// What follows a core.

@@ -4,8 +4,8 @@
 
 use crate::encoding::EncodingType;
 use crate::records::{Fraction, TimeRecord};
+use crate::classes::{is_decimal_separator, is_time_separator};
 use crate::cursor::Cursor;
-use crate::grammar::{is_decimal_separator, is_time_separator};
 use crate::stop::Stop;
 
 /// One of the three parts that are written like a time.

@@ -6,8 +6,8 @@ use crate::parsers::group_numbers::{keep_number, parse_number};
 use crate::encoding::EncodingType;
 use crate::parsers::profile::Profile;
 use crate::records::{Fraction, TimeDurationRecord};
+use crate::classes::is_decimal_separator;
 use crate::cursor::Cursor;
-use crate::grammar::is_decimal_separator;
 use crate::stop::Stop;
 use crate::parsers::time::parse_fraction;
 

@@ -4,10 +4,10 @@
 
 use crate::encoding::EncodingType;
 use crate::records::{TimeRecord, TimeZoneRecord};
-use crate::cursor::Cursor;
-use crate::grammar::{
+use crate::classes::{
     is_annotation_close, is_ascii_sign, is_tz_char, is_tz_leading_char, is_tz_name_separator,
 };
+use crate::cursor::Cursor;
 use crate::parsers::letters::{Letters, pass_letters};
 use crate::stop::Stop;
 use crate::parsers::offsets::{minute_offset, take_last_offset};

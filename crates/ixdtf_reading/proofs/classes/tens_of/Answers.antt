@@ -1,4 +1,4 @@
-use Rattle.ixdtf_reading.proofs.grammar.tens_of.Goals as goal
+use Rattle.ixdtf_reading.proofs.classes.tens_of.Goals as goal
 use Rattle.std.proofs.Common.{refl, arith}
 use Rattle.ixdtf_reading.specs.reading.FixedPlaces.{tens_value}
 use Rattle.ixdtf_reading.proofs.code.Tables.{agree_below, listed_from, in_table, tens_small}

@@ -1,4 +1,4 @@
-use Rattle.ixdtf_reading.proofs.grammar.two_digit_number.Goals as goal
+use Rattle.ixdtf_reading.proofs.classes.two_digit_number.Goals as goal
 use Rattle.std.proofs.Common.{arith}
 use Rattle.ixdtf_reading.proofs.code.Tables.{are_digits, ones_is_none}
 

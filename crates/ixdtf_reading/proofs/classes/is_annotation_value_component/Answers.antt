@@ -1,4 +1,4 @@
-use Rattle.ixdtf_reading.proofs.grammar.is_annotation_value_component.Goals as goal
+use Rattle.ixdtf_reading.proofs.classes.is_annotation_value_component.Goals as goal
 use Rattle.std.proofs.Common.{refl, arith}
 use Rattle.ixdtf_grammar.specs.language.Letters.{value_char}
 use Rattle.ixdtf_reading.proofs.code.Tables.{agree_below, bits, listed_from, in_class}

@@ -1,4 +1,4 @@
-// Made by tools/to_rust.py of crates/ixdtf_reading/src/grammar.rt. Do not edit.
+// Made by tools/to_rust.py of crates/ixdtf_reading/src/classes.rt. Do not edit.
 
 //! Classes of characters, and the values of digits.
 
