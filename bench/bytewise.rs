@@ -29,7 +29,7 @@ fn main() {
     let seed = std::env::args().nth(1).and_then(|word| word.parse::<u64>().ok()).unwrap_or(1);
     let piece: Vec<u8> = (0..8).map(|place| (seed.wrapping_add(place) % 251) as u8).collect();
     let mut writer = ByteWriter { digest: seed };
-    let mut output = Output::filling(&mut writer);
+    let mut output = Output::new(&mut writer);
     for number in 0..2_000_000usize {
         if output.put(&piece[..number % 8]).is_err() {
             return;

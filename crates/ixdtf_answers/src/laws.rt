@@ -5,17 +5,20 @@ ghost use Rattle.ixdtf_answers.specs.Run.{AreAnswers, WritesFront};
 
 use crate::runner::answer_lines;
 use ixdtf_buffers::error::RunError;
-use ixdtf_buffers::memory::{Memory, Room};
+use ixdtf_buffers::memory::{MemorySink, MemorySource};
 
-/// Answers each line of the bytes in the room, where no byte was written. Nothing fails but a write, and that only where the room is
+/// Answers each line of the bytes in the sink, where no byte was written. Nothing fails but a write, and that only where the sink is
 /// full of the beginning of the answers.
-pub fn run_in_memory<const SIZE: usize>(bytes: &[u8], room: &mut Room<SIZE>) -> Result<(), RunError>
-    requires { room.old ≡ [] }
-    ensures ok { OnOk result (AreAnswers (lines_of bytes.now) room.new) }
-    ensures err { IfErr result (λ error. (error ≡ RunError.Write) × (length room.new ≡ SIZE)) }
+pub fn run_in_memory<const SIZE: usize>(
+    bytes: &[u8],
+    sink: &mut MemorySink<SIZE>,
+) -> Result<(), RunError>
+    requires { sink.old ≡ [] }
+    ensures ok { OnOk result (AreAnswers (lines_of bytes.now) sink.new) }
+    ensures err { IfErr result (λ error. (error ≡ RunError.Write) × (length sink.new ≡ SIZE)) }
     ensures front { result ≡ Err RunError.Write → (read : List ℕ) × (rest : List ℕ)
         × (bytes.now ≡ read ++ rest)
-        × WritesFront (Some []) (Some room.new) (lines_of read) }
+        × WritesFront (Some []) (Some sink.new) (lines_of read) }
 {
-    answer_lines(&mut Memory { rest: bytes }, room)
+    answer_lines(&mut MemorySource { rest: bytes }, sink)
 }

@@ -62,7 +62,7 @@ unbroken [] others = refl
 unbroken (byte ∷ bytes) others = rw (others 0 (omega arith), unbroken bytes (λ k less. others (suc k) (omega (arith, less)))) refl
 
 -- no byte passes where there is no first one
-position-None : (p : ℕ → Bool) (xs : List ℕ) → None ≡ position p xs → (k : ℕ) → k < length xs → p (get_or xs k 0) ≡ false
+pub position-None : (p : ℕ → Bool) (xs : List ℕ) → None ≡ position p xs → (k : ℕ) → k < length xs → p (get_or xs k 0) ≡ false
 position-None p xs none k inside = step (nat_lt place (length xs)) refl none
   where
     place : ℕ

@@ -69,7 +69,7 @@ pub fn drive<S: Source, K: Sink, T: LineTask<LIMIT>, const LIMIT: usize>(
         × Reads (S.remaining source.old) (S.remaining source.new) result.bytes (λ bytes.
         DoesFront T.step (K.contents sink.old) (K.contents sink.new) task.old task.new (lines_of bytes)) }
 {
-    let mut output = Output::filling(sink);
+    let mut output = Output::new(sink);
     let mut bytes = 0;
     let end = drive_all(source, &mut output, task, &mut bytes);
     Driven { bytes, end }

@@ -8,15 +8,15 @@ use std::marker::Model;
 
 /// Bytes in memory, from which a run reads. A read never fails.
 #[derive(Drop)]
-pub struct Memory<'a> {
+pub struct MemorySource<'a> {
     /// The bytes that are left.
     pub rest: &'a [u8],
 }
 
-impl Source for Memory<'_> {
+impl Source for MemorySource<'_> {
     ghost use Rattle.std.specs.Prelude.{Some};
 
-    ghost remaining = { λ memory. Some memory.rest.now };
+    ghost remaining = { λ source. Some source.rest.now };
 
     ghost failed = { λ _. ⊥ };
 
@@ -29,27 +29,27 @@ impl Source for Memory<'_> {
     }
 }
 
-/// Room for some bytes, to which a run writes. A write fails only where the room is full.
+/// An array in memory, to which a run writes. A write fails only where it is full.
 #[derive(Drop)]
-pub struct Room<const SIZE: usize> {
+pub struct MemorySink<const SIZE: usize> {
     bytes: [u8; SIZE],
     count: usize,
 }
 
-impl<const SIZE: usize> Model for Room<SIZE> {
+impl<const SIZE: usize> Model for MemorySink<SIZE> {
     ghost Value = { List ℕ };
 
-    ghost view = { λ room. take room.count room.bytes };
+    ghost view = { λ sink. take sink.count sink.bytes };
 
-    ghost invariant = { λ room. room.count ≤ SIZE };
+    ghost invariant = { λ sink. sink.count ≤ SIZE };
 }
 
-impl<const SIZE: usize> Room<SIZE> {
+impl<const SIZE: usize> MemorySink<SIZE> {
     /// No byte was written.
-    pub fn new() -> Room<SIZE>
+    pub fn new() -> MemorySink<SIZE>
         ensures { result ≡ [] }
     {
-        Room {
+        MemorySink {
             bytes: [0; SIZE],
             count: 0,
         }
@@ -63,12 +63,12 @@ impl<const SIZE: usize> Room<SIZE> {
     }
 }
 
-impl<const SIZE: usize> Sink for Room<SIZE> {
+impl<const SIZE: usize> Sink for MemorySink<SIZE> {
     ghost use Rattle.std.specs.Prelude.{◌≡◌, length, Some, ⊤};
 
-    ghost contents = { λ room. Some room };
+    ghost contents = { λ sink. Some sink };
 
-    ghost failed = { λ room. length room ≡ SIZE };
+    ghost failed = { λ sink. length sink ≡ SIZE };
 
     ghost flushed = { λ _. ⊤ };
 

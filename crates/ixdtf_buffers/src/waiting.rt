@@ -6,25 +6,19 @@ use std::marker::Model;
 /// How many bytes wait at most.
 pub const WAITING_LIMIT: usize = 4096;
 
-/// How many bytes the array has: twice as many as wait, so that what waits is seldom moved to its front.
-const ROOM: usize = 8192;
-
 /// Bytes that wait to be written.
 #[derive(Drop)]
 pub struct Waiting {
-    bytes: [u8; ROOM],
-    // Where what waits begins and ends. It begins in the first half.
-    start: usize,
-    end: usize,
+    bytes: [u8; WAITING_LIMIT],
+    count: usize,
 }
 
 impl Model for Waiting {
     ghost Value = { List ℕ };
 
-    ghost view = { λ waiting. drop waiting.start (take waiting.end waiting.bytes) };
+    ghost view = { λ waiting. take waiting.count waiting.bytes };
 
-    ghost invariant = { λ waiting. (waiting.start ≤ 4096) × (waiting.start ≤ waiting.end)
-        × (waiting.end ≤ waiting.start + 4096) };
+    ghost invariant = { λ waiting. waiting.count ≤ 4096 };
 }
 
 impl Waiting {
@@ -33,9 +27,8 @@ impl Waiting {
         ensures { result ≡ [] }
     {
         Waiting {
-            bytes: [0; ROOM],
-            start: 0,
-            end: 0,
+            bytes: [0; WAITING_LIMIT],
+            count: 0,
         }
     }
 
@@ -43,7 +36,7 @@ impl Waiting {
     pub fn room(&self) -> usize
         ensures { result + length self.now ≡ 4096 }
     {
-        WAITING_LIMIT - (self.end - self.start)
+        WAITING_LIMIT - self.count
     }
 
     /// Puts bytes that fit behind those that wait.
@@ -51,56 +44,24 @@ impl Waiting {
         requires { length self.old + length bytes.now ≤ 4096 }
         ensures { self.new ≡ self.old ++ bytes.now }
     {
-        let end = self.end + bytes.len();
-        self.bytes[self.end..end].copy_from_slice(bytes);
-        self.end = end;
+        let end = self.count + bytes.len();
+        self.bytes[self.count..end].copy_from_slice(bytes);
+        self.count = end;
     }
 
     /// The bytes that wait.
     pub fn as_slice(&self) -> &[u8]
         ensures { result.now ≡ self.now }
     {
-        &self.bytes[self.start..self.end]
+        &self.bytes[..self.count]
     }
 
     /// The first of the bytes wait no longer, as many as these.
-    ///
-    /// The others stay where they stand. They are moved to the front of the array only when they would begin in its second half. So
-    /// they are moved at most once for every 4,096 bytes that are dropped, however few bytes are dropped at a time.
     pub fn drop_front(&mut self, count: usize)
         requires { count ≤ length self.old }
         ensures { self.new ≡ drop count self.old }
     {
-        let start = self.start + count;
-        if start == self.end {
-            self.clear();
-        } else if start <= WAITING_LIMIT {
-            self.start = start;
-        } else {
-            self.move_front(count);
-        }
-    }
-
-    /// The same, where the others are moved to the front of the array.
-    #[cold]
-    fn move_front(&mut self, count: usize)
-        requires { count ≤ length self.old }
-        ensures { self.new ≡ drop count self.old }
-    {
-        let kept = self.bytes;
-        let start = self.start + count;
-        let end = self.end;
-        let left = end - start;
-        self.bytes[..left].copy_from_slice(&kept[start..end]);
-        self.start = 0;
-        self.end = left;
-    }
-
-    /// No byte waits any longer.
-    pub fn clear(&mut self)
-        ensures { self.new ≡ [] }
-    {
-        self.start = 0;
-        self.end = 0;
+        self.bytes.copy_within(count..self.count, 0);
+        self.count -= count;
     }
 }

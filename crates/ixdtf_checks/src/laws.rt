@@ -6,22 +6,22 @@ ghost use Rattle.ixdtf_checks.specs.Checks.{ReportsFront, ReportsWhole};
 use crate::checker::{Checked, check_lines};
 use crate::request::Request;
 use ixdtf_buffers::error::RunError;
-use ixdtf_buffers::memory::{Memory, Room};
+use ixdtf_buffers::memory::{MemorySink, MemorySource};
 
-/// Checks each line of the bytes, and writes its report into the room, where no byte was written. Nothing fails but a write, and
-/// that only where the room is full of the beginning of the reports.
+/// Checks each line of the bytes, and writes its report into the sink, where no byte was written. Nothing fails but a write, and
+/// that only where the sink is full of the beginning of the reports.
 pub fn check_in_memory<const SIZE: usize>(
     bytes: &[u8],
-    room: &mut Room<SIZE>,
+    sink: &mut MemorySink<SIZE>,
     request: &Request<'_>,
 ) -> Checked
-    requires { room.old ≡ [] }
-    ensures ok { OnOk result.end (ReportsWhole room.new request.now result.tally (lines_of bytes.now)
+    requires { sink.old ≡ [] }
+    ensures ok { OnOk result.end (ReportsWhole sink.new request.now result.tally (lines_of bytes.now)
         × (result.tally.bytes ≡ length bytes.now)) }
-    ensures err { IfErr result.end (λ error. (error ≡ RunError.Write) × (length room.new ≡ SIZE)) }
+    ensures err { IfErr result.end (λ error. (error ≡ RunError.Write) × (length sink.new ≡ SIZE)) }
     ensures front { result.end ≡ Err RunError.Write → (read : List ℕ) × (rest : List ℕ)
         × (bytes.now ≡ read ++ rest)
-        × ReportsFront (Some []) (Some room.new) request.now result.tally (lines_of read) }
+        × ReportsFront (Some []) (Some sink.new) request.now result.tally (lines_of read) }
 {
-    check_lines(&mut Memory { rest: bytes }, room, request)
+    check_lines(&mut MemorySource { rest: bytes }, sink, request)
 }

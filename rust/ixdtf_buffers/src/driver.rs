@@ -39,7 +39,7 @@ pub fn drive<S: Source, K: Sink, T: LineTask<LIMIT>, const LIMIT: usize>(
     sink: &mut K,
     task: &mut T,
 ) -> Driven {
-    let mut output = Output::filling(sink);
+    let mut output = Output::new(sink);
     let mut bytes = 0;
     let end = drive_all(source, &mut output, task, &mut bytes);
     Driven { bytes, end }

@@ -6,35 +6,26 @@ use crate::error::RunError;
 use crate::sink::Sink;
 use crate::waiting::{WAITING_LIMIT, Waiting};
 
+/// The fewest bytes that are written once what waits is full: half of it, so that few pieces have to be put in two parts.
+const LEAST_WRITTEN: usize = 2048;
+
 /// A sink, and the bytes that wait to be written to it.
+///
+/// Where a piece does not fit behind what waits, that is filled with the first of its bytes, and at least half of it is written. So
+/// short pieces may be gathered, up to 2,048 bytes: a writer that takes up to some number of bytes at each write then has no less of
+/// them after as many writes than it would have if all that waits were written before each piece that does not fit. That is tested,
+/// and no clause says it. Bytes wait until `hand_on` or `finish`.
 pub struct Output<'k, K> {
     sink: &'k mut K,
     waiting: Waiting,
-    // Whether what waits is filled before it is written.
-    fills: bool,
 }
 
 impl<'k, K: Sink> Output<'k, K> {
-    /// An output to the sink. No byte waits. What waits is written whole as soon as a piece does not fit behind it.
+    /// An output to the sink. No byte waits.
     pub fn new(sink: &'k mut K) -> Output<'k, K> {
         Output {
             sink,
             waiting: Waiting::new(),
-            fills: false,
-        }
-    }
-
-    /// An output to the sink whose writes are full. No byte waits. Where a piece does not fit behind what waits, that is filled
-    /// with the first of its bytes, and as much of it is written as makes room for the others.
-    ///
-    /// So short pieces may be gathered, up to 2,048 bytes. A writer that takes up to some number of bytes at each write then has no
-    /// less of them after as many writes than it has of the pieces by themselves. That is tested, and no clause says it. But bytes
-    /// may wait longer than with `new`, until `hand_on` or `finish`.
-    pub fn filling(sink: &'k mut K) -> Output<'k, K> {
-        Output {
-            sink,
-            waiting: Waiting::new(),
-            fills: true,
         }
     }
 
@@ -51,29 +42,25 @@ impl<'k, K: Sink> Output<'k, K> {
     #[cold]
     #[inline(never)]
     fn put_after(&mut self, bytes: &[u8]) -> Result<(), RunError> {
-        if self.fills && bytes.len() <= WAITING_LIMIT {
+        if bytes.len() <= WAITING_LIMIT {
             return self.fill_with(bytes);
         }
         self.hand_on()?;
-        if bytes.len() > WAITING_LIMIT {
-            return write_whole(self.sink, bytes);
-        }
-        self.push(bytes);
-        Ok(())
+        write_whole(self.sink, bytes)
     }
 
     /// Fills what waits with the first of the bytes, writes as much of it as makes room for the others, and puts these behind.
     fn fill_with(&mut self, bytes: &[u8]) -> Result<(), RunError> {
         let (front, back) = bytes.split_at(self.waiting.room());
         self.push(front);
-        self.make_room(back.len())?;
+        self.write_out(back.len().max(LEAST_WRITTEN))?;
         self.push(back);
         Ok(())
     }
 
     /// Writes of the bytes that wait at least so many, and further as far as the writes take them.
-    fn make_room(&mut self, room: usize) -> Result<(), RunError> {
-        let taken = write_least(self.sink, self.waiting.as_slice(), room)?;
+    fn write_out(&mut self, least: usize) -> Result<(), RunError> {
+        let taken = write_least(self.sink, self.waiting.as_slice(), least)?;
         self.waiting.drop_front(taken);
         Ok(())
     }
@@ -93,9 +80,8 @@ impl<'k, K: Sink> Output<'k, K> {
 
     /// Writes the waiting bytes to the sink.
     pub fn hand_on(&mut self) -> Result<(), RunError> {
-        write_whole(self.sink, self.waiting.as_slice())?;
-        self.waiting.clear();
-        Ok(())
+        let all = self.waiting.as_slice().len();
+        self.write_out(all)
     }
 
     /// Writes the waiting bytes to the sink, and flushes it.

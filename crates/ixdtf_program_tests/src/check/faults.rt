@@ -187,18 +187,56 @@ fn put_together(output: &mut Output<'_, ShortWriter>, together: u64) -> Result<(
     output.hand_on()
 }
 
-/// How many bytes the writer takes of the pieces, each put by itself into an output that writes what waits whole.
-fn taken_apart(writer: ShortWriter) -> u64 {
+/// How many bytes the writer takes of five of the pieces at a time.
+fn taken_together(writer: ShortWriter) -> u64 {
     let mut writer = writer;
-    let _end = put_together(&mut Output::new(&mut writer), 1);
+    let _end = put_together(&mut Output::new(&mut writer), 5);
     writer.taken
 }
 
-/// How many it takes of five of them at a time, put into an output whose writes are full.
-fn taken_together(writer: ShortWriter) -> u64 {
-    let mut writer = writer;
-    let _end = put_together(&mut Output::filling(&mut writer), 5);
-    writer.taken
+/// A plain output, by numbers alone: all that waits is written before each piece that does not fit behind it.
+#[derive(Clone, Copy)]
+struct PlainOutput {
+    writer: ShortWriter,
+    waiting: usize,
+}
+
+impl PlainOutput {
+    /// Puts a piece of so many bytes, or is `None` where a write failed.
+    fn put(&mut self, count: usize) -> Option<()> {
+        if count > BYTES.len().saturating_sub(self.waiting) {
+            self.hand_on()?;
+        }
+        self.waiting = self.waiting.saturating_add(count);
+        Some(())
+    }
+
+    /// Writes all that waits, or is `None` where a write failed.
+    fn hand_on(&mut self) -> Option<()> {
+        for _ in 0..BYTES.len() {
+            if self.waiting == 0 {
+                break;
+            }
+            let taken = self.writer.take(self.waiting)?;
+            self.waiting = self.waiting.saturating_sub(taken);
+        }
+        Some(())
+    }
+
+    /// Puts each of the pieces by itself, and hands all of them on.
+    fn put_pieces(&mut self) -> Option<()> {
+        for number in 0..PIECES {
+            self.put(length_of(number))?;
+        }
+        self.hand_on()
+    }
+}
+
+/// How many bytes the writer takes of the pieces, each put by itself into a plain output.
+fn taken_apart(writer: ShortWriter) -> u64 {
+    let mut output = PlainOutput { writer, waiting: 0 };
+    let _end = output.put_pieces();
+    output.writer.taken
 }
 
 /// Puts pieces of 4,000, 200 and 3,900 bytes, and does not hand them on.
@@ -209,16 +247,16 @@ fn put_pieces(output: &mut Output<'_, ShortWriter>) -> Result<(), RunError> {
 }
 
 #[test]
-fn writes_what_waits_whole_or_full(rt: HostRuntime) -> Result<(), Fail> {
-    let mut writer = ShortWriter {
-        most: 20000,
-        writes: 9,
-        taken: 0,
-    };
-    put_pieces(&mut Output::new(&mut writer))?;
-    assert_eq!(rt; writer.taken, 4200);
-    put_pieces(&mut Output::filling(&mut writer))?;
-    assert_eq!(rt; writer.taken, 4200 + 4096);
+fn writes_are_full(rt: HostRuntime) -> Result<(), Fail> {
+    for (most, taken) in [(20_000, 4096), (1000, 6000), (4000, 8000)] {
+        let mut writer = ShortWriter {
+            most,
+            writes: 9,
+            taken: 0,
+        };
+        put_pieces(&mut Output::new(&mut writer))?;
+        assert_eq!(rt; writer.taken, taken);
+    }
     Ok(())
 }
 
@@ -258,7 +296,7 @@ fn writes_byte_by_byte(rt: HostRuntime) -> Result<(), Fail> {
     let mut writer = ByteWriter {
         bytes: Vec::new(rt.alloc()),
     };
-    put_sevens(&mut Output::filling(&mut writer))?;
+    put_sevens(&mut Output::new(&mut writer))?;
     assert_eq!(rt; writer.bytes.len(), SEVENS * 7);
     for piece in writer.bytes.as_slice().chunks(7) {
         assert_eq!(rt; piece, b"a piece".as_slice());
