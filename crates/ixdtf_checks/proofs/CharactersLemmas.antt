@@ -1,5 +1,5 @@
 -- How many characters begin in the bytes of a text.
-use Rattle.std.proofs.Common.{◌≡◌, ℕ, suc, zero, ◌+◌, ◌-◌, ◌/◌, ◌%◌, ◌<◌, ◌≤◌, ⊎_elim, Bool, false, true, if◌then◌else◌, List, [], ◌∷◌, ◌++◌, length, take, drop, get_or, sym, refl, ap, ◌∙◌, arith, length-append}
+use Rattle.std.proofs.Common.{◌≡◌, ℕ, suc, zero, ◌+◌, ◌-◌, ◌/◌, ◌%◌, ◌<◌, ◌≤◌, ⊎_elim, Bool, false, true, List, [], ◌∷◌, ◌++◌, length, take, drop, get_or, sym, refl, ap, ◌∙◌, arith, length-append}
 use Rattle.std.proofs.Math.Seq.{take-append-add}
 use Rattle.std.proofs.lemmas.{Bool.{cases_lt, lt-ltb, le-ltb}, Bool.Decides.nat_tests, List.{take-append-le, take_more, drop_more}}
 use Rattle.std.proofs.lemmas.Str.{encode_ascii, encodes-chars, length-encode, IsCharBoundary-start, IsUtf8-take}
@@ -7,16 +7,7 @@ use Rattle.std.specs.{Str.{IsUtf8, IsCharBoundary, chars, encode_utf8_all}, Char
 use mir.Val.{bool_byte}
 use lib.Utf8.{encode}
 use Rattle.ixdtf_grammar.specs.LocatedTexts.{column_of}
-use Rattle.ixdtf_checks.specs.Pointed.{begins_character}
-
--- 1 where a character begins with the byte
-unfoldable pub begun : ℕ → ℕ
-begun byte = if begins_character byte then 1 else 0
-
--- how many characters begin in the bytes
-abbrev pub starts : List ℕ → ℕ
-starts [] = 0
-starts (byte ∷ bytes) = begun byte + starts bytes
+use Rattle.ixdtf_checks.specs.Pointed.{begins_character, begun, starts}
 
 pub starts-append : (xs ys : List ℕ) → starts (xs ++ ys) ≡ starts xs + starts ys
 starts-append [] ys = omega arith
@@ -46,6 +37,16 @@ begun_at b lead = ⊎_elim (λ small. begun_ascii b small) (λ big. begun_lead b
 pub begun_most : (b : ℕ) → begun b ≤ 1
 unfolding begun
 begun_most b = grind (arith, nat_tests)
+
+-- no more characters begin than there are bytes
+pub starts_few : (xs : List ℕ) → starts xs ≤ length xs
+starts_few [] = omega arith
+starts_few (x ∷ xs) = omega (arith, begun_most x, starts_few xs)
+
+-- where as many begin as there are bytes, one begins with the first
+pub begun_full : (xs : List ℕ) → length xs ≤ starts xs → 0 < length xs → begun (get_or xs 0 0) ≡ 1
+begun_full [] all some = absurd (omega (arith, some))
+begun_full (x ∷ xs) all some = omega (arith, all, begun_most x, starts_few xs)
 
 pub lead_begun : (b : ℕ) → begun b ≡ 1 → 128 ≤ b → 192 ≤ b
 unfolding begun

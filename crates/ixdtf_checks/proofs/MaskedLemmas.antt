@@ -1,38 +1,12 @@
 -- What a text is shown as.
-use Rattle.std.proofs.Common.{◌≡◌, ℕ, suc, ◌+◌, ◌/◌, ◌%◌, ◌<◌, ◌≤◌, ◌==◌, ⊎_elim, false, List, [], ◌∷◌, ◌++◌, map, length, drop, get_or, refl, sym, ap, ◌∙◌, arith}
-use Rattle.std.proofs.lemmas.{Bool.{cases_Bool, cases_lt, lt-ltb, le-ltb, and_left}, Bool.Decides.nat_tests, Bool.eqb-true, List.{drop_all, drop_more}}
-use Rattle.std.proofs.lemmas.Str.{chars-IsAscii, encode_ascii, encodes-IsAscii, encodes-chars}
-use Rattle.std.proofs.lemmas.Str.Ascii.{IsAscii-nil, IsAscii-cons}
+use Rattle.std.proofs.Common.{◌≡◌, ℕ, suc, ◌+◌, ◌/◌, ◌%◌, ◌<◌, ◌≤◌, ◌==◌, ⊎_elim, false, List, [], ◌∷◌, ◌++◌, map, length, take, drop, get_or, refl, sym, ap, ◌∙◌, arith}
+use Rattle.std.proofs.lemmas.{Bool.{cases_lt, lt-ltb, le-ltb, and_left}, Bool.Decides.nat_tests, List.{append-nil, drop_all, drop_more, get_or-take, length-take-le, take-append-drop}}
+use Rattle.std.proofs.lemmas.Str.{encode_ascii, encodes-chars}
 use Rattle.std.specs.{Str.{IsAscii, IsUtf8, chars, encode_utf8_all}, Prelude.{nat_lt}}
 use lib.Utf8.{encode}
 use Rattle.ixdtf_grammar.specs.LocatedTexts.{shown}
-use Rattle.ixdtf_checks.specs.Pointed.{IsPlain, mask, masked}
+use Rattle.ixdtf_checks.specs.Pointed.{mask, masked}
 use Rattle.ixdtf_checks.proofs.CharactersLemmas.{encode_2, encode_3, encode_4}
-
-plain_rest : (b : ℕ) (bs : List ℕ) → IsPlain (b ∷ bs) → IsPlain bs
-plain_rest b bs plain = λ place below. plain (suc place) (omega (arith, below))
-
-plain_first : (b : ℕ) (bs : List ℕ) → IsPlain (b ∷ bs) → (32 ≤ b) × (b < 127)
-plain_first b bs plain = plain 0 (omega arith)
-
-pub plain_ascii : (bs : List ℕ) → IsPlain bs → IsAscii bs
-plain_ascii [] plain = IsAscii-nil
-plain_ascii (b ∷ bs) plain = IsAscii-cons b bs (omega (arith, (plain_first b bs plain).1)) (plain_ascii bs (plain_rest b bs plain))
-
-shown_plain : (b : ℕ) → 32 ≤ b → b < 127 → shown b ≡ b
-shown_plain b low high = grind (arith, nat_tests)
-
-shown_all : (bs : List ℕ) → IsPlain bs → map shown bs ≡ bs
-shown_all [] plain = refl
-shown_all (b ∷ bs) plain =
-    let (low, high) = plain_first b bs plain in
-    rw (shown_plain b low high, shown_all bs (plain_rest b bs plain)) refl
-
--- a plain text is shown as it stands
-pub plain_shown : (bs : List ℕ) → IsPlain bs → encode_utf8_all (map shown (chars bs)) ≡ bs
-plain_shown bs plain =
-    let ascii = plain_ascii bs plain in
-    rw (chars-IsAscii bs ascii, shown_all bs plain) (encodes-IsAscii bs ascii)
 
 control_shown : (c : ℕ) → 128 ≤ c → c < 160 → shown c ≡ 46
 control_shown c low high = grind (arith, nat_tests)
@@ -71,9 +45,6 @@ mask_ascii c small = rw (lt-ltb c 128 small) refl
 
 shown_ascii : (c : ℕ) → c < 128 → shown c < 128
 shown_ascii c small = grind (arith, nat_tests)
-
-pub mask_lead : (b : ℕ) → mask b ≡ 46 → b ≡ 194 → ⊥
-mask_lead b is lead = grind (arith, nat_tests)
 
 one_ascii : (c : ℕ) (rest : List ℕ) → c < 128 → masked (encode c ++ rest) ≡ encode (shown c) ++ masked rest
 one_ascii c rest small =
@@ -128,27 +99,52 @@ all_characters (c ∷ cs) = one_character c (encode_utf8_all cs) ∙ ap (λ t. e
 pub masked_shown : (bs : List ℕ) → IsUtf8 bs → masked bs ≡ encode_utf8_all (map shown (chars bs))
 masked_shown bs good = sym (ap masked (encodes-chars bs good)) ∙ all_characters (chars bs)
 
-pub masked_none : masked [] ≡ []
+masked_none : masked [] ≡ []
 unfolding masked
 masked_none = refl
 
--- one step of it: a byte by itself, and two bytes
-module _ (bs : List ℕ) (place : ℕ) (within : place < length bs) where
-  pub masked_step : (get_or bs place 0 ≡ 194 → place + 1 < length bs → 160 ≤ get_or bs (place + 1) 0)
-      → masked (drop place bs) ≡ mask (get_or bs place 0) ∷ masked (drop (place + 1) bs)
-  masked_step latin = ap masked (drop_more bs place 0 within) ∙ ⊎_elim
-      (λ lead. ⊎_elim
-      (λ more.
-      let here : get_or bs place 0 ≡ 194 = eqb-true (get_or bs place 0) 194 lead in
-      rw (here, drop_more bs (place + 1) 0 more) (masked_latin (get_or bs (place + 1) 0) (drop (place + 1 + 1) bs) (latin here more)))
-      (λ end. rw (drop_all (place + 1) bs end) (masked_last (get_or bs place 0)))
-      (cases_lt (place + 1) (length bs)))
-      (λ other. masked_one (get_or bs place 0) (drop (place + 1) bs) other)
-      (cases_Bool (get_or bs place 0 == 194))
+-- bytes among which no 0xC2 stands, and what follows them
+pub masked_run : (xs ys : List ℕ) → ((k : ℕ) → k < length xs → (get_or xs k 0 == 194) ≡ false) → masked (xs ++ ys) ≡ map mask xs ++ masked ys
+masked_run [] ys none = refl
+masked_run (x ∷ xs) ys none =
+    masked_one x (xs ++ ys) (none 0 (omega arith)) ∙ ap (λ t. mask x ∷ t) (masked_run xs ys (λ k below. none (suc k) (omega (arith, below))))
 
-  pub masked_pair : place + 1 < length bs → get_or bs place 0 ≡ 194 → get_or bs (place + 1) 0 < 160
-      → masked (drop place bs) ≡ 46 ∷ masked (drop (place + 2) bs)
-  masked_pair more here small =
+-- where none stands at all
+pub masked_all : (xs : List ℕ) → ((k : ℕ) → k < length xs → (get_or xs k 0 == 194) ≡ false) → masked xs ≡ map mask xs
+masked_all xs none = ap masked (sym (append-nil xs)) ∙ masked_run xs [] none ∙ ap (λ t. map mask xs ++ t) masked_none ∙ append-nil (map mask xs)
+
+ascii_other : (b : ℕ) → b < 128 → (b == 194) ≡ false
+ascii_other b small = grind (arith, nat_tests)
+
+pub masked_ascii : (xs : List ℕ) → IsAscii xs → masked xs ≡ map mask xs
+masked_ascii xs ascii = masked_all xs (λ k below. ascii_other (get_or xs k 0) (ascii k))
+
+-- the first 0xC2 stands there: what is shown up to it, and from it on
+module _ (bs : List ℕ) (place : ℕ) (within : place < length bs) (here : get_or bs place 0 ≡ 194)
+    (none : (k : ℕ) → k < place → (get_or bs k 0 == 194) ≡ false) where
+  front_shown : (ys : List ℕ) → masked (take place bs ++ ys) ≡ map mask (take place bs) ++ masked ys
+  front_shown ys =
+      let long : length (take place bs) ≡ place = length-take-le place bs (omega (arith, within)) in
+      masked_run (take place bs) ys (λ k below.
+      let less : k < place = omega (arith, below, long) in
+      ap (λ b. b == 194) (get_or-take place bs k 0 less) ∙ none k less)
+
+  split_here : masked bs ≡ masked (take place bs ++ 194 ∷ drop (place + 1) bs)
+  split_here =
+      ap masked (sym (take-append-drop place bs) ∙ ap (λ t. take place bs ++ t) (drop_more bs place 0 within ∙ ap (λ b. b ∷ drop (place + 1) bs) here))
+
+  pub masked_lead : (place + 1 < length bs → 160 ≤ get_or bs (place + 1) 0)
+      → masked bs ≡ map mask (take place bs) ++ 194 ∷ masked (drop (place + 1) bs)
+  masked_lead latin = split_here ∙ front_shown (194 ∷ drop (place + 1) bs) ∙ ap (λ t. map mask (take place bs) ++ t) (⊎_elim
+      (λ more.
+      let next = drop_more bs (place + 1) 0 more in
+      ap (λ t. masked (194 ∷ t)) next ∙ masked_latin (get_or bs (place + 1) 0) (drop (place + 1 + 1) bs) (latin more) ∙ ap (λ t. 194 ∷ masked t) (sym next))
+      (λ end. rw (drop_all (place + 1) bs end) (masked_last 194))
+      (cases_lt (place + 1) (length bs)))
+
+  pub masked_pair : place + 1 < length bs → get_or bs (place + 1) 0 < 160
+      → masked bs ≡ map mask (take place bs) ++ 46 ∷ masked (drop (place + 2) bs)
+  masked_pair more small =
       let next : place + 1 + 1 ≡ place + 2 = omega arith in
-      ap masked (drop_more bs place 0 within)
-      ∙ rw (here, drop_more bs (place + 1) 0 more, next) (masked_two (get_or bs (place + 1) 0) (drop (place + 2) bs) small)
+      split_here ∙ front_shown (194 ∷ drop (place + 1) bs) ∙ ap (λ t. map mask (take place bs) ++ t)
+      (rw (drop_more bs (place + 1) 0 more, next) (masked_two (get_or bs (place + 1) 0) (drop (place + 2) bs) small))

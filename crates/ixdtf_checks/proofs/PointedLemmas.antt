@@ -9,8 +9,8 @@ use Rattle.std.specs.{Str.{IsAscii, IsUtf8, IsCharBoundary, is_utf8, chars, enco
 use lib.Utf8.{encode}
 use Rattle.ixdtf_grammar.specs.LocatedTexts.{shown, column_of, cut_mark, indent_of, pointed_text}
 use Rattle.ixdtf_buffers.specs.{Adding.Adds, Lines.newline}
-use Rattle.ixdtf_checks.specs.{declared.pointed.Window.Window, Pointed.{Fits, IsPlain, IsNear, IsWindow, bytes_in, masked, window_lines}, Seen.lines_at}
-use Rattle.ixdtf_checks.proofs.{CharactersLemmas.{column_at, column_beyond}, MaskedLemmas.{plain_ascii, plain_shown, masked_shown}}
+use Rattle.ixdtf_checks.specs.{declared.pointed.Window.Window, Pointed.{Fits, IsNear, IsWindow, mark_of, bytes_in, masked, window_lines}, Seen.lines_at}
+use Rattle.ixdtf_checks.proofs.{CharactersLemmas.{column_at, column_beyond}, MaskedLemmas.{masked_shown}}
 
 ascii_cut : (is_cut : Bool) → IsAscii (cut_mark is_cut)
 ascii_cut true = IsAscii-cons 46 (46 ∷ []) (omega arith) (IsAscii-cons 46 [] (omega arith) IsAscii-nil)
@@ -214,127 +214,116 @@ module _ (bs : List ℕ) (at : ℕ) (w : Window) (m s n : ℕ) (marked : m ≤ l
         indent_whole = λ none. whole (omega (arith, none, start));
       })
 
--- a window that is the whole text is plain
-pub whole_text : (bs : List ℕ) (s e : ℕ) → IsPlain (drop s (take e bs)) → s ≡ 0 → length bs ≤ e → IsUtf8 bs
-whole_text bs s e plain first last =
+-- a window that is the whole text is of ASCII
+pub whole_text : (bs : List ℕ) (s e : ℕ) → IsAscii (drop s (take e bs)) → s ≡ 0 → length bs ≤ e → IsUtf8 bs
+whole_text bs s e ascii first last =
     let all : drop s (take e bs) ≡ bs = ap (λ n. drop n (take e bs)) first ∙ take_all e bs last in
-    IsUtf8-from_ascii bs (plain_ascii bs (subst IsPlain all plain))
+    IsUtf8-from_ascii bs (subst IsAscii all ascii)
 
-byte_plain : (bs : List ℕ) (s e k : ℕ) → IsPlain (drop s (take e bs)) → s ≤ k → k < e → e ≤ length bs → get_or bs k 0 < 128
-byte_plain bs s e k plain after before within =
+byte_ascii : (bs : List ℕ) (s e k : ℕ) → IsAscii (drop s (take e bs)) → s ≤ k → k < e → get_or bs k 0 < 128
+byte_ascii bs s e k ascii after before =
     let there : s + (k - s) ≡ k = omega (arith, after) in
-    let inside : k - s < length (drop s (take e bs)) =
-    omega (arith, length-drop s (take e bs), length-take-le e bs within, after, before) in
     let same : get_or (drop s (take e bs)) (k - s) 0 ≡ get_or bs k 0 =
     get_or-drop s (take e bs) (k - s) 0 ∙ ap (λ n. get_or (take e bs) n 0) there ∙ get_or-take e bs k 0 before in
-    omega (arith, plain (k - s) inside, same)
+    omega (arith, ascii (k - s), same)
 
--- the bytes near the place are what is shown, where they are plain
-module _ (bs : List ℕ) (at : ℕ) (w : Window) (good : IsUtf8 bs) (fits : Fits bs w) (near : IsNear bs at w) (plain : IsPlain (bytes_in w bs)) where
+-- the bytes near the place are what is shown, where they are of ASCII
+module _ (bs : List ℕ) (at : ℕ) (w : Window) (good : IsUtf8 bs) (fits : Fits bs w) (near : IsNear bs at w) (ascii : IsAscii (bytes_in w bs)) where
+  abbrev mark : ℕ
+  mark = mark_of bs at
+
   abbrev count : ℕ
-  count = w.end - near.mark
+  count = w.end - mark
 
-  whole_count : near.mark + count ≡ w.end
-  whole_count = omega (arith, near.after)
+  mark_before : mark ≤ w.end
+  mark_before = omega (arith, near.end)
 
-  start_before : w.start ≤ near.mark
+  whole_count : mark + count ≡ w.end
+  whole_count = omega (arith, mark_before)
+
+  start_before : w.start ≤ mark
   start_before = omega (arith, near.start)
 
-  mark_within : near.mark ≤ length bs
-  mark_within = omega (arith, near.after, fits.within)
+  mark_within : mark ≤ length bs
+  mark_within = omega arith
 
   byte_near : (k : ℕ) → w.start ≤ k → k < w.end → get_or bs k 0 < 128
-  byte_near k after before = byte_plain bs w.start w.end k plain after before fits.within
+  byte_near k after before = byte_ascii bs w.start w.end k ascii after before
 
   boundary_start : IsCharBoundary bs w.start
   boundary_start = ⊎_elim
       (λ some. IsCharBoundary-before_ascii bs w.start (omega (arith, some, fits.within)) (byte_near w.start (omega arith) some))
       (λ none.
-      let first : 0 ≡ w.start = omega (arith, none, fits.order, near.after, near.start) in
+      let first : 0 ≡ w.start = omega (arith, none, fits.order, mark_before, near.start) in
       subst (λ n. IsCharBoundary bs n) first (IsCharBoundary-start bs good))
       (cases_lt w.start w.end)
 
   boundary_end : IsCharBoundary bs w.end
   boundary_end = ⊎_elim
       (λ cut.
-      let last : w.end - 1 + 1 ≡ w.end = omega (arith, near.end cut) in
+      let last : w.end - 1 + 1 ≡ w.end = omega (arith, near.end, cut) in
       subst (λ n. IsCharBoundary bs n) last
-      (IsCharBoundary-after_ascii bs (w.end - 1) good (omega (arith, cut)) (byte_near (w.end - 1) (omega (arith, near.end cut, near.start)) (omega (arith, near.end cut)))))
+      (IsCharBoundary-after_ascii bs (w.end - 1) good (omega (arith, cut)) (byte_near (w.end - 1) (omega (arith, near.end, cut, near.start)) (omega (arith, near.end, cut)))))
       (λ all.
       let last : length bs ≡ w.end = omega (arith, all, fits.within) in
       subst (λ n. IsCharBoundary bs n) last (IsCharBoundary-end bs))
       (cases_lt w.end (length bs))
 
-  near_ascii : IsAscii (bytes_in w bs)
-  near_ascii = plain_ascii (bytes_in w bs) plain
+  front_near : take (mark - w.start) (bytes_in w bs) ≡ drop w.start (take mark bs)
+  front_near = part_same (take w.end bs) w.start mark start_before ∙ ap (λ t. drop w.start t) (take-take mark w.end bs mark_before)
 
-  front_near : take (near.mark - w.start) (bytes_in w bs) ≡ drop w.start (take near.mark bs)
-  front_near = part_same (take w.end bs) w.start near.mark start_before ∙ ap (λ t. drop w.start t) (take-take near.mark w.end bs near.after)
-
-  back_near : drop (near.mark - w.start) (bytes_in w bs) ≡ take count (drop near.mark bs)
+  back_near : drop (mark - w.start) (bytes_in w bs) ≡ take count (drop mark bs)
   back_near =
-      let there : w.start + (near.mark - w.start) ≡ near.mark = omega (arith, start_before) in
-      drop-drop (near.mark - w.start) w.start (take w.end bs) ∙ ap (λ n. drop n (take w.end bs)) there ∙ sym (part_same bs near.mark w.end near.after)
+      let there : w.start + (mark - w.start) ≡ mark = omega (arith, start_before) in
+      drop-drop (mark - w.start) w.start (take w.end bs) ∙ ap (λ n. drop n (take w.end bs)) there ∙ sym (part_same bs mark w.end mark_before)
 
-  ascii_front : IsAscii (drop w.start (take near.mark bs))
-  ascii_front = subst IsAscii front_near (IsAscii-take (bytes_in w bs) (near.mark - w.start) near_ascii)
+  ascii_front : IsAscii (drop w.start (take mark bs))
+  ascii_front = subst IsAscii front_near (IsAscii-take (bytes_in w bs) (mark - w.start) ascii)
 
-  ascii_back : IsAscii (take count (drop near.mark bs))
-  ascii_back = subst IsAscii back_near (IsAscii-drop (bytes_in w bs) (near.mark - w.start) near_ascii)
+  ascii_back : IsAscii (take count (drop mark bs))
+  ascii_back = subst IsAscii back_near (IsAscii-drop (bytes_in w bs) (mark - w.start) ascii)
 
-  length_front : length (chars (drop w.start (take near.mark bs))) ≡ near.mark - w.start
+  length_front : length (chars (drop w.start (take mark bs))) ≡ mark - w.start
   length_front =
-      ap length (chars-IsAscii (drop w.start (take near.mark bs)) ascii_front)
-      ∙ omega (arith, length-drop w.start (take near.mark bs), length-take-le near.mark bs mark_within)
+      ap length (chars-IsAscii (drop w.start (take mark bs)) ascii_front)
+      ∙ omega (arith, length-drop w.start (take mark bs), length-take-le mark bs mark_within)
 
-  length_back : length (chars (take count (drop near.mark bs))) ≡ count
+  length_back : length (chars (take count (drop mark bs))) ≡ count
   length_back =
-      ap length (chars-IsAscii (take count (drop near.mark bs)) ascii_back)
-      ∙ length-take-le count (drop near.mark bs) (omega (arith, length-drop near.mark bs, whole_count, fits.within))
+      ap length (chars-IsAscii (take count (drop mark bs)) ascii_back)
+      ∙ length-take-le count (drop mark bs) (omega (arith, length-drop mark bs, whole_count, fits.within))
 
-  column_near : column_of (chars bs) at ≡ length (chars (take near.mark bs))
+  column_near : column_of (chars bs) at ≡ length (chars (take mark bs))
   column_near = ⊎_elim
       (λ within.
-      let here : at ≡ near.mark = sym (near.inside within) in
-      let shown : at < w.end = ⊎_elim
-      (λ cut. omega (arith, near.end cut, here))
-      (λ all. omega (arith, all, within))
-      (cases_lt w.end (length bs)) in
+      let here : at ≡ mark = omega (arith, within) in
+      let shown : at < w.end = omega (arith, near.end, within) in
       let small = byte_near at (omega (arith, start_before, here)) shown in
       column_at bs at at good within (omega arith) refl (λ big. absurd (omega (arith, big, small))) ∙ ap (λ n. length (chars (take n bs))) here)
       (λ past.
-      column_beyond bs at good past ∙ sym (ap (λ t. length (chars t)) (take_all near.mark bs (omega (arith, near.beyond past)))))
+      column_beyond bs at good past ∙ sym (ap (λ t. length (chars t)) (take_all mark bs (omega (arith, past)))))
       (cases_lt at (length bs))
 
   indent_cut_near : 0 < w.start → w.indent ≡ 50
-  indent_cut_near some = near.indent ∙ rw (lt-ltb 48 near.mark (omega (arith, some, near.start))) refl
+  indent_cut_near some = near.indent ∙ rw (lt-ltb 48 mark (omega (arith, some, near.start))) refl
 
-  indent_whole_near : w.start ≡ 0 → w.indent ≡ near.mark
-  indent_whole_near none = near.indent ∙ rw (le-ltb 48 near.mark (omega (arith, none, near.start))) refl
+  indent_whole_near : w.start ≡ 0 → w.indent ≡ mark
+  indent_whole_near none = near.indent ∙ rw (le-ltb 48 mark (omega (arith, none, near.start))) refl
 
   pub near_is : IsWindow bs at w
   near_is =
-      let rest : drop w.end bs ≡ drop count (drop near.mark bs) = sym (drop-drop count near.mark bs ∙ ap (λ n. drop n bs) whole_count) in
-      window_from bs at w near.mark w.start count mark_within start_before (omega (arith, whole_count, fits.within))
-      (subst IsUtf8 (sym (take-take w.start near.mark bs start_before)) (IsUtf8-take bs w.start good boundary_start))
-      (IsUtf8-from_ascii (drop w.start (take near.mark bs)) ascii_front) (IsUtf8-from_ascii (take count (drop near.mark bs)) ascii_back)
+      let rest : drop w.end bs ≡ drop count (drop mark bs) = sym (drop-drop count mark bs ∙ ap (λ n. drop n bs) whole_count) in
+      window_from bs at w mark w.start count mark_within start_before (omega (arith, whole_count, fits.within))
+      (subst IsUtf8 (sym (take-take w.start mark bs start_before)) (IsUtf8-take bs w.start good boundary_start))
+      (IsUtf8-from_ascii (drop w.start (take mark bs)) ascii_front) (IsUtf8-from_ascii (take count (drop mark bs)) ascii_back)
       (subst IsUtf8 rest (IsUtf8-drop bs w.end good boundary_end)) column_near (omega (arith, length_front, near.start))
-      (λ some. omega (arith, length_front, near.start, some)) (omega (arith, length_back, near.far, whole_count))
-      (λ more. omega (arith, length_back, whole_count, near.end (omega (arith, more, whole_count)))) refl (sym whole_count) indent_cut_near
+      (λ some. omega (arith, length_front, near.start, some)) (omega (arith, length_back, near.end, whole_count))
+      (λ more. omega (arith, length_back, whole_count, near.end, more)) refl (sym whole_count) indent_cut_near
       (λ none. omega (arith, indent_whole_near none, length_front, none))
 
 -- the lines of bytes that are a text
 lines_shown : (bs : List ℕ) (at : ℕ) → IsUtf8 bs → lines_at at bs ≡ pointed_text bs at ++ newline ∷ []
 lines_shown bs at good = rw (is_utf8-from_IsUtf8 bs good) refl
-
--- of plain ones near the place
-pub lines_plain : (bs : List ℕ) (at : ℕ) (w : Window) → IsUtf8 bs → Fits bs w → IsNear bs at w → IsPlain (bytes_in w bs)
-    → window_lines bs w (bytes_in w bs) ≡ lines_at at bs
-lines_plain bs at w good fits near plain =
-    sym (
-    lines_shown bs at good ∙ window_shown bs at w (near_is bs at w good fits near plain)
-    ∙ ap (λ t. window_lines bs w t) (plain_shown (bytes_in w bs) plain)
-    )
 
 -- of any text
 pub lines_masked : (bs : List ℕ) (at : ℕ) (w : Window) → IsUtf8 bs → IsWindow bs at w → window_lines bs w (masked (bytes_in w bs)) ≡ lines_at at bs
@@ -348,10 +337,6 @@ lines_hidden bs at bad = go (is_utf8 bs) refl
     go : (test : Bool) → is_utf8 bs ≡ test → (if test then pointed_text bs at ++ newline ∷ [] else []) ≡ []
     go true is = absurd (bad (IsUtf8-from_is_utf8 bs is))
     go false is = refl
-
--- the report of a line: its head, which ends with a newline, and the lines under it
-pub report_whole : (place message lines : List ℕ) → (place ++ (message ++ newline ∷ [])) ++ lines ≡ place ++ (message ++ newline ∷ lines)
-report_whole place message lines = simp append_assoc refl
 
 -- no text was added
 pub adds_none : (a : List ℕ) (i : ℕ) → Adds a a i i []

@@ -8,7 +8,8 @@ use Rattle.ixdtf_grammar.specs.{declared.profile.Profile.Profile, Places.HasUnha
 use Rattle.ixdtf_grammar.specs.Widths.{byte_text}
 use Rattle.ixdtf_grammar.specs.language.{Letters.{Text, Letter, byte_letter}, Readers.{Reader, parse}}
 use Rattle.ixdtf_grammar.specs.language.Readers.Reader.{bracketed, parse_offset, parse_identifier, parse_iana_identifier, parse_duration}
-use Rattle.ixdtf_grammar.specs.table.Faults.{Fault}
+use Rattle.ixdtf_grammar.specs.table.{ErrorTexts.message_of, Faults.Fault}
+use Rattle.ixdtf_print.proofs.theorems.ShortErrors.{message_short}
 use Rattle.ixdtf_checks.specs.{Seen.lines_at, Kinds.reader_of, Parts.{Text as Part}, Refusals.IsRefusal}
 use Rattle.ixdtf_checks.specs.{Verdicts.{Verdict, ShowsPlace, IsTextVerdict, Verdict.{accepted, printed, refused}}, declared.kind.Kind.Kind}
 use Rattle.ixdtf_checks.specs.declared.request.Task.TheVariants.{Check, Print}
@@ -28,6 +29,24 @@ pub at_within : (reader : Reader) (bytes : List ℕ) (fault : Fault) (at : ℕ) 
 at_within reader bytes fault at has =
     let spell : ℕ → Letter = λ n. byte_letter n in
     omega (arith, at_most reader (byte_text bytes) fault at has, length-map bytes spell)
+
+-- what is written of a fault that a text has at a place is short
+fault_short : (reader : Reader) (text : Text) (fault : Fault) (at : ℕ) → HasUnhandledFaultAt reader text fault at → length (message_of fault) ≤ 69
+fault_short (bracketed kind) text fault at (pairs, given) = message_short (bracketed kind) text fault (
+  pairs,
+  elim given [
+    | inl p ↦ (let ((front, rest, whole, is, read, derived), last) = p in inl ((front, rest, whole, read, derived), last))
+    | inr p ↦ (let ((row, fits, error, sum), none) = p in inr ((row, fits, error), none))
+  ],
+)
+fault_short parse_offset text fault at (row, fits, error, sum) = message_short parse_offset text fault (row, fits, error)
+fault_short parse_identifier text fault at (row, fits, error, sum) = message_short parse_identifier text fault (row, fits, error)
+fault_short parse_iana_identifier text fault at (row, fits, error, sum) = message_short parse_iana_identifier text fault (row, fits, error)
+fault_short (parse_duration profile) text fault at (row, fits, error, sum) = message_short (parse_duration profile) text fault (row, fits, error)
+
+pub text_short : (reader : Reader) (bytes : List ℕ) (fault : Fault) (at : ℕ) → HasUnhandledFaultAt reader (byte_text bytes) fault at
+    → length (message_of fault) ≤ 69
+text_short reader bytes fault at has = fault_short reader (byte_text bytes) fault at has
 
 -- the lines under a message
 pub shows_place : (bytes : List ℕ) (at : ℕ) → ShowsPlace bytes at (lines_at at bytes)

@@ -1,21 +1,22 @@
 -- The lines under a message as the code makes them. No clause of `check` cites this module.
-use Rattle.std.specs.Prelude.{◌≡◌, ℕ, Bool, true, ◌+◌, ◌-◌, ◌<◌, ◌≤◌, ◌==◌, ◌&&◌, if◌then◌else◌, List, [], ◌∷◌, ◌++◌, length, take, drop, replicate, codes, nat_lt, slice_index, IsUtf8}
-use Rattle.std.specs.{Fmt.decimal, Str.chars}
+use Rattle.std.specs.Prelude.{◌≡◌, ℕ, Bool, true, ◌+◌, ◌-◌, ◌≤◌, ◌==◌, ◌&&◌, min, if◌then◌else◌, List, [], ◌∷◌, ◌++◌, length, take, drop, replicate, codes, nat_lt, IsUtf8}
+use Rattle.std.specs.Str.{chars}
 use Rattle.ixdtf_grammar.specs.LocatedTexts.{shown, column_of, cut_mark, indent_of}
 use Rattle.ixdtf_buffers.specs.Lines.{newline}
 use Rattle.ixdtf_checks.specs.declared.pointed.Window.{Window}
 
--- what stands behind the name of the file
-abbrev pub place_behind_name : ℕ → ℕ → List ℕ
-place_behind_name number column = codes ":" ++ (decimal number ++ (codes ":" ++ (decimal column ++ codes ": ")))
-
--- each byte is a printable character of ASCII
-abbrev pub IsPlain : List ℕ → Type 0
-IsPlain bytes = (place : ℕ) → place < length bytes → (32 ≤ slice_index bytes place) × (slice_index bytes place < 127)
-
 -- a character begins with the byte: it is not inside one
 abbrev pub begins_character : ℕ → Bool
 begins_character byte = if nat_lt byte 128 then true else nat_lt 191 byte
+
+-- 1 where a character begins with the byte
+unfoldable pub begun : ℕ → ℕ
+begun byte = if begins_character byte then 1 else 0
+
+-- how many characters begin in the bytes
+abbrev pub starts : List ℕ → ℕ
+starts [] = 0
+starts (byte ∷ bytes) = begun byte + starts bytes
 
 -- a byte of ASCII as it is shown, and any other
 abbrev pub mask : ℕ → ℕ
@@ -38,16 +39,15 @@ pub record Fits (bytes : List ℕ) (window : Window) : Type 0 where
   pub few : window.end ≤ window.start + 288
   pub narrow : window.indent ≤ 50
 
--- the window has 48 bytes before the place and 24 from it on, as far as there are so many
+-- the place, or the end of the bytes where that is before it
+abbrev pub mark_of : List ℕ → ℕ → ℕ
+mark_of bytes place = min place (length bytes)
+
+-- the window has 48 bytes before the mark and 24 from it on, as far as there are so many
 pub record IsNear (bytes : List ℕ) (place : ℕ) (window : Window) : Type 0 where
-  pub mark : ℕ
-  pub inside : place < length bytes → mark ≡ place
-  pub beyond : length bytes ≤ place → mark ≡ length bytes
-  pub start : window.start ≡ mark - 48
-  pub after : mark ≤ window.end
-  pub far : window.end ≤ mark + 24
-  pub end : window.end < length bytes → window.end ≡ mark + 24
-  pub indent : window.indent ≡ indent_of mark
+  pub start : window.start ≡ mark_of bytes place - 48
+  pub end : window.end ≡ min (length bytes) (mark_of bytes place + 24)
+  pub indent : window.indent ≡ indent_of (mark_of bytes place)
 
 -- the window has the characters that are shown
 pub record IsWindow (bytes : List ℕ) (place : ℕ) (window : Window) : Type 0 where

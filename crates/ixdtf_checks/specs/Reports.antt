@@ -3,13 +3,13 @@ use Rattle.std.specs.{Prelude.{ℕ, ◌+◌, if◌then◌else◌, List, [], ◌�
 use Rattle.ixdtf_buffers.specs.Lines.{newline}
 use Rattle.ixdtf_checks.specs.{declared.request.Request.Request, Verdicts.{Verdict, IsVerdict, Verdict.{accepted, printed, refused}}}
 
--- a place: the file, the number of the line and the column
-abbrev pub report_prefix : List ℕ → ℕ → ℕ → List ℕ
-report_prefix name number column = name ++ (codes ":" ++ (decimal number ++ (codes ":" ++ (decimal column ++ codes ": "))))
+-- the number of a line, and a column
+abbrev pub line_and_column : ℕ → ℕ → List ℕ
+line_and_column number column = codes ":" ++ (decimal number ++ (codes ":" ++ (decimal column ++ codes ": ")))
 
--- the report of a line that is refused
+-- the report of a line that is refused, behind the name of the file
 abbrev pub refusal_of : List ℕ → ℕ → ℕ → List ℕ → List ℕ → List ℕ
-refusal_of name number column message lines = report_prefix name number column ++ (message ++ newline ∷ lines)
+refusal_of name number column message lines = name ++ (line_and_column number column ++ (message ++ newline ∷ lines))
 
 -- the report of the line with this number
 abbrev pub report_of : Request → ℕ → Verdict → List ℕ

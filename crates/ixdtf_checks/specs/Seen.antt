@@ -2,13 +2,13 @@
 use Rattle.std.specs.{Prelude.{ℕ, if◌then◌else◌, List, [], ◌∷◌, ◌++◌, codes}, Str.is_utf8}
 use Rattle.ixdtf_grammar.specs.{LocatedTexts.pointed_text, table.{ErrorTexts.message_of, Faults.fault_of_located}}
 use Rattle.ixdtf_buffers.specs.Lines.{newline}
-use Rattle.ixdtf_checks.specs.declared.verdict.{Verdict.{Verdict as VerdictInCode, TheVariants.{Accepted, Printed, Refused}}, Reason.Reason, Refusal.Refusal}
+use Rattle.ixdtf_checks.specs.declared.verdict.{Verdict.{Verdict as VerdictInCode, TheVariants.{Accepted, Printed, Refused}}, Reason.Reason}
 use Rattle.ixdtf_checks.specs.{declared.verdict.Reason.TheVariants.{TooLong, NoField, Unread}, Verdicts.{Verdict, Verdict.{accepted, printed, refused}}}
 
 abbrev pub message_in : Reason → List ℕ
 message_in TooLong = codes "line too long"
 message_in NoField = codes "no such field"
-message_in (Unread error text) = message_of (fault_of_located error)
+message_in (Unread unread) = message_of (fault_of_located unread.error)
 
 -- the lines that show the place in a text, where the bytes are one
 abbrev pub lines_at : ℕ → List ℕ → List ℕ
@@ -17,10 +17,10 @@ lines_at at bytes = if is_utf8 bytes then pointed_text bytes at ++ newline ∷ [
 abbrev pub lines_in : Reason → List ℕ
 lines_in TooLong = []
 lines_in NoField = []
-lines_in (Unread error text) = lines_at error.at text.now
+lines_in (Unread unread) = lines_at unread.error.at unread.text.now
 
--- a verdict, where this is the canonical text that was printed last, and this where and why a line was refused last
-abbrev pub seen : List ℕ → Refusal → VerdictInCode → Verdict
-seen canonical refusal Accepted = accepted
-seen canonical refusal Printed = printed canonical
-seen canonical refusal Refused = refused refusal.column (message_in refusal.reason) (lines_in refusal.reason)
+-- a verdict, where this is the canonical text that was printed last
+abbrev pub seen : List ℕ → VerdictInCode → Verdict
+seen canonical Accepted = accepted
+seen canonical Printed = printed canonical
+seen canonical (Refused refusal) = refused refusal.column (message_in refusal.reason) (lines_in refusal.reason)

@@ -1,13 +1,13 @@
 //! What a check does with a line.
 ghost use Rattle.std.specs.Prelude.{◌≡◌};
 
-use crate::judge::verdict_on;
+use crate::judge::judge;
 use crate::pointed::ROOM;
 use crate::printed::PrintedText;
 use crate::report::put_report;
 use crate::request::Request;
 use crate::tally::Tally;
-use crate::verdict::{LINE_LIMIT, Refusal};
+use crate::verdict::{LINE_LIMIT, Verdict};
 use ixdtf_buffers::driver::LineTask;
 use ixdtf_buffers::error::RunError;
 use ixdtf_buffers::output::Output;
@@ -50,13 +50,14 @@ impl LineTask<LINE_LIMIT> for Checking<'_> {
         × ReportsLine old.request old.tally new.tally line bytes };
 
     /// Puts the report of the line, and counts it.
+    #[inline(always)]
     fn take_line<K: Sink>(
         &mut self,
         output: &mut Output<'_, K>,
         line: Option<&[u8]>,
     ) -> Result<(), RunError> {
-        let mut refusal = Refusal::new();
-        let verdict = verdict_on(&self.request, line, &mut self.printed, &mut refusal);
+        let mut verdict = Verdict::Accepted;
+        judge(&self.request, line, &mut self.printed, &mut verdict);
         self.tally.add_line(verdict.is_refused());
         let number = self.tally.lines;
         put_report(
@@ -65,8 +66,7 @@ impl LineTask<LINE_LIMIT> for Checking<'_> {
             &self.request,
             number,
             &self.printed,
-            &refusal,
-            verdict,
+            &verdict,
         )
     }
 }

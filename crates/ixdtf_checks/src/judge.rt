@@ -3,6 +3,7 @@ ghost use Rattle.std.specs.Prelude.{◌≤◌, ◌+◌, ℕ, List, length, IfSom
 ghost use Rattle.ixdtf_grammar.specs.Places.{HasUnhandledFaultAt};
 ghost use Rattle.ixdtf_grammar.specs.Widths.{byte_text};
 ghost use Rattle.ixdtf_grammar.specs.language.Readers.{Reader};
+ghost use Rattle.ixdtf_grammar.specs.table.ErrorTexts.{message_of};
 ghost use Rattle.ixdtf_grammar.specs.table.Faults.{fault_of_located};
 ghost use Rattle.ixdtf_buffers.specs.Line.{IsLine};
 ghost use Rattle.ixdtf_checks.specs.Parts.{seen_part};
@@ -14,92 +15,91 @@ use crate::part::{Part, part_of, without_return};
 use crate::printed::PrintedText;
 use crate::reading::{read, read_to_print};
 use crate::request::{Request, Task};
-use crate::verdict::{LINE_LIMIT, Reason, Refusal, Verdict};
+use crate::verdict::{LINE_LIMIT, Reason, Refusal, Unread, Verdict};
 use ixdtf::LocatedError;
 
-/// The verdict on the line, which is `None` where it is too long. Where the line is refused, where and why is written into `refusal`.
-pub fn verdict_on<'a>(
+/// Writes the verdict on the line, which is `None` where it is too long.
+///
+/// A verdict is written in its place, and not returned: most lines are accepted, and of these one byte is written.
+pub fn judge<'a>(
     request: &Request<'_>,
     line: Option<&'a [u8]>,
     printed: &mut PrintedText,
-    refusal: &mut Refusal<'a>,
-) -> Verdict
+    verdict: &mut Verdict<'a>,
+)
     requires { IfSome line (λ bytes. length bytes.now ≤ 65536) }
     ensures { (text : List ℕ) → IsLine 65536 line.entry text
-        → IsVerdict request.now text (seen printed.new refusal.new result) }
+        → IsVerdict request.now text (seen printed.new verdict.new) }
 {
     match line {
         None => {
-            *refusal = Refusal {
+            *verdict = Verdict::Refused(Refusal {
                 column: LINE_LIMIT + 1,
                 reason: Reason::TooLong,
-            };
-            Verdict::Refused
+            });
         }
-        Some(bytes) => verdict_on_line(request, without_return(bytes), printed, refusal),
+        Some(bytes) => judge_line(request, without_return(bytes), printed, verdict),
     }
 }
 
-/// The verdict on a line that is not too long, without its carriage return.
-fn verdict_on_line<'a>(
+/// Writes the verdict on a line that is not too long, without its carriage return.
+fn judge_line<'a>(
     request: &Request<'_>,
     line: &'a [u8],
     printed: &mut PrintedText,
-    refusal: &mut Refusal<'a>,
-) -> Verdict
+    verdict: &mut Verdict<'a>,
+)
     requires { length line.now ≤ 65536 }
-    ensures { IsLineVerdict request.now line.now (seen printed.new refusal.new result) }
+    ensures { IsLineVerdict request.now line.now (seen printed.new verdict.new) }
 {
     match part_of(request.field, line) {
         None => {
-            *refusal = Refusal {
+            *verdict = Verdict::Refused(Refusal {
                 column: line.len() + 1,
                 reason: Reason::NoField,
-            };
-            Verdict::Refused
+            });
         }
-        Some(part) => verdict_on_text(request, part, printed, refusal),
+        Some(part) => judge_text(request, part, printed, verdict),
     }
 }
 
-/// The verdict on the text of a line.
-fn verdict_on_text<'a>(
+/// Writes the verdict on the text of a line.
+fn judge_text<'a>(
     request: &Request<'_>,
     part: Part<'a>,
     printed: &mut PrintedText,
-    refusal: &mut Refusal<'a>,
-) -> Verdict
+    verdict: &mut Verdict<'a>,
+)
     requires { part.start + length part.text.now ≤ 65536 }
     ensures { IsTextVerdict request.now.task request.now.profile (seen_part part.entry)
-        (seen printed.new refusal.new result) }
+        (seen printed.new verdict.new) }
 {
     match request.task {
         Task::Check(kind) => match read(kind, request.profile, part.text) {
-            Ok(()) => Verdict::Accepted,
-            Err(error) => refuse(refusal, error, part),
+            Ok(()) => *verdict = Verdict::Accepted,
+            Err(error) => refuse(verdict, error, part),
         },
         Task::Print => match read_to_print(part.text, printed) {
-            Ok(()) => Verdict::Printed,
-            Err(error) => refuse(refusal, error, part),
+            Ok(()) => *verdict = Verdict::Printed,
+            Err(error) => refuse(verdict, error, part),
         },
     }
 }
 
-/// The verdict on a line whose text a reader refuses.
-fn refuse<'a>(refusal: &mut Refusal<'a>, error: LocatedError, part: Part<'a>) -> Verdict
-    requires short { part.start + length part.text.now ≤ 65536 }
+/// Writes the verdict on a line whose text a reader refuses.
+fn refuse<'a>(verdict: &mut Verdict<'a>, error: LocatedError, part: Part<'a>)
+    requires line { part.start + length part.text.now ≤ 65536 }
     requires within { error.at ≤ length part.text.now }
+    requires short { length (message_of (fault_of_located error)) ≤ 69 }
     ensures { (reader : Reader)
         → HasUnhandledFaultAt reader (byte_text part.entry.text.now) (fault_of_located error) error.at
-        → (printed : List ℕ) → IsRefusal reader (seen_part part.entry)
-        (seen printed refusal.new result) }
+        → (printed : List ℕ) → IsRefusal reader (seen_part part.entry) (seen printed verdict.new) }
 {
-    *refusal = Refusal {
+    *verdict = Verdict::Refused(Refusal {
         column: part.start + error.at + 1,
-        reason: Reason::Unread {
+        reason: Reason::Unread(Unread {
             error,
             text: part.text,
-        },
-    };
-    Verdict::Refused
+        }),
+    });
 }

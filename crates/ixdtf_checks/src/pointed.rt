@@ -2,15 +2,16 @@
 //!
 //! The text is tested for UTF-8 as a whole, and else only what is shown is looked at: at most 48 characters before the place and 24
 //! from it on, each of at most four bytes.
-ghost use Rattle.std.specs.Prelude.{◌≡◌, ◌<◌, ◌≤◌, ◌+◌, ◌∷◌, length, take, drop, replicate, slice_index, IsTrue, IsUtf8, false};
-ghost use Rattle.std.specs.Str.{chars};
+ghost use Rattle.std.specs.Prelude.{◌≡◌, ◌<◌, ◌≤◌, ◌+◌, ◌∷◌, length, map, take, drop, replicate, slice_index, IsTrue, IsUtf8, false};
+ghost use Rattle.std.specs.Str.{IsAscii, chars};
 ghost use Rattle.ixdtf_grammar.specs.LocatedTexts.{column_of, cut_mark};
 ghost use Rattle.ixdtf_buffers.specs.Adding.{Adds};
 ghost use Rattle.ixdtf_buffers.specs.Lines.{newline};
-ghost use Rattle.ixdtf_checks.specs.Pointed.{Fits, IsNear, IsPlain, IsWindow, begins_character, behind_shown, bytes_in, mask, masked, window_lines};
+ghost use Rattle.ixdtf_checks.specs.Pointed.{Fits, IsNear, IsWindow, begins_character, behind_shown, bytes_in, mask, masked, starts, window_lines};
 ghost use Rattle.ixdtf_checks.specs.Seen.{lines_at};
 
-use ixdtf_buffers::adding::add_bytes;
+use ixdtf_buffers::adding::{add_byte, add_bytes};
+use ixdtf_buffers::place::place_of;
 
 /// The most characters that are shown before the place of an error.
 const BEFORE_PLACE: usize = 48;
@@ -18,9 +19,9 @@ const BEFORE_PLACE: usize = 48;
 /// The most characters that are shown from the place on.
 const FROM_PLACE: usize = 24;
 
-/// How many bytes a report has at most behind the name of the file: 44 of the numbers, 97 of a message, and 345 of the lines under
+/// How many bytes a report has at most behind the name of the file: 44 of the numbers, 70 of a message, and 345 of the lines under
 /// it. These are 72 characters of four bytes, a mark of two bytes at each end, a newline, 50 spaces, `^` and a newline.
-pub const ROOM: usize = 486;
+pub const ROOM: usize = 459;
 
 /// A newline, and as many spaces as stand before a mark at most.
 const SPACES: &[u8; 51] = b"\n                                                  ";
@@ -36,19 +37,22 @@ pub struct Window {
     pub indent: usize,
 }
 
+/// The first byte of a control character of two bytes, 0xC2 and one from 0x80 to 0x9F, and of some others.
+const LEAD: u8 = 0xC2;
+
 /// Adds the lines under a message, where the bytes are a text.
 ///
-/// Where the bytes near the place are all printable and of ASCII, they are what is shown.
+/// Where the bytes near the place are all of ASCII, they are what is shown.
 pub fn add_lines(room: &mut [u8; ROOM], at: usize, bytes: &[u8], place: usize) -> usize
-    requires { at + 345 ≤ 486 }
-    ensures place { result ≤ 486 }
+    requires { at + 345 ≤ 459 }
+    ensures place { result ≤ 459 }
     ensures text { Adds room.old room.new at result (lines_at place bytes.now) }
 {
     let near = near_window(bytes, place);
-    if !is_plain(&bytes[near.start..near.end]) {
+    if !bytes[near.start..near.end].is_ascii() {
         add_any(room, at, bytes, place)
     } else if is_text(bytes, near) {
-        add_plain(room, at, bytes, near)
+        add_shown(room, at, bytes, near, true)
     } else {
         at
     }
@@ -76,29 +80,9 @@ fn indent_behind(start: usize, count: usize) -> usize
     if start > 0 { BEFORE_PLACE + 2 } else { count }
 }
 
-/// Whether each byte is a printable character of ASCII, which is shown as it stands and is one column.
-///
-/// It does not end at the first that is none, so that many bytes are looked at at once.
-fn is_plain(bytes: &[u8]) -> bool
-    ensures { IsTrue result → IsPlain bytes.now }
-{
-    let mut is_plain = true;
-    for byte in bytes {
-        is_plain &= is_printable(*byte);
-    }
-    is_plain
-}
-
-/// Whether the byte is a printable character of ASCII.
-fn is_printable(byte: u8) -> bool
-    ensures { IsTrue result → (32 ≤ byte) × (byte < 127) }
-{
-    byte >= b' ' && byte <= b'~'
-}
-
-/// Whether bytes are a text of which the part that is shown is plain. Where that is all, no more is looked at.
+/// Whether bytes are a text of which the part that is shown is of ASCII. Where that is all, no more is looked at.
 fn is_text(bytes: &[u8], window: Window) -> bool
-    requires { IsPlain (bytes_in window bytes.now) }
+    requires { IsAscii (bytes_in window bytes.now) }
     ensures yes { IsTrue result → IsUtf8 bytes.now }
     ensures no { result ≡ false → ¬ (IsUtf8 bytes.now) }
 {
@@ -108,49 +92,48 @@ fn is_text(bytes: &[u8], window: Window) -> bool
     str::from_utf8(bytes).is_ok()
 }
 
-/// Adds a text with a mark under the place, where the part that is shown is plain.
-fn add_plain(room: &mut [u8; ROOM], at: usize, bytes: &[u8], window: Window) -> usize
-    requires room { at + 345 ≤ 486 }
-    requires fits { Fits bytes.now window }
-    ensures place { result ≤ 486 }
-    ensures text { Adds room.old room.new at result
-        (window_lines bytes.now window (bytes_in window bytes.now)) }
-{
-    let first = add_cut_mark(room, at, window.start > 0);
-    let second = add_bytes(room, first, &bytes[window.start..window.end]);
-    add_behind(room, second, bytes, window)
-}
-
 /// Adds any text with a mark under the place.
 fn add_any(room: &mut [u8; ROOM], at: usize, bytes: &[u8], place: usize) -> usize
-    requires { at + 345 ≤ 486 }
-    ensures place { result ≤ 486 }
+    requires { at + 345 ≤ 459 }
+    ensures place { result ≤ 459 }
     ensures text { Adds room.old room.new at result (lines_at place bytes.now) }
 {
     match str::from_utf8(bytes) {
-        Ok(_) => add_shown(room, at, bytes, window_of(bytes, place)),
+        Ok(_) => add_shown(room, at, bytes, window_of(bytes, place), false),
         Err(_) => at,
     }
 }
 
-/// Adds a text with a mark under the place.
-fn add_shown(room: &mut [u8; ROOM], at: usize, bytes: &[u8], window: Window) -> usize
-    requires room { at + 345 ≤ 486 }
+/// Adds a text with a mark under the place. Where the part that is shown is of ASCII, it is one run.
+fn add_shown(
+    room: &mut [u8; ROOM],
+    at: usize,
+    bytes: &[u8],
+    window: Window,
+    is_ascii: bool,
+) -> usize
+    requires room { at + 345 ≤ 459 }
     requires fits { Fits bytes.now window }
-    ensures place { result ≤ 486 }
+    requires ascii { IsTrue is_ascii → IsAscii (bytes_in window bytes.now) }
+    ensures place { result ≤ 459 }
     ensures text { Adds room.old room.new at result
         (window_lines bytes.now window (masked (bytes_in window bytes.now))) }
 {
     let first = add_cut_mark(room, at, window.start > 0);
-    let second = add_masked(room, first, &bytes[window.start..window.end]);
+    let part = &bytes[window.start..window.end];
+    let second = if is_ascii {
+        add_run(room, first, part)
+    } else {
+        add_masked(room, first, part)
+    };
     add_behind(room, second, bytes, window)
 }
 
 /// Adds what stands behind the part of a text that is shown.
 fn add_behind(room: &mut [u8; ROOM], at: usize, bytes: &[u8], window: Window) -> usize
-    requires room { at + 55 ≤ 486 }
+    requires room { at + 55 ≤ 459 }
     requires narrow { window.indent ≤ 50 }
-    ensures place { result ≤ 486 }
+    ensures place { result ≤ 459 }
     ensures text { Adds room.old room.new at result (behind_shown bytes.now window) }
 {
     let third = add_cut_mark(room, at, window.end < bytes.len());
@@ -211,8 +194,8 @@ fn last_characters(bytes: &[u8]) -> LastCharacters
     ensures few { result.count ≤ 48 }
     ensures cut { 0 < result.start → result.count ≡ 48 }
 {
-    let mut start = bytes.len();
-    let mut count = 0;
+    let mut start = bytes.len().saturating_sub(BEFORE_PLACE);
+    let mut count = characters_in(&bytes[start..]);
     while start > 0 && count < BEFORE_PLACE {
         start -= 1;
         count += usize::from(begins_character(bytes[start]));
@@ -229,8 +212,8 @@ fn first_characters(bytes: &[u8]) -> usize
     ensures few { length (chars (take result bytes.now)) ≤ 24 }
     ensures cut { result < length bytes.now → length (chars (take result bytes.now)) ≡ 24 }
 {
-    let mut end = 0;
-    let mut count = 0;
+    let mut end = bytes.len().min(FROM_PLACE);
+    let mut count = characters_in(&bytes[..end]);
     while end < bytes.len() {
         count += usize::from(begins_character(bytes[end]));
         if count > FROM_PLACE {
@@ -239,6 +222,18 @@ fn first_characters(bytes: &[u8]) -> usize
         end += 1;
     }
     end
+}
+
+/// How many characters begin in the bytes, of which there are few. The count is a byte, so that many bytes are looked at at once.
+fn characters_in(bytes: &[u8]) -> usize
+    requires { length bytes.now ≤ 48 }
+    ensures { result ≡ starts bytes.now }
+{
+    let mut count = 0u8;
+    for byte in bytes {
+        count += u8::from(begins_character(*byte));
+    }
+    usize::from(count)
 }
 
 /// Whether a character begins with the byte.
@@ -250,7 +245,7 @@ fn begins_character(byte: u8) -> bool
 
 /// Adds `..` where something is cut.
 fn add_cut_mark(room: &mut [u8; ROOM], at: usize, is_cut: bool) -> usize
-    requires { at + 2 ≤ 486 }
+    requires { at + 2 ≤ 459 }
     ensures place { result ≤ at + 2 }
     ensures text { Adds room.old room.new at result (cut_mark is_cut) }
 {
@@ -263,70 +258,66 @@ fn add_cut_mark(room: &mut [u8; ROOM], at: usize, is_cut: bool) -> usize
 
 /// Adds the bytes of a text, and `.` for each control character: U+0000 to U+001F, U+007F, and U+0080 to U+009F, which are two bytes.
 fn add_masked(room: &mut [u8; ROOM], at: usize, bytes: &[u8]) -> usize
-    requires { at + length bytes.now ≤ 486 }
+    requires { at + length bytes.now ≤ 459 }
     ensures place { result ≤ at + length bytes.now }
     ensures text { Adds room.old room.new at result (masked bytes.now) }
 {
     let mut end = at;
-    let mut place = 0;
-    while place < bytes.len() {
-        let next = masked_at(bytes, place);
-        room[end] = next.byte;
-        end += 1;
-        place += next.length;
+    let mut rest = bytes;
+    'leads: while let Some(place) = place_of(LEAD, rest) {
+        let middle = add_run(room, end, &rest[..place]);
+        if begins_control(rest, place) {
+            end = add_byte(room, middle, b'.');
+            rest = &rest[place + 2..];
+        } else {
+            end = add_byte(room, middle, LEAD);
+            rest = &rest[place + 1..];
+        }
     }
+    add_run(room, end, rest)
+}
+
+/// Adds each byte as it is shown.
+fn add_run(room: &mut [u8; ROOM], at: usize, bytes: &[u8]) -> usize
+    requires { at + length bytes.now ≤ 459 }
+    ensures place { result ≡ at + length bytes.now }
+    ensures text { Adds room.old room.new at result (map mask bytes.now) }
+{
+    let end = at + bytes.len();
+    let whole = &mut room[..];
+    show(&mut whole[at..end], bytes);
     end
 }
 
-/// A byte that is shown.
-#[derive(Clone, Copy)]
-struct Masked {
-    /// The byte.
-    byte: u8,
-    /// How many bytes of the text it stands for.
-    length: usize,
-}
-
-/// What is shown of the bytes at the place.
-fn masked_at(bytes: &[u8], place: usize) -> Masked
-    requires { place < length bytes.now }
-    ensures more { 0 < result.length }
-    ensures within { place + result.length ≤ length bytes.now }
-    ensures masked { masked (drop place bytes.now) ≡ result.byte ∷ masked (drop (place + result.length) bytes.now) }
+/// Writes each byte as it is shown. Both slices are cut to one length, so that many bytes are written at once.
+fn show(room: &mut [u8], bytes: &[u8])
+    requires { length room.old ≡ length bytes.now }
+    ensures { room.new ≡ map mask bytes.now }
 {
-    let byte = bytes[place];
-    if is_control(byte) {
-        Masked {
-            byte: b'.',
-            length: 1,
-        }
-    } else if begins_control(bytes, place) {
-        Masked {
-            byte: b'.',
-            length: 2,
-        }
-    } else {
-        Masked { byte, length: 1 }
+    let bytes = &bytes[..room.len()];
+    for index in 0..room.len() {
+        room[index] = shown(bytes[index]);
     }
 }
 
-/// Whether the byte is a control character.
-fn is_control(byte: u8) -> bool
-    ensures on { IsTrue result → mask byte ≡ 46 }
-    ensures off { result ≡ false → mask byte ≡ byte }
+/// The byte as it is shown: `.` for a control character.
+fn shown(byte: u8) -> u8
+    ensures { result ≡ mask byte }
 {
-    byte < b' ' || byte == 0x7F
+    if byte < b' ' || byte == 0x7F {
+        b'.'
+    } else {
+        byte
+    }
 }
 
-/// Whether a control character of two bytes begins at the place.
+/// Whether a control character of two bytes begins with the `LEAD` at the place.
 fn begins_control(bytes: &[u8], place: usize) -> bool
     requires { place < length bytes.now }
-    ensures on { IsTrue result → (place + 1 < length bytes.now) × (slice_index bytes.now place ≡ 194)
-        × (slice_index bytes.now (place + 1) < 160) }
-    ensures off { result ≡ false → slice_index bytes.now place ≡ 194 → place + 1 < length bytes.now
-        → 160 ≤ slice_index bytes.now (place + 1) }
+    ensures on { IsTrue result → (place + 1 < length bytes.now) × (slice_index bytes.now (place + 1) < 160) }
+    ensures off { result ≡ false → place + 1 < length bytes.now → 160 ≤ slice_index bytes.now (place + 1) }
 {
-    bytes[place] == 0xC2 && place + 1 < bytes.len() && bytes[place + 1] < 0xA0
+    place + 1 < bytes.len() && bytes[place + 1] < 0xA0
 }
 
 /// Adds a newline and the spaces before the mark.
@@ -334,7 +325,7 @@ fn begins_control(bytes: &[u8], place: usize) -> bool
 /// As many spaces as there may be are written, since so many need no call, and what follows is written over those behind the mark.
 fn add_spaces(room: &mut [u8; ROOM], at: usize, indent: usize) -> usize
     requires few { indent ≤ 50 }
-    requires room { at + 51 ≤ 486 }
+    requires room { at + 51 ≤ 459 }
     ensures place { result ≤ at + 51 }
     ensures text { Adds room.old room.new at result (newline ∷ replicate indent 32) }
 {

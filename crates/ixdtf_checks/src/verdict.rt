@@ -1,5 +1,7 @@
 //! The verdict on a line.
-ghost use Rattle.std.specs.Prelude.{◌≡◌, ℕ, List, if◌then◌else◌};
+ghost use Rattle.std.specs.Prelude.{◌≡◌, ◌≤◌, ℕ, List, length, if◌then◌else◌};
+ghost use Rattle.ixdtf_grammar.specs.table.ErrorTexts.{message_of};
+ghost use Rattle.ixdtf_grammar.specs.table.Faults.{fault_of_located};
 
 use ixdtf::LocatedError;
 
@@ -7,20 +9,18 @@ use ixdtf::LocatedError;
 pub const LINE_LIMIT: usize = 65536;
 
 /// The verdict on a line.
-///
-/// Where and why a line is refused stands apart (`Refusal`), so that a verdict is one byte.
 #[derive(Clone, Copy)]
-pub enum Verdict {
+pub enum Verdict<'a> {
     /// Its text is read.
     Accepted,
     /// Its text is read, and its canonical text is printed.
     Printed,
     /// It is refused.
-    Refused,
+    Refused(Refusal<'a>),
 }
 
 /// Where and why a line is refused.
-#[derive(Drop)]
+#[derive(Clone, Copy)]
 pub struct Refusal<'a> {
     /// At which byte of the line, from 1.
     pub column: usize,
@@ -29,44 +29,35 @@ pub struct Refusal<'a> {
 }
 
 /// Why a line is refused.
-#[derive(Drop)]
+#[derive(Clone, Copy)]
 pub enum Reason<'a> {
     /// It is too long.
     TooLong,
     /// It has too few fields.
     NoField,
     /// Its text is not read.
-    Unread {
-        /// The error, with its place in the text.
-        error: LocatedError,
-        /// The text, which may not be UTF-8.
-        text: &'a [u8],
-    },
+    Unread(Unread<'a>),
 }
 
-impl<'a> Refusal<'a> {
-    /// A refusal in whose place another is put.
-    pub fn new() -> Refusal<'a>
-        ensures column { result.column ≡ 0 }
-        ensures reason { result.reason ≡ Reason.NoField }
-    {
-        Refusal {
-            column: 0,
-            reason: Reason::NoField,
-        }
-    }
+/// A text that is not read.
+#[derive(Clone, Copy)]
+pub struct Unread<'a> {
+    /// The error, with its place in the text.
+    pub error: LocatedError,
+    /// The text, which may not be UTF-8.
+    pub text: &'a [u8],
+    // The texts of the errors that a reader returns are short.
+    pub ghost short: { length (message_of (fault_of_located error)) ≤ 69 },
 }
 
-impl Verdict {
+impl Verdict<'_> {
     ghost use Rattle.ixdtf_checks.specs.Reports.{refusal_count};
     ghost use Rattle.ixdtf_checks.specs.Seen.{seen};
-    ghost use Rattle.ixdtf_checks.specs.declared.verdict.Refusal.{Refusal};
 
     /// Whether the line is refused.
-    pub fn is_refused(self) -> bool
-        ensures { (printed : List ℕ) (refusal : Refusal)
-            → refusal_count (seen printed refusal self) ≡ (if result then 1 else 0) }
+    pub fn is_refused(&self) -> bool
+        ensures { (printed : List ℕ) → refusal_count (seen printed self.now) ≡ (if result then 1 else 0) }
     {
-        matches!(self, Verdict::Refused)
+        matches!(self, Verdict::Refused(_))
     }
 }

@@ -5,7 +5,8 @@
 //! The text is tested for UTF-8 as a whole, and else only what is shown is looked at: at most 48 characters before the place and 24
 //! from it on, each of at most four bytes.
 
-use ixdtf_buffers::adding::add_bytes;
+use ixdtf_buffers::adding::{add_byte, add_bytes};
+use ixdtf_buffers::place::place_of;
 
 /// The most characters that are shown before the place of an error.
 const BEFORE_PLACE: usize = 48;
@@ -13,9 +14,9 @@ const BEFORE_PLACE: usize = 48;
 /// The most characters that are shown from the place on.
 const FROM_PLACE: usize = 24;
 
-/// How many bytes a report has at most behind the name of the file: 44 of the numbers, 97 of a message, and 345 of the lines under
+/// How many bytes a report has at most behind the name of the file: 44 of the numbers, 70 of a message, and 345 of the lines under
 /// it. These are 72 characters of four bytes, a mark of two bytes at each end, a newline, 50 spaces, `^` and a newline.
-pub const ROOM: usize = 486;
+pub const ROOM: usize = 459;
 
 /// A newline, and as many spaces as stand before a mark at most.
 const SPACES: &[u8; 51] = b"\n                                                  ";
@@ -31,15 +32,18 @@ pub struct Window {
     pub indent: usize,
 }
 
+/// The first byte of a control character of two bytes, 0xC2 and one from 0x80 to 0x9F, and of some others.
+const LEAD: u8 = 0xC2;
+
 /// Adds the lines under a message, where the bytes are a text.
 ///
-/// Where the bytes near the place are all printable and of ASCII, they are what is shown.
+/// Where the bytes near the place are all of ASCII, they are what is shown.
 pub fn add_lines(room: &mut [u8; ROOM], at: usize, bytes: &[u8], place: usize) -> usize {
     let near = near_window(bytes, place);
-    if !is_plain(&bytes[near.start..near.end]) {
+    if !bytes[near.start..near.end].is_ascii() {
         add_any(room, at, bytes, place)
     } else if is_text(bytes, near) {
-        add_plain(room, at, bytes, near)
+        add_shown(room, at, bytes, near, true)
     } else {
         at
     }
@@ -61,23 +65,7 @@ fn indent_behind(start: usize, count: usize) -> usize {
     if start > 0 { BEFORE_PLACE + 2 } else { count }
 }
 
-/// Whether each byte is a printable character of ASCII, which is shown as it stands and is one column.
-///
-/// It does not end at the first that is none, so that many bytes are looked at at once.
-fn is_plain(bytes: &[u8]) -> bool {
-    let mut is_plain = true;
-    for byte in bytes {
-        is_plain &= is_printable(*byte);
-    }
-    is_plain
-}
-
-/// Whether the byte is a printable character of ASCII.
-fn is_printable(byte: u8) -> bool {
-    byte >= b' ' && byte <= b'~'
-}
-
-/// Whether bytes are a text of which the part that is shown is plain. Where that is all, no more is looked at.
+/// Whether bytes are a text of which the part that is shown is of ASCII. Where that is all, no more is looked at.
 fn is_text(bytes: &[u8], window: Window) -> bool {
     if window.start == 0 && window.end >= bytes.len() {
         return true;
@@ -85,25 +73,29 @@ fn is_text(bytes: &[u8], window: Window) -> bool {
     std::str::from_utf8(bytes).is_ok()
 }
 
-/// Adds a text with a mark under the place, where the part that is shown is plain.
-fn add_plain(room: &mut [u8; ROOM], at: usize, bytes: &[u8], window: Window) -> usize {
-    let first = add_cut_mark(room, at, window.start > 0);
-    let second = add_bytes(room, first, &bytes[window.start..window.end]);
-    add_behind(room, second, bytes, window)
-}
-
 /// Adds any text with a mark under the place.
 fn add_any(room: &mut [u8; ROOM], at: usize, bytes: &[u8], place: usize) -> usize {
     match std::str::from_utf8(bytes) {
-        Ok(_) => add_shown(room, at, bytes, window_of(bytes, place)),
+        Ok(_) => add_shown(room, at, bytes, window_of(bytes, place), false),
         Err(_) => at,
     }
 }
 
-/// Adds a text with a mark under the place.
-fn add_shown(room: &mut [u8; ROOM], at: usize, bytes: &[u8], window: Window) -> usize {
+/// Adds a text with a mark under the place. Where the part that is shown is of ASCII, it is one run.
+fn add_shown(
+    room: &mut [u8; ROOM],
+    at: usize,
+    bytes: &[u8],
+    window: Window,
+    is_ascii: bool,
+) -> usize {
     let first = add_cut_mark(room, at, window.start > 0);
-    let second = add_masked(room, first, &bytes[window.start..window.end]);
+    let part = &bytes[window.start..window.end];
+    let second = if is_ascii {
+        add_run(room, first, part)
+    } else {
+        add_masked(room, first, part)
+    };
     add_behind(room, second, bytes, window)
 }
 
@@ -149,8 +141,8 @@ fn character_at(bytes: &[u8], place: usize) -> usize {
 
 /// The last characters of a text.
 fn last_characters(bytes: &[u8]) -> LastCharacters {
-    let mut start = bytes.len();
-    let mut count = 0;
+    let mut start = bytes.len().saturating_sub(BEFORE_PLACE);
+    let mut count = characters_in(&bytes[start..]);
     while start > 0 && count < BEFORE_PLACE {
         start -= 1;
         count += usize::from(begins_character(bytes[start]));
@@ -160,8 +152,8 @@ fn last_characters(bytes: &[u8]) -> LastCharacters {
 
 /// Where the first characters of a text end, at most 24.
 fn first_characters(bytes: &[u8]) -> usize {
-    let mut end = 0;
-    let mut count = 0;
+    let mut end = bytes.len().min(FROM_PLACE);
+    let mut count = characters_in(&bytes[..end]);
     while end < bytes.len() {
         count += usize::from(begins_character(bytes[end]));
         if count > FROM_PLACE {
@@ -170,6 +162,15 @@ fn first_characters(bytes: &[u8]) -> usize {
         end += 1;
     }
     end
+}
+
+/// How many characters begin in the bytes, of which there are few. The count is a byte, so that many bytes are looked at at once.
+fn characters_in(bytes: &[u8]) -> usize {
+    let mut count = 0u8;
+    for byte in bytes {
+        count += u8::from(begins_character(*byte));
+    }
+    usize::from(count)
 }
 
 /// Whether a character begins with the byte.
@@ -189,51 +190,48 @@ fn add_cut_mark(room: &mut [u8; ROOM], at: usize, is_cut: bool) -> usize {
 /// Adds the bytes of a text, and `.` for each control character: U+0000 to U+001F, U+007F, and U+0080 to U+009F, which are two bytes.
 fn add_masked(room: &mut [u8; ROOM], at: usize, bytes: &[u8]) -> usize {
     let mut end = at;
-    let mut place = 0;
-    while place < bytes.len() {
-        let next = masked_at(bytes, place);
-        room[end] = next.byte;
-        end += 1;
-        place += next.length;
+    let mut rest = bytes;
+    'leads: while let Some(place) = place_of(LEAD, rest) {
+        let middle = add_run(room, end, &rest[..place]);
+        if begins_control(rest, place) {
+            end = add_byte(room, middle, b'.');
+            rest = &rest[place + 2..];
+        } else {
+            end = add_byte(room, middle, LEAD);
+            rest = &rest[place + 1..];
+        }
     }
+    add_run(room, end, rest)
+}
+
+/// Adds each byte as it is shown.
+fn add_run(room: &mut [u8; ROOM], at: usize, bytes: &[u8]) -> usize {
+    let end = at + bytes.len();
+    let whole = &mut room[..];
+    show(&mut whole[at..end], bytes);
     end
 }
 
-/// A byte that is shown.
-#[derive(Clone, Copy)]
-struct Masked {
-    /// The byte.
-    byte: u8,
-    /// How many bytes of the text it stands for.
-    length: usize,
-}
-
-/// What is shown of the bytes at the place.
-fn masked_at(bytes: &[u8], place: usize) -> Masked {
-    let byte = bytes[place];
-    if is_control(byte) {
-        Masked {
-            byte: b'.',
-            length: 1,
-        }
-    } else if begins_control(bytes, place) {
-        Masked {
-            byte: b'.',
-            length: 2,
-        }
-    } else {
-        Masked { byte, length: 1 }
+/// Writes each byte as it is shown. Both slices are cut to one length, so that many bytes are written at once.
+fn show(room: &mut [u8], bytes: &[u8]) {
+    let bytes = &bytes[..room.len()];
+    for index in 0..room.len() {
+        room[index] = shown(bytes[index]);
     }
 }
 
-/// Whether the byte is a control character.
-fn is_control(byte: u8) -> bool {
-    byte < b' ' || byte == 0x7F
+/// The byte as it is shown: `.` for a control character.
+fn shown(byte: u8) -> u8 {
+    if byte < b' ' || byte == 0x7F {
+        b'.'
+    } else {
+        byte
+    }
 }
 
-/// Whether a control character of two bytes begins at the place.
+/// Whether a control character of two bytes begins with the `LEAD` at the place.
 fn begins_control(bytes: &[u8], place: usize) -> bool {
-    bytes[place] == 0xC2 && place + 1 < bytes.len() && bytes[place + 1] < 0xA0
+    place + 1 < bytes.len() && bytes[place + 1] < 0xA0
 }
 
 /// Adds a newline and the spaces before the mark.

@@ -6,7 +6,6 @@ use crate::pointed::{ROOM, add_lines};
 use crate::printed::PrintedText;
 use crate::request::Request;
 use crate::verdict::{Reason, Refusal, Verdict};
-use ixdtf::LocatedError;
 use ixdtf_buffers::adding::{add_byte, add_bytes, add_number};
 use ixdtf_buffers::error::RunError;
 use ixdtf_buffers::output::Output;
@@ -16,14 +15,7 @@ use ixdtf_print::error_parts;
 /// The most bytes of a line that are put at once.
 const MOST_AT_ONCE: usize = 4096;
 
-/// The longest text of an error in a report that is made in an array.
-const MOST_OF_A_TEXT: usize = 72;
-
-/// The longest text of where the input ended in it.
-const MOST_OF_A_LOCATION: usize = 24;
-
-/// Puts the report of the line with this number, where this is the canonical text that was printed last, and this where and why
-/// a line was refused last.
+/// Puts the report of the line with this number, where this is the canonical text that was printed last.
 ///
 /// It is inlined, since most lines are read and have none.
 #[inline(always)]
@@ -33,24 +25,16 @@ pub fn put_report<K: Sink>(
     request: &Request<'_>,
     number: u64,
     printed: &PrintedText,
-    refusal: &Refusal<'_>,
-    verdict: Verdict,
+    verdict: &Verdict<'_>,
 ) -> Result<(), RunError> {
     match verdict {
         Verdict::Accepted => Ok(()),
         Verdict::Printed => put_printed(output, printed.as_line()),
-        Verdict::Refused => {
+        Verdict::Refused(refusal) => {
             if request.is_quiet {
                 return Ok(());
             }
-            put_refusal(
-                output,
-                room,
-                request.name,
-                number,
-                refusal.column,
-                &refusal.reason,
-            )
+            put_refusal(output, room, request.name, number, refusal)
         }
     }
 }
@@ -74,50 +58,11 @@ fn put_refusal<K: Sink>(
     room: &mut [u8; ROOM],
     name: &str,
     number: u64,
-    column: usize,
-    reason: &Reason<'_>,
+    refusal: &Refusal<'_>,
 ) -> Result<(), RunError> {
     output.put(name.as_bytes())?;
-    match reason {
-        Reason::TooLong => put_unread_line(output, room, number, column, "line too long"),
-        Reason::NoField => put_unread_line(output, room, number, column, "no such field"),
-        Reason::Unread { error, text } => put_unread_text(
-            output, room, number, column, error, text,
-        ),
-    }
-}
-
-/// Puts what stands behind the name, of a line in which no text was read.
-fn put_unread_line<K: Sink>(
-    output: &mut Output<'_, K>,
-    room: &mut [u8; ROOM],
-    number: u64,
-    column: usize,
-    message: &str,
-) -> Result<(), RunError> {
-    let place = add_place(room, number, column);
-    let end = add_message(room, place, message, "");
-    output.put(&room[..end])
-}
-
-/// Puts what stands behind the name, of a text that is refused.
-fn put_unread_text<K: Sink>(
-    output: &mut Output<'_, K>,
-    room: &mut [u8; ROOM],
-    number: u64,
-    column: usize,
-    error: &LocatedError,
-    text: &[u8],
-) -> Result<(), RunError> {
-    let (message, location) = error_parts(error.error);
-    if message.len() > MOST_OF_A_TEXT || location.len() > MOST_OF_A_LOCATION {
-        return put_long_text(
-            output, room, number, column, message, location, text, error.at,
-        );
-    }
-    let place = add_place(room, number, column);
-    let lines = add_message(room, place, message, location);
-    let end = add_lines(room, lines, text, error.at);
+    let place = add_place(room, number, refusal.column);
+    let end = add_reason(room, place, &refusal.reason);
     output.put(&room[..end])
 }
 
@@ -130,50 +75,22 @@ fn add_place(room: &mut [u8; ROOM], number: u64, column: usize) -> usize {
     add_bytes(room, third_colon, b": ")
 }
 
-/// Adds the two parts of the text of an error, and a newline.
+/// Adds why a line is refused, and of a text the lines that show where.
+fn add_reason(room: &mut [u8; ROOM], at: usize, reason: &Reason<'_>) -> usize {
+    match reason {
+        Reason::TooLong => add_message(room, at, "line too long", ""),
+        Reason::NoField => add_message(room, at, "no such field", ""),
+        Reason::Unread(unread) => {
+            let (message, location) = error_parts(unread.error.error);
+            let lines = add_message(room, at, message, location);
+            add_lines(room, lines, unread.text, unread.error.at)
+        }
+    }
+}
+
+/// Adds the two parts of a message, and a newline.
 fn add_message(room: &mut [u8; ROOM], at: usize, text: &str, location: &str) -> usize {
     let middle = add_bytes(room, at, text.as_bytes());
     let newline = add_bytes(room, middle, location.as_bytes());
     add_byte(room, newline, b'\n')
-}
-
-/// Puts the same piece by piece, where the text of the error is longer than that of any error which a reader returns.
-#[cold]
-#[inline(never)]
-fn put_long_text<K: Sink>(
-    output: &mut Output<'_, K>,
-    room: &mut [u8; ROOM],
-    number: u64,
-    column: usize,
-    message: &str,
-    location: &str,
-    text: &[u8],
-    at: usize,
-) -> Result<(), RunError> {
-    put_place(output, room, number, column)?;
-    output.put_all(&[message.as_bytes(), location.as_bytes()])?;
-    put_lines(output, room, text, at)
-}
-
-/// Puts the number of a line that is refused, and its column.
-fn put_place<K: Sink>(
-    output: &mut Output<'_, K>,
-    room: &mut [u8; ROOM],
-    number: u64,
-    column: usize,
-) -> Result<(), RunError> {
-    let end = add_place(room, number, column);
-    output.put(&room[..end])
-}
-
-/// Puts a newline, and the lines under a message.
-fn put_lines<K: Sink>(
-    output: &mut Output<'_, K>,
-    room: &mut [u8; ROOM],
-    text: &[u8],
-    at: usize,
-) -> Result<(), RunError> {
-    let lines = add_byte(room, 0, b'\n');
-    let end = add_lines(room, lines, text, at);
-    output.put(&room[..end])
 }

@@ -8,19 +8,18 @@ use ixdtf::LocatedError;
 pub const LINE_LIMIT: usize = 65536;
 
 /// The verdict on a line.
-///
-/// Where and why a line is refused stands apart (`Refusal`), so that a verdict is one byte.
 #[derive(Clone, Copy)]
-pub enum Verdict {
+pub enum Verdict<'a> {
     /// Its text is read.
     Accepted,
     /// Its text is read, and its canonical text is printed.
     Printed,
     /// It is refused.
-    Refused,
+    Refused(Refusal<'a>),
 }
 
 /// Where and why a line is refused.
+#[derive(Clone, Copy)]
 pub struct Refusal<'a> {
     /// At which byte of the line, from 1.
     pub column: usize,
@@ -29,33 +28,28 @@ pub struct Refusal<'a> {
 }
 
 /// Why a line is refused.
+#[derive(Clone, Copy)]
 pub enum Reason<'a> {
     /// It is too long.
     TooLong,
     /// It has too few fields.
     NoField,
     /// Its text is not read.
-    Unread {
-        /// The error, with its place in the text.
-        error: LocatedError,
-        /// The text, which may not be UTF-8.
-        text: &'a [u8],
-    },
+    Unread(Unread<'a>),
 }
 
-impl<'a> Refusal<'a> {
-    /// A refusal in whose place another is put.
-    pub fn new() -> Refusal<'a> {
-        Refusal {
-            column: 0,
-            reason: Reason::NoField,
-        }
-    }
+/// A text that is not read.
+#[derive(Clone, Copy)]
+pub struct Unread<'a> {
+    /// The error, with its place in the text.
+    pub error: LocatedError,
+    /// The text, which may not be UTF-8.
+    pub text: &'a [u8],
 }
 
-impl Verdict {
+impl Verdict<'_> {
     /// Whether the line is refused.
-    pub fn is_refused(self) -> bool {
-        matches!(self, Verdict::Refused)
+    pub fn is_refused(&self) -> bool {
+        matches!(self, Verdict::Refused(_))
     }
 }

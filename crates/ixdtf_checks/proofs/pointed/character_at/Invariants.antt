@@ -1,7 +1,7 @@
 -- Back to where a character begins.
 use Rattle.ixdtf_checks.proofs.pointed.character_at.Given as goal
 use Rattle.std.proofs.Common.{◌≡◌, ◌+◌, ◌≤◌, take}
-use Rattle.ixdtf_checks.proofs.CharactersLemmas.{starts}
+use Rattle.ixdtf_checks.specs.Pointed.{starts}
 
 -- no character begins behind the byte up to the place
 abbrev pub invariant-loop-start : goal.invariant-loop-start

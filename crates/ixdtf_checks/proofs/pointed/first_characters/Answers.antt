@@ -1,9 +1,16 @@
 -- Over the first characters.
 use Rattle.ixdtf_checks.proofs.pointed.first_characters.Goals as goal
 use Rattle.std.proofs.Common.{◌≡◌, take, get_or, subst, sym, arith}
-use Rattle.std.proofs.lemmas.{List.take_all, Str.{IsUtf8-take, IsUtf8-drop}}
+use Rattle.std.proofs.lemmas.{List.{length-take-le, take_all}, Str.{IsUtf8-take, IsUtf8-drop}}
 use Rattle.std.specs.Str.{IsUtf8}
-use Rattle.ixdtf_checks.proofs.CharactersLemmas.{begun, begun_counted, begun_most, lead_begun, starts_chars, starts_more}
+use Rattle.ixdtf_checks.specs.Pointed.{begun}
+use Rattle.ixdtf_checks.proofs.CharactersLemmas.{begun_counted, begun_most, lead_begun, starts_chars, starts_few, starts_more}
+
+pub loop-end-init : goal.loop-end-init
+loop-end-init c =
+    let front = take c.min-end.result c.args.bytes.now in
+    let counted = c.characters_in-count.ensures in
+    (omega arith, omega (arith, counted, starts_few front, length-take-le c.min-end.result c.args.bytes.now (omega arith)), sym counted)
 
 pub loop-end-preserved : goal.loop-end-preserved
 loop-end-preserved c =

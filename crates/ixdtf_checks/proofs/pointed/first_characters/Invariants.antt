@@ -1,7 +1,7 @@
 -- Over the first characters.
 use Rattle.ixdtf_checks.proofs.pointed.first_characters.Given as goal
 use Rattle.std.proofs.Common.{◌≡◌, ◌-◌, ◌≤◌, length, take}
-use Rattle.ixdtf_checks.proofs.CharactersLemmas.{starts}
+use Rattle.ixdtf_checks.specs.Pointed.{starts}
 
 -- as many characters begin up to there as were counted
 abbrev pub invariant-loop-end : goal.invariant-loop-end

@@ -1,4 +1,4 @@
--- A plain text that is shown whole.
+-- A text of ASCII that is shown whole.
 use Rattle.ixdtf_checks.proofs.pointed.is_text.Goals as goal
 use Rattle.ixdtf_checks.proofs.PointedLemmas.{whole_text}
 

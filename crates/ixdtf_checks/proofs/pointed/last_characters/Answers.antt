@@ -1,9 +1,24 @@
 -- Back over characters.
 use Rattle.ixdtf_checks.proofs.pointed.last_characters.Goals as goal
-use Rattle.std.proofs.Common.{◌≡◌, ◌+◌, ◌-◌, ◌∙◌, drop, get_or, length, ap, arith}
-use Rattle.std.proofs.lemmas.Str.{IsUtf8-take, IsUtf8-drop}
+use Rattle.std.proofs.Common.{◌≡◌, ◌+◌, ◌-◌, ◌∙◌, take, drop, get_or, length, sym, ap, arith, length-drop}
+use Rattle.std.proofs.lemmas.{List.{get_or-drop, take_all}, Str.{IsUtf8-take, IsUtf8-drop}}
 use Rattle.std.specs.Str.{chars}
-use Rattle.ixdtf_checks.proofs.CharactersLemmas.{starts, begun, begun_counted, begun_most, lead_begun, starts_before, starts_chars}
+use Rattle.ixdtf_checks.specs.Pointed.{starts, begun}
+use Rattle.ixdtf_checks.proofs.CharactersLemmas.{begun_counted, begun_full, begun_most, lead_begun, starts_before, starts_chars, starts_few}
+
+pub loop-start-init : goal.loop-start-init
+loop-start-init c =
+    let bs = c.args.bytes.now in
+    let s = c.saturating_sub-start.result in
+    let long = length-drop s bs in
+    let all : take (length bs - s) (drop s bs) ≡ drop s bs = take_all (length bs - s) (drop s bs) (omega (arith, long)) in
+    let counted : starts (drop s bs) ≡ c.characters_in-count.result = sym (c.characters_in-count.ensures ∙ ap starts all) in
+    let here : get_or (drop s bs) 0 0 ≡ get_or bs s 0 = get_or-drop s bs 0 0 ∙ ap (λ n. get_or bs n 0) (omega arith) in (
+      omega arith,
+      omega (arith, counted, starts_few (drop s bs), long),
+      counted,
+      λ full. (omega arith, λ some. lead_begun (get_or bs s 0) (ap begun (sym here) ∙ begun_full (drop s bs) (omega (arith, full, counted, long)) (omega (arith, some, long)))),
+    )
 
 pub loop-start-preserved : goal.loop-start-preserved
 loop-start-preserved c =

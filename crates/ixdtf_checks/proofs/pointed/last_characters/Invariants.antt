@@ -2,7 +2,7 @@
 use Rattle.ixdtf_checks.proofs.pointed.last_characters.Given as goal
 use Rattle.std.proofs.Common.{◌≡◌, ◌≤◌, length, drop}
 use Rattle.std.specs.Str.{IsCharBoundary}
-use Rattle.ixdtf_checks.proofs.CharactersLemmas.{starts}
+use Rattle.ixdtf_checks.specs.Pointed.{starts}
 
 -- as many characters begin from there on as were counted, and the last that counts is whole
 abbrev pub invariant-loop-start : goal.invariant-loop-start

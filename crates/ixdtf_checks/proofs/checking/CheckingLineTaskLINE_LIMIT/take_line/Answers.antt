@@ -6,18 +6,17 @@ use Rattle.ixdtf_checks.specs.Seen.{seen}
 
 pub returns-clause-takes : goal.returns-clause-takes
 returns-clause-takes g c = λ text is.
-    let printed = c.verdict_on-verdict.new.printed in
-    let refusal = c.verdict_on-verdict.new.refusal in
-    let verdict = seen printed refusal c.verdict_on-verdict.result in
+    let printed = c.judge.new.printed in
+    let verdict = seen printed c.judge.new.verdict in
     record {
       bytes = report_of c.args.self.now.request c.add_line.new.self.lines verdict;
       steps = (
         refl,
         record {
           verdict = verdict;
-          is = c.verdict_on-verdict.ensures text is;
+          is = c.judge.ensures text is;
           lines = c.add_line.ensures.lines;
-          refused = rw (c.is_refused.ensures printed refusal) c.add_line.ensures.refused;
+          refused = rw (c.is_refused.ensures printed) c.add_line.ensures.refused;
           report = refl;
         },
       );

@@ -1,12 +1,20 @@
 -- A text that is refused.
-use Rattle.ixdtf_checks.proofs.judge.verdict_on_text.Goals as goal
+use Rattle.ixdtf_checks.proofs.judge.judge_text.Goals as goal
 use Rattle.ixdtf_grammar.specs.language.Readers.{parse}
 use Rattle.ixdtf_checks.specs.Kinds.{reader_of}
-use Rattle.ixdtf_checks.proofs.VerdictLemmas.{at_within, check_refused, print_refused}
+use Rattle.ixdtf_checks.proofs.VerdictLemmas.{at_within, check_refused, print_refused, text_short}
 
 pub refuse-requires-clause-within : goal.refuse-requires-clause-within
 refuse-requires-clause-within c =
     at_within (reader_of c.in-Check.kind c.args.request.now.profile) c.args.part.text.now _ c.in-Err.error.at c.in-Err.ensures.err
+
+pub refuse-requires-clause-short : goal.refuse-requires-clause-short
+refuse-requires-clause-short c =
+    text_short (reader_of c.in-Check.kind c.args.request.now.profile) c.args.part.text.now _ c.in-Err.error.at c.in-Err.ensures.err
+
+pub refuse-requires-in-Err-read_to_print-clause-short : goal.refuse-requires-in-Err-read_to_print-clause-short
+refuse-requires-in-Err-read_to_print-clause-short c =
+    text_short parse c.args.part.text.now _ c.in-Err-read_to_print.error.at c.in-Err-read_to_print.ensures.err
 
 pub returns-in-Err : goal.returns-in-Err
 returns-in-Err c =
