@@ -5,7 +5,7 @@ mod watched;
 
 use ixdtf_buffers::error::RunError;
 use ixdtf_checks::arguments::{Options, Word};
-use ixdtf_checks::checker::check;
+use ixdtf_checks::checker::check_lines;
 use ixdtf_checks::status::status_of;
 use ixdtf_checks::tally::Tally;
 use std::fs::File;
@@ -122,7 +122,7 @@ fn check_reader<R: Read>(
         return;
     };
     let mut watched = Watched::new(reader);
-    let checked = check(&mut watched, &mut rt.stdout(), &request);
+    let checked = check_lines(&mut watched, &mut rt.stdout(), &request);
     outcome.total.add(checked.tally);
     match checked.end {
         Ok(()) => {}

@@ -2,7 +2,7 @@
 #![tactic(auto)]
 
 use ixdtf_answers::arguments::arguments_allowed;
-use ixdtf_answers::runner::run;
+use ixdtf_answers::runner::answer_lines;
 use ixdtf_buffers::error::RunError;
 use std::env;
 use std::io::Eprint;
@@ -15,7 +15,7 @@ fn main(rt: HostRuntime) -> ExitCode {
     if !arguments_allowed(words.skip(1).count()) {
         return refuse(&rt);
     }
-    match run(&mut rt.stdin(), &mut rt.stdout()) {
+    match answer_lines(&mut rt.stdin(), &mut rt.stdout()) {
         Ok(()) => ExitCode::SUCCESS,
         Err(RunError::Read) => failed(&rt, "read"),
         Err(RunError::Write) => failed(&rt, "write"),
