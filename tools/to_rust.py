@@ -11,7 +11,7 @@ The tool keeps the tokens of the sources, in their order. It removes these:
   attributes     `#[tactic(..)]`, `#[rattlefmt::skip]`, and `Drop` in a `#[derive(..)]`
   modules        those that a crate of CRATES omits, with the modules in them and the `use` of each. No other module calls their code.
   phrases        those of UNSEEN, with the comments right before them. Only contracts need them: the count of accesses (with the module
-                 `looks` and `Cursor::keep_looks`), and calls of laws.
+                 `looks` and `Cursor::keep_looks`).
 
 The library consists of layers (LAYERS), which are crates in Rattle and together one crate in Rust. LAYERS says where each module of a
 layer goes. A path through a layer becomes a path through `crate`. The root file of a layer is replaced by what the root of the library
@@ -146,8 +146,7 @@ DERIVED = {('error', 'ParseError'): {'variant_index', 'location'}, ('located', '
 UNSEEN = [phrase.split() for phrase in ['use crate :: looks :: Looks ;', 'looks : Looks ,', 'looks : Looks :: none ( ) ,', 'self . looks . tick ( ) ;',
                                         'let common = left . len ( ) . min ( right . len ( ) ) ;', 'self . looks . tick_by ( common ) ;', 'self . looks . tick_by ( 4 ) ;',
                                         'looks : std :: mem :: replace ( & mut self . looks , Looks :: none ( ) ) ,',
-                                        'self . keep_looks ( here ) ;', 'self . cursor . keep_looks ( here ) ;', 'cursor . keep_looks ( again ) ;', 'cursor . keep_looks ( front ) ;',
-                                        'use ixdtf_print :: canonical_fits ;', 'canonical_fits ( ) ;']]
+                                        'self . keep_looks ( here ) ;', 'self . cursor . keep_looks ( here ) ;', 'cursor . keep_looks ( again ) ;', 'cursor . keep_looks ( front ) ;']]
 COUNT = '# [ inline ( always ) ] pub fn keep_looks ('.split()
 WRITER, FORMATTER = '< W : fmt :: Write >'.split(), 'fmt :: Formatter < W >'.split()
 USES = {'std::marker::Model': '', 'std::marker::{Model,PhantomData}': 'use std::marker::PhantomData;'}
