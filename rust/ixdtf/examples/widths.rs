@@ -1,10 +1,12 @@
 //! Reads each argument as 8-bit and as 16-bit code units, by one function that is generic over the encoding, and says what both give.
 //!
 //!     cargo run --example widths -- 2024-03-02 '２０２４-03-02'
+use ixdtf::ParserResult;
+#[cfg(test)]
+use ixdtf::ParseError;
 use ixdtf::encoding::{EncodingType, Utf8, Utf16};
 use ixdtf::parsers::IxdtfParser;
 use ixdtf::records::DateRecord;
-use ixdtf::{ParseError, ParserResult};
 
 /// The date of a text of either width.
 fn date_of<T: EncodingType>(source: &[T::CodeUnit]) -> ParserResult<Option<DateRecord>> {
