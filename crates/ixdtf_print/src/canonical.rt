@@ -16,11 +16,16 @@ use ixdtf::encoding::Utf8;
 use ixdtf::records::{IxdtfParseRecord, MinutePrecisionOffset, TimeZoneAnnotation, TimeZoneRecord};
 use std::fmt;
 
-/// The most bytes that a date, a time and an offset have: 13, and 265 with a fraction of 255 digits each.
+/// The greatest number of bytes of a date, a time and an offset. A date has at most 13 bytes. A time and an offset have
+/// at most 265 bytes each, with a fraction of 255 digits.
 const MOST_OF_CORE: usize = 543;
 
-/// A record that Display writes as its canonical text, the one that [`print`](crate::print) puts into a slice. It does not
-/// allocate, and ignores width and fill.
+/// A record that `Display` writes as its canonical text, such as `2024-03-02T08:48:00Z[u-ca=hebrew]`.
+///
+/// This is the text that [`print`](crate::print) writes into a slice. `Display` does not allocate, and ignores width
+/// and fill.
+///
+/// # Examples
 ///
 /// ```rust
 /// use ixdtf::parsers::IxdtfParser;
@@ -36,7 +41,10 @@ pub struct Canonical<'a> {
 }
 
 impl<'a> Canonical<'a> {
-    /// The record to display, or `None` where no text stands for it, as for one of `parse_time`, which has no date.
+    /// Creates a value that displays the record.
+    ///
+    /// Returns `None` if the record has no canonical text. For example, a record of `parse_time` has no date, and no
+    /// text.
     pub fn of(parsed: &'a IxdtfParseRecord<'a, Utf8>) -> Option<Canonical<'a>>
         ensures shows { IfSome result
             (λ canonical. record_of canonical.parsed.now ≡ record_of parsed.now) }
@@ -53,7 +61,7 @@ impl<'a> Canonical<'a> {
     }
 }
 
-// Display heeds no width and no fill.
+// `Display` ignores width and fill.
 impl<'a> fmt::Display for Canonical<'a> {
     ghost use Rattle.std.specs.Prelude.{Some};
     ghost use Rattle.ixdtf_print.specs.Printable.{record_of};
@@ -90,14 +98,15 @@ fn front_of(bytes: &[u8], count: usize) -> &[u8]
     requires { count ≤ length bytes.now }
     ensures { result.now ≡ take count bytes.now }
 {
-    // It always has so many: with this test a compiler sees it too, and keeps no panic.
+    // `bytes` always has `count` bytes, as the proof shows. The compiler does not know the proof: because of this test,
+    // it compiles no code for a panic.
     match bytes.get(..count) {
         Some(front) => front,
         None => bytes,
     }
 }
 
-/// Writes the zone in its bracket, where there is one.
+/// Writes the zone in its bracket, if there is a zone.
 fn write_bracket<W: fmt::Write>(
     f: &mut fmt::Formatter<W>,
     note: &Option<TimeZoneAnnotation<'_, Utf8>>,
@@ -129,7 +138,7 @@ fn write_zone<W: fmt::Write>(
     }
 }
 
-/// Writes an offset of hours and minutes.
+/// Writes an offset with hours and minutes.
 fn write_minute_offset<W: fmt::Write>(
     f: &mut fmt::Formatter<W>,
     offset: MinutePrecisionOffset,
@@ -142,7 +151,7 @@ fn write_minute_offset<W: fmt::Write>(
     write_bytes(f, &bytes)
 }
 
-/// Writes the calendar in its bracket, where there is one.
+/// Writes the calendar in its bracket, if there is a calendar.
 fn write_calendar<W: fmt::Write>(f: &mut fmt::Formatter<W>, calendar: Option<&[u8]>) -> fmt::Result
     ensures { WritesStyledOnOk W.write_str_gives f.old result
         (bytes_of (calendar_text (option_map (λ units. map (λ byte. byte) units.now) calendar.entry))) f.new }
@@ -167,7 +176,7 @@ fn write_bytes<W: fmt::Write>(f: &mut fmt::Formatter<W>, bytes: &[u8]) -> fmt::R
     Ok(())
 }
 
-/// Writes the byte as the character of its number.
+/// Writes the byte as the character with its number.
 fn write_byte<W: fmt::Write>(f: &mut fmt::Formatter<W>, byte: u8) -> fmt::Result
     ensures { WritesStyledOnOk W.write_str_gives f.old result (encode_utf8 byte) f.new }
 {

@@ -1,4 +1,4 @@
-//! Whether a record has a text.
+//! Tests whether a record has a canonical text.
 ghost use Rattle.std.specs.Prelude.{◌↔◌, IsTrue, map, option_map};
 ghost use Rattle.ixdtf.specs.Views.{note_of, zone_of};
 ghost use Rattle.ixdtf_print.specs.Printable.{IsPrintable, record_of};
@@ -15,7 +15,7 @@ use ixdtf::records::{
     TimeZoneRecord, UtcOffsetRecord, UtcOffsetRecordOrZ,
 };
 
-/// Whether the date is a day of the Gregorian calendar, in a year of at most six digits.
+/// Returns whether the date is a day of the Gregorian calendar, in a year with at most six digits.
 fn is_day(date: DateRecord) -> bool
     ensures { IsTrue result ↔ IsDay date }
 {
@@ -25,28 +25,28 @@ fn is_day(date: DateRecord) -> bool
     1 <= date.day && date.day <= days_in_month(date.year, date.month)
 }
 
-/// Whether the numbers are those of a clock whose last second is this one. Any fraction fits.
+/// Returns whether the numbers are a time whose greatest second is `last`. The fraction is not tested.
 fn is_clock(last: u8, hour: u8, minute: u8, second: u8, fraction: Option<Fraction>) -> bool
     ensures { IsTrue result ↔ IsClock last hour minute second fraction }
 {
     hour <= 23 && minute <= 59 && second <= last
 }
 
-/// Whether the numbers are those of a time of day, which may have a leap second.
+/// Returns whether the numbers are a time of day. The second may be 60.
 fn is_day_time(time: TimeRecord) -> bool
     ensures { IsTrue result ↔ IsDayTime time }
 {
     is_clock(60, time.hour, time.minute, time.second, time.fraction)
 }
 
-/// Whether the numbers are those of an offset of hours and minutes.
+/// Returns whether the numbers are an offset with hours and minutes.
 fn is_minute_clock(offset: MinutePrecisionOffset) -> bool
     ensures { IsTrue result ↔ IsMinuteClock offset }
 {
     offset.hour <= 23 && offset.minute <= 59
 }
 
-/// Whether the offset has a text, as `Z` has.
+/// Returns whether the offset has a text. `Z` has one.
 fn is_shift(offset: UtcOffsetRecordOrZ) -> bool
     ensures { IsTrue result ↔ IsShift offset }
 {
@@ -68,7 +68,7 @@ fn is_shift(offset: UtcOffsetRecordOrZ) -> bool
     }
 }
 
-/// Whether there is a date, and it is a day.
+/// Returns whether there is a date, and it is a day.
 fn has_day(date: Option<DateRecord>) -> bool
     ensures { IsTrue result ↔ HasDay date }
 {
@@ -78,7 +78,7 @@ fn has_day(date: Option<DateRecord>) -> bool
     }
 }
 
-/// Whether a time and an offset have texts, and no offset stands alone.
+/// Returns whether the time and the offset have texts. An offset without a time has none.
 fn has_time(time: Option<TimeRecord>, offset: Option<UtcOffsetRecordOrZ>) -> bool
     ensures { IsTrue result ↔ HasTime time offset }
 {
@@ -90,7 +90,7 @@ fn has_time(time: Option<TimeRecord>, offset: Option<UtcOffsetRecordOrZ>) -> boo
     }
 }
 
-/// Whether the bytes are the name of a zone.
+/// Returns whether the bytes are the name of a zone.
 fn is_name(name: &[u8]) -> bool
     ensures { IsTrue result ↔ ZoneName (map Plain name.now) }
 {
@@ -99,7 +99,7 @@ fn is_name(name: &[u8]) -> bool
         .is_ok()
 }
 
-/// Whether the zone has a text.
+/// Returns whether the zone has a text.
 fn is_zone(zone: &TimeZoneRecord<'_, Utf8>) -> bool
     ensures { IsTrue result ↔ IsZoneText (zone_of (λ byte. byte) zone.now) }
 {
@@ -109,7 +109,7 @@ fn is_zone(zone: &TimeZoneRecord<'_, Utf8>) -> bool
     }
 }
 
-/// Whether a zone that is there has a text.
+/// Returns whether there is no zone, or the zone has a text.
 fn has_zone(note: &Option<TimeZoneAnnotation<'_, Utf8>>) -> bool
     ensures { IsTrue result ↔ HasZone (option_map (note_of (λ byte. byte)) note.now) }
 {
@@ -119,7 +119,7 @@ fn has_zone(note: &Option<TimeZoneAnnotation<'_, Utf8>>) -> bool
     }
 }
 
-/// Whether the bytes are the value of an annotation.
+/// Returns whether the bytes are the value of an annotation.
 fn is_value(bytes: &[u8]) -> bool
     ensures { IsTrue result ↔ Value (map Plain bytes.now) }
 {
@@ -136,7 +136,7 @@ fn is_value(bytes: &[u8]) -> bool
     in_run
 }
 
-/// Whether a calendar that is there has a text.
+/// Returns whether there is no calendar, or the calendar has a text.
 fn has_calendar(calendar: Option<&[u8]>) -> bool
     ensures { IsTrue result ↔
         HasCalendar (option_map (λ units. map (λ byte. byte) units.now) calendar.entry) }
@@ -147,7 +147,7 @@ fn has_calendar(calendar: Option<&[u8]>) -> bool
     }
 }
 
-/// Whether `parse` reads the record from some text.
+/// Returns whether `parse` returns this record for some text.
 #[inline(always)]
 pub fn is_printable(parsed: &IxdtfParseRecord<'_, Utf8>) -> bool
     ensures { IsTrue result ↔ IsPrintable (record_of parsed.now) }
@@ -155,7 +155,7 @@ pub fn is_printable(parsed: &IxdtfParseRecord<'_, Utf8>) -> bool
     is_spelled(parsed)
 }
 
-/// Whether each field has a text, and the date is there.
+/// Returns whether there is a date, and each field has a text.
 fn is_spelled(parsed: &IxdtfParseRecord<'_, Utf8>) -> bool
     ensures { IsTrue result ↔ IsSpelled (record_of parsed.now) }
 {

@@ -1,4 +1,4 @@
-//! Digits put into a slice.
+//! Functions that write digits into a slice.
 ghost use Rattle.std.specs.Prelude.{◌≡◌, ◌+◌, ◌/◌, ◌%◌, ◌≤◌};
 ghost use Rattle.ixdtf.specs.language.Digits.{padded_digits};
 ghost use Rattle.ixdtf_print.specs.Canonical.{fraction_text};
@@ -7,8 +7,8 @@ ghost use Rattle.ixdtf_print.specs.Prints.{HasRoom, Prints};
 use crate::put::{put, put_byte, set_byte};
 use ixdtf::records::Fraction;
 
-// Of each byte the digit of its tens and that of its ones, as they are written. It is one table, so that one address is enough
-// for both: a look-up takes fewer instructions than the divisions.
+// For each byte, the digit of its tens and the digit of its ones. Both are in one table, so that one address is enough.
+// A table look-up takes fewer instructions than the divisions.
 struct WrittenDigits {
     tens: [u8; 256],
     ones: [u8; 256],
@@ -20,7 +20,7 @@ static WRITTEN_DIGITS: WrittenDigits = WrittenDigits {
     ones: *b"0123456789012345678901234567890123456789012345678901234567890123456789012345678901234567890123456789012345678901234567890123456789012345678901234567890123456789012345678901234567890123456789012345678901234567890123456789012345678901234567890123456789012345",
 };
 
-/// The digit of the tens.
+/// Returns the digit of the tens.
 #[inline(always)]
 pub fn tens_digit(number: u8) -> u8
     ensures { result ≡ 48 + number / 10 % 10 }
@@ -28,7 +28,7 @@ pub fn tens_digit(number: u8) -> u8
     WRITTEN_DIGITS.tens[number as usize]
 }
 
-/// The digit of the ones.
+/// Returns the digit of the ones.
 #[inline(always)]
 pub fn ones_digit(number: u8) -> u8
     ensures { result ≡ 48 + number % 10 }
@@ -36,7 +36,7 @@ pub fn ones_digit(number: u8) -> u8
     WRITTEN_DIGITS.ones[number as usize]
 }
 
-/// Puts a number of four digits at the place, and returns the place behind them.
+/// Writes a number with four digits at index `at`. Returns the index after them.
 pub fn put_four(out: &mut [u8], at: usize, number: u64) -> usize
     requires room { HasRoom out.old at (padded_digits 4 number) }
     requires small { number ≤ 9999 }
@@ -56,11 +56,10 @@ pub fn put_four(out: &mut [u8], at: usize, number: u64) -> usize
     )
 }
 
-/// Puts so many digits of the number at the place, with leading zeros, and returns the place behind them: two at a time, the
-/// last ones first.
+/// Writes the last `count` digits of the number at index `at`, with leading zeros. Returns the index after them.
 ///
-/// It is a call of its own, since of a loop that puts zeros alone a compiler would make a call of `memset`, and the library
-/// for C calls nothing.
+/// It writes two digits at a time, the last ones first. It is not inlined: the compiler would turn a loop that writes
+/// only zeros into a call of `memset`, and the library for C must not call other functions.
 #[inline(never)]
 #[tactic(auto, using(crate::proofs::code::DigitLoop::digit_steps))]
 pub fn put_digits(out: &mut [u8], at: usize, count: usize, number: u64) -> usize
@@ -84,7 +83,7 @@ pub fn put_digits(out: &mut [u8], at: usize, count: usize, number: u64) -> usize
     end
 }
 
-/// Puts the fraction at the place, where there is one, and returns the place behind it.
+/// Writes the fraction at index `at`, if there is one. Returns the index after it.
 pub fn put_fraction(out: &mut [u8], at: usize, fraction: Option<Fraction>) -> usize
     requires { HasRoom out.old at (fraction_text fraction) }
     ensures { Prints out.old out.new at result (fraction_text fraction) }
@@ -95,7 +94,7 @@ pub fn put_fraction(out: &mut [u8], at: usize, fraction: Option<Fraction>) -> us
     let count = usize::from(fraction.digit_count());
     let value = put_byte(out, at, b'.');
     let zeros = put_digits(out, value, count.min(18), fraction.leading_value());
-    // Mostly no zeros follow.
+    // Usually, no zeros follow.
     if count <= 18 {
         return zeros;
     }

@@ -1,4 +1,4 @@
-//! The fields of a record put into a slice.
+//! Functions that write the fields of a record into a slice.
 ghost use Rattle.std.specs.Prelude.{◌≡◌, ◌∷◌, ◌++◌, map, nat_abs, option_map};
 ghost use Rattle.ixdtf.specs.Views.{note_of, zone_of};
 ghost use Rattle.ixdtf_print.specs.Printable.{record_of};
@@ -16,14 +16,14 @@ use ixdtf::records::{
     TimeZoneAnnotation, TimeZoneRecord, UtcOffsetRecord, UtcOffsetRecordOrZ,
 };
 
-/// How far the year is from year 0.
+/// Returns the absolute value of the year.
 fn distance_of(date: DateRecord) -> u64
     ensures { result ≡ nat_abs date.year }
 {
     u64::from(date.year.unsigned_abs())
 }
 
-/// Puts the year at the place, and returns the place behind it.
+/// Writes the year at index `at`. Returns the index after it.
 #[tactic(auto, using(crate::proofs::code::PutBytes::putting, crate::proofs::code::YearSigns::years))]
 fn put_year(out: &mut [u8], at: usize, date: DateRecord) -> usize
     requires { HasRoom out.old at (year_text date.year) }
@@ -41,7 +41,7 @@ fn put_year(out: &mut [u8], at: usize, date: DateRecord) -> usize
     put_digits(out, digits, 6, distance)
 }
 
-/// Puts the date at the place, and returns the place behind it.
+/// Writes the date at index `at`. Returns the index after it.
 #[tactic(auto, using(crate::proofs::code::PutBytes::putting), unfolding(crate::specs::Canonical::date_text))]
 fn put_date(out: &mut [u8], at: usize, date: DateRecord) -> usize
     requires { HasRoom out.old at (date_text date) }
@@ -51,7 +51,7 @@ fn put_date(out: &mut [u8], at: usize, date: DateRecord) -> usize
     put_days(out, after_year, date.month, date.day)
 }
 
-/// Puts a month and a day at the place, each behind its mark, and returns the place behind them.
+/// Writes a month and a day at index `at`, each after a `-`. Returns the index after them.
 fn put_days(out: &mut [u8], at: usize, month: u8, day: u8) -> usize
     requires { HasRoom out.old at (Plain 45 ∷ (two_digits month ++ (Plain 45 ∷ two_digits day))) }
     ensures { Prints out.old out.new at result
@@ -71,7 +71,7 @@ fn put_days(out: &mut [u8], at: usize, month: u8, day: u8) -> usize
     )
 }
 
-/// Puts the date at the place, where there is one, and returns the place behind it.
+/// Writes the date at index `at`, if there is one. Returns the index after it.
 fn put_optional_date(out: &mut [u8], at: usize, date: Option<DateRecord>) -> usize
     requires { HasRoom out.old at (optional_date_text date) }
     ensures { Prints out.old out.new at result (optional_date_text date) }
@@ -82,7 +82,7 @@ fn put_optional_date(out: &mut [u8], at: usize, date: Option<DateRecord>) -> usi
     }
 }
 
-/// Puts a mark, an hour and a minute at the place, and returns the place behind them.
+/// Writes a separator, an hour and a minute at index `at`. Returns the index after them.
 fn put_minutes(out: &mut [u8], at: usize, mark: u8, hour: u8, minute: u8) -> usize
     requires { HasRoom out.old at (Plain mark ∷ minutes_text hour minute) }
     ensures { Prints out.old out.new at result (Plain mark ∷ minutes_text hour minute) }
@@ -101,7 +101,7 @@ fn put_minutes(out: &mut [u8], at: usize, mark: u8, hour: u8, minute: u8) -> usi
     )
 }
 
-/// Puts a mark, an hour, a minute and a second at the place, and returns the place behind them.
+/// Writes a separator, an hour, a minute and a second at index `at`. Returns the index after them.
 fn put_seconds(out: &mut [u8], at: usize, mark: u8, hour: u8, minute: u8, second: u8) -> usize
     requires { HasRoom out.old at (Plain mark ∷ seconds_text hour minute second) }
     ensures { Prints out.old out.new at result (Plain mark ∷ seconds_text hour minute second) }
@@ -123,7 +123,7 @@ fn put_seconds(out: &mut [u8], at: usize, mark: u8, hour: u8, minute: u8, second
     )
 }
 
-/// Puts a mark and a clock at the place, and returns the place behind them.
+/// Writes a separator and a clock at index `at`. Returns the index after them.
 fn put_clock(
     out: &mut [u8],
     at: usize,
@@ -140,7 +140,7 @@ fn put_clock(
     put_fraction(out, point, fraction)
 }
 
-/// Puts the time at the place, where there is one, and returns the place behind it.
+/// Writes the time at index `at`, if there is one. Returns the index after it.
 fn put_time(out: &mut [u8], at: usize, time: Option<TimeRecord>) -> usize
     requires { HasRoom out.old at (time_text time) }
     ensures { Prints out.old out.new at result (time_text time) }
@@ -159,7 +159,7 @@ fn put_time(out: &mut [u8], at: usize, time: Option<TimeRecord>) -> usize
     }
 }
 
-/// The byte of a sign.
+/// Returns the byte of a sign.
 fn mark_of(sign: Sign) -> u8
     ensures { result ≡ mark_of sign }
 {
@@ -169,7 +169,7 @@ fn mark_of(sign: Sign) -> u8
     }
 }
 
-/// Puts an offset of hours and minutes at the place, and returns the place behind it.
+/// Writes an offset with hours and minutes at index `at`. Returns the index after it.
 pub fn put_minute_offset(out: &mut [u8], at: usize, offset: MinutePrecisionOffset) -> usize
     requires { HasRoom out.old at (minute_offset_text offset) }
     ensures { Prints out.old out.new at result (minute_offset_text offset) }
@@ -177,7 +177,7 @@ pub fn put_minute_offset(out: &mut [u8], at: usize, offset: MinutePrecisionOffse
     put_minutes(out, at, mark_of(offset.sign), offset.hour, offset.minute)
 }
 
-/// Puts the offset at the place, where there is one, and returns the place behind it.
+/// Writes the offset at index `at`, if there is one. Returns the index after it.
 fn put_offset(out: &mut [u8], at: usize, offset: Option<UtcOffsetRecordOrZ>) -> usize
     requires { HasRoom out.old at (offset_text offset) }
     ensures { Prints out.old out.new at result (offset_text offset) }
@@ -204,7 +204,7 @@ fn put_offset(out: &mut [u8], at: usize, offset: Option<UtcOffsetRecordOrZ>) -> 
     }
 }
 
-/// What stands before a zone.
+/// Returns what comes before a zone: `[` or `[!`.
 pub fn opening_of(critical: bool) -> &'static [u8]
     ensures { map Plain result.now ≡ opening_text critical }
 {
@@ -215,7 +215,7 @@ pub fn opening_of(critical: bool) -> &'static [u8]
     }
 }
 
-/// Puts what stands before a zone at the place, and returns the place behind it: one byte or two, at once.
+/// Writes what comes before a zone at index `at`: one or two bytes, in one step. Returns the index after it.
 fn put_opening(out: &mut [u8], at: usize, critical: bool) -> usize
     requires { HasRoom out.old at (opening_text critical) }
     ensures { Prints out.old out.new at result (opening_text critical) }
@@ -226,7 +226,7 @@ fn put_opening(out: &mut [u8], at: usize, critical: bool) -> usize
     put(out, at, b"[")
 }
 
-/// Puts the zone at the place, and returns the place behind it.
+/// Writes the zone at index `at`. Returns the index after it.
 fn put_zone(out: &mut [u8], at: usize, zone: &TimeZoneRecord<'_, Utf8>) -> usize
     requires { HasRoom out.old at (zone_text (zone_of (λ byte. byte) zone.now)) }
     ensures { Prints out.old out.new at result (zone_text (zone_of (λ byte. byte) zone.now)) }
@@ -237,7 +237,7 @@ fn put_zone(out: &mut [u8], at: usize, zone: &TimeZoneRecord<'_, Utf8>) -> usize
     }
 }
 
-/// Puts the zone in its bracket at the place, where there is one, and returns the place behind it.
+/// Writes the zone in its bracket at index `at`, if there is one. Returns the index after it.
 #[tactic(auto, using(crate::proofs::code::PutBytes::putting))]
 fn put_bracket(out: &mut [u8], at: usize, note: &Option<TimeZoneAnnotation<'_, Utf8>>) -> usize
     requires { HasRoom out.old at (bracket_text (option_map (note_of (λ byte. byte)) note.now)) }
@@ -254,7 +254,7 @@ fn put_bracket(out: &mut [u8], at: usize, note: &Option<TimeZoneAnnotation<'_, U
     }
 }
 
-/// Puts the calendar in its bracket at the place, where there is one, and returns the place behind it.
+/// Writes the calendar in its bracket at index `at`, if there is one. Returns the index after it.
 fn put_calendar(out: &mut [u8], at: usize, calendar: Option<&[u8]>) -> usize
     requires { HasRoom out.old at
         (calendar_text (option_map (λ units. map (λ byte. byte) units.now) calendar)) }
@@ -271,7 +271,7 @@ fn put_calendar(out: &mut [u8], at: usize, calendar: Option<&[u8]>) -> usize
     }
 }
 
-/// Puts the date, the time and the offset at the place, and returns the place behind them.
+/// Writes the date, the time and the offset at index `at`. Returns the index after them.
 #[tactic(auto, using(crate::proofs::code::PutBytes::putting), unfolding(crate::specs::Canonical::core_text))]
 pub fn put_core(out: &mut [u8], at: usize, parsed: &IxdtfParseRecord<'_, Utf8>) -> usize
     requires { HasRoom out.old at (core_text (record_of parsed.now)) }
@@ -282,7 +282,7 @@ pub fn put_core(out: &mut [u8], at: usize, parsed: &IxdtfParseRecord<'_, Utf8>) 
     put_offset(out, after_time, parsed.offset)
 }
 
-/// Puts the record at the front, and returns the place behind it.
+/// Writes the record at the beginning of the slice. Returns the index after it.
 #[tactic(auto, using(crate::proofs::code::PutBytes::putting), unfolding(crate::specs::Canonical::canonical_text))]
 pub fn put_record(out: &mut [u8], parsed: &IxdtfParseRecord<'_, Utf8>) -> usize
     requires { HasRoom out.old 0 (canonical_text (record_of parsed.now)) }

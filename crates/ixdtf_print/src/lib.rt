@@ -1,7 +1,7 @@
-//! Prints the records that `ixdtf` reads, each as its one canonical text.
+//! Prints the records that `ixdtf` returns. Each record that can be printed has one canonical text.
 //!
-//! The canonical text is read back as an equal record, and no other record has it. So a text can be stored, compared and
-//! sent on in this form.
+//! `ixdtf` parses the canonical text as an equal record, and no other record has the same canonical text. So texts can
+//! be stored, compared and exchanged in this form.
 #![tactic(auto)]
 
 ghost use Rattle.std.specs.Prelude.{◌≡◌, ◌↔◌, ◌<◌, ◌≤◌, length, map, take, drop, IfOk, OnOk, OnErr, Err};
@@ -42,14 +42,19 @@ pub use message::error_parts;
 #[doc(hidden)]
 pub use printed::PrintedText;
 
-/// Writes the canonical text of the record into the front of the slice, and returns how many bytes these are.
+/// Writes the canonical text of the record to the beginning of the slice, such as `2024-03-02T08:48:00Z[u-ca=hebrew]`.
 ///
-/// The canonical text has the date, the time with its seconds, the offset in the precision that it was written in, the zone
-/// with its `!`, and the calendar. What a record does not keep is not in it: the `!` of a calendar, other annotations, and of
-/// a fraction the digits after the eighteenth, which are zeros here.
+/// The canonical text has these parts, if the record has them: the date; the time, with its seconds; the offset, with
+/// or without seconds as it was written; the zone, with its `!`; and the calendar. Some parts of a parsed text are not
+/// in the record, and so not in the canonical text: the `!` of a calendar, and all other annotations. Digits of a
+/// fraction after the first 18 are written as zeros.
 ///
-/// A record of a year and a month has the first day of the month, and one of a month and a day the year 0: their texts are
-/// those dates. One of a time alone has no date, and no text.
+/// A record of a year and a month has the first day of the month, and a record of a month and a day has the year 0.
+/// Their canonical texts are these dates. A record of `parse_time` has no date, and no canonical text.
+///
+/// Returns the number of bytes that were written.
+///
+/// # Examples
 ///
 /// ```rust
 /// use ixdtf::parsers::IxdtfParser;
@@ -73,8 +78,10 @@ pub use printed::PrintedText;
 ///
 /// # Errors
 ///
-/// [`PrintError::NotPrintable`] where no text stands for the record, and else [`PrintError::TooShort`] where the slice is
-/// shorter than the canonical text. The slice is as it was.
+/// After an error, the slice is unchanged.
+///
+/// - [`PrintError::NotPrintable`]: the record has no canonical text.
+/// - [`PrintError::TooShort`]: the slice is shorter than the canonical text.
 pub fn print(parsed: &IxdtfParseRecord<'_, Utf8>, out: &mut [u8]) -> Result<usize, PrintError>
     ensures count { IfOk result
         (λ n. n ≡ length (canonical_text (record_of parsed.now))) }
@@ -99,9 +106,11 @@ pub fn print(parsed: &IxdtfParseRecord<'_, Utf8>, out: &mut [u8]) -> Result<usiz
     Ok(put_record(out, parsed))
 }
 
-/// Writes the canonical text of the record into the front of a slice that has room for it, and returns how many bytes these
-/// are, as [`print`] does. It tests neither the record nor the room: a caller that has just read the record from a text knows
-/// both.
+/// Writes the canonical text of the record to the beginning of a slice that is long enough, like [`print`]. Returns the
+/// number of bytes.
+///
+/// It tests neither the record nor the length of the slice. A caller that has just parsed the record from a text knows
+/// that both are right.
 // For crates of this repository, and no part of the interface.
 #[doc(hidden)]
 pub fn print_with_room(parsed: &IxdtfParseRecord<'_, Utf8>, room: &mut [u8]) -> usize

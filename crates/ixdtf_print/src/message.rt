@@ -1,12 +1,13 @@
-//! What is written of an error of a reader.
+//! The message of an error of a reader.
 ghost use Rattle.std.specs.Prelude.{◌≡◌, ◌++◌};
 ghost use Rattle.ixdtf.specs.table.ErrorTexts.{message_of};
 ghost use Rattle.ixdtf.specs.table.Faults.{fault_of};
 
 use ixdtf::ParseError;
 
-/// The two parts of what Display writes of an error: its own text, and of an `AbruptEnd` its location. So a program puts them
-/// where it makes a line, without going through Display.
+/// Returns the two parts of what `Display` writes for an error: the message, and the location of an `AbruptEnd`.
+///
+/// With them, a program can write the error into a line without `Display`.
 // For crates of this repository, and no part of the interface.
 #[doc(hidden)]
 #[inline(always)]

@@ -10,8 +10,9 @@ use ixdtf::encoding::Utf8;
 use ixdtf::records::IxdtfParseRecord;
 use std::marker::Model;
 
-/// A canonical text with a newline behind it, in an array of so many bytes. A program keeps one for all its lines: to clear an
-/// array for each would take longer than to fill it.
+/// A canonical text and a newline after it, in an array of `SIZE` bytes.
+///
+/// A program uses one such array for all its lines. To clear an array for each line would take longer than to fill it.
 #[derive(Drop)]
 pub struct PrintedText<const SIZE: usize> {
     bytes: [u8; SIZE],
@@ -23,12 +24,12 @@ impl<const SIZE: usize> Model for PrintedText<SIZE> {
 
     ghost view = { λ text. take text.count text.bytes };
 
-    // A newline stands behind the text.
+    // A newline follows the text.
     ghost invariant = { λ text. (text.count < SIZE) × (slice_index text.bytes text.count ≡ 10) };
 }
 
 impl<const SIZE: usize> PrintedText<SIZE> {
-    /// No byte, and a newline.
+    /// Creates an empty text with a newline.
     pub fn empty() -> PrintedText<SIZE>
         requires { 0 < SIZE }
         ensures { result ≡ [] }
@@ -38,7 +39,7 @@ impl<const SIZE: usize> PrintedText<SIZE> {
         PrintedText { bytes, count: 0 }
     }
 
-    /// Prints the record, in the place of what was printed before.
+    /// Prints the record. It replaces what was printed before.
     pub fn print(&mut self, parts: &IxdtfParseRecord<'_, Utf8>)
         requires { FitsArray SIZE (record_of parts.now) }
         ensures { map byte_letter self.new ≡ canonical_text (record_of parts.now) }
@@ -48,7 +49,7 @@ impl<const SIZE: usize> PrintedText<SIZE> {
         self.count = count;
     }
 
-    /// The bytes, and a newline.
+    /// Returns the bytes of the text, and the newline.
     pub fn as_line(&self) -> &[u8]
         ensures { result.now ≡ self.now ++ 10 ∷ [] }
     {

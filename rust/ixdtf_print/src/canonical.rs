@@ -9,11 +9,16 @@ use ixdtf::encoding::Utf8;
 use ixdtf::records::{IxdtfParseRecord, MinutePrecisionOffset, TimeZoneAnnotation, TimeZoneRecord};
 use core::fmt;
 
-/// The most bytes that a date, a time and an offset have: 13, and 265 with a fraction of 255 digits each.
+/// The greatest number of bytes of a date, a time and an offset. A date has at most 13 bytes. A time and an offset have
+/// at most 265 bytes each, with a fraction of 255 digits.
 const MOST_OF_CORE: usize = 543;
 
-/// A record that Display writes as its canonical text, the one that [`print`](crate::print) puts into a slice. It does not
-/// allocate, and ignores width and fill.
+/// A record that `Display` writes as its canonical text, such as `2024-03-02T08:48:00Z[u-ca=hebrew]`.
+///
+/// This is the text that [`print`](crate::print) writes into a slice. `Display` does not allocate, and ignores width
+/// and fill.
+///
+/// # Examples
 ///
 /// ```rust
 /// use ixdtf::parsers::IxdtfParser;
@@ -29,7 +34,10 @@ pub struct Canonical<'a> {
 }
 
 impl<'a> Canonical<'a> {
-    /// The record to display, or `None` where no text stands for it, as for one of `parse_time`, which has no date.
+    /// Creates a value that displays the record.
+    ///
+    /// Returns `None` if the record has no canonical text. For example, a record of `parse_time` has no date, and no
+    /// text.
     #[must_use]
     pub fn of(parsed: &'a IxdtfParseRecord<'a, Utf8>) -> Option<Canonical<'a>> {
         if !is_printable(parsed) {
@@ -39,7 +47,7 @@ impl<'a> Canonical<'a> {
     }
 }
 
-// Display heeds no width and no fill.
+// `Display` ignores width and fill.
 impl<'a> fmt::Display for Canonical<'a> {
     fn fmt(&self, f: &mut fmt::Formatter<'_>) -> fmt::Result {
         let parsed = self.parsed;
@@ -62,14 +70,15 @@ fn write_core(
 
 /// The first bytes, so many.
 fn front_of(bytes: &[u8], count: usize) -> &[u8] {
-    // It always has so many: with this test a compiler sees it too, and keeps no panic.
+    // `bytes` always has `count` bytes, as the proof shows. The compiler does not know the proof: because of this test,
+    // it compiles no code for a panic.
     match bytes.get(..count) {
         Some(front) => front,
         None => bytes,
     }
 }
 
-/// Writes the zone in its bracket, where there is one.
+/// Writes the zone in its bracket, if there is a zone.
 fn write_bracket(
     f: &mut fmt::Formatter<'_>,
     note: &Option<TimeZoneAnnotation<'_, Utf8>>,
@@ -96,7 +105,7 @@ fn write_zone(
     }
 }
 
-/// Writes an offset of hours and minutes.
+/// Writes an offset with hours and minutes.
 fn write_minute_offset(
     f: &mut fmt::Formatter<'_>,
     offset: MinutePrecisionOffset,
@@ -106,7 +115,7 @@ fn write_minute_offset(
     write_bytes(f, &bytes)
 }
 
-/// Writes the calendar in its bracket, where there is one.
+/// Writes the calendar in its bracket, if there is a calendar.
 fn write_calendar(f: &mut fmt::Formatter<'_>, calendar: Option<&[u8]>) -> fmt::Result {
     match calendar {
         None => Ok(()),
@@ -126,7 +135,7 @@ fn write_bytes(f: &mut fmt::Formatter<'_>, bytes: &[u8]) -> fmt::Result {
     Ok(())
 }
 
-/// Writes the byte as the character of its number.
+/// Writes the byte as the character with its number.
 fn write_byte(f: &mut fmt::Formatter<'_>, byte: u8) -> fmt::Result {
     let mut bytes = [0; 4];
     f.write_str(char::from(byte).encode_utf8(&mut bytes))

@@ -1,6 +1,6 @@
 // Made by tools/to_rust.py of crates/ixdtf_print/src/check.rt. Do not edit.
 
-//! Whether a record has a text.
+//! Tests whether a record has a canonical text.
 
 use ixdtf::encoding::Utf8;
 use ixdtf::parsers::{TimeZoneParser, days_in_month, is_annotation_value_component};
@@ -9,7 +9,7 @@ use ixdtf::records::{
     TimeZoneRecord, UtcOffsetRecord, UtcOffsetRecordOrZ,
 };
 
-/// Whether the date is a day of the Gregorian calendar, in a year of at most six digits.
+/// Returns whether the date is a day of the Gregorian calendar, in a year with at most six digits.
 fn is_day(date: DateRecord) -> bool {
     if date.year.unsigned_abs() > 999_999 || date.month < 1 || date.month > 12 {
         return false;
@@ -17,22 +17,22 @@ fn is_day(date: DateRecord) -> bool {
     1 <= date.day && date.day <= days_in_month(date.year, date.month)
 }
 
-/// Whether the numbers are those of a clock whose last second is this one. Any fraction fits.
+/// Returns whether the numbers are a time whose greatest second is `last`. The fraction is not tested.
 fn is_clock(last: u8, hour: u8, minute: u8, second: u8, fraction: Option<Fraction>) -> bool {
     hour <= 23 && minute <= 59 && second <= last
 }
 
-/// Whether the numbers are those of a time of day, which may have a leap second.
+/// Returns whether the numbers are a time of day. The second may be 60.
 fn is_day_time(time: TimeRecord) -> bool {
     is_clock(60, time.hour, time.minute, time.second, time.fraction)
 }
 
-/// Whether the numbers are those of an offset of hours and minutes.
+/// Returns whether the numbers are an offset with hours and minutes.
 fn is_minute_clock(offset: MinutePrecisionOffset) -> bool {
     offset.hour <= 23 && offset.minute <= 59
 }
 
-/// Whether the offset has a text, as `Z` has.
+/// Returns whether the offset has a text. `Z` has one.
 fn is_shift(offset: UtcOffsetRecordOrZ) -> bool {
     match offset {
         UtcOffsetRecordOrZ::Z => true,
@@ -53,7 +53,7 @@ fn is_shift(offset: UtcOffsetRecordOrZ) -> bool {
     }
 }
 
-/// Whether there is a date, and it is a day.
+/// Returns whether there is a date, and it is a day.
 fn has_day(date: Option<DateRecord>) -> bool {
     match date {
         None => false,
@@ -61,7 +61,7 @@ fn has_day(date: Option<DateRecord>) -> bool {
     }
 }
 
-/// Whether a time and an offset have texts, and no offset stands alone.
+/// Returns whether the time and the offset have texts. An offset without a time has none.
 fn has_time(time: Option<TimeRecord>, offset: Option<UtcOffsetRecordOrZ>) -> bool {
     match (time, offset) {
         (None, None) => true,
@@ -71,14 +71,14 @@ fn has_time(time: Option<TimeRecord>, offset: Option<UtcOffsetRecordOrZ>) -> boo
     }
 }
 
-/// Whether the bytes are the name of a zone.
+/// Returns whether the bytes are the name of a zone.
 fn is_name(name: &[u8]) -> bool {
     TimeZoneParser::from_utf8(name)
         .parse_iana_identifier()
         .is_ok()
 }
 
-/// Whether the zone has a text.
+/// Returns whether the zone has a text.
 fn is_zone(zone: &TimeZoneRecord<'_, Utf8>) -> bool {
     match zone {
         TimeZoneRecord::Name(name) => is_name(name),
@@ -87,7 +87,7 @@ fn is_zone(zone: &TimeZoneRecord<'_, Utf8>) -> bool {
     }
 }
 
-/// Whether a zone that is there has a text.
+/// Returns whether there is no zone, or the zone has a text.
 fn has_zone(note: &Option<TimeZoneAnnotation<'_, Utf8>>) -> bool {
     match note {
         None => true,
@@ -95,7 +95,7 @@ fn has_zone(note: &Option<TimeZoneAnnotation<'_, Utf8>>) -> bool {
     }
 }
 
-/// Whether the bytes are the value of an annotation.
+/// Returns whether the bytes are the value of an annotation.
 fn is_value(bytes: &[u8]) -> bool {
     let mut in_run = false;
     for byte in bytes {
@@ -110,7 +110,7 @@ fn is_value(bytes: &[u8]) -> bool {
     in_run
 }
 
-/// Whether a calendar that is there has a text.
+/// Returns whether there is no calendar, or the calendar has a text.
 fn has_calendar(calendar: Option<&[u8]>) -> bool {
     match calendar {
         None => true,
@@ -118,13 +118,13 @@ fn has_calendar(calendar: Option<&[u8]>) -> bool {
     }
 }
 
-/// Whether `parse` reads the record from some text.
+/// Returns whether `parse` returns this record for some text.
 #[inline(always)]
 pub fn is_printable(parsed: &IxdtfParseRecord<'_, Utf8>) -> bool {
     is_spelled(parsed)
 }
 
-/// Whether each field has a text, and the date is there.
+/// Returns whether there is a date, and each field has a text.
 fn is_spelled(parsed: &IxdtfParseRecord<'_, Utf8>) -> bool {
     has_day(parsed.date)
         && has_time(parsed.time, parsed.offset)

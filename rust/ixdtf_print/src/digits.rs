@@ -1,12 +1,12 @@
 // Made by tools/to_rust.py of crates/ixdtf_print/src/digits.rt. Do not edit.
 
-//! Digits put into a slice.
+//! Functions that write digits into a slice.
 
 use crate::put::{put, put_byte, set_byte};
 use ixdtf::records::Fraction;
 
-// Of each byte the digit of its tens and that of its ones, as they are written. It is one table, so that one address is enough
-// for both: a look-up takes fewer instructions than the divisions.
+// For each byte, the digit of its tens and the digit of its ones. Both are in one table, so that one address is enough.
+// A table look-up takes fewer instructions than the divisions.
 struct WrittenDigits {
     tens: [u8; 256],
     ones: [u8; 256],
@@ -17,19 +17,19 @@ static WRITTEN_DIGITS: WrittenDigits = WrittenDigits {
     ones: *b"0123456789012345678901234567890123456789012345678901234567890123456789012345678901234567890123456789012345678901234567890123456789012345678901234567890123456789012345678901234567890123456789012345678901234567890123456789012345678901234567890123456789012345",
 };
 
-/// The digit of the tens.
+/// Returns the digit of the tens.
 #[inline(always)]
 pub fn tens_digit(number: u8) -> u8 {
     WRITTEN_DIGITS.tens[number as usize]
 }
 
-/// The digit of the ones.
+/// Returns the digit of the ones.
 #[inline(always)]
 pub fn ones_digit(number: u8) -> u8 {
     WRITTEN_DIGITS.ones[number as usize]
 }
 
-/// Puts a number of four digits at the place, and returns the place behind them.
+/// Writes a number with four digits at index `at`. Returns the index after them.
 pub fn put_four(out: &mut [u8], at: usize, number: u64) -> usize {
     let hundreds = (number / 100) as u8;
     let rest = (number % 100) as u8;
@@ -45,11 +45,10 @@ pub fn put_four(out: &mut [u8], at: usize, number: u64) -> usize {
     )
 }
 
-/// Puts so many digits of the number at the place, with leading zeros, and returns the place behind them: two at a time, the
-/// last ones first.
+/// Writes the last `count` digits of the number at index `at`, with leading zeros. Returns the index after them.
 ///
-/// It is a call of its own, since of a loop that puts zeros alone a compiler would make a call of `memset`, and the library
-/// for C calls nothing.
+/// It writes two digits at a time, the last ones first. It is not inlined: the compiler would turn a loop that writes
+/// only zeros into a call of `memset`, and the library for C must not call other functions.
 #[inline(never)]
 pub fn put_digits(out: &mut [u8], at: usize, count: usize, number: u64) -> usize {
     let end = at + count;
@@ -69,7 +68,7 @@ pub fn put_digits(out: &mut [u8], at: usize, count: usize, number: u64) -> usize
     end
 }
 
-/// Puts the fraction at the place, where there is one, and returns the place behind it.
+/// Writes the fraction at index `at`, if there is one. Returns the index after it.
 pub fn put_fraction(out: &mut [u8], at: usize, fraction: Option<Fraction>) -> usize {
     let Some(fraction) = fraction else {
         return at;
@@ -77,7 +76,7 @@ pub fn put_fraction(out: &mut [u8], at: usize, fraction: Option<Fraction>) -> us
     let count = usize::from(fraction.digit_count());
     let value = put_byte(out, at, b'.');
     let zeros = put_digits(out, value, count.min(18), fraction.leading_value());
-    // Mostly no zeros follow.
+    // Usually, no zeros follow.
     if count <= 18 {
         return zeros;
     }

@@ -1,13 +1,15 @@
 // Made by tools/to_rust.py of crates/ixdtf_print/src/error.rt. Do not edit.
 
-//! Why a record is not printed.
+//! The errors of the printer.
 
 use core::error::Error;
 use core::fmt;
 
-/// Why [`print`](crate::print) refused.
+/// The reason why [`print`](crate::print) wrote nothing.
 ///
-/// Display writes the text of the error:
+/// `Display` writes a message.
+///
+/// # Examples
 ///
 /// ```rust
 /// use ixdtf_print::PrintError;
@@ -17,14 +19,15 @@ use core::fmt;
 /// ```
 #[derive(Clone, Copy, Debug, PartialEq)]
 pub enum PrintError {
-    /// No text stands for the record: it has no date, an offset without a time, or a part that no text gives.
+    /// The record has no canonical text: it has no date, or an offset without a time, or a part that no text has.
     NotPrintable,
-    /// The text of the record is longer than the slice. [`printed_length`](crate::printed_length) returns how long it is; of
-    /// a record that `parse` returned it has at most 14 bytes more than the text that was read.
+    /// The canonical text of the record is longer than the slice. [`printed_length`](crate::printed_length) returns its
+    /// length. If `parse` returned the record, the canonical text has at most 14 bytes more than the text that was
+    /// parsed.
     TooShort,
 }
 
-// Display heeds no width and no fill.
+// `Display` ignores width and fill.
 impl fmt::Display for PrintError {
     fn fmt(&self, f: &mut fmt::Formatter<'_>) -> fmt::Result {
         f.write_str(message_of(*self))
@@ -33,7 +36,7 @@ impl fmt::Display for PrintError {
 
 impl Error for PrintError {}
 
-/// The text of the error.
+/// Returns the message of the error.
 fn message_of(error: PrintError) -> &'static str {
     match error {
         PrintError::NotPrintable => "No text stands for the record.",

@@ -1,6 +1,6 @@
 // Made by tools/to_rust.py of crates/ixdtf_print/src/fields.rt. Do not edit.
 
-//! The fields of a record put into a slice.
+//! Functions that write the fields of a record into a slice.
 
 use crate::digits::{ones_digit, put_digits, put_four, put_fraction, tens_digit};
 use crate::put::{put, put_byte, put_each};
@@ -10,12 +10,12 @@ use ixdtf::records::{
     TimeZoneAnnotation, TimeZoneRecord, UtcOffsetRecord, UtcOffsetRecordOrZ,
 };
 
-/// How far the year is from year 0.
+/// Returns the absolute value of the year.
 fn distance_of(date: DateRecord) -> u64 {
     u64::from(date.year.unsigned_abs())
 }
 
-/// Puts the year at the place, and returns the place behind it.
+/// Writes the year at index `at`. Returns the index after it.
 fn put_year(out: &mut [u8], at: usize, date: DateRecord) -> usize {
     let distance = distance_of(date);
     if date.year < 0 {
@@ -29,13 +29,13 @@ fn put_year(out: &mut [u8], at: usize, date: DateRecord) -> usize {
     put_digits(out, digits, 6, distance)
 }
 
-/// Puts the date at the place, and returns the place behind it.
+/// Writes the date at index `at`. Returns the index after it.
 fn put_date(out: &mut [u8], at: usize, date: DateRecord) -> usize {
     let after_year = put_year(out, at, date);
     put_days(out, after_year, date.month, date.day)
 }
 
-/// Puts a month and a day at the place, each behind its mark, and returns the place behind them.
+/// Writes a month and a day at index `at`, each after a `-`. Returns the index after them.
 fn put_days(out: &mut [u8], at: usize, month: u8, day: u8) -> usize {
     put(
         out,
@@ -51,7 +51,7 @@ fn put_days(out: &mut [u8], at: usize, month: u8, day: u8) -> usize {
     )
 }
 
-/// Puts the date at the place, where there is one, and returns the place behind it.
+/// Writes the date at index `at`, if there is one. Returns the index after it.
 fn put_optional_date(out: &mut [u8], at: usize, date: Option<DateRecord>) -> usize {
     match date {
         None => at,
@@ -59,7 +59,7 @@ fn put_optional_date(out: &mut [u8], at: usize, date: Option<DateRecord>) -> usi
     }
 }
 
-/// Puts a mark, an hour and a minute at the place, and returns the place behind them.
+/// Writes a separator, an hour and a minute at index `at`. Returns the index after them.
 fn put_minutes(out: &mut [u8], at: usize, mark: u8, hour: u8, minute: u8) -> usize {
     put(
         out,
@@ -75,7 +75,7 @@ fn put_minutes(out: &mut [u8], at: usize, mark: u8, hour: u8, minute: u8) -> usi
     )
 }
 
-/// Puts a mark, an hour, a minute and a second at the place, and returns the place behind them.
+/// Writes a separator, an hour, a minute and a second at index `at`. Returns the index after them.
 fn put_seconds(out: &mut [u8], at: usize, mark: u8, hour: u8, minute: u8, second: u8) -> usize {
     put(
         out,
@@ -94,7 +94,7 @@ fn put_seconds(out: &mut [u8], at: usize, mark: u8, hour: u8, minute: u8, second
     )
 }
 
-/// Puts a mark and a clock at the place, and returns the place behind them.
+/// Writes a separator and a clock at index `at`. Returns the index after them.
 fn put_clock(
     out: &mut [u8],
     at: usize,
@@ -108,7 +108,7 @@ fn put_clock(
     put_fraction(out, point, fraction)
 }
 
-/// Puts the time at the place, where there is one, and returns the place behind it.
+/// Writes the time at index `at`, if there is one. Returns the index after it.
 fn put_time(out: &mut [u8], at: usize, time: Option<TimeRecord>) -> usize {
     match time {
         None => at,
@@ -124,7 +124,7 @@ fn put_time(out: &mut [u8], at: usize, time: Option<TimeRecord>) -> usize {
     }
 }
 
-/// The byte of a sign.
+/// Returns the byte of a sign.
 fn mark_of(sign: Sign) -> u8 {
     match sign {
         Sign::Positive => b'+',
@@ -132,12 +132,12 @@ fn mark_of(sign: Sign) -> u8 {
     }
 }
 
-/// Puts an offset of hours and minutes at the place, and returns the place behind it.
+/// Writes an offset with hours and minutes at index `at`. Returns the index after it.
 pub fn put_minute_offset(out: &mut [u8], at: usize, offset: MinutePrecisionOffset) -> usize {
     put_minutes(out, at, mark_of(offset.sign), offset.hour, offset.minute)
 }
 
-/// Puts the offset at the place, where there is one, and returns the place behind it.
+/// Writes the offset at index `at`, if there is one. Returns the index after it.
 fn put_offset(out: &mut [u8], at: usize, offset: Option<UtcOffsetRecordOrZ>) -> usize {
     match offset {
         None => at,
@@ -162,7 +162,7 @@ fn put_offset(out: &mut [u8], at: usize, offset: Option<UtcOffsetRecordOrZ>) -> 
     }
 }
 
-/// What stands before a zone.
+/// Returns what comes before a zone: `[` or `[!`.
 pub fn opening_of(critical: bool) -> &'static [u8] {
     if critical {
         b"[!".as_slice()
@@ -171,7 +171,7 @@ pub fn opening_of(critical: bool) -> &'static [u8] {
     }
 }
 
-/// Puts what stands before a zone at the place, and returns the place behind it: one byte or two, at once.
+/// Writes what comes before a zone at index `at`: one or two bytes, in one step. Returns the index after it.
 fn put_opening(out: &mut [u8], at: usize, critical: bool) -> usize {
     if critical {
         return put(out, at, b"[!");
@@ -179,7 +179,7 @@ fn put_opening(out: &mut [u8], at: usize, critical: bool) -> usize {
     put(out, at, b"[")
 }
 
-/// Puts the zone at the place, and returns the place behind it.
+/// Writes the zone at index `at`. Returns the index after it.
 fn put_zone(out: &mut [u8], at: usize, zone: &TimeZoneRecord<'_, Utf8>) -> usize {
     match zone {
         TimeZoneRecord::Name(name) => put_each(out, at, name),
@@ -188,7 +188,7 @@ fn put_zone(out: &mut [u8], at: usize, zone: &TimeZoneRecord<'_, Utf8>) -> usize
     }
 }
 
-/// Puts the zone in its bracket at the place, where there is one, and returns the place behind it.
+/// Writes the zone in its bracket at index `at`, if there is one. Returns the index after it.
 fn put_bracket(out: &mut [u8], at: usize, note: &Option<TimeZoneAnnotation<'_, Utf8>>) -> usize {
     match note {
         None => at,
@@ -200,7 +200,7 @@ fn put_bracket(out: &mut [u8], at: usize, note: &Option<TimeZoneAnnotation<'_, U
     }
 }
 
-/// Puts the calendar in its bracket at the place, where there is one, and returns the place behind it.
+/// Writes the calendar in its bracket at index `at`, if there is one. Returns the index after it.
 fn put_calendar(out: &mut [u8], at: usize, calendar: Option<&[u8]>) -> usize {
     match calendar {
         None => at,
@@ -212,14 +212,14 @@ fn put_calendar(out: &mut [u8], at: usize, calendar: Option<&[u8]>) -> usize {
     }
 }
 
-/// Puts the date, the time and the offset at the place, and returns the place behind them.
+/// Writes the date, the time and the offset at index `at`. Returns the index after them.
 pub fn put_core(out: &mut [u8], at: usize, parsed: &IxdtfParseRecord<'_, Utf8>) -> usize {
     let after_date = put_optional_date(out, at, parsed.date);
     let after_time = put_time(out, after_date, parsed.time);
     put_offset(out, after_time, parsed.offset)
 }
 
-/// Puts the record at the front, and returns the place behind it.
+/// Writes the record at the beginning of the slice. Returns the index after it.
 pub fn put_record(out: &mut [u8], parsed: &IxdtfParseRecord<'_, Utf8>) -> usize {
     let after_core = put_core(out, 0, parsed);
     let after_bracket = put_bracket(out, after_core, &parsed.tz);

@@ -1,6 +1,6 @@
 // Made by tools/to_rust.py of crates/ixdtf_print/src/length.rt. Do not edit.
 
-//! How long the text of a record is.
+//! The length of the canonical text of a record.
 
 use crate::check::is_printable;
 use ixdtf::encoding::Utf8;
@@ -9,8 +9,8 @@ use ixdtf::records::{
     UtcOffsetRecord, UtcOffsetRecordOrZ,
 };
 
-/// At least as many bytes as a canonical text has besides the name of its zone and its calendar: 543 of the date, the time and the
-/// offset, 9 of the bracket of a zone, and 7 of that of a calendar.
+/// An upper bound of the bytes of a canonical text, without the name of its zone and without its calendar. The date,
+/// the time and the offset have at most 543 bytes, the bracket of a zone 9, and the bracket of a calendar 7.
 const MOST_BESIDES_NAMES: usize = 560;
 
 /// How many bytes the fraction has, with its point.
@@ -21,7 +21,7 @@ fn fraction_length(fraction: Option<Fraction>) -> u16 {
     }
 }
 
-/// How many bytes the date has.
+/// Returns the number of bytes of the date.
 fn date_length(date: Option<DateRecord>) -> u16 {
     match date {
         None => 0,
@@ -35,7 +35,7 @@ fn date_length(date: Option<DateRecord>) -> u16 {
     }
 }
 
-/// How many bytes the time has, with its `T`.
+/// Returns the number of bytes of the time, with its `T`.
 fn time_length(time: Option<TimeRecord>) -> u16 {
     match time {
         None => 0,
@@ -43,7 +43,7 @@ fn time_length(time: Option<TimeRecord>) -> u16 {
     }
 }
 
-/// How many bytes the offset has.
+/// Returns the number of bytes of the offset.
 fn offset_length(offset: Option<UtcOffsetRecordOrZ>) -> u16 {
     match offset {
         None => 0,
@@ -56,7 +56,7 @@ fn offset_length(offset: Option<UtcOffsetRecordOrZ>) -> u16 {
     }
 }
 
-/// How many bytes the zone has, without its bracket.
+/// Returns the number of bytes of the zone, without its bracket.
 fn zone_length(zone: &TimeZoneRecord<'_, Utf8>) -> u128 {
     match zone {
         TimeZoneRecord::Name(name) => name.len() as u128,
@@ -65,7 +65,7 @@ fn zone_length(zone: &TimeZoneRecord<'_, Utf8>) -> u128 {
     }
 }
 
-/// How many bytes the bracket of the zone has.
+/// Returns the number of bytes of the bracket with the zone.
 fn bracket_length(note: &Option<TimeZoneAnnotation<'_, Utf8>>) -> u128 {
     match note {
         None => 0,
@@ -79,7 +79,7 @@ fn bracket_length(note: &Option<TimeZoneAnnotation<'_, Utf8>>) -> u128 {
     }
 }
 
-/// How many bytes the bracket of the calendar has.
+/// Returns the number of bytes of the bracket with the calendar.
 fn calendar_length(calendar: Option<&[u8]>) -> u128 {
     match calendar {
         None => 0,
@@ -87,21 +87,23 @@ fn calendar_length(calendar: Option<&[u8]>) -> u128 {
     }
 }
 
-/// How many bytes the date, the time and the offset have.
+/// Returns the number of bytes of the date, the time and the offset.
 #[must_use]
 pub fn core_length(parsed: &IxdtfParseRecord<'_, Utf8>) -> u16 {
     date_length(parsed.date) + time_length(parsed.time) + offset_length(parsed.offset)
 }
 
-/// How many bytes the canonical text of the record has.
+/// Returns the number of bytes of the canonical text of the record.
 #[must_use]
 pub fn length_of(parsed: &IxdtfParseRecord<'_, Utf8>) -> u128 {
     u128::from(core_length(parsed)) + bracket_length(&parsed.tz) + calendar_length(parsed.calendar)
 }
 
-/// Whether so many bytes are plenty for the canonical text of a record that has one, as they are where they are at least
-/// `MOST_BESIDES_NAMES`, and the zone and the calendar take at most half of the others each. It is true only where the text fits,
-/// and saves a count of each part.
+/// Tests quickly whether the canonical text of a record that has one fits into `room` bytes.
+///
+/// `true` means that it fits. `false` means that the length must be counted: the text may fit or not. The result is
+/// `true` if `room` is at least `MOST_BESIDES_NAMES`, and the zone and the calendar each have at most half of the other
+/// bytes.
 #[inline(always)]
 #[must_use]
 pub fn has_plenty(parsed: &IxdtfParseRecord<'_, Utf8>, room: usize) -> bool {
@@ -112,7 +114,7 @@ pub fn has_plenty(parsed: &IxdtfParseRecord<'_, Utf8>, room: usize) -> bool {
     is_short_bracket(&parsed.tz, half) && is_short_calendar(parsed.calendar, half)
 }
 
-/// Whether a bracket of a zone takes at most nine bytes besides so many.
+/// Returns whether the bracket of a zone has at most `most` bytes and nine more.
 #[inline(always)]
 fn is_short_bracket(note: &Option<TimeZoneAnnotation<'_, Utf8>>, most: usize) -> bool {
     match note {
@@ -121,7 +123,7 @@ fn is_short_bracket(note: &Option<TimeZoneAnnotation<'_, Utf8>>, most: usize) ->
     }
 }
 
-/// Whether a zone takes at most six bytes besides so many.
+/// Returns whether a zone has at most `most` bytes and six more.
 #[inline(always)]
 fn is_short_zone(zone: &TimeZoneRecord<'_, Utf8>, most: usize) -> bool {
     match zone {
@@ -131,7 +133,7 @@ fn is_short_zone(zone: &TimeZoneRecord<'_, Utf8>, most: usize) -> bool {
     }
 }
 
-/// Whether a bracket of a calendar takes at most seven bytes besides so many.
+/// Returns whether the bracket of a calendar has at most `most` bytes and seven more.
 #[inline(always)]
 fn is_short_calendar(calendar: Option<&[u8]>, most: usize) -> bool {
     match calendar {
@@ -140,8 +142,12 @@ fn is_short_calendar(calendar: Option<&[u8]>, most: usize) -> bool {
     }
 }
 
-/// How many bytes the canonical text of the record has: a slice of so many is long enough for [`print`](crate::print). It is
-/// `None` where no text stands for the record, and where its text is longer than any slice.
+/// Returns the number of bytes of the canonical text of the record.
+///
+/// A slice of this length is long enough for [`print`](crate::print). Returns `None` if the record has no canonical
+/// text, or if its text is longer than any slice.
+///
+/// # Examples
 ///
 /// ```rust
 /// use ixdtf::parsers::IxdtfParser;

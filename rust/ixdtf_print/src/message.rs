@@ -1,11 +1,12 @@
 // Made by tools/to_rust.py of crates/ixdtf_print/src/message.rt. Do not edit.
 
-//! What is written of an error of a reader.
+//! The message of an error of a reader.
 
 use ixdtf::ParseError;
 
-/// The two parts of what Display writes of an error: its own text, and of an `AbruptEnd` its location. So a program puts them
-/// where it makes a line, without going through Display.
+/// Returns the two parts of what `Display` writes for an error: the message, and the location of an `AbruptEnd`.
+///
+/// With them, a program can write the error into a line without `Display`.
 // For crates of this repository, and no part of the interface.
 #[doc(hidden)]
 #[inline(always)]

@@ -6,29 +6,30 @@ use crate::print_with_room;
 use ixdtf::encoding::Utf8;
 use ixdtf::records::IxdtfParseRecord;
 
-/// A canonical text with a newline behind it, in an array of so many bytes. A program keeps one for all its lines: to clear an
-/// array for each would take longer than to fill it.
+/// A canonical text and a newline after it, in an array of `SIZE` bytes.
+///
+/// A program uses one such array for all its lines. To clear an array for each line would take longer than to fill it.
 pub struct PrintedText<const SIZE: usize> {
     bytes: [u8; SIZE],
     count: usize,
 }
 
 impl<const SIZE: usize> PrintedText<SIZE> {
-    /// No byte, and a newline.
+    /// Creates an empty text with a newline.
     pub fn empty() -> PrintedText<SIZE> {
         let mut bytes = [0; SIZE];
         bytes[0] = b'\n';
         PrintedText { bytes, count: 0 }
     }
 
-    /// Prints the record, in the place of what was printed before.
+    /// Prints the record. It replaces what was printed before.
     pub fn print(&mut self, parts: &IxdtfParseRecord<'_, Utf8>) {
         let count = print_with_room(parts, &mut self.bytes);
         self.bytes[count] = b'\n';
         self.count = count;
     }
 
-    /// The bytes, and a newline.
+    /// Returns the bytes of the text, and the newline.
     pub fn as_line(&self) -> &[u8] {
         &self.bytes[..self.count + 1]
     }

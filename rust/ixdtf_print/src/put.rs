@@ -1,21 +1,22 @@
 // Made by tools/to_rust.py of crates/ixdtf_print/src/put.rt. Do not edit.
 
-//! Bytes put into a slice.
+//! Functions that write bytes into a slice.
 
-/// Puts a few bytes at the place, and returns the place behind them.
+/// Writes a few bytes at index `at`. Returns the index after them.
 pub fn put(out: &mut [u8], at: usize, bytes: &[u8]) -> usize {
     let end = at + bytes.len();
-    // It always is: with this test a compiler sees it too, and keeps no panic.
+    // The range is always in the slice, as the proof shows. The compiler does not know the proof: because of this test,
+    // it compiles no code for a panic.
     if at <= end && end <= out.len() {
         out[at..end].copy_from_slice(bytes);
     }
     end
 }
 
-/// Puts any number of bytes at the place, and returns the place behind them.
+/// Writes any number of bytes at index `at`. Returns the index after them.
 ///
-/// A call puts sixteen of them: of a loop that copies, a compiler would make a call of `memcpy`, and the library for C calls
-/// nothing. What is left has no loop.
+/// Each call of `put_sixteen` writes sixteen bytes. The compiler would turn a loop that copies into a call of `memcpy`,
+/// and the library for C must not call other functions. The bytes that are left are written without a loop.
 #[inline(never)]
 pub fn put_each(out: &mut [u8], at: usize, bytes: &[u8]) -> usize {
     let mut place = at;
@@ -31,13 +32,13 @@ pub fn put_each(out: &mut [u8], at: usize, bytes: &[u8]) -> usize {
     place
 }
 
-/// Puts sixteen bytes. It is a call of its own for [`put_each`].
+/// Writes sixteen bytes. It is not inlined, because of what [`put_each`] says.
 #[inline(never)]
 fn put_sixteen(out: &mut [u8], at: usize, bytes: &[u8; 16]) -> usize {
     put(out, at, bytes)
 }
 
-/// Puts the first bytes, where there are so many, and returns the place behind them and the other bytes.
+/// Writes the first `COUNT` bytes, if there are so many. Returns the index after them, and the other bytes.
 #[inline(always)]
 fn put_first<'a, const COUNT: usize>(
     out: &mut [u8],
@@ -50,15 +51,16 @@ fn put_first<'a, const COUNT: usize>(
     }
 }
 
-/// Puts the byte at the place, and returns the place behind it.
+/// Writes the byte at index `at`. Returns the index after it.
 pub fn put_byte(out: &mut [u8], at: usize, byte: u8) -> usize {
     set_byte(out, at, byte);
     at + 1
 }
 
-/// Sets the byte at the place.
+/// Writes the byte at index `at`.
 pub fn set_byte(out: &mut [u8], at: usize, byte: u8) {
-    // It always is: with this test a compiler sees it too, and keeps no panic.
+    // The index is always in the slice, as the proof shows. The compiler does not know the proof: because of this test,
+    // it compiles no code for a panic.
     if at < out.len() {
         out[at] = byte;
     }
