@@ -66,7 +66,8 @@ FOR_C = ('#![cfg_attr(not(test), no_std)]\n', '\n#[cfg(not(test))]\nmod abort;\n
 
 # the layers of the library, and where their modules go in the crate that is made from all of them
 LAYERS = {
-    'ixdtf_grammar': 'encoding error located packed pointed records parsers/profile'.split(),
+    'ixdtf_instants': 'days instant'.split(),
+    'ixdtf_grammar': 'encoding error instants located packed pointed records parsers/profile'.split(),
     'ixdtf_reading': 'cursor classes stop parsers/annotations parsers/letters'.split(),
     'ixdtf_times': 'parsers/date_times parsers/dates parsers/months parsers/offsets parsers/time'.split(),
     'ixdtf_brackets': 'parsers/brackets parsers/zone'.split(),
@@ -121,7 +122,7 @@ WRITTEN_BY_HAND = {'rust/ixdtf/src/runtime.rs', 'rust/ixdtf/src/tests/printing.r
                    'rust/ixdtf_c/src/abort.rs', 'rust/ixdtf_c/src/slices.rs', 'rust/ixdtf_buffers/src/place.rs'}
 # files that are copied, because a package cannot have a file from outside of its folder
 COPIES = {'rust/ixdtf/tests/places.tsv': 'tools/places.tsv'}
-DERIVES = {'Clone', 'Copy', 'Debug', 'Default', 'PartialEq'}
+DERIVES = {'Clone', 'Copy', 'Debug', 'Default', 'Eq', 'Hash', 'Ord', 'PartialEq', 'PartialOrd'}
 KEPT_ATTRIBUTES = {'inline(always)', 'inline(never)', 'cold', 'doc(hidden)'}
 TEST_ATTRIBUTES = {'test', 'cfg(test)'}
 # for a crate with functions for C: the attributes of its structs and functions, and the head of such a function
@@ -137,7 +138,7 @@ ADDED = {
 }
 OPEN = {name for (_, name), attribute in ADDED.items() if attribute == '#[non_exhaustive]'}
 INLINED = {'parsers', 'parsers/handled', 'parsers/unhandled', 'parsers/time_zone_parser', 'parsers/duration'}
-MARKED = INLINED | {'error', 'located', 'records', 'canonical', 'length'}
+MARKED = INLINED | {'error', 'instants', 'located', 'records', 'canonical', 'length'}
 # names in the module above to which doc comments of a module link
 FARTHER = {'parsers/unhandled': ('Profile', 'TimeZoneParser')}
 RESULTS = {'Result', 'ParserResult'}
@@ -167,7 +168,7 @@ STD_PATHS = {'std::str::from_utf8', 'std::fmt', 'std::error::Error', 'std::marke
 STD_METHODS = set('get len split_at is_ascii_digit is_ascii_alphabetic is_ascii_lowercase write_str as_bytes then_some pow is_ok'
                   ' is_none to_le_bytes saturating_add saturating_sub min map copied checked_mul checked_add unsigned_abs'
                   ' is_ascii_alphanumeric as_slice iter position is_empty copy_from_slice read write flush digit_count leading_value'
-                  ' chars len_utf8 is_control encode_utf8 last is_some unwrap_or starts_with parse checked_sub ok max copy_within is_ascii'.split())
+                  ' chars len_utf8 is_control encode_utf8 last is_some unwrap_or starts_with parse checked_sub ok max as_ref'.split())
 # methods of the iterators over the characters of a text, and the heads of the types that they return
 ON_CHARACTERS = {('Chars', 'take'): 'Chars', ('Chars', 'skip'): 'Chars', ('Chars', 'count'): 'usize'}
 CALLED_ON_CHARACTERS = {method for _, method in ON_CHARACTERS}
@@ -175,7 +176,7 @@ OWN_PATHS = {'self', 'crate', 'Self', 'T', 'C', 'E', 'L'}
 HIDDEN = '# [ doc ( hidden ) ] pub fn'.split()
 # hidden functions that crates above the library call too
 CALLED_FROM_ABOVE = {'of_parts'}
-STD_CALLS = {'u8::from', 'u64::from', 'u64::from_le_bytes', 'u32::from', 'u16::from', 'usize::from', 'u128::from', 'i32::from', 'char::from', 'u32::try_from', 'usize::try_from', 'fmt::Debug::fmt', 'str::from_utf8'}
+STD_CALLS = {'u64::from', 'u64::from_le_bytes', 'u32::from', 'u16::from', 'usize::from', 'u128::from', 'i32::from', 'i64::from', 'char::from', 'u32::try_from', 'usize::try_from', 'fmt::Debug::fmt', 'str::from_utf8'}
 # the names of the methods of `core`, from its documentation for Rust 1.95 (`id="method.NAME"` and `id="tymethod.NAME"`)
 with open(os.path.join(os.path.dirname(os.path.abspath(__file__)), 'core_methods.txt'), encoding='ascii') as names:
     CORE_METHODS = set(names.read().split())
@@ -486,7 +487,7 @@ def of_layers(module, plain, roots):
 
 def of_root(name, roots):
     """The item with this name in the root of a layer."""
-    found = [m[0] for text in roots for m in re.finditer(rf'pub use [a-z_]+::{name};\n|\n(?:///[^\n]*\n)*pub type {name}[^\n]*\n', text)]
+    found = [m[0] for text in roots for m in re.finditer(rf'pub use (?!ixdtf_)[a-z_]+::{name};\n|\n(?:///[^\n]*\n)*pub type {name}[^\n]*\n', text)]
     if len(found) != 1:
         raise Refused(f'expected one item {name} in the layers, found {len(found)}')
     return found[0]

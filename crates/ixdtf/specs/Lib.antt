@@ -3,6 +3,8 @@ pub use Rattle.ixdtf_grammar.specs.table
 pub use Rattle.ixdtf_grammar.specs.Handlers
 pub use Rattle.ixdtf_grammar.specs.Views
 pub use Rattle.ixdtf_grammar.specs.Laws
+pub use Rattle.ixdtf_grammar.specs.Instants
+pub use Rattle.ixdtf_grammar.specs.InstantLaws
 pub use Rattle.ixdtf_grammar.specs.Places
 pub use Rattle.ixdtf_grammar.specs.Promises
 pub use Rattle.ixdtf_grammar.specs.LocatedTexts

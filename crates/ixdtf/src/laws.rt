@@ -4,6 +4,8 @@
 //! knows what the function ensures. A law without parameters does nothing when it runs. [`parse_unanswered`] parses its
 //! input. Its contract is that of [`IxdtfParser::parse_with_annotation_handler`], and also states the law.
 
+pub mod instants;
+
 ghost use Rattle.std.specs.Prelude.{◌≡◌, ◌≢◌, map, IfOk, IfErr, IfSome, None, pos};
 ghost use Rattle.ixdtf_grammar.specs.table.Faults.{fault_of};
 ghost use Rattle.ixdtf_grammar.specs.table.Faults.Fault.{CriticalDuplicateCalendar, UnrecognizedCritical};

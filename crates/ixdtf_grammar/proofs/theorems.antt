@@ -3,4 +3,5 @@ pub mod CoreEnds
 pub mod CoreSizes
 pub mod Disjoint
 pub mod FewPairs
+pub mod Instants
 pub mod NoRow

@@ -1,4 +1,6 @@
 pub mod Handlers
+pub mod InstantLaws
+pub mod Instants
 pub mod Laws
 pub mod LocatedEquality
 pub mod LocatedTexts

@@ -14,6 +14,7 @@
 
 pub mod encoding;
 mod error;
+mod instants;
 mod located;
 pub mod packed;
 mod pointed;
@@ -21,6 +22,7 @@ pub mod profile;
 pub mod records;
 
 pub use error::ParseError;
+pub use ixdtf_instants::Instant;
 pub use located::LocatedError;
 pub use pointed::PointedText;
 

@@ -7,6 +7,7 @@ mod encodings;
 mod errors;
 mod handlers;
 mod in_turn;
+mod instants;
 mod languages;
 mod large;
 mod laws;

@@ -9,8 +9,11 @@ extern crate self as ixdtf;
 
 mod classes;
 mod cursor;
+mod days;
 pub mod encoding;
 mod error;
+mod instant;
+mod instants;
 mod located;
 mod packed;
 pub mod parsers;
@@ -19,6 +22,7 @@ pub mod records;
 mod stop;
 
 pub use error::ParseError;
+pub use instant::Instant;
 pub use located::LocatedError;
 pub use pointed::PointedText;
 

@@ -1,7 +1,8 @@
 -- Dates: which texts stand for which dates (RFC 3339 section 5.6, ISO 8601; signed years by the Temporal grammar).
-use Rattle.std.specs.Prelude.{Bool, ◌≡◌, ◌≢◌, ℕ, ◌%◌, ◌≤◌, IsTrue, ◌⊎◌, ◌∷◌, ◌++◌, ℤ, pos, neg_ℤ, nat_abs, nat_eq, ◌&&◌, ◌||◌, not, if◌then◌else◌}
+use Rattle.std.specs.Prelude.{◌≡◌, ◌≢◌, ℕ, ◌≤◌, IsTrue, ◌⊎◌, ◌∷◌, ◌++◌, ℤ, pos, neg_ℤ, if◌then◌else◌}
 use Rattle.ixdtf_grammar.specs.{declared.records.DateRecord.DateRecord, language.{Letters.{Text, sign, hyphen, Letter.Plain}, Shapes.digits}}
 use Rattle.ixdtf_grammar.specs.language.Digits.{decimal, TwoDigits}
+pub use Rattle.ixdtf_instants.specs.Calendar.{is_leap, month_length}
 
 -- a number with its sign
 abbrev pub signed : ℕ → ℕ → ℤ
@@ -27,16 +28,6 @@ Year text year = FourDigitYear text year ⊎ ExtendedYear text year
 -- 01 to 12
 abbrev pub Month : Text → ℕ → Type 0
 Month text month = TwoDigits text month × (1 ≤ month) × (month ≤ 12)
-
--- divisible by 4 and not by 100, or by 400
-abbrev pub is_leap : ℤ → Bool
-is_leap year = (nat_eq (nat_abs year % 4) 0 && not (nat_eq (nat_abs year % 100) 0)) || nat_eq (nat_abs year % 400) 0
-
--- the Gregorian length of a month, also in year 0 and in negative years
-abbrev pub month_length : ℤ → ℕ → ℕ
-month_length year month =
-    if nat_eq month 2 then (if is_leap year then 29 else 28)
-    else (if nat_eq month 4 || nat_eq month 6 || nat_eq month 9 || nat_eq month 11 then 30 else 31)
 
 -- year, month and day in a row; the day is any two digits
 pub record BasicDate (text : Text) (date : DateRecord) : Type 0 where

@@ -11,6 +11,9 @@ ghost use Rattle.ixdtf.specs.Views.{returned, parsed_of};
 
 use super::{Record, check, dated, fraction_of};
 use ixdtf::encoding::{EncodingType, Utf8, Utf16};
+use ixdtf::laws::instants::{
+    instants_are_in_order, next_day_is_a_day_later, offsets_make_up, second_60_is_59,
+};
 use ixdtf::laws::{
     clones_are_equal, defaults_are_zero, equality_is_of_what_is_seen, every_name_is_an_identifier,
     every_rfc3339_date_time_is_read, exact_nanoseconds_are_the_truncated_ones, hyphens_say_nothing,
@@ -347,4 +350,12 @@ fn leaves_no_calendar_unanswered(rt: HostRuntime) {
     check(&rt, "pairs", is_read);
     let is_refused = unanswered("2020-01-01[!c=d]junk") == Err(ParseError::InvalidEnd);
     check(&rt, "an end", is_refused);
+}
+
+#[test]
+fn instants_have_laws() {
+    next_day_is_a_day_later();
+    instants_are_in_order();
+    offsets_make_up();
+    second_60_is_59();
 }

@@ -1,0 +1,91 @@
+-- What holds of the instants of dates, times and offsets.
+use Rattle.std.specs.Prelude.{◌≡◌, ◌↔◌, ◌⊎◌, ℕ, ◌+◌, ◌*◌, ◌<◌, ◌≤◌, ◌^◌, min, ℤ, pos, ◌+ℤ◌, ◌-ℤ◌, ◌<ℤ◌}
+use Rattle.ixdtf_instants.specs.{declared.instant.Instant.{Instant}, Calendar.{IsCivilDate, month_length, day_number_of}, Counts.count_of}
+use Rattle.ixdtf_grammar.specs.declared.records.{DateRecord.DateRecord, TimeRecord.TimeRecord, UtcOffsetRecordOrZ.UtcOffsetRecordOrZ}
+use Rattle.ixdtf_grammar.specs.Instants.{fraction_nanoseconds, clock_count, offset_count, instant_count}
+
+-- the calendar has the date
+abbrev pub HasDay : DateRecord → Type 0
+HasDay date = IsCivilDate date.year date.month date.day
+
+-- a clock shows the time; second 60 too
+abbrev pub IsShown : TimeRecord → Type 0
+IsShown time = (time.hour ≤ 23) × (time.minute ≤ 59) × (time.second ≤ 60)
+
+-- ---- the next day
+
+-- the next day of the month
+abbrev pub IsNextInMonth : DateRecord → DateRecord → Type 0
+IsNextInMonth date next =
+    (date.day < month_length date.year date.month)
+    × (next.year ≡ date.year) × (next.month ≡ date.month) × (next.day ≡ date.day + 1)
+
+-- the first day of the next month, after the last one of a month
+abbrev pub IsNextMonth : DateRecord → DateRecord → Type 0
+IsNextMonth date next =
+    (date.day ≡ month_length date.year date.month) × (date.month < 12)
+    × (next.year ≡ date.year) × (next.month ≡ date.month + 1) × (next.day ≡ 1)
+
+-- 1 January, after 31 December
+abbrev pub IsNextYear : DateRecord → DateRecord → Type 0
+IsNextYear date next =
+    (date.day ≡ 31) × (date.month ≡ 12)
+    × (next.year ≡ date.year +ℤ pos 1) × (next.month ≡ 1) × (next.day ≡ 1)
+
+-- `next` is the day after `date`
+abbrev pub IsNextDay : DateRecord → DateRecord → Type 0
+IsNextDay date next = IsNextInMonth date next ⊎ (IsNextMonth date next ⊎ IsNextYear date next)
+
+-- the next day at the same time and offset is 86,400 seconds later
+abbrev pub NextDayIsADayLater : Type 0
+NextDayIsADayLater = (date next : DateRecord) (time : TimeRecord) (offset : UtcOffsetRecordOrZ) → HasDay date → IsNextDay date next
+    → instant_count next time offset ≡ instant_count date time offset +ℤ pos (86_400 * 10 ^ 9)
+
+-- 1970-01-01T00:00:00Z has the count 0
+abbrev pub CountsBeginIn1970 : Type 0
+CountsBeginIn1970 = day_number_of (pos 1970) 1 1 ≡ pos 0
+
+-- ---- order
+
+-- by hour, minute, second and fraction, where second 60 counts as 59
+abbrev pub IsEarlierTime : TimeRecord → TimeRecord → Type 0
+IsEarlierTime time later =
+    (time.hour < later.hour) ⊎ ((time.hour ≡ later.hour)
+    × ((time.minute < later.minute) ⊎ ((time.minute ≡ later.minute)
+    × ((min time.second 59 < min later.second 59) ⊎ ((min time.second 59 ≡ min later.second 59)
+    × (fraction_nanoseconds time.fraction < fraction_nanoseconds later.fraction))))))
+
+-- by year, month and day
+abbrev pub IsEarlierDate : DateRecord → DateRecord → Type 0
+IsEarlierDate date later =
+    (date.year <ℤ later.year) ⊎ ((date.year ≡ later.year)
+    × ((date.month < later.month) ⊎ ((date.month ≡ later.month) × (date.day < later.day))))
+
+abbrev pub SameDate : DateRecord → DateRecord → Type 0
+SameDate date other = (date.year ≡ other.year) × (date.month ≡ other.month) × (date.day ≡ other.day)
+
+-- at one offset, the date and time that come first have the smaller instant
+abbrev pub InstantsAreInOrder : Type 0
+InstantsAreInOrder = (date later_date : DateRecord) (time later_time : TimeRecord) (offset : UtcOffsetRecordOrZ)
+    → HasDay date → HasDay later_date → IsShown time → IsShown later_time
+    → (IsEarlierDate date later_date ⊎ (SameDate date later_date × IsEarlierTime time later_time))
+    ↔ (instant_count date time offset <ℤ instant_count later_date later_time offset)
+
+-- instants are ordered by their counts
+abbrev pub CountsAreInOrder : Type 0
+CountsAreInOrder = (instant later : Instant) → instant.nanoseconds < 10 ^ 9 → later.nanoseconds < 10 ^ 9
+    → ((instant.seconds <ℤ later.seconds) ⊎ ((instant.seconds ≡ later.seconds) × (instant.nanoseconds < later.nanoseconds)))
+    ↔ (count_of instant <ℤ count_of later)
+
+-- ---- offsets and leap seconds
+
+-- two clocks show one instant exactly where what they show differs by as much as their offsets
+abbrev pub OffsetsMakeUp : Type 0
+OffsetsMakeUp = (date other_date : DateRecord) (time other_time : TimeRecord) (offset other_offset : UtcOffsetRecordOrZ)
+    → (clock_count other_date other_time -ℤ clock_count date time ≡ offset_count other_offset -ℤ offset_count offset)
+    ↔ (instant_count date time offset ≡ instant_count other_date other_time other_offset)
+
+-- second 60 is second 59
+abbrev pub Second60Is59 : Type 0
+Second60Is59 = (date : DateRecord) (time : TimeRecord) (offset : UtcOffsetRecordOrZ) → time.second ≡ 60
+    → instant_count date time offset ≡ instant_count date (record time { second = 59 }) offset

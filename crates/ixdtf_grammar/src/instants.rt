@@ -1,0 +1,105 @@
+//! The instants of records.
+
+ghost use Rattle.std.specs.Prelude.{◌≡◌, ◌+◌, ◌*◌, ◌<◌, ◌≤◌, ◌^◌, pos, neg_ℤ, ◌-ℤ◌, ◌≤ℤ◌, IfSome, IfNone};
+ghost use Rattle.ixdtf_instants.specs.{Calendar.IsMonth, Counts.count_of};
+ghost use Rattle.ixdtf_grammar.specs.Instants.{HasInstant, IsInstantOf, clock_count, fraction_nanoseconds, offset_count};
+ghost use Rattle.ixdtf_grammar.specs.declared.records.UtcOffsetRecordOrZ.TheVariants.{Offset};
+
+use crate::encoding::EncodingType;
+use crate::records::{
+    DateRecord, Fraction, IxdtfParseRecord, Sign, TimeRecord, UtcOffsetRecord, UtcOffsetRecordOrZ,
+};
+use ixdtf_instants::Instant;
+use ixdtf_instants::days::day_number;
+
+impl<'a, T: EncodingType> IxdtfParseRecord<'a, T> {
+    /// The instant that the record names: local time less the offset (RFC 3339, section 4.2). `Some` exactly where the record
+    /// has a date, a time and an offset or `Z`.
+    ///
+    /// - The nanoseconds are the first nine digits of the fraction. An offset with a fraction is subtracted to the nanosecond.
+    /// - Second 60 is second 59, as in `ParseISODateTime` of the Temporal proposal: `23:59:60.5` and `23:59:59.5` are one
+    ///   instant.
+    /// - No time zone is looked up. The one in brackets does not count, and neither does a calendar. Where the text has an offset
+    ///   and a zone, whether the zone has this offset then is left to the caller (RFC 9557, section 3.4), who has to
+    ///   check it where the annotation is critical.
+    /// - Of a record that no reader returns, made by hand, a day that its month does not have is counted on from the first of the
+    ///   month, and so are hours and minutes. A second above 59 is 59. With a month that is not from 1 to 12 there is no instant.
+    ///
+    /// ```rust
+    /// use ixdtf::Instant;
+    /// use ixdtf::parsers::IxdtfParser;
+    ///
+    /// let record = IxdtfParser::from_str("2024-03-02T08:48:00.25-05:00[America/New_York]").parse().unwrap();
+    /// assert_eq!(record.instant(), Some(Instant { seconds: 1_709_387_280, nanoseconds: 250_000_000 }));
+    ///
+    /// let record = IxdtfParser::from_str("2024-03-02T08:48:00[America/New_York]").parse().unwrap();
+    /// assert_eq!(record.instant(), None);
+    /// ```
+    pub fn instant(&self) -> Option<Instant>
+        ensures some { IfSome result (λ instant. IsInstantOf self.now instant) }
+        ensures none { IfNone result (¬ (HasInstant self.now)) }
+    {
+        let date = self.date.as_ref()?;
+        let time = self.time.as_ref()?;
+        let offset = self.offset.as_ref()?;
+        let clock = clock_at(date, time)?;
+        match *offset {
+            UtcOffsetRecordOrZ::Z => Some(clock),
+            UtcOffsetRecordOrZ::Offset(offset) => Some(in_utc(clock, offset)),
+        }
+    }
+}
+
+// The instant at which a clock in UTC shows the date and the time, or `None` where the calendar has no such month.
+#[inline(always)]
+fn clock_at(date: &DateRecord, time: &TimeRecord) -> Option<Instant>
+    ensures some { IfSome result (λ clock. IsMonth date.now.month) }
+    ensures none { IfNone result (¬ (IsMonth date.now.month)) }
+    ensures value { IfSome result (λ clock. count_of clock ≡ clock_count date.now time.now) }
+    ensures fits { IfSome result (λ clock. clock.nanoseconds < 10 ^ 9) }
+    ensures near { IfSome result (λ clock. (neg_ℤ (pos (10 ^ 17)) ≤ℤ clock.seconds) × (clock.seconds ≤ℤ pos (10 ^ 17))) }
+{
+    let days = day_number(date.year, date.month, date.day)?;
+    let seconds = seconds_in(time.hour, time.minute, time.second.min(59));
+    Some(Instant {
+        seconds: days * 86_400 + i64::from(seconds),
+        nanoseconds: nanoseconds_in(time.fraction),
+    })
+}
+
+// The instant at which a clock at this offset shows what a clock in UTC shows at the given one.
+#[inline(never)]
+fn in_utc(clock: Instant, offset: UtcOffsetRecord) -> Instant
+    requires small { clock.nanoseconds < 10 ^ 9 }
+    requires near { (neg_ℤ (pos (10 ^ 17)) ≤ℤ clock.seconds) × (clock.seconds ≤ℤ pos (10 ^ 17)) }
+    ensures value { count_of result ≡ count_of clock -ℤ offset_count (Offset offset) }
+    ensures fits { result.nanoseconds < 10 ^ 9 }
+{
+    let seconds = seconds_in(offset.hour(), offset.minute(), offset.second().unwrap_or(0));
+    let nanoseconds = nanoseconds_in(offset.fraction());
+    match offset.sign() {
+        Sign::Positive => clock.earlier_by(seconds, nanoseconds),
+        Sign::Negative => clock.later_by(seconds, nanoseconds),
+    }
+}
+
+// The seconds of hours, minutes and seconds.
+#[inline(always)]
+fn seconds_in(hour: u8, minute: u8, second: u8) -> u32
+    ensures value { result ≡ (hour * 60 + minute) * 60 + second }
+    ensures bound { result ≤ 1_000_000 }
+{
+    (u32::from(hour) * 60 + u32::from(minute)) * 60 + u32::from(second)
+}
+
+// The first nine digits of a fraction, or 0 where there is none.
+#[inline(always)]
+fn nanoseconds_in(fraction: Option<Fraction>) -> u32
+    ensures value { result ≡ fraction_nanoseconds fraction }
+    ensures small { result < 10 ^ 9 }
+{
+    match fraction {
+        Some(fraction) => fraction.to_truncated_nanoseconds(),
+        None => 0,
+    }
+}

@@ -1,0 +1,53 @@
+//! Instants.
+
+ghost use Rattle.std.specs.Prelude.{◌≡◌, ◌+◌, ◌*◌, ◌<◌, ◌^◌, pos, neg_ℤ, ◌+ℤ◌, ◌-ℤ◌, ◌≤ℤ◌};
+ghost use Rattle.ixdtf_instants.specs.Counts.{count_of};
+
+// The nanoseconds of a second.
+const BILLION: u32 = 1_000_000_000;
+
+/// A point in time: the seconds since 1970-01-01T00:00:00Z and the nanoseconds after them. Leap seconds are not counted: each
+/// day has 86,400 seconds (POSIX.1-2017, section 4.16).
+///
+/// Of two instants the earlier one is the smaller one.
+#[derive(Clone, Copy, Debug, PartialEq, Eq, PartialOrd, Ord, Hash)]
+pub struct Instant {
+    /// The whole seconds from 1970-01-01T00:00:00Z on, rounded down: they are below zero before.
+    pub seconds: i64,
+    /// The nanoseconds after them, 0 to 999,999,999.
+    pub nanoseconds: u32,
+}
+
+impl Instant {
+    /// The instant so much later.
+    #[inline(always)]
+    #[doc(hidden)]
+    pub fn later_by(self, seconds: u32, nanoseconds: u32) -> Instant
+        requires small { (self.nanoseconds < 10 ^ 9) × (nanoseconds < 10 ^ 9) }
+        requires near { (neg_ℤ (pos (10 ^ 17)) ≤ℤ self.seconds) × (self.seconds ≤ℤ pos (10 ^ 17)) }
+        ensures value { count_of result ≡ count_of self +ℤ pos (seconds * 10 ^ 9 + nanoseconds) }
+        ensures fits { result.nanoseconds < 10 ^ 9 }
+    {
+        let sum = self.nanoseconds + nanoseconds;
+        Instant {
+            seconds: self.seconds + i64::from(seconds) + i64::from(sum / BILLION),
+            nanoseconds: sum % BILLION,
+        }
+    }
+
+    /// The instant so much earlier.
+    #[inline(always)]
+    #[doc(hidden)]
+    pub fn earlier_by(self, seconds: u32, nanoseconds: u32) -> Instant
+        requires small { (self.nanoseconds < 10 ^ 9) × (nanoseconds < 10 ^ 9) }
+        requires near { (neg_ℤ (pos (10 ^ 17)) ≤ℤ self.seconds) × (self.seconds ≤ℤ pos (10 ^ 17)) }
+        ensures value { count_of result ≡ count_of self -ℤ pos (seconds * 10 ^ 9 + nanoseconds) }
+        ensures fits { result.nanoseconds < 10 ^ 9 }
+    {
+        let sum = self.nanoseconds + BILLION - nanoseconds;
+        Instant {
+            seconds: self.seconds - i64::from(seconds) + i64::from(sum / BILLION) - 1,
+            nanoseconds: sum % BILLION,
+        }
+    }
+}

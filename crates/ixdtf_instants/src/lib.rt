@@ -1,0 +1,11 @@
+//! Instants, and the days of the calendar from 1970-01-01 on.
+//!
+//! This is below the library's other layers, and stands on the standard library alone. Its definitions count:
+//! `specs/Calendar` has the days before a date, as the lengths of the years and months before it. Callers name `ixdtf`, which
+//! re-exports [`Instant`].
+#![tactic(auto)]
+
+pub mod days;
+mod instant;
+
+pub use instant::Instant;

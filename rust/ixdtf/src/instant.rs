@@ -1,0 +1,40 @@
+// Made by tools/to_rust.py of crates/ixdtf_instants/src/instant.rt. Do not edit.
+
+//! Instants.
+
+// The nanoseconds of a second.
+const BILLION: u32 = 1_000_000_000;
+
+/// A point in time: the seconds since 1970-01-01T00:00:00Z and the nanoseconds after them. Leap seconds are not counted: each
+/// day has 86,400 seconds (POSIX.1-2017, section 4.16).
+///
+/// Of two instants the earlier one is the smaller one.
+#[derive(Clone, Copy, Debug, PartialEq, Eq, PartialOrd, Ord, Hash)]
+pub struct Instant {
+    /// The whole seconds from 1970-01-01T00:00:00Z on, rounded down: they are below zero before.
+    pub seconds: i64,
+    /// The nanoseconds after them, 0 to 999,999,999.
+    pub nanoseconds: u32,
+}
+
+impl Instant {
+    /// The instant so much later.
+    #[inline(always)]
+    pub(crate) fn later_by(self, seconds: u32, nanoseconds: u32) -> Instant {
+        let sum = self.nanoseconds + nanoseconds;
+        Instant {
+            seconds: self.seconds + i64::from(seconds) + i64::from(sum / BILLION),
+            nanoseconds: sum % BILLION,
+        }
+    }
+
+    /// The instant so much earlier.
+    #[inline(always)]
+    pub(crate) fn earlier_by(self, seconds: u32, nanoseconds: u32) -> Instant {
+        let sum = self.nanoseconds + BILLION - nanoseconds;
+        Instant {
+            seconds: self.seconds - i64::from(seconds) + i64::from(sum / BILLION) - 1,
+            nanoseconds: sum % BILLION,
+        }
+    }
+}

@@ -1,0 +1,83 @@
+// Made by tools/to_rust.py of crates/ixdtf_grammar/src/instants.rt. Do not edit.
+
+//! The instants of records.
+
+use crate::encoding::EncodingType;
+use crate::records::{
+    DateRecord, Fraction, IxdtfParseRecord, Sign, TimeRecord, UtcOffsetRecord, UtcOffsetRecordOrZ,
+};
+use crate::Instant;
+use crate::days::day_number;
+
+impl<'a, T: EncodingType> IxdtfParseRecord<'a, T> {
+    /// The instant that the record names: local time less the offset (RFC 3339, section 4.2). `Some` exactly where the record
+    /// has a date, a time and an offset or `Z`.
+    ///
+    /// - The nanoseconds are the first nine digits of the fraction. An offset with a fraction is subtracted to the nanosecond.
+    /// - Second 60 is second 59, as in `ParseISODateTime` of the Temporal proposal: `23:59:60.5` and `23:59:59.5` are one
+    ///   instant.
+    /// - No time zone is looked up. The one in brackets does not count, and neither does a calendar. Where the text has an offset
+    ///   and a zone, whether the zone has this offset then is left to the caller (RFC 9557, section 3.4), who has to
+    ///   check it where the annotation is critical.
+    /// - Of a record that no reader returns, made by hand, a day that its month does not have is counted on from the first of the
+    ///   month, and so are hours and minutes. A second above 59 is 59. With a month that is not from 1 to 12 there is no instant.
+    ///
+    /// ```rust
+    /// use ixdtf::Instant;
+    /// use ixdtf::parsers::IxdtfParser;
+    ///
+    /// let record = IxdtfParser::from_str("2024-03-02T08:48:00.25-05:00[America/New_York]").parse().unwrap();
+    /// assert_eq!(record.instant(), Some(Instant { seconds: 1_709_387_280, nanoseconds: 250_000_000 }));
+    ///
+    /// let record = IxdtfParser::from_str("2024-03-02T08:48:00[America/New_York]").parse().unwrap();
+    /// assert_eq!(record.instant(), None);
+    /// ```
+    #[must_use]
+    pub fn instant(&self) -> Option<Instant> {
+        let date = self.date.as_ref()?;
+        let time = self.time.as_ref()?;
+        let offset = self.offset.as_ref()?;
+        let clock = clock_at(date, time)?;
+        match *offset {
+            UtcOffsetRecordOrZ::Z => Some(clock),
+            UtcOffsetRecordOrZ::Offset(offset) => Some(in_utc(clock, offset)),
+        }
+    }
+}
+
+// The instant at which a clock in UTC shows the date and the time, or `None` where the calendar has no such month.
+#[inline(always)]
+fn clock_at(date: &DateRecord, time: &TimeRecord) -> Option<Instant> {
+    let days = day_number(date.year, date.month, date.day)?;
+    let seconds = seconds_in(time.hour, time.minute, time.second.min(59));
+    Some(Instant {
+        seconds: days * 86_400 + i64::from(seconds),
+        nanoseconds: nanoseconds_in(time.fraction),
+    })
+}
+
+// The instant at which a clock at this offset shows what a clock in UTC shows at the given one.
+#[inline(never)]
+fn in_utc(clock: Instant, offset: UtcOffsetRecord) -> Instant {
+    let seconds = seconds_in(offset.hour(), offset.minute(), offset.second().unwrap_or(0));
+    let nanoseconds = nanoseconds_in(offset.fraction());
+    match offset.sign() {
+        Sign::Positive => clock.earlier_by(seconds, nanoseconds),
+        Sign::Negative => clock.later_by(seconds, nanoseconds),
+    }
+}
+
+// The seconds of hours, minutes and seconds.
+#[inline(always)]
+fn seconds_in(hour: u8, minute: u8, second: u8) -> u32 {
+    (u32::from(hour) * 60 + u32::from(minute)) * 60 + u32::from(second)
+}
+
+// The first nine digits of a fraction, or 0 where there is none.
+#[inline(always)]
+fn nanoseconds_in(fraction: Option<Fraction>) -> u32 {
+    match fraction {
+        Some(fraction) => fraction.to_truncated_nanoseconds(),
+        None => 0,
+    }
+}
