@@ -32,4 +32,6 @@
 pub mod laws;
 pub mod parsers;
 
-pub use ixdtf_grammar::{Instant, LocatedError, ParseError, ParserResult, PointedText, encoding, records};
+pub use ixdtf_grammar::{
+    Instant, LocatedError, ParseError, ParserResult, PointedText, encoding, records,
+};

@@ -10,7 +10,7 @@ extern crate self as ixdtf;
 mod classes;
 mod cursor;
 mod days;
-pub mod encoding;
+mod encoding;
 mod error;
 mod instant;
 mod instants;
@@ -18,16 +18,12 @@ mod located;
 mod packed;
 pub mod parsers;
 mod pointed;
-pub mod records;
+mod records;
 mod stop;
 
-pub use error::ParseError;
-pub use instant::Instant;
-pub use located::LocatedError;
-pub use pointed::PointedText;
-
-/// The result of a reader: the value that it found, or the error.
-pub type ParserResult<T> = Result<T, ParseError>;
+pub use crate::{
+    Instant, LocatedError, ParseError, ParserResult, PointedText, encoding, records,
+};
 
 #[cfg(test)]
 #[macro_use]

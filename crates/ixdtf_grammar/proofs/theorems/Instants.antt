@@ -68,9 +68,10 @@ fits_of : (time : TimeRecord) → IsShown time → Fits time.minute (min time.se
 fits_of time shown = (shown.1, omega arith, nanoseconds_below time.fraction)
 
 time-order : (time later : TimeRecord) → IsShown time → IsShown later → IsEarlierTime time later ↔ (time_count time < time_count later)
-time-order time later shown shown₂ =
-    (total_later time.hour time.minute (min time.second 59) (fraction_nanoseconds time.fraction) later.hour later.minute (min later.second 59) (fraction_nanoseconds later.fraction) (fits_of time shown) (fits_of later shown₂),
-     later_total time.hour time.minute (min time.second 59) (fraction_nanoseconds time.fraction) later.hour later.minute (min later.second 59) (fraction_nanoseconds later.fraction) (fits_of time shown) (fits_of later shown₂))
+time-order time later shown shown₂ = (
+  total_later time.hour time.minute (min time.second 59) (fraction_nanoseconds time.fraction) later.hour later.minute (min later.second 59) (fraction_nanoseconds later.fraction) (fits_of time shown) (fits_of later shown₂),
+  later_total time.hour time.minute (min time.second 59) (fraction_nanoseconds time.fraction) later.hour later.minute (min later.second 59) (fraction_nanoseconds later.fraction) (fits_of time shown) (fits_of later shown₂),
+)
 
 -- a time is before the next midnight
 time_in_day : (time : TimeRecord) → IsShown time → time_count time < 86_400 * 10 ^ 9
@@ -146,6 +147,6 @@ pub counts_in_order : (instant later : Instant) → instant.nanoseconds < 10 ^ 9
 counts_in_order instant later fits fits₂ = (
   (λ first. elim first [ inl lt ↦ omega (arith, signed_arith) | inr both ↦ omega (arith, signed_arith, both.0, both.1) ]),
   (λ lt. by_lt_z instant.seconds later.seconds (λ below. inl below)
-    (λ ge. by_lt_z later.seconds instant.seconds (λ above. absurd (omega (arith, signed_arith)))
-    (λ le. inr (omega (arith, signed_arith), omega (arith, signed_arith))))),
+      (λ ge. by_lt_z later.seconds instant.seconds (λ above. absurd (omega (arith, signed_arith)))
+      (λ le. inr (omega (arith, signed_arith), omega (arith, signed_arith))))),
 )

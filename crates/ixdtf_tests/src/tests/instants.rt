@@ -3,7 +3,7 @@
 use super::{check, dated, parts, timed};
 use ixdtf::Instant;
 use ixdtf::parsers::IxdtfParser;
-use ixdtf::records::{UtcOffsetRecordOrZ};
+use ixdtf::records::UtcOffsetRecordOrZ;
 
 // Texts of `parse`, with the seconds and the nanoseconds of their instants.
 #[rattlefmt::skip]
@@ -105,9 +105,23 @@ fn records_that_no_reader_returns(rt: HostRuntime) {
     check(&rt, "29 February 2023", seconds_at(2023, 2, 29) == march);
     let january = seconds_at(2023, 1, 31);
     check(&rt, "day 0", seconds_at(2023, 2, 0) == january);
-    check(&rt, "the last year", seconds_at(i32::MAX, 12, 31) == Some(67_767_976_233_446_400));
-    check(&rt, "the first year", seconds_at(i32::MIN, 1, 1) == Some(-67_768_100_567_971_200));
-    let alone = parts(None, timed(8, 48, 0, None), Some(UtcOffsetRecordOrZ::Z), None, None);
+    check(
+        &rt,
+        "the last year",
+        seconds_at(i32::MAX, 12, 31) == Some(67_767_976_233_446_400),
+    );
+    check(
+        &rt,
+        "the first year",
+        seconds_at(i32::MIN, 1, 1) == Some(-67_768_100_567_971_200),
+    );
+    let alone = parts(
+        None,
+        timed(8, 48, 0, None),
+        Some(UtcOffsetRecordOrZ::Z),
+        None,
+        None,
+    );
     check(&rt, "no date", alone.instant().is_none());
 }
 

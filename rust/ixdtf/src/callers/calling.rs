@@ -19,6 +19,29 @@ use ixdtf::{LocatedError, ParserResult};
 use crate::runtime::{AllocError, Global, String};
 use crate::runtime::Fail;
 
+// ==== An instant ====
+
+// The seconds since 1970-01-01T00:00:00Z of a text that has a date, a time and an offset or `Z`, and `None` for any other text.
+fn seconds_since_1970(text: &str) -> Option<i64> {
+    let mut parser = IxdtfParser::from_str(text);
+    let Ok(record) = parser.parse() else {
+        return None;
+    };
+    Some(record.instant()?.seconds)
+}
+
+#[test]
+fn has_an_instant() {
+    let rt = HostRuntime;
+    let text = "2024-03-02T08:48:00.25-05:00[America/New_York]";
+    check(&rt, text, seconds_since_1970(text) == Some(1_709_387_280));
+    check(
+        &rt,
+        "no offset",
+        seconds_since_1970("2024-03-02T08:48:00").is_none(),
+    );
+}
+
 // ==== A text taken apart ====
 
 /// A date, a time and an offset, with a zone where the text names one.

@@ -9,7 +9,7 @@ pub returns : goal.returns
 unfolding instant_count
 returns c = record {
   counts = λ date later_date time later_time offset h k shown shown₂.
-    let order = clocks_in_order date later_date time later_time h k shown shown₂ in
-    ((λ first. omega (arith, signed_arith, order.0 first)), (λ lt. order.1 (omega (arith, signed_arith))));
+      let order = clocks_in_order date later_date time later_time h k shown shown₂ in
+      ((λ first. omega (arith, signed_arith, order.0 first)), (λ lt. order.1 (omega (arith, signed_arith))));
   instants = counts_in_order;
 }
