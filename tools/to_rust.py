@@ -473,7 +473,7 @@ def of_layers(module, plain, roots):
     """A file of the library. If it declares the modules of the layers, they are added. It also gets what it re-exports from
     their roots."""
     names = {place.rpartition('/')[2] for places in LAYERS.values() for place in places if place.rpartition('/')[0] == ('' if module == 'lib' else module)}
-    shown = [name for line in re.findall(r'pub use crate::(?:\{([A-Za-z, _]+)\}|([a-z_]+));\n', plain) for name in ''.join(line).split(', ')]
+    shown = [name for line in re.findall(r'pub use crate::(?:\{([A-Za-z,\s_]+)\}|([a-z_]+));\n', plain) for name in re.findall(r'\w+', ''.join(line))]
     lines = [line for line in plain.splitlines(True)]
     block = [line for line in lines if re.match(r'(pub )?mod [a-z_]+;', line)]
     first = lines.index(block[0])
@@ -482,7 +482,7 @@ def of_layers(module, plain, roots):
     # A page of the documentation shows the functions of a type in the order of its modules: those without a handler come first.
     lines[first:first] = sorted(block, key=lambda line: (line.split()[-1] != 'unhandled;', line.split()[-1]))
     items = ''.join(sorted((of_root(name, roots) for name in shown if name not in names), key=lambda item: (item.startswith('\n'), item)))
-    return re.sub(r'(?:pub use crate::(?:\{[A-Za-z, _]+\}|[a-z_]+);\n)+', lambda m: items, ''.join(lines))
+    return re.sub(r'(?:pub use crate::(?:\{[A-Za-z,\s_]+\}|[a-z_]+);\n)+', lambda m: items, ''.join(lines))
 
 
 def of_root(name, roots):

@@ -10,7 +10,7 @@ extern crate self as ixdtf;
 mod classes;
 mod cursor;
 mod days;
-mod encoding;
+pub mod encoding;
 mod error;
 mod instant;
 mod instants;
@@ -18,12 +18,16 @@ mod located;
 mod packed;
 pub mod parsers;
 mod pointed;
-mod records;
+pub mod records;
 mod stop;
 
-pub use crate::{
-    Instant, LocatedError, ParseError, ParserResult, PointedText, encoding, records,
-};
+pub use error::ParseError;
+pub use instant::Instant;
+pub use located::LocatedError;
+pub use pointed::PointedText;
+
+/// The result of a reader: the value that it found, or the error.
+pub type ParserResult<T> = Result<T, ParseError>;
 
 #[cfg(test)]
 #[macro_use]

@@ -1,0 +1,16 @@
+//! Writes the instant of each line: its seconds and its nanoseconds, or `none`. `tools/compare_instants.py` runs it.
+
+use ixdtf::parsers::IxdtfParser;
+use std::io::{BufRead, BufWriter, Write, stdin, stdout};
+
+fn main() -> std::io::Result<()> {
+    let mut out = BufWriter::new(stdout().lock());
+    for line in stdin().lock().lines() {
+        let instant = IxdtfParser::from_str(&line?).parse().ok().and_then(|record| record.instant());
+        match instant {
+            Some(instant) => writeln!(out, "{} {}", instant.seconds, instant.nanoseconds)?,
+            None => writeln!(out, "none")?,
+        }
+    }
+    out.flush()
+}

@@ -1,0 +1,68 @@
+//! The instant of each day, beside a walk that counts day after day.
+
+use ixdtf::encoding::Utf8;
+use ixdtf::records::{DateRecord, IxdtfParseRecord, TimeRecord, UtcOffsetRecordOrZ};
+
+const DAY: i64 = 86_400;
+
+/// The length of a month.
+fn month_length(year: i32, month: u8) -> u8 {
+    let leap = (year % 4 == 0 && year % 100 != 0) || year % 400 == 0;
+    match (month, leap) {
+        (2, true) => 29,
+        (2, false) => 28,
+        (4 | 6 | 9 | 11, _) => 30,
+        _ => 31,
+    }
+}
+
+/// The seconds of midnight in UTC.
+fn midnight(year: i32, month: u8, day: u8) -> i64 {
+    let mut record = IxdtfParseRecord::<Utf8>::default();
+    record.date = Some(DateRecord { year, month, day });
+    record.time = Some(TimeRecord::default());
+    record.offset = Some(UtcOffsetRecordOrZ::Z);
+    record.instant().unwrap().seconds
+}
+
+/// Walks from 1 January of a year to 31 December of another one. `seconds` is that of the first day. Returns the seconds after the
+/// last day, and how many days there were.
+fn walk(first: i32, last: i32, mut seconds: i64) -> (i64, u32) {
+    let mut days = 0;
+    for year in first..=last {
+        for month in 1..=12 {
+            for day in 1..=month_length(year, month) {
+                assert_eq!(midnight(year, month, day), seconds, "{year} {month} {day}");
+                seconds += DAY;
+                days += 1;
+            }
+        }
+    }
+    (seconds, days)
+}
+
+/// The seconds of 1 January of a year from -999,999 on, from the days of the years between it and 1970.
+fn first_of(year: i32) -> i64 {
+    let days: i64 = (year..1970).map(|year| (1..=12).map(|month| i64::from(month_length(year, month))).sum::<i64>()).sum();
+    -days * DAY
+}
+
+#[test]
+fn days_from_1970_on() {
+    assert_eq!(walk(1970, 4000, 0).1, 741_808);
+}
+
+#[test]
+fn days_before_1970() {
+    assert_eq!(walk(-2000, 1969, first_of(-2000)).0, 0);
+}
+
+/// 730 million days: `cargo test --release --test each_day -- --ignored`.
+#[test]
+#[ignore]
+fn each_day_that_a_reader_returns() {
+    let (here, before) = walk(-999_999, 1969, first_of(-999_999));
+    assert_eq!(here, 0);
+    let (_, after) = walk(1970, 999_999, 0);
+    assert_eq!(before + after, 730_484_634);
+}
