@@ -168,7 +168,7 @@ STD_PATHS = {'std::str::from_utf8', 'std::fmt', 'std::error::Error', 'std::marke
 STD_METHODS = set('get len split_at is_ascii_digit is_ascii_alphabetic is_ascii_lowercase write_str as_bytes then_some pow is_ok'
                   ' is_none to_le_bytes saturating_add saturating_sub min map copied checked_mul checked_add unsigned_abs'
                   ' is_ascii_alphanumeric as_slice iter position is_empty copy_from_slice read write flush digit_count leading_value'
-                  ' chars len_utf8 is_control encode_utf8 last is_some unwrap_or starts_with parse checked_sub ok max as_ref'.split())
+                  ' chars len_utf8 is_control encode_utf8 last is_some unwrap_or starts_with parse checked_sub ok max as_ref copy_within is_ascii'.split())
 # methods of the iterators over the characters of a text, and the heads of the types that they return
 ON_CHARACTERS = {('Chars', 'take'): 'Chars', ('Chars', 'skip'): 'Chars', ('Chars', 'count'): 'usize'}
 CALLED_ON_CHARACTERS = {method for _, method in ON_CHARACTERS}
@@ -176,7 +176,7 @@ OWN_PATHS = {'self', 'crate', 'Self', 'T', 'C', 'E', 'L'}
 HIDDEN = '# [ doc ( hidden ) ] pub fn'.split()
 # hidden functions that crates above the library call too
 CALLED_FROM_ABOVE = {'of_parts'}
-STD_CALLS = {'u64::from', 'u64::from_le_bytes', 'u32::from', 'u16::from', 'usize::from', 'u128::from', 'i32::from', 'i64::from', 'char::from', 'u32::try_from', 'usize::try_from', 'fmt::Debug::fmt', 'str::from_utf8'}
+STD_CALLS = {'u8::from', 'u64::from', 'u64::from_le_bytes', 'u32::from', 'u16::from', 'usize::from', 'u128::from', 'i32::from', 'i64::from', 'char::from', 'u32::try_from', 'usize::try_from', 'fmt::Debug::fmt', 'str::from_utf8'}
 # the names of the methods of `core`, from its documentation for Rust 1.95 (`id="method.NAME"` and `id="tymethod.NAME"`)
 with open(os.path.join(os.path.dirname(os.path.abspath(__file__)), 'core_methods.txt'), encoding='ascii') as names:
     CORE_METHODS = set(names.read().split())
