@@ -1,6 +1,10 @@
 -- What follows for every record.
+pub mod DisplayedDurations
 pub mod DisplayedText
+pub mod OneTexts
+pub mod PrintableDurations
 pub mod PrintableRecords
 pub mod ReadBack
 pub mod ShortCores
+pub mod ShortDurations
 pub mod ShortErrors

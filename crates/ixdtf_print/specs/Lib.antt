@@ -1,8 +1,11 @@
 pub mod Canonical
+pub mod Durations
 pub mod Laws
 pub mod Printable
 pub mod PrintErrors
 pub mod Printed
+pub mod Printing
 pub mod Prints
 pub mod Shown
 pub mod Spelled
+pub mod SpelledDurations

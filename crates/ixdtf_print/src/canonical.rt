@@ -94,7 +94,7 @@ fn write_core<W: fmt::Write>(
 }
 
 /// The first bytes, so many.
-fn front_of(bytes: &[u8], count: usize) -> &[u8]
+pub fn front_of(bytes: &[u8], count: usize) -> &[u8]
     requires { count ≤ length bytes.now }
     ensures { result.now ≡ take count bytes.now }
 {
@@ -167,7 +167,7 @@ fn write_calendar<W: fmt::Write>(f: &mut fmt::Formatter<W>, calendar: Option<&[u
 }
 
 /// Writes each byte as the character of its number. Of a record that has a text they are ASCII.
-fn write_bytes<W: fmt::Write>(f: &mut fmt::Formatter<W>, bytes: &[u8]) -> fmt::Result
+pub fn write_bytes<W: fmt::Write>(f: &mut fmt::Formatter<W>, bytes: &[u8]) -> fmt::Result
     ensures { WritesStyledOnOk W.write_str_gives f.old result (encode_utf8_all bytes.now) f.new }
 {
     for byte in bytes {

@@ -1,4 +1,5 @@
 //! What holds of canonical texts, for callers to cite.
+ghost use Rattle.ixdtf_print.specs.Durations.{DurationFits, DurationIsReadBack};
 ghost use Rattle.ixdtf_print.specs.Laws.{CanonicalFits, CanonicalIsReadBack};
 
 /// States that a canonical text has at most 14 bytes more than the text that was parsed.
@@ -16,4 +17,17 @@ pub fn canonical_fits()
 /// canonical texts are equal exactly if the two records are equal.
 pub fn canonical_is_read_back()
     ensures { CanonicalIsReadBack }
+{}
+
+/// The canonical text of a duration that [`IsoDurationParser::parse`](ixdtf::parsers::IsoDurationParser::parse) reads from a
+/// text, under either profile, is at most as long as the text.
+pub fn duration_fits()
+    ensures { DurationFits }
+{}
+
+/// [`IsoDurationParser::parse`](ixdtf::parsers::IsoDurationParser::parse) reads each duration that it reads from some text
+/// from the canonical text of the duration too, under either profile, and nothing else from it. No two such durations have
+/// one canonical text.
+pub fn duration_is_read_back()
+    ensures { DurationIsReadBack }
 {}

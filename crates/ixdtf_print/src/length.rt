@@ -19,7 +19,7 @@ use ixdtf::records::{
 const MOST_BESIDES_NAMES: usize = 560;
 
 /// How many bytes the fraction has, with its point.
-fn fraction_length(fraction: Option<Fraction>) -> u16
+pub fn fraction_length(fraction: Option<Fraction>) -> u16
     ensures length { result ≡ length (fraction_text fraction) }
     ensures small { result ≤ 256 }
 {

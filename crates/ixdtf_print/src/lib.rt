@@ -12,11 +12,13 @@ ghost use Rattle.ixdtf_print.specs.Printable.{IsPrintable, IsReadBack, record_of
 mod canonical;
 mod check;
 mod digits;
+mod durations;
 mod error;
 mod fields;
 mod laws;
 mod length;
 mod message;
+mod numbers;
 mod printed;
 mod put;
 
@@ -25,11 +27,12 @@ use check::is_printable;
 // For crates of this repository, and no part of the interface.
 #[doc(hidden)]
 pub use digits::put_digits;
+pub use durations::{CanonicalDuration, duration_length, print_duration};
 pub use error::PrintError;
 use fields::put_record;
 use ixdtf::encoding::Utf8;
 use ixdtf::records::IxdtfParseRecord;
-pub use laws::{canonical_fits, canonical_is_read_back};
+pub use laws::{canonical_fits, canonical_is_read_back, duration_fits, duration_is_read_back};
 use length::has_plenty;
 // For crates of this repository, and no part of the interface.
 #[doc(hidden)]

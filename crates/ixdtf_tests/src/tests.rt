@@ -17,6 +17,7 @@ mod lone_times;
 mod months;
 mod odd;
 mod offsets;
+mod printed_durations;
 mod printing;
 mod profiles;
 mod records;

@@ -69,7 +69,8 @@ fn write_core(
 }
 
 /// The first bytes, so many.
-fn front_of(bytes: &[u8], count: usize) -> &[u8] {
+#[must_use]
+pub fn front_of(bytes: &[u8], count: usize) -> &[u8] {
     // `bytes` always has `count` bytes, as the proof shows. The compiler does not know the proof: because of this test,
     // it compiles no code for a panic.
     match bytes.get(..count) {
@@ -128,7 +129,7 @@ fn write_calendar(f: &mut fmt::Formatter<'_>, calendar: Option<&[u8]>) -> fmt::R
 }
 
 /// Writes each byte as the character of its number. Of a record that has a text they are ASCII.
-fn write_bytes(f: &mut fmt::Formatter<'_>, bytes: &[u8]) -> fmt::Result {
+pub fn write_bytes(f: &mut fmt::Formatter<'_>, bytes: &[u8]) -> fmt::Result {
     for byte in bytes {
         write_byte(f, *byte)?;
     }

@@ -14,7 +14,8 @@ use ixdtf::records::{
 const MOST_BESIDES_NAMES: usize = 560;
 
 /// How many bytes the fraction has, with its point.
-fn fraction_length(fraction: Option<Fraction>) -> u16 {
+#[must_use]
+pub fn fraction_length(fraction: Option<Fraction>) -> u16 {
     match fraction {
         None => 0,
         Some(fraction) => 1 + u16::from(fraction.digit_count()),

@@ -7,10 +7,12 @@
 mod canonical;
 mod check;
 mod digits;
+mod durations;
 mod error;
 mod fields;
 mod length;
 mod message;
+mod numbers;
 mod printed;
 mod put;
 
@@ -19,6 +21,7 @@ use check::is_printable;
 // For crates of this repository, and no part of the interface.
 #[doc(hidden)]
 pub use digits::put_digits;
+pub use durations::{CanonicalDuration, duration_length, print_duration};
 pub use error::PrintError;
 use fields::put_record;
 use ixdtf::encoding::Utf8;

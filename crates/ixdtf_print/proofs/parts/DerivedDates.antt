@@ -13,7 +13,7 @@ use Rattle.ixdtf_print.specs.{Canonical.{two_digits, year_text, date_text, fract
 one_digit : (c : ℕ) → IsTrue (digit c) → c - 48 ≤ 9
 one_digit c h = grind (arith, nat_tests, h)
 
-decimal_below : (n : ℕ) (text : Text) → digits n text → decimal text < 10 ^ n
+pub decimal_below : (n : ℕ) (text : Text) → digits n text → decimal text < 10 ^ n
 decimal_below zero text h = rw h (omega arith)
 decimal_below (suc n) text h =
     let more : decimal h.1 < 10 ^ n = decimal_below n h.1 h.4 in

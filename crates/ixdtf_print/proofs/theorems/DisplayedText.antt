@@ -13,7 +13,7 @@ ascii_of text found h =
     let tail = tail_ascii (h.zones ++ h.pair_texts) h.zone h.pairs (h.zones, h.pair_texts, refl, h.is_bracket, h.are_pairs) in
     rw h.is (all_append ascii h.cores _ core tail)
 
-shown_as_it_is : (text : Text) → AllOf ascii text → map Plain (bytes_of text) ≡ text
+pub shown_as_it_is : (text : Text) → AllOf ascii text → map Plain (bytes_of text) ≡ text
 shown_as_it_is [] h = refl
 shown_as_it_is (Bad ∷ rest) h = absurd h.0
 shown_as_it_is (Plain c ∷ rest) h =

@@ -76,7 +76,7 @@ of_value value (zero ∷ zeros) count long more =
     let e : 18 ≡ length value = omega (arith, long, more) in
     ap (λ n. take n (value ++ zero ∷ zeros)) e ∙ take-append_seam value (zero ∷ zeros)
 
-is_fraction : (fraction : FractionParts) → AreDigits fraction → IsFraction (Plain 46 ∷ fraction_digits fraction) fraction
+pub is_fraction : (fraction : FractionParts) → AreDigits fraction → IsFraction (Plain 46 ∷ fraction_digits fraction) fraction
 unfolding fraction_digits
 is_fraction fraction d =
     let value = padded_digits (places_of fraction) fraction.value in

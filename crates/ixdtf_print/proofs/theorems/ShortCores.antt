@@ -13,7 +13,7 @@ date_short : (date : Option DateRecord) → length (optional_date_text date) ≤
 date_short None = omega arith
 date_short (Some date) = omega (arith, date_long date, year_most date.year)
 
-fraction_short : (fraction : Option FractionParts) → HasDigits fraction → length (fraction_text fraction) ≤ 256
+pub fraction_short : (fraction : Option FractionParts) → HasDigits fraction → length (fraction_text fraction) ≤ 256
 fraction_short None h = omega arith
 fraction_short (Some fraction) h = omega (arith, some_fraction_long fraction, h.count_to)
 

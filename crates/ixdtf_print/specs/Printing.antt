@@ -1,0 +1,25 @@
+-- What each printer does, whatever records it prints.
+use Rattle.std.specs.Prelude.{◌≡◌, ◌↔◌, ℕ, ◌≤◌, ◌<◌, List, map, take, drop, length, Result, Err, IfOk, OnErr}
+use Rattle.ixdtf.specs.language.Letters.{Text, Letter.Plain}
+use Rattle.ixdtf_print.specs.declared.error.PrintError.{PrintError, TheVariants.{NotPrintable, TooShort}}
+
+-- some text stands for the record
+abbrev pub HasText : {R : Type 0} → (Text → R → Type 0) → R → Type 0
+HasText stands found = (text : Text) × stands text found
+
+-- the canonical text stands for the record and for no other one, and no other record that has a text has this canonical text
+pub record HasOneText {R : Type 0} (stands : Text → R → Type 0) (text_of : R → Text) (found : R) : Type 0 where
+  pub same : stands (text_of found) found
+  pub no_other_reading : (other : R) → stands (text_of found) other → other ≡ found
+  pub no_other_record : (other : R) → HasText stands other → text_of other ≡ text_of found → other ≡ found
+
+-- A printer of a record with this canonical text writes it to the front of a slice, where the record is printable and the slice is
+-- long enough. Else the slice is as it was.
+pub record PrintsOrRefuses (printable : Type 0) (canonical : Text) (old new : List ℕ) (result : Result ℕ PrintError) : Type 0 where
+  pub count : IfOk result (λ n. n ≡ length canonical)
+  pub fits : IfOk result (λ n. n ≤ length new)
+  pub text : IfOk result (λ n. map Plain (take n new) ≡ canonical)
+  pub rest : IfOk result (λ n. drop n new ≡ drop n old)
+  pub not_printable : (result ≡ Err NotPrintable) ↔ ¬ printable
+  pub too_short : (result ≡ Err TooShort) ↔ (printable × (length old < length canonical))
+  pub unchanged : OnErr result (new ≡ old)

@@ -1,0 +1,374 @@
+//! Durations printed as their canonical texts.
+ghost use Rattle.std.specs.Prelude.{◌≡◌, ◌↔◌, ◌<◌, ◌≤◌, ◌∷◌, ◌++◌, ◌^◌, [], IsTrue, length, map, IfSome, OnSome, OnOk, None};
+ghost use Rattle.ixdtf.specs.language.Letters.{Plain, byte_letter};
+ghost use Rattle.ixdtf_print.specs.Durations.{unit_text, date_units_text, has_no_unit, date_part_text};
+ghost use Rattle.ixdtf_print.specs.Durations.{last_text, time_units_text, time_part_text, start_text, duration_text};
+ghost use Rattle.ixdtf_print.specs.Durations.{IsPrintableDuration, IsDurationReadBack};
+ghost use Rattle.ixdtf_print.specs.Printing.{PrintsOrRefuses};
+ghost use Rattle.ixdtf_print.specs.Prints.{HasRoom, Prints};
+ghost use Rattle.ixdtf_print.specs.Shown.{bytes_of};
+ghost use Rattle.ixdtf_print.specs.SpelledDurations.{AreParts};
+
+use crate::canonical::{front_of, write_bytes};
+use crate::digits::put_fraction;
+use crate::error::PrintError;
+use crate::length::fraction_length;
+use crate::numbers::{digit_count, put_number};
+use crate::put::{put, put_byte};
+use ixdtf::records::{DateDurationRecord, DurationParseRecord, Fraction, Sign, TimeDurationRecord};
+use std::fmt;
+
+/// At least as many bytes as a duration has: 2 up to its `P`, 84 of its date, and 320 of its time.
+const MOST_OF_DURATION: usize = 406;
+
+/// Writes the canonical text of a duration, such as `P1Y2M3DT4H5.5M`, into the front of the slice. Returns the number of its
+/// bytes.
+///
+/// The canonical text begins with `-` if the duration is negative. It has each unit that is not zero, and no leading zeros.
+/// If all numbers of the date are zero, it has `0D`. The last unit of the time is written even if it is zero, since the record
+/// says which unit is the last one: `PT0H` and `PT0S` are two records.
+///
+/// The canonical text is at most as long as the text from which the duration was read.
+///
+/// ```rust
+/// use ixdtf::parsers::IsoDurationParser;
+/// use ixdtf_print::{PrintError, print_duration};
+///
+/// let mut out = [0; 64];
+/// for (text, canonical) in [("+p1y0m03dt04,50m", "P1Y3DT4.50M"), ("-P0Y", "-P0D"), ("P0WT0H0S", "P0DT0S")] {
+///     let duration = IsoDurationParser::from_str(text).parse().unwrap();
+///     let count = print_duration(&duration, &mut out).unwrap();
+///     assert_eq!(&out[..count], canonical.as_bytes());
+///     assert_eq!(print_duration(&duration, &mut [0; 3]), Err(PrintError::TooShort));
+/// }
+/// ```
+///
+/// # Errors
+///
+/// - [`PrintError::NotPrintable`] if the duration has neither a date nor a time, so that no text stands for it;
+/// - [`PrintError::TooShort`] if the slice is shorter than the canonical text.
+///
+/// After an error the slice is unchanged.
+pub fn print_duration(duration: &DurationParseRecord, out: &mut [u8]) -> Result<usize, PrintError>
+    ensures prints { PrintsOrRefuses (IsPrintableDuration duration.now) (duration_text duration.now) out.old out.new result }
+    ensures read_back { OnOk result (IsDurationReadBack duration.now) }
+{
+    if !is_duration(duration) {
+        return Err(PrintError::NotPrintable);
+    }
+    if is_too_short(duration, out.len()) {
+        return Err(PrintError::TooShort);
+    }
+    Ok(put_duration(out, duration))
+}
+
+/// Returns the number of bytes of the canonical text of a duration. A slice of this length is long enough for
+/// [`print_duration`](crate::print_duration). Returns `None` if no text stands for the duration.
+///
+/// ```rust
+/// use ixdtf::parsers::IsoDurationParser;
+/// use ixdtf_print::duration_length;
+///
+/// let duration = IsoDurationParser::from_str("PT01H30.5M").parse().unwrap();
+/// assert_eq!(duration_length(&duration), Some("PT1H30.5M".len()));
+/// ```
+pub fn duration_length(duration: &DurationParseRecord) -> Option<usize>
+    ensures length { IfSome result (λ n. n ≡ length (duration_text duration.now)) }
+    ensures none { (result ≡ None) ↔ ¬ (IsPrintableDuration duration.now) }
+{
+    if !is_duration(duration) {
+        return None;
+    }
+    Some(usize::from(length_of_duration(duration)))
+}
+
+/// Whether a text stands for the duration: it has a date or a time.
+#[inline(always)]
+fn is_duration(duration: &DurationParseRecord) -> bool
+    ensures { IsTrue result ↔ IsPrintableDuration duration.now }
+{
+    has_part(duration.date, duration.time)
+}
+
+/// Whether there is a date or a time. Any numbers fit.
+#[inline(always)]
+fn has_part(date: Option<DateDurationRecord>, time: Option<TimeDurationRecord>) -> bool
+    ensures { IsTrue result ↔ AreParts date time }
+{
+    date.is_some() || time.is_some()
+}
+
+/// Whether so many bytes are too few for the canonical text of a duration that has one. The text is counted only where they
+/// could be.
+#[inline(always)]
+fn is_too_short(duration: &DurationParseRecord, room: usize) -> bool
+    requires { IsPrintableDuration duration.now }
+    ensures { IsTrue result ↔ room < length (duration_text duration.now) }
+{
+    if room >= MOST_OF_DURATION {
+        return false;
+    }
+    room < usize::from(length_of_duration(duration))
+}
+
+/// A duration whose `Display` writes its canonical text, as [`print_duration`](crate::print_duration) does. It does not
+/// allocate, and it ignores width and fill.
+///
+/// ```rust
+/// use ixdtf::parsers::IsoDurationParser;
+/// use ixdtf_print::CanonicalDuration;
+///
+/// let duration = IsoDurationParser::from_str("-pt1h0030,5m").parse().unwrap();
+/// assert_eq!(CanonicalDuration::of(&duration).unwrap().to_string(), "-PT1H30.5M");
+/// ```
+#[derive(Clone, Copy, Debug)]
+pub struct CanonicalDuration<'a> {
+    duration: &'a DurationParseRecord,
+}
+
+impl<'a> CanonicalDuration<'a> {
+    /// Returns the duration to display. Returns `None` if no text stands for it: it has neither a date nor a time.
+    pub fn of(duration: &'a DurationParseRecord) -> Option<CanonicalDuration<'a>>
+        ensures shows { IfSome result (λ canonical. canonical.duration.now ≡ duration.now) }
+        ensures text { IfSome result
+            (λ canonical. map byte_letter (bytes_of (duration_text canonical.duration.now)) ≡ duration_text duration.now) }
+        ensures read_back { OnSome result (IsDurationReadBack duration.now) }
+        ensures none { (result ≡ None) ↔ ¬ (IsPrintableDuration duration.now) }
+    {
+        if !is_duration(duration) {
+            return None;
+        }
+        Some(CanonicalDuration { duration })
+    }
+}
+
+// Display heeds no width and no fill.
+impl<'a> fmt::Display for CanonicalDuration<'a> {
+    ghost use Rattle.std.specs.Prelude.{Some};
+    ghost use Rattle.ixdtf_print.specs.Durations.{duration_text};
+    ghost use Rattle.ixdtf_print.specs.Shown.{bytes_of};
+
+    ghost output = { λ c. Some (bytes_of (duration_text c.duration.now)) };
+
+    ghost styled_output = { λ c _. Some (bytes_of (duration_text c.duration.now)) };
+
+    fn fmt<W: fmt::Write>(&self, f: &mut fmt::Formatter<W>) -> fmt::Result {
+        let count = usize::from(length_of_duration(self.duration));
+        let mut bytes = [0; MOST_OF_DURATION];
+        put_duration(&mut bytes, self.duration);
+        write_bytes(f, front_of(&bytes, count))
+    }
+}
+
+// ---- lengths
+
+/// How many bytes the unit has: none where its number is zero.
+fn unit_length(number: u64, letter: u8) -> u16
+    ensures length { result ≡ length (unit_text number letter) }
+    ensures small { result ≤ 21 }
+{
+    if number == 0 {
+        0
+    } else {
+        digit_count(number) + 1
+    }
+}
+
+/// How many bytes the units of the date have.
+fn date_length(date: Option<DateDurationRecord>) -> u16
+    ensures length { result ≡ length (date_part_text date) }
+    ensures small { result ≤ 84 }
+{
+    let Some(date) = date else {
+        return 0;
+    };
+    if is_zero(date) {
+        return 2;
+    }
+    unit_length(u64::from(date.years), b'Y')
+        + unit_length(u64::from(date.months), b'M')
+        + unit_length(u64::from(date.weeks), b'W')
+        + unit_length(date.days, b'D')
+}
+
+/// Whether all numbers of the date are zero.
+fn is_zero(date: DateDurationRecord) -> bool
+    ensures { result ≡ has_no_unit date }
+{
+    date.years == 0 && date.months == 0 && date.weeks == 0 && date.days == 0
+}
+
+/// How many bytes the last number of a time has, with its fraction and its letter.
+fn last_length(number: u64, fraction: Option<Fraction>, letter: u8) -> u16
+    ensures length { result ≡ length (last_text number fraction letter) }
+    ensures small { result ≤ 277 }
+{
+    digit_count(number) + fraction_length(fraction) + 1
+}
+
+/// How many bytes the units of the time have, with the `T`.
+fn time_length(time: Option<TimeDurationRecord>) -> u16
+    ensures length { result ≡ length (time_part_text time) }
+    ensures small { result ≤ 320 }
+{
+    match time {
+        None => 0,
+        Some(TimeDurationRecord::Hours { hours, fraction }) => {
+            1 + last_length(hours, fraction, b'H')
+        }
+        Some(
+            TimeDurationRecord::Minutes {
+                hours,
+                minutes,
+                fraction,
+            },
+        ) => { 1 + unit_length(hours, b'H') + last_length(minutes, fraction, b'M') }
+        Some(
+            TimeDurationRecord::Seconds {
+                hours,
+                minutes,
+                seconds,
+                fraction,
+            },
+        ) => {
+            1 + unit_length(hours, b'H')
+                + unit_length(minutes, b'M')
+                + last_length(seconds, fraction, b'S')
+        }
+    }
+}
+
+/// How many bytes the sign and the `P` have.
+fn start_length(sign: Sign) -> u16
+    ensures length { result ≡ length (start_text sign) }
+    ensures small { result ≤ 2 }
+{
+    match sign {
+        Sign::Positive => 1,
+        Sign::Negative => 2,
+    }
+}
+
+/// How many bytes the canonical text of the duration has.
+fn length_of_duration(duration: &DurationParseRecord) -> u16
+    ensures length { result ≡ length (duration_text duration.now) }
+    ensures small { result ≤ 406 }
+{
+    start_length(duration.sign) + date_length(duration.date) + time_length(duration.time)
+}
+
+// ---- bytes
+
+/// Puts the unit at the place, where its number is not zero, and returns the place behind it.
+#[tactic(auto, using(crate::proofs::code::PutBytes::putting))]
+fn put_unit(out: &mut [u8], at: usize, number: u64, letter: u8) -> usize
+    requires { HasRoom out.old at (unit_text number letter) }
+    ensures { Prints out.old out.new at result (unit_text number letter) }
+{
+    if number == 0 {
+        return at;
+    }
+    let end = put_number(out, at, number);
+    put_byte(out, end, letter)
+}
+
+/// Puts the units of the date at the place, and returns the place behind them.
+#[tactic(auto, using(crate::proofs::code::PutBytes::putting), unfolding(crate::specs::Durations::date_units_text))]
+fn put_date_units(out: &mut [u8], at: usize, date: DateDurationRecord) -> usize
+    requires { HasRoom out.old at (date_units_text date) }
+    ensures { Prints out.old out.new at result (date_units_text date) }
+{
+    let months = put_unit(out, at, u64::from(date.years), b'Y');
+    let weeks = put_unit(out, months, u64::from(date.months), b'M');
+    let days = put_unit(out, weeks, u64::from(date.weeks), b'W');
+    put_unit(out, days, date.days, b'D')
+}
+
+/// Puts the date at the place, where there is one, and returns the place behind it.
+fn put_date(out: &mut [u8], at: usize, date: Option<DateDurationRecord>) -> usize
+    requires { HasRoom out.old at (date_part_text date) }
+    ensures { Prints out.old out.new at result (date_part_text date) }
+{
+    let Some(date) = date else {
+        return at;
+    };
+    if is_zero(date) {
+        return put(out, at, b"0D");
+    }
+    put_date_units(out, at, date)
+}
+
+/// Puts the last number of a time at the place, with its fraction and its letter, and returns the place behind them.
+#[tactic(auto, using(crate::proofs::code::PutBytes::putting), unfolding(crate::specs::Durations::last_text))]
+fn put_last(out: &mut [u8], at: usize, number: u64, fraction: Option<Fraction>, letter: u8) -> usize
+    requires { HasRoom out.old at (last_text number fraction letter) }
+    ensures { Prints out.old out.new at result (last_text number fraction letter) }
+{
+    let point = put_number(out, at, number);
+    let end = put_fraction(out, point, fraction);
+    put_byte(out, end, letter)
+}
+
+/// Puts the units of the time at the place, and returns the place behind them.
+#[tactic(auto, using(crate::proofs::code::PutBytes::putting))]
+fn put_time_units(out: &mut [u8], at: usize, time: TimeDurationRecord) -> usize
+    requires { HasRoom out.old at (time_units_text time) }
+    ensures { Prints out.old out.new at result (time_units_text time) }
+{
+    match time {
+        TimeDurationRecord::Hours { hours, fraction } => put_last(out, at, hours, fraction, b'H'),
+        TimeDurationRecord::Minutes {
+            hours,
+            minutes,
+            fraction,
+        } => {
+            let last = put_unit(out, at, hours, b'H');
+            put_last(out, last, minutes, fraction, b'M')
+        }
+        TimeDurationRecord::Seconds {
+            hours,
+            minutes,
+            seconds,
+            fraction,
+        } => {
+            let middle = put_unit(out, at, hours, b'H');
+            let last = put_unit(out, middle, minutes, b'M');
+            put_last(out, last, seconds, fraction, b'S')
+        }
+    }
+}
+
+/// Puts the time at the place, behind a `T`, where there is one, and returns the place behind it.
+#[tactic(auto, using(crate::proofs::code::PutBytes::putting))]
+fn put_time(out: &mut [u8], at: usize, time: Option<TimeDurationRecord>) -> usize
+    requires { HasRoom out.old at (time_part_text time) }
+    ensures { Prints out.old out.new at result (time_part_text time) }
+{
+    let Some(time) = time else {
+        return at;
+    };
+    let units = put_byte(out, at, b'T');
+    put_time_units(out, units, time)
+}
+
+/// Puts the sign, where it is negative, and the `P` at the place, and returns the place behind them.
+fn put_start(out: &mut [u8], at: usize, sign: Sign) -> usize
+    requires { HasRoom out.old at (start_text sign) }
+    ensures { Prints out.old out.new at result (start_text sign) }
+{
+    match sign {
+        Sign::Positive => put(out, at, b"P"),
+        Sign::Negative => put(out, at, b"-P"),
+    }
+}
+
+/// Puts the duration at the front, and returns the place behind it.
+#[tactic(auto, using(crate::proofs::code::PutBytes::putting), unfolding(crate::specs::Durations::duration_text))]
+fn put_duration(out: &mut [u8], duration: &DurationParseRecord) -> usize
+    requires { HasRoom out.old 0 (duration_text duration.now) }
+    ensures { Prints out.old out.new 0 result (duration_text duration.now) }
+{
+    let date = put_start(out, 0, duration.sign);
+    let time = put_date(out, date, duration.date);
+    put_time(out, time, duration.time)
+}

@@ -1,0 +1,111 @@
+//! Numbers without leading zeros put into a slice.
+ghost use Rattle.std.specs.Prelude.{◌≡◌, ◌<◌, ◌≤◌, length};
+ghost use Rattle.ixdtf.specs.language.Digits.{padded_digits};
+ghost use Rattle.ixdtf_print.specs.Durations.{number_text};
+ghost use Rattle.ixdtf_print.specs.Prints.{HasRoom, Prints};
+
+use crate::digits::{ones_digit, put_four, tens_digit};
+use crate::put::{put, put_byte};
+
+/// How many digits the number has, without leading zeros. Most numbers are small.
+#[inline(always)]
+pub fn digit_count(number: u64) -> u16
+    ensures length { result ≡ length (number_text number) }
+    ensures small { result ≤ 20 }
+{
+    if number < 10 {
+        return 1;
+    }
+    number.ilog10() as u16 + 1
+}
+
+/// Puts the number at the place, without leading zeros, and returns the place behind it. Most numbers are small.
+///
+/// It is a call of its own, since a body of it at each unit takes more instructions.
+#[inline(never)]
+pub fn put_number(out: &mut [u8], at: usize, number: u64) -> usize
+    requires { HasRoom out.old at (number_text number) }
+    ensures { Prints out.old out.new at result (number_text number) }
+{
+    if number < 10_000 {
+        return put_below_10_000(out, at, number);
+    }
+    put_long(out, at, number)
+}
+
+/// Puts any number at the place, and returns the place behind it: eight digits at a time.
+#[inline(never)]
+fn put_long(out: &mut [u8], at: usize, number: u64) -> usize
+    requires { HasRoom out.old at (number_text number) }
+    ensures { Prints out.old out.new at result (number_text number) }
+{
+    if number < 100_000_000 {
+        return put_below_100_000_000(out, at, number);
+    }
+    let last = put_front(out, at, number / 100_000_000);
+    put_eight(out, last, number % 100_000_000)
+}
+
+/// Puts what stands before the last eight digits of a number at the place, and returns the place behind it.
+fn put_front(out: &mut [u8], at: usize, number: u64) -> usize
+    requires room { HasRoom out.old at (number_text number) }
+    requires small { number < 1000000000000 }
+    ensures { Prints out.old out.new at result (number_text number) }
+{
+    if number < 100_000_000 {
+        return put_below_100_000_000(out, at, number);
+    }
+    let last = put_below_10_000(out, at, number / 100_000_000);
+    put_eight(out, last, number % 100_000_000)
+}
+
+/// Puts eight digits of the number at the place, and returns the place behind them.
+fn put_eight(out: &mut [u8], at: usize, number: u64) -> usize
+    requires room { HasRoom out.old at (padded_digits 8 number) }
+    requires small { number < 100000000 }
+    ensures { Prints out.old out.new at result (padded_digits 8 number) }
+{
+    let last = put_four(out, at, number / 10_000);
+    put_four(out, last, number % 10_000)
+}
+
+/// Puts a number of at most eight digits at the place, and returns the place behind it.
+fn put_below_100_000_000(out: &mut [u8], at: usize, number: u64) -> usize
+    requires room { HasRoom out.old at (number_text number) }
+    requires small { number < 100000000 }
+    ensures { Prints out.old out.new at result (number_text number) }
+{
+    if number < 10_000 {
+        return put_below_10_000(out, at, number);
+    }
+    let last = put_below_10_000(out, at, number / 10_000);
+    put_four(out, last, number % 10_000)
+}
+
+/// Puts a number of at most four digits at the place, and returns the place behind it.
+#[inline(always)]
+fn put_below_10_000(out: &mut [u8], at: usize, number: u64) -> usize
+    requires room { HasRoom out.old at (number_text number) }
+    requires small { number < 10000 }
+    ensures { Prints out.old out.new at result (number_text number) }
+{
+    if number < 100 {
+        return put_below_100(out, at, number as u8);
+    }
+    let rest = (number % 100) as u8;
+    let last = put_below_100(out, at, (number / 100) as u8);
+    put(out, last, &[tens_digit(rest), ones_digit(rest)])
+}
+
+/// Puts a number of one or two digits at the place, and returns the place behind it.
+#[inline(always)]
+fn put_below_100(out: &mut [u8], at: usize, number: u8) -> usize
+    requires room { HasRoom out.old at (number_text number) }
+    requires small { number < 100 }
+    ensures { Prints out.old out.new at result (number_text number) }
+{
+    if number < 10 {
+        return put_byte(out, at, ones_digit(number));
+    }
+    put(out, at, &[tens_digit(number), ones_digit(number)])
+}
