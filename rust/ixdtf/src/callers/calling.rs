@@ -23,8 +23,7 @@ use crate::runtime::Fail;
 
 // The seconds since 1970-01-01T00:00:00Z of a text that has a date, a time and an offset or `Z`, and `None` for any other text.
 fn seconds_since_1970(text: &str) -> Option<i64> {
-    let mut parser = IxdtfParser::from_str(text);
-    let Ok(record) = parser.parse() else {
+    let Ok(record) = IxdtfParser::from_str(text).parse() else {
         return None;
     };
     Some(record.instant()?.seconds)
