@@ -115,7 +115,7 @@ REMOVED = [phrase(t) for t in ['#![tactic(auto)]', '#[rattlefmt::skip]', 'use st
                                'cursor.keep_looks(again);', 'cursor.keep_looks(front);', '#[inline(always)] pub fn keep_looks(&mut self, here: Self) { self.looks = here.looks; }',
                                'impl PartialEq for LocatedError { fn eq(&self, other: &LocatedError) -> bool { self.at == other.at && self.error == other.error } }',
                                'impl PartialEq for ParseError { fn eq(&self, other: &ParseError) -> bool'
-                               ' { self.place() == other.place() && self.location() == other.location() } }',
+                               ' { self.variant_index() == other.variant_index() && self.location() == other.location() } }',
                                'impl ParseError { fn location(&self) -> &\'static str'
                                ' { match *self { ParseError::AbruptEnd { location } => location, _ => "", } } }']]
 CHANGED = [(phrase(a), phrase(b)) for a, b in [
@@ -135,7 +135,7 @@ ADDED = [phrase(t) for t in [
     '#[allow(unused_imports)] use crate::runtime::{HostRuntime, TryClone};', 'let rt = HostRuntime;', '_ => unreachable!(),']]
 
 
-PLACES = phrase('impl ParseError { fn place(&self) -> u8 {')
+PLACES = phrase('impl ParseError { fn variant_index(&self) -> u8 {')
 
 
 def drop_tactics(words):
