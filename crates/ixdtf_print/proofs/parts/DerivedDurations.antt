@@ -6,7 +6,7 @@ use Rattle.ixdtf_grammar.specs.declared.records.{DurationParseRecord.DurationPar
 use Rattle.ixdtf_grammar.specs.declared.records.TimeDurationRecord.{TimeDurationRecord}
 use Rattle.ixdtf.specs.language.{Letters.{Letter, Text, hour_letter, minute_letter, Letter.Plain}, Fractions.FractionParts}
 use Rattle.ixdtf.specs.language.Durations.{Half, Half.{date, time}, DurationUnit, DurationUnit.{years, months, weeks, days, hours, minutes, seconds}}
-use Rattle.ixdtf.specs.language.Durations.{place, same_unit, unit_of, greatest, greatest_value, Number, Group, IntegerGroup, FractionGroup}
+use Rattle.ixdtf.specs.language.Durations.{unit_index, same_unit, unit_of, greatest, greatest_value, Number, Group, IntegerGroup, FractionGroup}
 use Rattle.ixdtf.specs.language.Durations.{Groups, SignedDesignator, TimeGroups, TimePart, AtLeastOne, number_of, date_duration, time_duration, IsDuration}
 use Rattle.ixdtf_print.specs.{Canonical.fraction_text, Spelled.HasDigits}
 use Rattle.ixdtf_print.specs.Durations.{number_text, unit_text, date_units_text, has_no_unit, date_part_text, last_text, time_units_text, time_part_text}
@@ -31,8 +31,8 @@ unit_most n c = by_test (nat_eq n 0)
     by_test true = omega arith
     by_test false = omega (arith, length-append (number_text n) (Plain c ∷ []))
 
--- an upper end of the numbers of a unit, by its place alone
-greatest_at : (unit : DurationUnit) → greatest unit ≡ cond (nat_le (place unit) 2) 4294967295 greatest_value
+-- an upper end of the numbers of a unit, by its index alone
+greatest_at : (unit : DurationUnit) → greatest unit ≡ cond (nat_le (unit_index unit) 2) 4294967295 greatest_value
 greatest_at years = refl
 greatest_at months = refl
 greatest_at weeks = refl
@@ -43,7 +43,7 @@ greatest_at seconds = refl
 
 same_greatest : (a b : DurationUnit) → same_unit a b ≡ true → greatest a ≡ greatest b
 same_greatest a b h =
-    let here : place a ≡ place b = grind (arith, nat_tests, h) in
+    let here : unit_index a ≡ unit_index b = grind (arith, nat_tests, h) in
     greatest_at a ∙ ap (λ p. cond (nat_le p 2) 4294967295 greatest_value) here ∙ sym (greatest_at b)
 
 number_in_range : (profile : Profile) (half : Half) (unit : DurationUnit) (text : Text) (groups : List Group) → Groups profile half text groups
@@ -152,7 +152,7 @@ of_dates profile text (g ∷ earlier) h =
 -- ---- times
 
 abbrev IsTimeUnit : DurationUnit → Type 0
-IsTimeUnit unit = IsTrue (nat_le 4 (place unit))
+IsTimeUnit unit = IsTrue (nat_le 4 (unit_index unit))
 
 time_unit : (c : ℕ) → IsTimeUnit (unit_of time c)
 time_unit c = by_test (hour_letter c) (minute_letter c)

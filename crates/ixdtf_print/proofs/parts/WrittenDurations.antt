@@ -6,7 +6,7 @@ use Rattle.ixdtf_grammar.specs.declared.records.{DurationParseRecord.DurationPar
 use Rattle.ixdtf_grammar.specs.declared.records.TimeDurationRecord.{TimeDurationRecord, TheVariants.{Hours, Minutes, Seconds}}
 use Rattle.ixdtf.specs.language.{Letters.{Text, Letter.Plain}, Fractions.FractionParts}
 use Rattle.ixdtf.specs.language.Durations.{Half, Half.{date, time}, DurationUnit, DurationUnit.{years, months, weeks, days, hours, minutes, seconds}}
-use Rattle.ixdtf.specs.language.Durations.{place, same_unit, designator, unit_of, greatest, greatest_value, Group, IntegerGroup, may_follow, in_order}
+use Rattle.ixdtf.specs.language.Durations.{unit_index, same_unit, designator, unit_of, greatest, greatest_value, Group, IntegerGroup, may_follow, in_order}
 use Rattle.ixdtf.specs.language.Durations.{Groups, SignedDesignator, TimeGroups, TimePart, AtLeastOne, number_of, date_duration, time_duration, IsDuration}
 use Rattle.ixdtf_print.specs.{Canonical.{fraction_text, fraction_digits}, Spelled.HasDigits}
 use Rattle.ixdtf_print.specs.Durations.{number_text, unit_text, date_units_text, has_no_unit, date_part_text, last_text, time_units_text, time_part_text}
@@ -23,7 +23,7 @@ abbrev with_unit : DurationUnit → ℕ → List Group → List Group
 with_unit unit value earlier = cond (nat_eq value 0) earlier (group_of unit value None ∷ earlier)
 
 -- a unit behind all shorter ones, whether a unit may be repeated or not
-follows : (profile : Profile) (before after : DurationUnit) → IsTrue (nat_le (place before + 1) (place after)) → IsTrue (may_follow profile before after)
+follows : (profile : Profile) (before after : DurationUnit) → IsTrue (nat_le (unit_index before + 1) (unit_index after)) → IsTrue (may_follow profile before after)
 follows Crate before after h = grind (arith, nat_tests, h)
 follows Strict before after h = h
 
