@@ -196,12 +196,14 @@ RECORD_READERS = ['IxdtfParser::' + it for it in ('parse', 'parse_year_month', '
 HANDLER_READERS = [it + '_with_annotation_handler' for it in RECORD_READERS]
 ZONE_READERS = ['TimeZoneParser::' + it for it in ('parse_offset', 'parse_identifier', 'parse_iana_identifier')]
 DURATION_READERS = ['IsoDurationParser::parse']
+DATE_TIME_READERS = ['IxdtfParser::parse_rfc3339']
 GROUPS = {
-    'each reader': RECORD_READERS + HANDLER_READERS + ZONE_READERS + DURATION_READERS,
+    'each reader': RECORD_READERS + HANDLER_READERS + DATE_TIME_READERS + ZONE_READERS + DURATION_READERS,
     'record': RECORD_READERS,
     'handler': HANDLER_READERS,
-    'part': ZONE_READERS + DURATION_READERS,
-    'profile': RECORD_READERS + HANDLER_READERS + DURATION_READERS,
+    'part': DATE_TIME_READERS + ZONE_READERS + DURATION_READERS,
+    'profile': RECORD_READERS + HANDLER_READERS + DATE_TIME_READERS + DURATION_READERS,
+    'text': RECORD_READERS + HANDLER_READERS + DURATION_READERS,
 }
 
 

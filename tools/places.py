@@ -157,11 +157,11 @@ LONG_MONTH = either('0[13578]', '1[02]')
 SHORT_MONTH = either('0[469]', '11')
 
 
-def date(hyphen: str) -> str:
+def date(hyphen: str, year: str = YEAR, leap_year: str = LEAP_YEAR) -> str:
     """A year, a month and a day, with this text between them."""
     of_any_year = either(LONG_MONTH + hyphen + two_digits(1, 31), SHORT_MONTH + hyphen + two_digits(1, 30),
                          '02' + hyphen + two_digits(1, 28))
-    return either(YEAR + hyphen + of_any_year, LEAP_YEAR + hyphen + '02' + hyphen + '29')
+    return either(year + hyphen + of_any_year, leap_year + hyphen + '02' + hyphen + '29')
 
 
 DATE = either(date('-'), date(NOTHING))
@@ -729,6 +729,59 @@ def time_reader(strict: bool) -> Reader:
                             + after(marked_time, ZULU_LINES))
 
 
+# Date-times (GRAMMAR and FAULTS, "Date-times of RFC 3339").
+
+FULL_DATE = date('-', digits(4), LEAP)
+FULL_DATE_SHAPE = digits(4) + '-' + MONTH + '-' + digits(2)
+SECFRAC = r'\.' + some(one(DIGIT))
+UNTIL_MONTH = digits(4) + '-'
+UNTIL_DAY = UNTIL_MONTH + MONTH + '-'
+UNTIL_HOUR = FULL_DATE + one(TIME_LETTER)
+UNTIL_MINUTE = UNTIL_HOUR + HOUR + ':'
+UNTIL_SECOND = UNTIL_MINUTE + MINUTE + ':'
+THROUGH_SECOND = UNTIL_SECOND + two_digits(0, 60)
+THROUGH_TIME = THROUGH_SECOND + maybe(SECFRAC)
+UNTIL_OFFSET_HOUR = THROUGH_TIME + one(SIGN)
+UNTIL_OFFSET_MINUTE = UNTIL_OFFSET_HOUR + HOUR + ':'
+DATE_TIME = either(THROUGH_TIME + one(ZULU), UNTIL_OFFSET_MINUTE + MINUTE)
+
+
+def number_lines(field: str, until: str, number: str, digit: str, out_of_range: str) -> list[Line]:
+    """The lines of a number of two digits, up to it."""
+    return [line(f'field_digits {field}', until + digits(0, 1), DIGIT, abrupt('digit'), digit),
+            whole(f'field_range {field}', until + but_not(number, digits(2)), out_of_range)]
+
+
+def separator_line(field: str, through: str, goes_on: str, error: str) -> Line:
+    """The line of what has to follow a number."""
+    return line(f'after_field {field}', through, goes_on, error, error)
+
+
+DATE_TIME_LINES = [
+    line('four_digits', digits(0, 3), DIGIT, abrupt('digit'), 'DateYear'),
+    line('after_four_digits', digits(4), HYPHEN, abrupt('Date'), 'DateSeparator'),
+    *number_lines('month_field', UNTIL_MONTH, MONTH, 'DateMonth', 'InvalidMonthRange'),
+    separator_line('month_field', UNTIL_MONTH + MONTH, HYPHEN, 'DateSeparator'),
+    line('field_digits day_field', UNTIL_DAY + digits(0, 1), DIGIT, abrupt('digit'), 'DateDay'),
+    whole('field_range day_field', but_not(FULL_DATE, FULL_DATE_SHAPE), 'InvalidDayRange'),
+    separator_line('day_field', FULL_DATE, TIME_LETTER, 'TimeSeparator'),
+    *number_lines('hour_field', UNTIL_HOUR, HOUR, 'TimeHour', 'TimeHour'),
+    separator_line('hour_field', UNTIL_HOUR + HOUR, COLON, 'TimeSeparator'),
+    *number_lines('minute_field', UNTIL_MINUTE, MINUTE, 'TimeMinuteSecond', 'TimeMinuteSecond'),
+    separator_line('minute_field', UNTIL_MINUTE + MINUTE, COLON, 'TimeSeparator'),
+    *number_lines('second_field', UNTIL_SECOND, two_digits(0, 60), 'TimeSecond', 'TimeSecond'),
+    line('after_field second_field', THROUGH_SECOND, '.' + SIGN + ZULU, abrupt('time-numoffset'),
+         At(',', 'FractionPart', 'OffsetNeedsSign')),
+    line('after_point', THROUGH_SECOND + r'\.', DIGIT, 'FractionPart', 'FractionPart'),
+    line('after_secfrac', THROUGH_SECOND + SECFRAC, DIGIT + SIGN + ZULU, abrupt('time-numoffset'), 'OffsetNeedsSign'),
+    *number_lines('offset_hour_field', UNTIL_OFFSET_HOUR, HOUR, 'TimeHour', 'TimeHour'),
+    separator_line('offset_hour_field', UNTIL_OFFSET_HOUR + HOUR, COLON, 'UtcTimeSeparator'),
+    *number_lines('offset_minute_field', UNTIL_OFFSET_MINUTE, MINUTE, 'TimeMinuteSecond', 'TimeMinuteSecond'),
+    line('after_field offset_minute_field', UNTIL_OFFSET_MINUTE + MINUTE, NOTHING, OK, 'InvalidEnd'),
+    line('after_utc', THROUGH_TIME + one(ZULU), NOTHING, OK, 'InvalidEnd'),
+]
+
+
 def readers(strict: bool) -> dict[str, Reader]:
     """The readers of a profile, by their names."""
     after_sign = after(one(SIGN), clock_lines(OFFSET_CLOCK, NOTHING_FOLLOWS))
@@ -738,6 +791,7 @@ def readers(strict: bool) -> dict[str, Reader]:
         'parse_year_month': bracketed_reader(YEAR_MONTH, YEAR_LINES + MONTH_LINES + YEAR_MONTH_LINES),
         'parse_month_day': bracketed_reader(month_day(strict), month_day_lines(strict)),
         'parse_time': time_reader(strict),
+        'parse_rfc3339': Reader(DATE_TIME, DATE_TIME_LINES),
         'parse_offset': Reader(OFFSET, OFFSET_START_LINES + after_sign),
         'parse_identifier': Reader(ZONE, IDENTIFIER_LINES + NAME_ALONE_LINES + AFTER_SLASH_LINES + minute_after_sign),
         'parse_iana_identifier': Reader(NAME, IANA_LINES + NAME_ALONE_LINES + AFTER_SLASH_LINES),

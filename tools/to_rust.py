@@ -69,7 +69,7 @@ LAYERS = {
     'ixdtf_instants': 'days instant'.split(),
     'ixdtf_grammar': 'encoding error instants located packed pointed records parsers/profile'.split(),
     'ixdtf_reading': 'cursor classes stop parsers/annotations parsers/letters'.split(),
-    'ixdtf_times': 'parsers/date_times parsers/dates parsers/months parsers/offsets parsers/time'.split(),
+    'ixdtf_times': 'parsers/date_times parsers/dates parsers/months parsers/offsets parsers/rfc3339 parsers/time'.split(),
     'ixdtf_brackets': 'parsers/brackets parsers/zone'.split(),
     'ixdtf_durations': 'parsers/date_groups parsers/duration parsers/group_numbers parsers/time_groups'.split(),
 }
@@ -137,7 +137,7 @@ ADDED = {
     ('records', 'Sign'): '#[repr(i8)]',
 }
 OPEN = {name for (_, name), attribute in ADDED.items() if attribute == '#[non_exhaustive]'}
-INLINED = {'parsers', 'parsers/handled', 'parsers/unhandled', 'parsers/time_zone_parser', 'parsers/duration'}
+INLINED = {'parsers', 'parsers/exact', 'parsers/handled', 'parsers/unhandled', 'parsers/time_zone_parser', 'parsers/duration'}
 MARKED = INLINED | {'error', 'instants', 'located', 'records', 'canonical', 'length'}
 # names in the module above to which doc comments of a module link
 FARTHER = {'parsers/unhandled': ('Profile', 'TimeZoneParser')}

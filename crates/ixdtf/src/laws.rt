@@ -14,6 +14,7 @@ ghost use Rattle.ixdtf_grammar.specs.Handlers.{pair_of};
 ghost use Rattle.ixdtf_grammar.specs.Laws.{EveryDateTimeIsRead, EveryNameIsAnIdentifier, LanguagesDisjoint};
 ghost use Rattle.ixdtf_grammar.specs.Laws.{OffsetsAgree, HyphensSayNothing, OneHyphenIsRefused, OneResult, OnePlace, OneChain};
 ghost use Rattle.ixdtf_grammar.specs.Laws.{DefaultIs, ClonesAreEqual, IsEqualityBy};
+ghost use Rattle.ixdtf_grammar.specs.Rfc3339Laws.{DerivesDateTimesAlone, ParseReadsTheSame};
 ghost use Rattle.ixdtf_grammar.specs.Widths.{OneUnhandledOutcome, SameWhereShared, FaultWhereNotShared};
 ghost use Rattle.ixdtf_grammar.specs.Widths.{SamePlaceWhereShared, PlaceWhereNotShared, NonAsciiIsFirst, NonAsciiIsWide};
 ghost use Rattle.ixdtf_grammar.specs.table.Outcomes.{OneOutcome, FrontsBegin};
@@ -38,6 +39,16 @@ use ixdtf_reading::stop::FromStop;
 /// clause `ok` of `parse`.
 pub fn every_rfc3339_date_time_is_read()
     ensures { EveryDateTimeIsRead }
+{}
+
+/// States that `parse_rfc3339` accepts exactly the date-times of RFC 3339, and that `parse` reads them alike.
+///
+/// - `alone`: [`IxdtfParser::parse_rfc3339`] accepts a text exactly if the text is a `date-time` by the productions of
+///   RFC 3339, section 5.6, with a day that the month has.
+/// - `same`: [`IxdtfParser::parse`] accepts each of these texts too, and returns an equal record.
+pub fn rfc3339_date_times_are_read_alike()
+    ensures alone { DerivesDateTimesAlone }
+    ensures same { ParseReadsTheSame }
 {}
 
 /// States that an accepted name is the complete text, and that `parse_identifier` returns it too.

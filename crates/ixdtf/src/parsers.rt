@@ -14,6 +14,7 @@ ghost use Rattle.std.specs.Prelude.{◌≡◌, map};
 ghost use Rattle.ixdtf_grammar.specs.Views.{UnreadUnder, under};
 
 mod cores;
+mod exact;
 mod handled;
 mod replies;
 mod texts;

@@ -8,7 +8,7 @@ use Rattle.ixdtf_grammar.specs.declared.records.{Sign.TheVariants.{Negative, Pos
 use Rattle.ixdtf_grammar.specs.declared.records.{TimeDurationRecord.TheVariants.{Hours, Minutes, Seconds}, TimeRecord.TimeRecord}
 use Rattle.ixdtf_grammar.specs.declared.records.{UtcOffsetRecord.UtcOffsetRecord, UtcOffsetRecordOrZ.UtcOffsetRecordOrZ}
 use Rattle.ixdtf.specs.language.{Digits.padded_digits, Fractions.{FractionParts, nanoseconds_of}, Brackets.ZoneNote}
-use Rattle.ixdtf.specs.language.{Languages.{Parsed, Found, Found.{parsed, shifted, identified, named, lasting}}, ZoneNames.{Zone, Zone.{Name, Offset}}}
+use Rattle.ixdtf.specs.language.{Languages.{Parsed, Found, Found.{parsed, dated, shifted, identified, named, lasting}}, ZoneNames.{Zone, Zone.{Name, Offset}}}
 use Rattle.ixdtf_print.specs.{Canonical.canonical_text, Shown.code_point}
 
 -- `,`
@@ -160,6 +160,7 @@ duration_text_of duration = sign_field_of duration.sign ++ (date_duration_field_
 -- the fields of what a reader derives
 abbrev pub fields_of : Found → List ℕ
 fields_of (parsed found) = record_fields_of found
+fields_of (dated found) = record_fields_of found
 fields_of (shifted offset) = offset_text_of offset
 fields_of (identified zone) = zone_text_of false zone
 fields_of (named name) = zone_text_of false (Name name)
@@ -168,6 +169,7 @@ fields_of (lasting duration) = duration_text_of duration
 -- a space, and the bytes of the canonical text of a record; nothing else has one
 abbrev pub canonical_field_of : Found → List ℕ
 canonical_field_of (parsed found) = codes " " ++ map code_point (canonical_text found)
+canonical_field_of (dated found) = codes " " ++ map code_point (canonical_text found)
 canonical_field_of (shifted offset) = []
 canonical_field_of (identified zone) = []
 canonical_field_of (named name) = []

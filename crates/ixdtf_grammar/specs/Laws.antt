@@ -5,7 +5,7 @@ use Rattle.ixdtf_grammar.specs.{declared.records.UtcOffsetRecord.TheVariants.Min
 use Rattle.ixdtf_grammar.specs.language.{Brackets.Pair, Dates.{Year, Month}, Languages.{Parsed, Found, Derives, Found.{parsed, shifted, identified, named}}}
 use Rattle.ixdtf_grammar.specs.language.{Letters.{Text, Letter.Plain}, Readers.{Reader, CoreKind, parse}}
 use Rattle.ixdtf_grammar.specs.language.Readers.CoreKind.{date_time, year_month, month_day, time_of_day}
-use Rattle.ixdtf_grammar.specs.language.Readers.Reader.{bracketed, parse_offset, parse_identifier, parse_iana_identifier, parse_duration}
+use Rattle.ixdtf_grammar.specs.language.Readers.Reader.{bracketed, parse_rfc3339, parse_offset, parse_identifier, parse_iana_identifier, parse_duration}
 use Rattle.ixdtf_grammar.specs.{language.{Rfc3339.IsRfcDateTime, Shapes.{digits, some}, ZoneNames.{Zone, Zone.{Name, Offset}}}, table.Faults.Fault}
 use Rattle.ixdtf_grammar.specs.{table.{Faults.Fault.DateSeparator, Outcomes.ExactlyOne}, Places.{GivesFaultAt, GivesOnlyPlace}}
 use Rattle.ixdtf_grammar.specs.Widths.{UnhandledOutcome, HasUnhandledOutcome, UnhandledOutcome.faulted}
@@ -51,9 +51,11 @@ IsKindUnder profile year_month = Unit {0}
 IsKindUnder profile (month_day other) = other ≡ profile
 IsKindUnder profile (time_of_day other) = other ≡ profile
 
--- the readers of dates, times and durations under the profile, and not those of an offset or a zone alone
+-- the readers of dates, times and durations under the profile, and not those of an offset or a zone alone, nor that of a
+-- date-time of RFC 3339, whose texts are texts of `parse`
 abbrev pub IsTextReader : Profile → Reader → Type 0
 IsTextReader profile (bracketed kind) = IsKindUnder profile kind
+IsTextReader profile parse_rfc3339 = ⊥
 IsTextReader profile parse_offset = ⊥
 IsTextReader profile parse_identifier = ⊥
 IsTextReader profile parse_iana_identifier = ⊥

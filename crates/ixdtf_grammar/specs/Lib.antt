@@ -6,6 +6,7 @@ pub mod LocatedEquality
 pub mod LocatedTexts
 pub mod Places
 pub mod Promises
+pub mod Rfc3339Laws
 pub mod Views
 pub mod Widths
 pub mod language

@@ -1,7 +1,7 @@
 -- The place of the fault that a text and the replies to its pairs give: how many code units stand before it.
 use Rattle.std.specs.Prelude.{◌≡◌, ◌↔◌, ◌⊎◌, ℕ, List, [], ◌++◌, length, Result, Ok, Err}
 use Rattle.ixdtf_grammar.specs.language.{Letters.Text, Brackets.Pair, Readers.Reader}
-use Rattle.ixdtf_grammar.specs.language.Readers.Reader.{bracketed, parse_offset, parse_identifier, parse_iana_identifier, parse_duration}
+use Rattle.ixdtf_grammar.specs.language.Readers.Reader.{bracketed, parse_rfc3339, parse_offset, parse_identifier, parse_iana_identifier, parse_duration}
 use Rattle.ixdtf_grammar.specs.{language.Languages.{Parsed, Derives, Found.parsed}, table.{Faults.Fault, Outcomes.HasFaultAt}, Handlers.{Reply, NoneRefused}}
 use Rattle.ixdtf_grammar.specs.Handlers.{LastRefused, GivesRecord, GivesOnlyFault, Calls, handed, replies_of, Step, IsChain, own_replies, HandledTo}
 use Rattle.ixdtf_grammar.specs.Views.{returned_by}
@@ -33,6 +33,7 @@ UnhandledOnlyPlace reader text fault at = (other : Fault) (there : ℕ) → Unha
 -- in the reader without a handler the text has the fault behind so many code units
 abbrev pub HasUnhandledFaultAt : Reader → Text → Fault → ℕ → Type 0
 HasUnhandledFaultAt (bracketed kind) text fault at = UnhandledFaultAt (bracketed kind) text fault at
+HasUnhandledFaultAt parse_rfc3339 text fault at = HasFaultAt parse_rfc3339 text [] fault at
 HasUnhandledFaultAt parse_offset text fault at = HasFaultAt parse_offset text [] fault at
 HasUnhandledFaultAt parse_identifier text fault at = HasFaultAt parse_identifier text [] fault at
 HasUnhandledFaultAt parse_iana_identifier text fault at = HasFaultAt parse_iana_identifier text [] fault at

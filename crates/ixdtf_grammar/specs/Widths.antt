@@ -1,8 +1,8 @@
 -- Two widths: what a reader without a handler returns for numbers as 16-bit code units, and as 8-bit code units.
 use Rattle.std.specs.Prelude.{◌≡◌, ◌↔◌, ◌⊎◌, ℕ, Bool, IsTrue, IsFalse, List, [], ◌∷◌, ◌++◌, map, length, All, Any, nat_le, ◌&&◌, if◌then◌else◌}
 use Rattle.ixdtf_grammar.specs.language.{Letters.{Text, byte_letter, wide_letter}, Readers.{Reader, CoreKind}}
-use Rattle.ixdtf_grammar.specs.language.Readers.Reader.{bracketed, parse_offset, parse_identifier, parse_iana_identifier, parse_duration}
-use Rattle.ixdtf_grammar.specs.{language.Languages.{Found, Derives, Found.{parsed, shifted, identified, named, lasting}}, table.Faults.Fault}
+use Rattle.ixdtf_grammar.specs.language.Readers.Reader.{bracketed, parse_rfc3339, parse_offset, parse_identifier, parse_iana_identifier, parse_duration}
+use Rattle.ixdtf_grammar.specs.{language.Languages.{Found, Derives, Found.{parsed, dated, shifted, identified, named, lasting}}, table.Faults.Fault}
 use Rattle.ixdtf_grammar.specs.{table.{Faults.Fault.NonAsciiCodePoint, Outcomes.{HasFault, ExactlyOne}}, Handlers.{UnhandledRecord, UnhandledFault}}
 use Rattle.ixdtf_grammar.specs.Places.{HasUnhandledFaultAt}
 
@@ -16,6 +16,7 @@ pub data UnhandledOutcome : Type 0 where
 -- the text has the outcome in a reader with brackets, where each pair is its own reply
 abbrev pub HasWithPairs : CoreKind → Text → UnhandledOutcome → Type 0
 HasWithPairs kind text (read_as (parsed found)) = UnhandledRecord (bracketed kind) text found
+HasWithPairs kind text (read_as (dated found)) = ⊥
 HasWithPairs kind text (read_as (shifted offset)) = ⊥
 HasWithPairs kind text (read_as (identified zone)) = ⊥
 HasWithPairs kind text (read_as (named units)) = ⊥
@@ -30,6 +31,7 @@ HasAlone reader text (faulted fault) = HasFault reader text [] fault
 -- the text has the outcome in the reader
 abbrev pub HasUnhandledOutcome : Reader → Text → UnhandledOutcome → Type 0
 HasUnhandledOutcome (bracketed kind) text outcome = HasWithPairs kind text outcome
+HasUnhandledOutcome parse_rfc3339 text outcome = HasAlone parse_rfc3339 text outcome
 HasUnhandledOutcome parse_offset text outcome = HasAlone parse_offset text outcome
 HasUnhandledOutcome parse_identifier text outcome = HasAlone parse_identifier text outcome
 HasUnhandledOutcome parse_iana_identifier text outcome = HasAlone parse_iana_identifier text outcome

@@ -1,6 +1,7 @@
 -- The grammar: which texts stand for what.
 pub mod Brackets
 pub mod Cores
+pub mod DateTimes
 pub mod Dates
 pub mod Digits
 pub mod Durations

@@ -1,5 +1,6 @@
 -- The fault table: the errors, and where each fits.
 pub mod Before
+pub mod DateTimeFronts
 pub mod DurationFronts
 pub mod ErrorEquality
 pub mod ErrorTexts

@@ -2,6 +2,7 @@
 pub mod DigitClasses
 pub mod EqualUnits
 pub mod FirstLetter
+pub mod FixedDateTimes
 pub mod FixedPlaces
 pub mod FractionLoop
 pub mod LetterLoops

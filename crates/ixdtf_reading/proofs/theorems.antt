@@ -10,3 +10,4 @@ pub mod OneUnhandledOutcome
 pub mod OnlyOutcome
 pub mod Replies
 pub mod Rfc3339
+pub mod Rfc3339Texts

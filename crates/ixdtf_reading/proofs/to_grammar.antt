@@ -1,5 +1,6 @@
 -- From reading to the grammar and the table: what is read is derived, and each fault is that of a row that fits.
 pub mod Cores
+pub mod DateTimes
 pub mod Dates
 pub mod Durations
 pub mod FirstBracket

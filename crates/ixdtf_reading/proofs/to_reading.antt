@@ -1,6 +1,7 @@
 -- From the grammar and the table to reading: what is derived is read, and each row that fits is found.
 pub mod ClockRows
 pub mod Cores
+pub mod DateTimes
 pub mod Dates
 pub mod Durations
 pub mod FirstBracket

@@ -3,6 +3,7 @@ pub mod Brackets
 pub mod Chains
 pub mod Clauses
 pub mod Cores
+pub mod DateTimes
 pub mod Dates
 pub mod Durations
 pub mod FixedPlaces

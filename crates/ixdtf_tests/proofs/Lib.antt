@@ -2,6 +2,7 @@ pub mod Helpers
 pub mod Dates
 pub mod Months
 pub mod Times
+pub mod DateTimes
 pub mod Offsets
 pub mod LoneTimes
 pub mod Zones

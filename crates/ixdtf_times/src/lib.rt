@@ -10,4 +10,5 @@ pub mod date_times;
 pub mod dates;
 pub mod months;
 pub mod offsets;
+pub mod rfc3339;
 pub mod time;

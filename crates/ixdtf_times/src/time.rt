@@ -104,6 +104,19 @@ impl WholeTime {
     {
         self.hour <= 23 && self.minute <= 59 && self.second <= 60
     }
+
+    /// The record of it, with a fraction where there is one.
+    #[inline(always)]
+    pub fn with_fraction(self, fraction: Option<Fraction>) -> TimeRecord
+        ensures { result ≡ time_of self.hour self.minute self.second fraction }
+    {
+        TimeRecord {
+            hour: self.hour,
+            minute: self.minute,
+            second: self.second,
+            fraction,
+        }
+    }
 }
 
 /// Returns the time in the eight columns after a date and a separator, or `None` if a column does not fit. The ranges
@@ -161,7 +174,7 @@ fn check_most(number: u8, greatest: u8, stop: Stop) -> Result<u8, Stop>
 /// for a greater number.
 #[inline(always)]
 #[tactic(auto, unfolding(ixdtf_reading::specs::reading::Looks::number_by, ixdtf_reading::specs::reading::Looks::in_range))]
-fn next_number<'a, T: EncodingType>(
+pub fn next_number<'a, T: EncodingType>(
     cursor: &mut Cursor<'a, T>,
     greatest: u8,
     stop: Stop,

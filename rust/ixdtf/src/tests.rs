@@ -27,6 +27,7 @@ mod records;
 mod refused;
 mod refused_replies;
 mod replies;
+mod rfc3339;
 mod times;
 mod wide;
 mod wide_refused;
@@ -235,6 +236,8 @@ enum Reader {
     MonthDay,
     /// `IxdtfParser::parse_time`.
     Time,
+    /// `IxdtfParser::parse_rfc3339`.
+    Rfc3339,
     /// `TimeZoneParser::parse_offset`.
     Offset,
     /// `TimeZoneParser::parse_identifier`.
@@ -310,6 +313,7 @@ impl<'a, T: EncodingType> Parsers<'a, T> {
             Reader::YearMonth => self.dates.parse_year_month(),
             Reader::MonthDay => self.dates.parse_month_day(),
             Reader::Time => self.dates.parse_time(),
+            Reader::Rfc3339 => self.dates.parse_rfc3339(),
             Reader::Offset => {
                 return match self.zones.parse_offset() {
                     Ok(offset) => Ok(Found::Offset(offset)),
@@ -356,6 +360,7 @@ impl<'a, T: EncodingType> Parsers<'a, T> {
             Reader::YearMonth => self.dates.parse_year_month_located(),
             Reader::MonthDay => self.dates.parse_month_day_located(),
             Reader::Time => self.dates.parse_time_located(),
+            Reader::Rfc3339 => self.dates.parse_rfc3339_located(),
             Reader::Offset => {
                 return match self.zones.parse_offset_located() {
                     Ok(_found) => None,

@@ -188,6 +188,21 @@ fn reads_located() -> bool {
         && IxdtfParser::from_str("T12").parse_time_located().is_ok()
 }
 
+// Whether the readers of date-times of RFC 3339 are there, and read one.
+fn reads_date_times() -> bool {
+    IxdtfParser::from_str("2020-01-01T00:00:00Z")
+        .parse_rfc3339()
+        .is_ok()
+        && IxdtfParser::from_str("2020-01-01T00:00:00Z")
+            .parse_rfc3339_located()
+            .is_ok()
+}
+
+#[test]
+fn has_the_readers_of_date_times(rt: HostRuntime) {
+    check(&rt, "date-times", reads_date_times());
+}
+
 // Whether the located readers of zones are there, and read a text each.
 fn reads_located_zones() -> bool {
     TimeZoneParser::from_str("+01")

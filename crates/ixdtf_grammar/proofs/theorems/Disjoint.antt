@@ -4,7 +4,7 @@ use Rattle.ixdtf_grammar.specs.{declared.{profile.Profile.Profile, records.DateR
 use Rattle.ixdtf_grammar.specs.language.{Shapes.{Shape, some}, Dates.DateText, Months.{IsYearMonth, IsMonthDay}, Brackets.Pair}
 use Rattle.ixdtf_grammar.specs.language.{Cores.{Core, IsDateTimeCore, BeginsWith, IsCore}, Durations.IsDuration, Readers.{Reader, CoreKind}}
 use Rattle.ixdtf_grammar.specs.language.Readers.CoreKind.{date_time, year_month, month_day, time_of_day}
-use Rattle.ixdtf_grammar.specs.language.Readers.Reader.{bracketed, parse_offset, parse_identifier, parse_iana_identifier, parse_duration}
+use Rattle.ixdtf_grammar.specs.language.Readers.Reader.{bracketed, parse_rfc3339, parse_offset, parse_identifier, parse_iana_identifier, parse_duration}
 use Rattle.ixdtf_grammar.specs.language.Languages.{Parsed, IsBracketed, Derives.{as_parsed, as_lasting}}
 use Rattle.ixdtf_grammar.specs.Laws.{IsKindUnder, IsTextReader, InLanguage, LanguagesDisjoint, InNoOther}
 use Rattle.ixdtf_grammar.proofs.{parts.{CoreLetters.{same_core, no_duration}, Texts.year_month_text}, theorems.CoreEnds.{tail_ends, core_inside}}
@@ -131,6 +131,7 @@ languages_disjoint profile text (bracketed first) (parse_duration second) is too
 languages_disjoint profile text (parse_duration first) (bracketed second) is too h k =
     absurd (whole_no_duration first second text (whole_of second text k) (duration_of first text h))
 languages_disjoint profile text (parse_duration first) (parse_duration second) is too h k = ap parse_duration (is ∙ sym too)
+languages_disjoint profile text parse_rfc3339 second is too h k = absurd is
 languages_disjoint profile text parse_offset second is too h k = absurd is
 languages_disjoint profile text parse_identifier second is too h k = absurd is
 languages_disjoint profile text parse_iana_identifier second is too h k = absurd is

@@ -2,15 +2,21 @@
 -- which stands at Bad alone.
 use Rattle.std.proofs.Common.{◌≡◌, ◌⊎◌, ℕ, ◌≤◌, length, nat_lt, arith, Bool, true, false, ◌||◌, cond, IsFalse, List, ◌∷◌, ◌++◌, refl, sym, ap, subst, ◌∙◌, ◌≢◌, inl, inr, append_assoc}
 use Rattle.std.proofs.lemmas.Bool.{both_ways, or_parts, Decides.nat_tests}
-use Rattle.ixdtf_grammar.specs.language.{Letters.{Text, hyphen, colon, digit, closing, Letter.Bad}, Times.{Clock, Clock as clocks}, Durations.{Half, Half as halves}}
+use Rattle.ixdtf_grammar.specs.language.{Letters.{Text, hyphen, colon, decimal_mark, digit, closing, Letter.Bad}, Times.{Clock, Clock as clocks}, Durations.{Half, Half as halves}}
 use Rattle.ixdtf_grammar.specs.{language.{Brackets.Pair, Readers.{Reader, has_brackets}}, table.Faults.{Fault, never_comes, is_refusal}}
 use Rattle.ixdtf_grammar.specs.table.Faults.Fault.{NonAsciiCodePoint, UnrecognizedCritical, CriticalDuplicateCalendar, DateSeparator, DateDay, InvalidEnd}
+use Rattle.ixdtf_grammar.specs.table.Faults.Fault.{FractionPart, OffsetNeedsSign}
+use Rattle.ixdtf_grammar.specs.table.DateTimeFronts.{Field, Field.{month_field, day_field, hour_field, minute_field, second_field, offset_hour_field}}
+use Rattle.ixdtf_grammar.specs.table.DateTimeFronts.Field.{offset_minute_field}
+use Rattle.ixdtf_grammar.specs.table.LineNames.{DateTimeLine, DateTimeLine.{four_digits, after_four_digits, field_digits, field_range, after_field}}
+use Rattle.ixdtf_grammar.specs.table.LineNames.DateTimeLine.{after_point, after_secfrac, after_utc}
+use Rattle.ixdtf_grammar.specs.table.Lines.{digit_fault, range_fault, after_field_line, date_time_line}
 use Rattle.ixdtf_grammar.specs.table.{Faults.Fault.IanaChar, LineNames.{LineName, of_date, of_year_month, of_month_day, of_time, DateLine.after_basic_month}}
 use Rattle.ixdtf_grammar.specs.table.LineNames.{YearMonthLine.after_year_month, MonthDayLine.month_day_month_range, TimeLine.time_reads_as_year_month}
 use Rattle.ixdtf_grammar.specs.table.LineNames.{OffsetLine.after_zulu, BracketLine.after_bracket, PairLine.key_start}
 use Rattle.ixdtf_grammar.specs.table.LineNames.ClockLine.{after_hour, after_basic_minute, after_colon_minute, second_digits, second_range, after_second}
 use Rattle.ixdtf_grammar.specs.table.LineNames.{ClockLine.after_fraction, ZoneLine.in_zone_name, DurationLine.{group_digits, unit_order}}
-use Rattle.ixdtf_grammar.specs.table.LineNames.LineName.{of_clock, of_offset, of_zone, of_bracket, of_pair, of_duration}
+use Rattle.ixdtf_grammar.specs.table.LineNames.LineName.{of_clock, of_offset, of_date_time, of_zone, of_bracket, of_pair, of_duration}
 use Rattle.ixdtf_grammar.specs.table.Lines.{Line, Ending, Follow, follow_of, mixed, second_fault, after_minute, zone_line, no_designator, order_fault, line_of}
 use Rattle.ixdtf_grammar.specs.table.{Lines.{Line.{line, scanned, whole}, Ending.{ok, error}}, Rows.{Place, Stops, Place.{end, other, bad, anywhere}}}
 use Rattle.ixdtf_grammar.specs.table.{ErrorTexts.message_of, Outcomes.HasFault}
@@ -69,6 +75,35 @@ minute_has : (brackets : Bool) (clock : Clock) → EndHas (follow_of brackets cl
 minute_has brackets clock =
     let f = follow_has brackets clock in (f.0, λ c. either_has (colon c || digit c) (mixed clock) (follow_of brackets clock).at_other (clock_has clock).0 f.1)
 
+-- each line of a date-time has errors that a row may have
+field_has : (field : Field) → IsFalse (no_row (digit_fault field)) × IsFalse (no_row (range_fault field))
+field_has month_field = (refl, refl)
+field_has day_field = (refl, refl)
+field_has hour_field = (refl, refl)
+field_has minute_field = (refl, refl)
+field_has second_field = (refl, refl)
+field_has offset_hour_field = (refl, refl)
+field_has offset_minute_field = (refl, refl)
+
+after_field_has : (brackets : Bool) (field : Field) → LineHas (after_field_line brackets field)
+after_field_has brackets month_field = (refl, λ c. refl)
+after_field_has brackets day_field = (refl, λ c. refl)
+after_field_has brackets hour_field = (refl, λ c. refl)
+after_field_has brackets minute_field = (refl, λ c. refl)
+after_field_has brackets second_field = (refl, λ c. either_has (decimal_mark c) FractionPart OffsetNeedsSign refl refl)
+after_field_has brackets offset_hour_field = (refl, λ c. refl)
+after_field_has brackets offset_minute_field = (refl, λ c. refl)
+
+date_time_has : (brackets : Bool) (name : DateTimeLine) → LineHas (date_time_line brackets name)
+date_time_has brackets (field_digits field) = let has = (field_has field).0 in (refl, λ c. has)
+date_time_has brackets (field_range field) = let has = (field_has field).1 in (has, λ c. has)
+date_time_has brackets (after_field field) = after_field_has brackets field
+date_time_has brackets four_digits = (refl, λ c. refl)
+date_time_has brackets after_four_digits = (refl, λ c. refl)
+date_time_has brackets after_point = (refl, λ c. refl)
+date_time_has brackets after_secfrac = (refl, λ c. refl)
+date_time_has brackets after_utc = (refl, λ c. refl)
+
 -- one line of each group is written out, so that the last case tells the others apart
 line_has : (brackets : Bool) (name : LineName) → LineHas (line_of brackets name)
 line_has brackets (of_date after_basic_month) = (refl, λ c. either_has (hyphen c) DateSeparator DateDay refl refl)
@@ -79,6 +114,7 @@ line_has brackets (of_clock clock second_digits) = (refl, λ c. (clock_has clock
 line_has brackets (of_clock clock second_range) = let has = (clock_has clock).1 in (has, λ c. has)
 line_has brackets (of_clock clock after_second) = let f = follow_has brackets clock in (f.0, λ c. f.1)
 line_has brackets (of_clock clock after_fraction) = let f = follow_has brackets clock in (f.0, λ c. f.1)
+line_has brackets (of_date_time name) = date_time_has brackets name
 line_has brackets (of_zone in_zone_name) = zone_has brackets
 line_has brackets (of_duration profile (group_digits half)) = let has = (half_has half).0 in (has, λ c. has)
 line_has brackets (of_duration profile (unit_order half)) = let has = (half_has half).1 in (has, λ c. has)

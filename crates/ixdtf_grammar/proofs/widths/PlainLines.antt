@@ -19,7 +19,7 @@ use Rattle.ixdtf_grammar.specs.table.LineNames.PairLine.{key_start, critical_key
 use Rattle.ixdtf_grammar.specs.table.LineNames.DurationLine.{duration_start, after_duration_sign, after_duration_designator, after_date_groups}
 use Rattle.ixdtf_grammar.specs.table.LineNames.DurationLine.{after_time_designator, group_digits, group_value_range, unit_order, date_unit_range}
 use Rattle.ixdtf_grammar.specs.table.LineNames.DurationLine.{group_fraction_start, group_fraction_digits, after_time_groups, after_fraction_group}
-use Rattle.ixdtf_grammar.specs.table.{LineNames.LineName.{of_core, of_clock, of_offset, of_zone, of_bracket, of_pair, of_duration}, Lines.{Follow, date_line}}
+use Rattle.ixdtf_grammar.specs.table.{LineNames.LineName.{of_core, of_clock, of_offset, of_date_time, of_zone, of_bracket, of_pair, of_duration}, Lines.{Follow, date_line}}
 use Rattle.ixdtf_grammar.specs.table.Lines.{year_month_line, month_day_line, time_line, core_line, clock_line, offset_line, zone_line, bracket_line}
 use Rattle.ixdtf_grammar.specs.table.{Lines.{pair_line, duration_line, Hour, line_of}, Rows.front_of}
 use Rattle.ixdtf_grammar.proofs.widths.PlainTexts.{PlainShape, plain_nothing, plain_one, ◌and_then◌, ◌or_else◌, plain_digits, plain_fewer, plain_some_digits}
@@ -27,7 +27,7 @@ use Rattle.ixdtf_grammar.proofs.widths.PlainTexts.{plain_many, plain_with, plain
 use Rattle.ixdtf_grammar.proofs.{parts.CoreLetters.{in_year, in_hyphens, in_marks, in_year_month, in_month_day}, theorems.CoreEnds.{in_date, in_clock}}
 use Rattle.ixdtf_grammar.proofs.widths.{PlainTexts.{plain_name, plain_key, plain_value}, PlainDurations.{designator_plain, plain_number, plain_in_context}}
 use Rattle.ixdtf_grammar.proofs.widths.PlainDurations.{plain_after_dates, plain_after_time, plain_after_times, plain_value_past, plain_out_of_order}
-use Rattle.ixdtf_grammar.proofs.widths.PlainDurations.{plain_unit_past, plain_last_group}
+use Rattle.ixdtf_grammar.proofs.widths.{PlainDurations.{plain_unit_past, plain_last_group}, PlainDateTimes.plain_date_time_line}
 
 -- ---- cores
 
@@ -161,6 +161,7 @@ pub plain_line : (brackets : Bool) (name : LineName) → PlainShape (front_of (l
 plain_line brackets (of_core name) = plain_core_line name
 plain_line brackets (of_clock clock name) = plain_clock_line _ clock name
 plain_line brackets (of_offset name) = plain_offset_line name
+plain_line brackets (of_date_time name) = plain_date_time_line brackets name
 plain_line brackets (of_zone name) = plain_zone_line brackets name
 plain_line brackets (of_bracket name) = plain_bracket_line name
 plain_line brackets (of_pair name) = plain_pair_line name

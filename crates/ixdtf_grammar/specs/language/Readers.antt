@@ -8,11 +8,11 @@ pub data CoreKind : Type 0 where
   date_time year_month : CoreKind
   month_day time_of_day : Profile → CoreKind
 
--- the readers: of a core and the brackets after it, of an offset, of a time zone, of the name of one, and of a duration under
--- a profile
+-- the readers: of a core and the brackets after it, of a date-time of RFC 3339, of an offset, of a time zone, of the name of
+-- one, and of a duration under a profile
 pub data Reader : Type 0 where
   bracketed : CoreKind → Reader
-  parse_offset parse_identifier parse_iana_identifier : Reader
+  parse_rfc3339 parse_offset parse_identifier parse_iana_identifier : Reader
   parse_duration : Profile → Reader
 
 abbrev pub parse : Reader
@@ -30,6 +30,7 @@ parse_time profile = bracketed (time_of_day profile)
 -- whether brackets may follow what the reader reads; what may follow a part of it depends on this
 abbrev pub has_brackets : Reader → Bool
 has_brackets (bracketed kind) = true
+has_brackets parse_rfc3339 = false
 has_brackets parse_offset = false
 has_brackets parse_identifier = false
 has_brackets parse_iana_identifier = false

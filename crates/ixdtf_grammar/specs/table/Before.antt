@@ -5,7 +5,7 @@ use Rattle.ixdtf_grammar.specs.language.{Shapes.{Shape, nothing, one, ◌then◌
 use Rattle.ixdtf_grammar.specs.language.{Times.Clock.{Time, Offset, MinuteOffset}, Brackets.{ZoneNote, Opens, ReadsAsName, ReadsAsPair, Pair, IsTail}}
 use Rattle.ixdtf_grammar.specs.language.{Cores.{TimeMark, MarkedTime, BeginsWith, IsCore}, Readers.{Reader, CoreKind}}
 use Rattle.ixdtf_grammar.specs.language.Readers.CoreKind.{date_time, year_month, month_day, time_of_day}
-use Rattle.ixdtf_grammar.specs.language.Readers.Reader.{bracketed, parse_offset, parse_identifier, parse_iana_identifier, parse_duration}
+use Rattle.ixdtf_grammar.specs.language.Readers.Reader.{bracketed, parse_rfc3339, parse_offset, parse_identifier, parse_iana_identifier, parse_duration}
 use Rattle.ixdtf_grammar.specs.table.LineNames.{DateLine, MonthDayLine, TimeLine, CoreLine, ClockLine, OffsetLine, LineName, DateLine.year_start}
 use Rattle.ixdtf_grammar.specs.table.LineNames.DateLine.{year_digits, extended_year_digits, minus_zero_year, after_year, month_digits, month_range}
 use Rattle.ixdtf_grammar.specs.table.LineNames.DateLine.{after_hyphened_month, after_basic_month, day_digits, day_range, after_date}
@@ -18,7 +18,7 @@ use Rattle.ixdtf_grammar.specs.table.LineNames.{ClockLine.{after_second, fractio
 use Rattle.ixdtf_grammar.specs.table.LineNames.ZoneLine.{identifier_start, zone_name_start, in_zone_name, after_zone_slash}
 use Rattle.ixdtf_grammar.specs.table.LineNames.BracketLine.{first_bracket_start, first_critical_start, first_bracket_scan, after_bracket}
 use Rattle.ixdtf_grammar.specs.table.LineNames.PairLine.{key_start, critical_key_start, in_key, value_start, in_value, after_value_hyphen}
-use Rattle.ixdtf_grammar.specs.table.LineNames.LineName.{of_core, of_clock, of_offset, of_zone, of_bracket, of_pair, of_duration}
+use Rattle.ixdtf_grammar.specs.table.LineNames.LineName.{of_core, of_clock, of_offset, of_date_time, of_zone, of_bracket, of_pair, of_duration}
 
 -- ---- lines of cores
 
@@ -162,6 +162,7 @@ BeforeBracketed kind (of_clock Time line) pairs before rest = BeforeTime kind li
 BeforeBracketed kind (of_clock Offset line) pairs before rest = (BeforeOffset kind then one sign) before × (pairs ≡ [])
 BeforeBracketed kind (of_clock MinuteOffset line) pairs before rest = (Opened kind then one sign) before × (pairs ≡ [])
 BeforeBracketed kind (of_offset line) pairs before rest = BeforeOffsetLine kind line before × (pairs ≡ [])
+BeforeBracketed kind (of_date_time line) pairs before rest = ⊥
 BeforeBracketed kind (of_zone identifier_start) pairs before rest = ⊥
 BeforeBracketed kind (of_zone zone_name_start) pairs before rest = ⊥
 BeforeBracketed kind (of_zone in_zone_name) pairs before rest = (Opened kind before × ReadsAsName rest) × (pairs ≡ [])
@@ -180,6 +181,16 @@ BeforeBracketed kind (of_duration profile line) pairs before rest = ⊥
 
 -- ---- lines of readers without brackets
 
+abbrev pub InRfc3339 : LineName → Shape
+InRfc3339 (of_date_time line) before = nothing before
+InRfc3339 (of_core line) before = ⊥
+InRfc3339 (of_clock clock line) before = ⊥
+InRfc3339 (of_offset line) before = ⊥
+InRfc3339 (of_zone line) before = ⊥
+InRfc3339 (of_bracket line) before = ⊥
+InRfc3339 (of_pair line) before = ⊥
+InRfc3339 (of_duration profile line) before = ⊥
+
 abbrev pub InOffset : LineName → Shape
 InOffset (of_offset offset_start) before = nothing before
 InOffset (of_offset after_zulu) before = ⊥
@@ -188,6 +199,7 @@ InOffset (of_clock Time line) before = ⊥
 InOffset (of_clock MinuteOffset line) before = ⊥
 InOffset (of_core line) before = ⊥
 InOffset (of_zone line) before = ⊥
+InOffset (of_date_time line) before = ⊥
 InOffset (of_bracket line) before = ⊥
 InOffset (of_pair line) before = ⊥
 InOffset (of_duration profile line) before = ⊥
@@ -202,6 +214,7 @@ InIdentifier (of_clock Time line) before = ⊥
 InIdentifier (of_clock Offset line) before = ⊥
 InIdentifier (of_core line) before = ⊥
 InIdentifier (of_offset line) before = ⊥
+InIdentifier (of_date_time line) before = ⊥
 InIdentifier (of_bracket line) before = ⊥
 InIdentifier (of_pair line) before = ⊥
 InIdentifier (of_duration profile line) before = ⊥
@@ -214,6 +227,7 @@ InIanaIdentifier (of_zone after_zone_slash) before = nothing before
 InIanaIdentifier (of_core line) before = ⊥
 InIanaIdentifier (of_clock clock line) before = ⊥
 InIanaIdentifier (of_offset line) before = ⊥
+InIanaIdentifier (of_date_time line) before = ⊥
 InIanaIdentifier (of_bracket line) before = ⊥
 InIanaIdentifier (of_pair line) before = ⊥
 InIanaIdentifier (of_duration profile line) before = ⊥
@@ -224,6 +238,7 @@ InDuration profile (of_core line) before = ⊥
 InDuration profile (of_clock clock line) before = ⊥
 InDuration profile (of_offset line) before = ⊥
 InDuration profile (of_zone line) before = ⊥
+InDuration profile (of_date_time line) before = ⊥
 InDuration profile (of_bracket line) before = ⊥
 InDuration profile (of_pair line) before = ⊥
 
@@ -232,6 +247,7 @@ InDuration profile (of_pair line) before = ⊥
 -- A line is looked at in the reader where this stands before its front and from its front on, with these whole pairs.
 abbrev pub Before : Reader → LineName → List Pair → Text → Text → Type 0
 Before (bracketed kind) line pairs before rest = BeforeBracketed kind line pairs before rest
+Before parse_rfc3339 line pairs before rest = InRfc3339 line before × (pairs ≡ [])
 Before parse_offset line pairs before rest = InOffset line before × (pairs ≡ [])
 Before parse_identifier line pairs before rest = InIdentifier line before × (pairs ≡ [])
 Before parse_iana_identifier line pairs before rest = InIanaIdentifier line before × (pairs ≡ [])

@@ -1,5 +1,5 @@
 -- The names of the lines of the fault table.
-use Rattle.ixdtf_grammar.specs.{declared.profile.Profile.Profile, language.{Times.Clock, Durations.Half}}
+use Rattle.ixdtf_grammar.specs.{declared.profile.Profile.Profile, language.{Times.Clock, Durations.Half}, table.DateTimeFronts.Field}
 
 -- the lines of dates
 pub data DateLine : Type 0 where
@@ -40,6 +40,12 @@ pub data ClockLine : Type 0 where
 pub data OffsetLine : Type 0 where
   offset_start after_zulu : OffsetLine
 
+-- the lines of date-times of RFC 3339: of the year, of the other numbers, and of what stands after the seconds
+pub data DateTimeLine : Type 0 where
+  four_digits after_four_digits : DateTimeLine
+  field_digits field_range after_field : Field → DateTimeLine
+  after_point after_secfrac after_utc : DateTimeLine
+
 -- the lines of zone names
 pub data ZoneLine : Type 0 where
   identifier_start zone_name_start in_zone_name after_zone_slash : ZoneLine
@@ -64,6 +70,7 @@ pub data LineName : Type 0 where
   of_core : CoreLine → LineName
   of_clock : Clock → ClockLine → LineName
   of_offset : OffsetLine → LineName
+  of_date_time : DateTimeLine → LineName
   of_zone : ZoneLine → LineName
   of_bracket : BracketLine → LineName
   of_pair : PairLine → LineName

@@ -4,7 +4,7 @@ use Rattle.ixdtf_grammar.specs.{declared.{profile.Profile.Profile, records.DateR
 use Rattle.ixdtf_grammar.specs.language.Letters.{hyphen, colon, decimal_mark, date_time_separator, zulu, opening, closing, time_letter, exclamation, equals}
 use Rattle.ixdtf_grammar.specs.language.Letters.{slash, zone_lead, zone_char, key_lead, key_char, value_char, duration_designator}
 use Rattle.ixdtf_grammar.specs.language.{Shapes.{Shape, nothing, one, ◌then◌, ◌either◌, digits, fewer_digits_than, some, many}, Digits.{decimal, UpTo}}
-use Rattle.ixdtf_grammar.specs.language.Dates.{Year, Month, DateText, IsDayOfMonth, IsDate}
+use Rattle.ixdtf_grammar.specs.language.{Dates.{Year, Month, DateText, IsDayOfMonth, IsDate}, DateTimes.{FullDateText, IsFullDate}, Rfc3339.SecondFraction}
 use Rattle.ixdtf_grammar.specs.language.Months.{Marks, OptionalHyphen, IsYearMonth, MonthDayText, IsDayOfSomeYear, IsMonthDay}
 use Rattle.ixdtf_grammar.specs.language.Times.{Clock, ClockOf, BasicMinuteText, ColonMinuteText, greatest_second, has_seconds}
 use Rattle.ixdtf_grammar.specs.language.Times.{Clock.{Time, Offset, MinuteOffset}, TimeShape.{hours, basic_minutes, colon_minutes, seconds, fractions}}
@@ -18,6 +18,12 @@ use Rattle.ixdtf_grammar.specs.table.Faults.Fault.{AnnotationValueChar, Duration
 use Rattle.ixdtf_grammar.specs.table.Faults.Fault.{TimeDurationPartOrder, TimeDurationDesignator, AnnotationValueCharPostHyphen, MonthDayHyphen}
 use Rattle.ixdtf_grammar.specs.table.{Faults.Fault.{InvalidMonthDay, AmbiguousTimeMonthDay, AmbiguousTimeYearMonth}, DurationFronts.InContext}
 use Rattle.ixdtf_grammar.specs.table.DurationFronts.{AfterDateGroups, AfterTimeDesignator, AfterTimeGroups, ValuePast, OutOfOrder, UnitPast, LastGroup}
+use Rattle.ixdtf_grammar.specs.table.DateTimeFronts.{Field, point, UntilMonth, UntilHour, UntilMinute, UntilSecond, ThroughSecond, ThroughTime}
+use Rattle.ixdtf_grammar.specs.table.DateTimeFronts.{UntilOffsetHour, UntilOffsetMinute, Until, Through}
+use Rattle.ixdtf_grammar.specs.table.DateTimeFronts.Field.{month_field, day_field, hour_field, minute_field, second_field, offset_hour_field}
+use Rattle.ixdtf_grammar.specs.table.DateTimeFronts.Field.{offset_minute_field}
+use Rattle.ixdtf_grammar.specs.table.LineNames.{DateTimeLine, DateTimeLine.{four_digits, after_four_digits, field_digits, field_range, after_field}}
+use Rattle.ixdtf_grammar.specs.table.LineNames.DateTimeLine.{after_point, after_secfrac, after_utc}
 use Rattle.ixdtf_grammar.specs.table.{DurationFronts.group_mark, LineNames.{DateLine, YearMonthLine, MonthDayLine, TimeLine, CoreLine, ClockLine, OffsetLine}}
 use Rattle.ixdtf_grammar.specs.table.LineNames.{ZoneLine, BracketLine, PairLine, DurationLine, LineName, DateLine.{year_start, year_digits}}
 use Rattle.ixdtf_grammar.specs.table.LineNames.DateLine.{extended_year_digits, minus_zero_year, after_year, month_digits, month_range, after_hyphened_month}
@@ -35,7 +41,7 @@ use Rattle.ixdtf_grammar.specs.table.LineNames.PairLine.{key_start, critical_key
 use Rattle.ixdtf_grammar.specs.table.LineNames.DurationLine.{duration_start, after_duration_sign, after_duration_designator, after_date_groups}
 use Rattle.ixdtf_grammar.specs.table.LineNames.DurationLine.{after_time_designator, group_digits, group_value_range, unit_order, date_unit_range}
 use Rattle.ixdtf_grammar.specs.table.LineNames.DurationLine.{group_fraction_start, group_fraction_digits, after_time_groups, after_fraction_group}
-use Rattle.ixdtf_grammar.specs.table.LineNames.LineName.{of_core, of_clock, of_offset, of_zone, of_bracket, of_pair, of_duration}
+use Rattle.ixdtf_grammar.specs.table.LineNames.LineName.{of_core, of_clock, of_offset, of_date_time, of_zone, of_bracket, of_pair, of_duration}
 
 -- what the end of the text is after a front: no fault, or an error
 pub data Ending : Type 0 where
@@ -280,6 +286,78 @@ offset_line offset_start = line nothing sign (error abrupt_offset) (always Offse
 -- `Z` or `z`
 offset_line after_zulu = line (one zulu) opening ok (always InvalidEnd)
 
+-- ---- date-times of RFC 3339
+
+-- a full date's shape, and a day that the month does not have
+abbrev pub NoDayOfFullDate : Text → DateRecord → Type 0
+NoDayOfFullDate text date = FullDateText text date × ¬ (IsDayOfMonth date)
+
+-- what stands up to a number that is out of its range, and the number
+abbrev pub OutOfRange : Field → Shape
+OutOfRange month_field = UntilMonth then NoMonth
+OutOfRange day_field = some NoDayOfFullDate
+OutOfRange hour_field = UntilHour then Past 23
+OutOfRange minute_field = UntilMinute then Past 59
+OutOfRange second_field = UntilSecond then Past 60
+OutOfRange offset_hour_field = UntilOffsetHour then Past 23
+OutOfRange offset_minute_field = UntilOffsetMinute then Past 59
+
+-- the error at another code unit than a digit of the number
+abbrev pub digit_fault : Field → Fault
+digit_fault month_field = DateMonth
+digit_fault day_field = DateDay
+digit_fault hour_field = TimeHour
+digit_fault minute_field = TimeMinuteSecond
+digit_fault second_field = TimeSecond
+digit_fault offset_hour_field = TimeHour
+digit_fault offset_minute_field = TimeMinuteSecond
+
+-- the error of a number out of its range
+abbrev pub range_fault : Field → Fault
+range_fault month_field = InvalidMonthRange
+range_fault day_field = InvalidDayRange
+range_fault hour_field = TimeHour
+range_fault minute_field = TimeMinuteSecond
+range_fault second_field = TimeSecond
+range_fault offset_hour_field = TimeHour
+range_fault offset_minute_field = TimeMinuteSecond
+
+-- the error at a comma, or at another code unit where an offset has to begin
+abbrev pub no_offset : ℕ → Fault
+no_offset c = if decimal_mark c then FractionPart else OffsetNeedsSign
+
+-- what may follow the whole date-time
+abbrev pub after_whole : Bool → Class
+after_whole brackets = if brackets then opening else none
+
+-- a number that is in its range
+abbrev pub after_field_line : Bool → Field → Line
+after_field_line brackets month_field = line (Through month_field) hyphen (error DateSeparator) (always DateSeparator)
+after_field_line brackets day_field = line (Through day_field) time_letter (error TimeSeparator) (always TimeSeparator)
+after_field_line brackets hour_field = line (Through hour_field) colon (error TimeSeparator) (always TimeSeparator)
+after_field_line brackets minute_field = line (Through minute_field) colon (error TimeSeparator) (always TimeSeparator)
+after_field_line brackets second_field = line (Through second_field) (point or sign or zulu) (error abrupt_offset) no_offset
+after_field_line brackets offset_hour_field = line (Through offset_hour_field) colon (error UtcTimeSeparator) (always UtcTimeSeparator)
+after_field_line brackets offset_minute_field = line (Through offset_minute_field) (after_whole brackets) ok (always InvalidEnd)
+
+abbrev pub date_time_line : Bool → DateTimeLine → Line
+-- fewer than four digits of a year
+date_time_line brackets four_digits = line (fewer_digits_than 4) digit (error abrupt_digit) (always DateYear)
+-- a year
+date_time_line brackets after_four_digits = line (digits 4) hyphen (error abrupt_date) (always DateSeparator)
+-- what stands before a number, and fewer than two digits of it
+date_time_line brackets (field_digits field) = line (Until field then fewer_digits_than 2) digit (error abrupt_digit) (always (digit_fault field))
+-- two digits out of the range of their place
+date_time_line brackets (field_range field) = whole (OutOfRange field) (range_fault field)
+-- a number
+date_time_line brackets (after_field field) = after_field_line brackets field
+-- the seconds, and `.`
+date_time_line brackets after_point = line (ThroughSecond then one point) digit (error FractionPart) (always FractionPart)
+-- the seconds, and a fraction
+date_time_line brackets after_secfrac = line (ThroughSecond then SecondFraction) (digit or sign or zulu) (error abrupt_offset) (always OffsetNeedsSign)
+-- a time, and `Z` or `z`
+date_time_line brackets after_utc = line (ThroughTime then one zulu) (after_whole brackets) ok (always InvalidEnd)
+
 -- ---- zone names
 
 -- what may follow a zone name, in a bracket or where the name stands alone
@@ -400,6 +478,7 @@ abbrev pub line_of : Bool → LineName → Line
 line_of brackets (of_core name) = core_line name
 line_of brackets (of_clock clock name) = clock_line (follow_of brackets clock) clock name
 line_of brackets (of_offset name) = offset_line name
+line_of brackets (of_date_time name) = date_time_line brackets name
 line_of brackets (of_zone name) = zone_line brackets name
 line_of brackets (of_bracket name) = bracket_line name
 line_of brackets (of_pair name) = pair_line name

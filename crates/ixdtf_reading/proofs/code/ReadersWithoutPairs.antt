@@ -1,7 +1,7 @@
 -- The clauses of a reader that reads no pairs, from what its reading returns.
 use Rattle.std.proofs.Common.{refl, ◌≡◌, ℕ, List, [], map, Result, Ok, Err, sym, ap, ◌∙◌, IfErr, OnOk, IsFalse}
 use Rattle.ixdtf_grammar.specs.{declared.profile.Profile.Profile, language.{Letters.{Letter, Text}, Brackets.Pair, Readers.Reader}}
-use Rattle.ixdtf_grammar.specs.language.Readers.Reader.{bracketed, parse_offset, parse_identifier, parse_iana_identifier, parse_duration}
+use Rattle.ixdtf_grammar.specs.language.Readers.Reader.{bracketed, parse_rfc3339, parse_offset, parse_identifier, parse_iana_identifier, parse_duration}
 use Rattle.ixdtf_grammar.specs.{language.Languages.{Found, Derives}, table.{Faults.{Fault, never_comes}, Rows.{Row, Fits}}}
 use Rattle.ixdtf_grammar.specs.{table.Outcomes.{HasFault, NoRowFits, OnlyFault}, Views.{Unread, returned_by}, Laws.{IsTextReader, InNoOther}}
 use Rattle.ixdtf_grammar.proofs.theorems.NoRow.{fault_comes}
@@ -26,6 +26,7 @@ error_after pairs row = error_of row
 -- the reader reads no pairs
 abbrev pub ReadsNoPairs : Reader → Type 0
 ReadsNoPairs (bracketed kind) = ⊥
+ReadsNoPairs parse_rfc3339 = Unit {0}
 ReadsNoPairs parse_offset = Unit {0}
 ReadsNoPairs parse_identifier = Unit {0}
 ReadsNoPairs parse_iana_identifier = Unit {0}

@@ -1,7 +1,7 @@
 -- Each text has exactly one outcome, and the pairs of a front begin those of the text.
 use Rattle.std.proofs.Common.{◌≡◌, ℕ, length, arith, ◌⊎◌, List, [], ◌++◌, Option, Ok, Err, refl, sym, ap, ◌∙◌, subst, inl, inr, append_assoc, ◌≢◌}
 use Rattle.ixdtf_grammar.specs.language.{Letters.Text, Brackets.{ZoneNote, Pair}, Cores.Core, Readers.Reader, Languages.{Parsed, parsed_with, Found, Derives}}
-use Rattle.ixdtf_grammar.specs.{language.Languages.{Derives.{as_parsed, as_shifted, as_identified, as_named, as_lasting}, Found.parsed}, table.Faults.Fault}
+use Rattle.ixdtf_grammar.specs.{language.Languages.{Derives.{as_parsed, as_dated, as_shifted, as_identified, as_named, as_lasting}, Found.parsed}, table.Faults.Fault}
 use Rattle.ixdtf_grammar.specs.table.Outcomes.{HasFault, HasFaultAt, OnlyPlace, NoRowFits, Outcome, Holds, OneOutcome, pairs_of, Begins, FrontsBegin}
 use Rattle.ixdtf_grammar.specs.{table.{Outcomes.Outcome.{derived, refused}, Rows.left_at}, Laws.InLanguage, language.Brackets.ArePairs}
 use Rattle.ixdtf_reading.specs.reading.{Looks.{Read, ◌>>=◌}, Pairs.pairs_at}
@@ -94,6 +94,7 @@ pub fronts_begin : FrontsBegin
 fronts_begin reader front rest found pairs (derived whole all) (as_parsed d) (as_parsed h) =
     derived_begins reader front rest _ _ pairs all (as_parsed d) (as_parsed h)
 fronts_begin reader front rest found pairs (refused row all) (as_parsed d) h = fault_begins reader front rest _ pairs all row.error (as_parsed d) (row, h, refl)
+fronts_begin reader front rest found pairs outcome (as_dated d) h = (pairs_of outcome, refl)
 fronts_begin reader front rest found pairs outcome (as_shifted d) h = (pairs_of outcome, refl)
 fronts_begin reader front rest found pairs outcome (as_identified d) h = (pairs_of outcome, refl)
 fronts_begin reader front rest found pairs outcome (as_named d) h = (pairs_of outcome, refl)

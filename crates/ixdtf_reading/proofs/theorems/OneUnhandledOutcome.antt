@@ -2,7 +2,7 @@
 use Rattle.std.proofs.{Common.{◌≡◌, List, [], Some, Result, Ok, Err, refl, sym, ◌∙◌, ap}, lemmas.List.map-append}
 use Rattle.ixdtf_grammar.specs.{Handlers.own_replies, Widths.{UnhandledOutcome, HasWithPairs, HasAlone, HasUnhandledOutcome, OneUnhandledOutcome}}
 use Rattle.ixdtf_grammar.specs.{Widths.UnhandledOutcome.{read_as, faulted}, language.{Brackets.Pair, Languages.{Parsed, Found, Derives}}, Laws.GivesResult}
-use Rattle.ixdtf_grammar.specs.language.{Languages.{Derives.{as_parsed, as_shifted, as_identified, as_named, as_lasting}, Found.parsed}, Letters.Text}
+use Rattle.ixdtf_grammar.specs.language.{Languages.{Derives.{as_parsed, as_dated, as_shifted, as_identified, as_named, as_lasting}, Found.parsed}, Letters.Text}
 use Rattle.ixdtf_grammar.specs.{language.Readers.{Reader, CoreKind, Reader.bracketed}, table.{Before.Before, Faults.Fault, LineNames.LineName}}
 use Rattle.ixdtf_grammar.specs.{table.Outcomes.{Outcome, Outcome.{derived, refused}, Holds}, Handlers.GivesRecord}
 use Rattle.ixdtf_reading.proofs.{code.ReadersWithoutPairs.ReadsNoPairs, theorems.OneChain.{Replying, GivesChain, alike, only_chain}}
@@ -62,6 +62,7 @@ module _ (reader : Reader) (text : Text) where
 
 derived_alone : (reader : Reader) (text : Text) (found : Found) (pairs : List Pair) → ReadsNoPairs reader → Derives reader text found pairs → pairs ≡ []
 derived_alone reader text found pairs none (as_parsed h) = absurd none
+derived_alone reader text found pairs none (as_dated h) = refl
 derived_alone reader text found pairs none (as_shifted h) = refl
 derived_alone reader text found pairs none (as_identified h) = refl
 derived_alone reader text found pairs none (as_named h) = refl

@@ -2,19 +2,21 @@
 use Rattle.std.proofs.Common.{◌≡◌, ◌≢◌, suc, List, [], ◌∷◌, ◌++◌, length, Ok, Err, None, refl, ap, ◌∙◌, sym, inl, inr, arith, append_assoc, append-nil, false}
 use Rattle.std.proofs.Common.{true}
 use Rattle.ixdtf_grammar.specs.language.{Times.Clock, Letters.{Text, Letter.Plain}, Shapes.some, Brackets.{Pair, ArePairs, IsTail}, Cores.{Core, IsCore}}
-use Rattle.ixdtf_grammar.specs.language.Readers.{Reader, CoreKind, Reader.{bracketed, parse_offset, parse_identifier, parse_iana_identifier, parse_duration}}
+use Rattle.ixdtf_grammar.specs.language.Readers.{Reader, CoreKind, Reader.{bracketed, parse_rfc3339, parse_offset, parse_identifier, parse_iana_identifier, parse_duration}}
 use Rattle.ixdtf_grammar.specs.language.Languages.{Parsed, parsed_with, IsBracketed, Found, Derives}
-use Rattle.ixdtf_grammar.specs.language.Languages.Derives.{as_parsed, as_shifted, as_identified, as_named, as_lasting}
-use Rattle.ixdtf_grammar.specs.{language.Languages.Found.{shifted, identified, named, lasting}, table.LineNames.LineName}
+use Rattle.ixdtf_grammar.specs.language.Languages.Derives.{as_parsed, as_dated, as_shifted, as_identified, as_named, as_lasting}
+use Rattle.ixdtf_grammar.specs.{language.Languages.Found.{dated, shifted, identified, named, lasting}, table.LineNames.LineName}
 use Rattle.ixdtf_grammar.specs.table.LineNames.{LineName.{of_clock, of_zone, of_bracket, of_pair}, ZoneLine.{in_zone_name, after_zone_slash}}
 use Rattle.ixdtf_grammar.specs.table.LineNames.BracketLine.{first_bracket_start, first_critical_start, first_bracket_scan, after_bracket}
 use Rattle.ixdtf_grammar.specs.table.{LineNames.PairLine.{key_start, critical_key_start}, Before.{Before, Bracketed}, Rows.{Row, Fits}}
 use Rattle.ixdtf_grammar.proofs.parts.Texts.{bracketed_text}
 use Rattle.ixdtf_reading.specs.reading.{Looks.{Read, ◌>>=◌, error_of}, Pairs.pairs_at, Durations.duration_at}
+use Rattle.ixdtf_reading.specs.reading.DateTimes.{rfc_3339_at}
 use Rattle.ixdtf_reading.specs.reading.Zones.{offset_at, identifier_at, iana_identifier_at}
 use Rattle.ixdtf_reading.specs.reading.{Brackets.{Bracket, zoned, paired, zone_in, pairs_in, bracket_at}, Cores.{ClosedCore, core_at}}
 use Rattle.ixdtf_reading.specs.reading.Wholes.{bracketed_at, annotated_at, tail_at, bracketed_text_at, with_pairs, finding, read_at}
 use Rattle.ixdtf_reading.specs.reading.Chains.{AfterBrackets, FitsAfterBrackets}
+use Rattle.ixdtf_reading.proofs.to_grammar.DateTimes.{rfc_3339_read}
 use Rattle.ixdtf_reading.proofs.{parts.Looks.OnRead, to_grammar.ZonesAlone.{offset_read, identifier_read, iana_identifier_read}}
 use Rattle.ixdtf_reading.proofs.to_grammar.{Cores.{CoreFront, ReadsCore, core_read}, FirstBracket.{InBracket, FitsAfterCore, IsBracket, bracket_read}}
 use Rattle.ixdtf_reading.proofs.{to_grammar.{MorePairs.{OnPairs, pairs_read}, Durations.duration_read}, to_reading.FirstBracket.bracket_takes}
@@ -133,6 +135,7 @@ module _ {E : Type 0} (fault : List Pair → Row → E) where
   -- What reading returns is derived and nothing is left, or is the fault of a row that fits.
   pub whole_read : (reader : Reader) (text : Text) → OnWhole fault reader text (read_at fault reader text)
   whole_read (bracketed kind) text = with_pairs_read fault kind text (bracketed_text_at fault kind text) (text_read fault kind text)
+  whole_read parse_rfc3339 text = found_read parse_rfc3339 text dated (rfc_3339_at (fault []) text) _ (rfc_3339_read (fault []) text) (λ x d. as_dated d)
   whole_read parse_offset text = found_read parse_offset text shifted (offset_at (fault []) text) _ (offset_read (fault []) text) (λ x d. as_shifted d)
   whole_read parse_identifier text =
       found_read parse_identifier text identified (identifier_at (fault []) text) _ (identifier_read (fault []) text) (λ x d. as_identified d)

@@ -2,15 +2,16 @@
 use Rattle.std.proofs.Common.{◌≡◌, ℕ, suc, ◌<◌, ◌⊎◌, List, [], ◌∷◌, ◌++◌, length, Ok, Err, Option, Some, None, refl, sym, ap, ◌∙◌, inl, inr, arith}
 use Rattle.std.proofs.Common.{append_assoc, append-nil, true}
 use Rattle.ixdtf_grammar.specs.language.{Times.Clock, Letters.{Text, Letter.Plain}, Shapes.some, Brackets.{ZoneNote, Pair, ArePairs, IsTail}, Cores.Core}
-use Rattle.ixdtf_grammar.specs.language.{Cores.IsCore, Readers.{Reader, CoreKind, Reader.{bracketed, parse_offset, parse_identifier, parse_iana_identifier}}}
+use Rattle.ixdtf_grammar.specs.language.{Cores.IsCore, Readers.{Reader, CoreKind, Reader.{bracketed, parse_rfc3339, parse_offset, parse_identifier, parse_iana_identifier}}}
 use Rattle.ixdtf_grammar.specs.language.{Readers.Reader.parse_duration, Languages.{Parsed, parsed_with, IsBracketed, Found, Derives, Derives.as_parsed}}
-use Rattle.ixdtf_grammar.specs.{language.Languages.Derives.{as_shifted, as_identified, as_named, as_lasting}, table.{Faults.Fault, LineNames.LineName}}
+use Rattle.ixdtf_grammar.specs.{language.Languages.Derives.{as_dated, as_shifted, as_identified, as_named, as_lasting}, table.{Faults.Fault, LineNames.LineName}}
 use Rattle.ixdtf_grammar.specs.table.LineNames.{LineName.{of_core, of_clock, of_offset, of_zone, of_bracket, of_pair}, OffsetLine.{offset_start, after_zulu}}
 use Rattle.ixdtf_grammar.specs.table.LineNames.{ZoneLine.{in_zone_name, after_zone_slash}, BracketLine.{first_bracket_start, first_critical_start}}
 use Rattle.ixdtf_grammar.specs.table.{LineNames.{BracketLine.{first_bracket_scan, after_bracket}, PairLine.{key_start, critical_key_start}}, Lines.line_of}
 use Rattle.ixdtf_grammar.specs.table.{Before.{BeforeBracketed, Bracketed}, Rows.{Row, Place, Stops, Fits, front_of}}
 use Rattle.ixdtf_reading.specs.reading.{Looks.{Read, ◌>>=◌, row_of}, Pairs.pairs_at, Brackets.{Bracket, zoned, paired, zone_in, pairs_in}, Cores.core_at}
 use Rattle.ixdtf_reading.specs.reading.{Wholes.{bracketed_at, annotated_at, bracketed_text_at, read_at}, Chains.AfterBrackets}
+use Rattle.ixdtf_reading.proofs.to_reading.DateTimes.{rfc_3339_takes, rfc_3339_rows}
 use Rattle.ixdtf_reading.proofs.to_reading.{Cores.{core_takes, core_line_rows, core_time_rows, core_offset_rows, core_zulu_row}, FirstBracket.bracket_takes}
 use Rattle.ixdtf_reading.proofs.to_reading.{FirstBracket.bracket_rows, MorePairs.{over_pairs, pairs_end, pairs_row}, Durations.{duration_takes, duration_rows}}
 use Rattle.ixdtf_reading.proofs.{to_grammar.FirstBracket.{InBracket, IsBracket}, to_reading.ZonesAlone.{offset_takes, offset_rows as offset_reader_rows}}
@@ -173,6 +174,7 @@ module _ {E : Type 0} (fault : List Pair → Row → E) where
   pub takes : (reader : Reader) (text : Text) (found : Found) (pairs : List Pair) → Derives reader text found pairs
       → read_at fault reader text ≡ Ok ((found, pairs), [])
   takes reader text found pairs (as_parsed d) = rw (whole_takes fault _ text _ pairs d)
+  takes reader text found pairs (as_dated d) = rw (rfc_3339_takes (fault []) text _ d)
   takes reader text found pairs (as_shifted d) = rw (offset_takes (fault []) text _ d)
   takes reader text found pairs (as_identified d) = rw (identifier_takes (fault []) text _ d)
   takes reader text found pairs (as_named d) = rw (iana_identifier_takes (fault []) text _ d)
@@ -183,6 +185,8 @@ module _ {E : Type 0} (fault : List Pair → Row → E) where
       → read_at fault reader text ≡ Err (fault pairs row)
   row_read (bracketed kind) text row pairs f =
       rw (f.2, f.4.2, whole_row fault kind row.name pairs row.place row.error f.0 f.4.0 f.4.1 (rw f.4.2 at f.3) f.4.3 f.4.4)
+  row_read parse_rfc3339 text row pairs f =
+      rw (f.3.1, f.2, f.4.2, rfc_3339_rows (fault []) row.name pairs row.place row.error f.0 f.4.0 f.4.1 f.3 f.4.3 f.4.4)
   row_read parse_offset text row pairs f =
       rw (f.3.1, f.2, f.4.2, offset_reader_rows (fault []) row.name pairs row.place row.error f.0 f.4.0 f.4.1 f.3 f.4.3 f.4.4)
   row_read parse_identifier text row pairs f =

@@ -5,10 +5,10 @@ use Rattle.std.proofs.Common.{◌≡◌, ◌⊎◌, List, ◌++◌, inl, inr, sy
 use Rattle.ixdtf_grammar.specs.{declared.profile.Profile.Profile, language.{Letters.Text, Shapes.some, Times.Clock.{Time, Offset, MinuteOffset}}}
 use Rattle.ixdtf_grammar.specs.language.{Months.IsMonthDay, Brackets.{Pair, ReadsAsName, ReadsAsPair}, Cores.{BeginsWith, IsCore}}
 use Rattle.ixdtf_grammar.specs.language.Readers.{Reader, CoreKind, has_brackets, CoreKind.{date_time, year_month, month_day, time_of_day}}
-use Rattle.ixdtf_grammar.specs.language.Readers.Reader.{bracketed, parse_offset, parse_identifier, parse_iana_identifier, parse_duration}
+use Rattle.ixdtf_grammar.specs.language.Readers.Reader.{bracketed, parse_rfc3339, parse_offset, parse_identifier, parse_iana_identifier, parse_duration}
 use Rattle.ixdtf_grammar.specs.table.Before.{DateAndSeparator, BeforeDate, BeforeYearMonth, BeforeMonthDay, AtCoreEnd, ReadsAsTime, InTimeAlone}
 use Rattle.ixdtf_grammar.specs.table.Before.{BeforeTimeAlone, BeforeCore, InMonthDay, BeforeTime, BeforeOffset, BeforeOffsetLine, Opened, Bracketed}
-use Rattle.ixdtf_grammar.specs.table.Before.{BeforeKey, BeforeBracketed, InOffset, InIdentifier, InIanaIdentifier, InDuration, Before}
+use Rattle.ixdtf_grammar.specs.table.Before.{BeforeKey, BeforeBracketed, InRfc3339, InOffset, InIdentifier, InIanaIdentifier, InDuration, Before}
 use Rattle.ixdtf_grammar.specs.table.LineNames.{DateLine, MonthDayLine, TimeLine, CoreLine, ClockLine, OffsetLine, LineName}
 use Rattle.ixdtf_grammar.specs.table.LineNames.DateLine.{year_start, year_digits, extended_year_digits, minus_zero_year, month_digits, month_range}
 use Rattle.ixdtf_grammar.specs.table.LineNames.MonthDayLine.{month_day_range, after_month_day}
@@ -17,7 +17,7 @@ use Rattle.ixdtf_grammar.specs.table.LineNames.{CoreLine.{dates, year_months, mo
 use Rattle.ixdtf_grammar.specs.table.LineNames.ZoneLine.{identifier_start, zone_name_start}
 use Rattle.ixdtf_grammar.specs.table.LineNames.BracketLine.{first_bracket_start, first_critical_start, first_bracket_scan, after_bracket}
 use Rattle.ixdtf_grammar.specs.table.LineNames.PairLine.{key_start, critical_key_start}
-use Rattle.ixdtf_grammar.specs.table.{LineNames.LineName.{of_core, of_clock, of_offset, of_zone, of_bracket, of_pair, of_duration}, Rows.{Row, Fits, left_at}}
+use Rattle.ixdtf_grammar.specs.table.{LineNames.LineName.{of_core, of_clock, of_offset, of_date_time, of_zone, of_bracket, of_pair, of_duration}, Rows.{Row, Fits, left_at}}
 use Rattle.ixdtf_grammar.proofs.{parts.CoreLetters.core_ends, widths.PlainTexts.{IsPlain, plain_append, PlainShape, plain_nowhere, plain_nothing, plain_one}}
 use Rattle.ixdtf_grammar.proofs.widths.PlainTexts.{plain_with, ◌and_then◌, plain_some, date_plain, time_plain, plain_mark, marked_plain, core_plain}
 use Rattle.ixdtf_grammar.proofs.widths.{PlainTexts.{opens_plain, tail_plain}, FirstBad.{Sees, sees_after, Moves, moves_anything, moves_nothing, moves_then}}
@@ -133,6 +133,7 @@ before_bracketed kind (of_clock Time line) pairs = besides (alone (before_time k
 before_bracketed kind (of_clock Offset line) pairs = besides (alone (before_offset kind and_then plain_one))
 before_bracketed kind (of_clock MinuteOffset line) pairs = besides (alone (plain_opened kind and_then plain_one))
 before_bracketed kind (of_offset line) pairs = besides (alone (before_offset_line kind line))
+before_bracketed kind (of_date_time line) pairs = never
 before_bracketed kind (of_zone identifier_start) pairs = never
 before_bracketed kind (of_zone zone_name_start) pairs = never
 before_bracketed kind (of_zone line) pairs = besides (ahead (plain_opened kind) moves_name)
@@ -146,6 +147,10 @@ before_bracketed kind (of_pair line) pairs = before_key kind pairs
 before_bracketed kind (of_duration profile line) pairs = never
 
 -- ---- lines of readers without brackets
+
+in_rfc_3339 : (name : LineName) → PlainShape (InRfc3339 name)
+in_rfc_3339 (of_date_time line) = plain_nothing
+in_rfc_3339 name = plain_nowhere
 
 in_offset : (name : LineName) → PlainShape (InOffset name)
 in_offset (of_offset offset_start) = plain_nothing
@@ -171,6 +176,7 @@ in_duration profile name = plain_nowhere
 
 before_line : (reader : Reader) (name : LineName) (pairs : List Pair) → Stands (λ before rest. Before reader name pairs before rest)
 before_line (bracketed kind) name pairs = before_bracketed kind name pairs
+before_line parse_rfc3339 name pairs = besides (alone (in_rfc_3339 name))
 before_line parse_offset name pairs = besides (alone (in_offset name))
 before_line parse_identifier name pairs = besides (alone (in_identifier name))
 before_line parse_iana_identifier name pairs = besides (alone (in_iana_identifier name))

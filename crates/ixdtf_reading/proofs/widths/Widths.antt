@@ -6,11 +6,11 @@ use Rattle.ixdtf_grammar.specs.{Handlers.{UnhandledFault, own_replies}, Places.{
 use Rattle.ixdtf_grammar.specs.Widths.{HasWithPairs, HasAlone, HasUnhandledOutcome, is_shared, wide_text, byte_text, mask, SameWhereShared}
 use Rattle.ixdtf_grammar.specs.Widths.{FaultWhereNotShared, SamePlaceWhereShared, PlaceWhereNotShared, IsFirstNotShared, NonAsciiIsFirst, NonAsciiIsWide}
 use Rattle.ixdtf_grammar.specs.{Widths.UnhandledOutcome.{read_as, faulted}, language.{Brackets.Pair, Languages.{Found, Derives}}}
-use Rattle.ixdtf_grammar.specs.language.Languages.{Derives.{as_parsed, as_shifted, as_identified, as_named, as_lasting}, Found.parsed}
+use Rattle.ixdtf_grammar.specs.language.Languages.{Derives.{as_parsed, as_dated, as_shifted, as_identified, as_named, as_lasting}, Found.parsed}
 use Rattle.ixdtf_grammar.specs.{language.{Letters.{Text, wide_letter, Letter.{Plain, Bad}}, Readers.{Reader, CoreKind, Reader.bracketed}}, table.Faults.Fault}
 use Rattle.ixdtf_grammar.specs.table.{Faults.Fault.NonAsciiCodePoint, Outcomes.{HasFault, HasFaultAt}, Rows.left_at}
 use Rattle.ixdtf_grammar.proofs.{theorems.NoRow.fault_of_bad, widths.FirstBad.{Sees, plain_sees_nothing, sees_after, left_moved}}
-use Rattle.ixdtf_grammar.proofs.widths.PlainDurations.{duration_plain}
+use Rattle.ixdtf_grammar.proofs.widths.{PlainDateTimes.{date_time_plain}, PlainDurations.{duration_plain}}
 use Rattle.ixdtf_grammar.proofs.widths.PlainTexts.{IsPlain, plain_append, signed_plain, zone_plain, plain_name, core_plain, tail_plain}
 use Rattle.ixdtf_reading.proofs.{code.Located.left_fits, theorems.{OnePlace.without_place, Replies.refused_split}}
 use Rattle.ixdtf_reading.proofs.{theorems.OneUnhandledOutcome.unhandled_outcome, widths.PlainBefore.{row_moved, fits_move}}
@@ -49,6 +49,7 @@ sees_where_not_shared numbers some = elim (sees_or_shared numbers) [
 derived_plain : (reader : Reader) (text : Text) (found : Found) (pairs : List Pair) → Derives reader text found pairs → IsPlain text
 derived_plain reader text found pairs (as_parsed h) =
     rw h.is (plain_append h.cores h.brackets (core_plain _ h.cores h.core h.is_core) (tail_plain h.brackets h.zone pairs h.is_tail))
+derived_plain reader text found pairs (as_dated h) = date_time_plain text h.0 h.1
 derived_plain reader text found pairs (as_shifted h) = signed_plain _ _ text _ h
 derived_plain reader text found pairs (as_identified h) = zone_plain text _ h
 derived_plain reader text found pairs (as_named h) = plain_name.plain text h.0

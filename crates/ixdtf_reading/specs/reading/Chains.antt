@@ -4,7 +4,7 @@ use Rattle.std.specs.Prelude.{◌≡◌, ◌⊎◌, true, ℕ, ◌+◌, ◌-◌,
 use Rattle.ixdtf_grammar.specs.{declared.records.Annotation.Annotation}
 use Rattle.ixdtf_grammar.specs.language.{Letters.Text, Shapes.some, Brackets.{Pair, ArePairs, Opens}, Cores.Core, Languages.{Parsed, Derives, Found.parsed}}
 use Rattle.ixdtf_grammar.specs.{language.Readers.{Reader, CoreKind, Reader.bracketed}, table.LineNames.{LineName, PairLine}}
-use Rattle.ixdtf_grammar.specs.table.LineNames.LineName.{of_core, of_clock, of_offset, of_zone, of_bracket, of_pair, of_duration}
+use Rattle.ixdtf_grammar.specs.table.LineNames.LineName.{of_core, of_clock, of_offset, of_date_time, of_zone, of_bracket, of_pair, of_duration}
 use Rattle.ixdtf_grammar.specs.table.LineNames.BracketLine.{first_bracket_start, first_critical_start, first_bracket_scan, after_bracket}
 use Rattle.ixdtf_grammar.specs.table.LineNames.PairLine.{key_start, critical_key_start, in_key, value_start, in_value, after_value_hyphen}
 use Rattle.ixdtf_grammar.specs.table.Rows.{Row, Fits, FitsHere}
@@ -30,6 +30,7 @@ AfterBrackets (of_bracket first_bracket_scan) before = ⊥
 AfterBrackets (of_core line) before = ⊥
 AfterBrackets (of_clock clock line) before = ⊥
 AfterBrackets (of_offset line) before = ⊥
+AfterBrackets (of_date_time line) before = ⊥
 AfterBrackets (of_zone line) before = ⊥
 AfterBrackets (of_duration profile line) before = ⊥
 

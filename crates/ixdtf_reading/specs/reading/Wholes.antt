@@ -1,11 +1,11 @@
 -- Reading a whole text.
 use Rattle.std.specs.Prelude.{None, Ok, Err, List, [], suc, length, if◌then◌else◌}
 use Rattle.ixdtf_grammar.specs.language.{Letters.Text, Cores.Core, Brackets.Pair, Readers.{Reader, CoreKind}}
-use Rattle.ixdtf_grammar.specs.language.Readers.Reader.{bracketed, parse_offset, parse_identifier, parse_iana_identifier, parse_duration}
-use Rattle.ixdtf_grammar.specs.{language.Languages.{Parsed, parsed_with, Found, Found.{parsed, shifted, identified, named, lasting}}, table.Rows.Row}
+use Rattle.ixdtf_grammar.specs.language.Readers.Reader.{bracketed, parse_rfc3339, parse_offset, parse_identifier, parse_iana_identifier, parse_duration}
+use Rattle.ixdtf_grammar.specs.{language.Languages.{Parsed, parsed_with, Found, Found.{parsed, dated, shifted, identified, named, lasting}}, table.Rows.Row}
 use Rattle.ixdtf_grammar.specs.table.Outcomes.{Outcome, Outcome.{derived, refused}}
 use Rattle.ixdtf_reading.specs.reading.{Looks.{Read, ◌>>=◌}, Durations.duration_at, Zones.{offset_at, identifier_at, iana_identifier_at}, Pairs.pairs_at}
-use Rattle.ixdtf_reading.specs.reading.{Cores.{ClosedCore, core_at}, Brackets.{Bracket, zone_in, pairs_in, bracket_at}}
+use Rattle.ixdtf_reading.specs.reading.{DateTimes.rfc_3339_at, Cores.{ClosedCore, core_at}, Brackets.{Bracket, zone_in, pairs_in, bracket_at}}
 
 -- after a core and a first bracket
 unfoldable pub bracketed_at : {E : Type 0} → (List Pair → Row → E) → Core → Bracket → Text → Read E (Parsed × List Pair)
@@ -41,6 +41,7 @@ finding found (Err e) = Err e
 
 abbrev pub read_at : {E : Type 0} → (List Pair → Row → E) → Reader → Text → Read E (Found × List Pair)
 read_at fault (bracketed kind) text = with_pairs (bracketed_text_at fault kind text)
+read_at fault parse_rfc3339 text = finding dated (rfc_3339_at (fault []) text)
 read_at fault parse_offset text = finding shifted (offset_at (fault []) text)
 read_at fault parse_identifier text = finding identified (identifier_at (fault []) text)
 read_at fault parse_iana_identifier text = finding named (iana_identifier_at (fault []) text)

@@ -84,6 +84,17 @@ impl WholeTime {
     pub fn is_time(self) -> bool {
         self.hour <= 23 && self.minute <= 59 && self.second <= 60
     }
+
+    /// The record of it, with a fraction where there is one.
+    #[inline(always)]
+    pub fn with_fraction(self, fraction: Option<Fraction>) -> TimeRecord {
+        TimeRecord {
+            hour: self.hour,
+            minute: self.minute,
+            second: self.second,
+            fraction,
+        }
+    }
 }
 
 /// Returns the time in the eight columns after a date and a separator, or `None` if a column does not fit. The ranges
@@ -129,7 +140,7 @@ fn check_most(number: u8, greatest: u8, stop: Stop) -> Result<u8, Stop> {
 /// Returns `AbruptDigit` at the end of the input, `NonAsciiCodePoint` at a bad code unit, and `stop` at any other code unit and
 /// for a greater number.
 #[inline(always)]
-fn next_number<'a, T: EncodingType>(
+pub fn next_number<'a, T: EncodingType>(
     cursor: &mut Cursor<'a, T>,
     greatest: u8,
     stop: Stop,

@@ -1,0 +1,122 @@
+-- Date-times of RFC 3339 are plain, and so are the fronts of their lines.
+use Rattle.std.proofs.Common.{ℕ, suc, Bool, Option, Some, None, ◌++◌, refl, inl, inr, arith}
+use Rattle.std.proofs.lemmas.Bool.Decides.{nat_tests}
+use Rattle.ixdtf_grammar.specs.declared.records.{DateRecord.DateRecord, TimeRecord.TimeRecord, UtcOffsetRecordOrZ.UtcOffsetRecordOrZ}
+use Rattle.ixdtf_grammar.specs.language.{Letters.Text, Shapes.{Shape, some, ◌then◌, nothing, ◌either◌}, Digits.UpTo, Dates.Month, Fractions.FractionParts}
+use Rattle.ixdtf_grammar.specs.language.{Cores.Core, DateTimes.{FullDateText, OptionalSecfrac, IsPartialTime, IsTimeOffset, IsDateTime}, Rfc3339.SecondFraction}
+use Rattle.ixdtf_grammar.specs.table.DateTimeFronts.{Field, UntilDay, UntilHour, UntilMinute, UntilSecond, ThroughSecond, ThroughTime, UntilOffsetHour}
+use Rattle.ixdtf_grammar.specs.table.DateTimeFronts.{UntilOffsetMinute, Until, Through, Field.{month_field, day_field, hour_field, minute_field, second_field}}
+use Rattle.ixdtf_grammar.specs.table.DateTimeFronts.Field.{offset_hour_field, offset_minute_field}
+use Rattle.ixdtf_grammar.specs.table.LineNames.{DateTimeLine, DateTimeLine.{four_digits, after_four_digits, field_digits, field_range, after_field}}
+use Rattle.ixdtf_grammar.specs.table.{LineNames.DateTimeLine.{after_point, after_secfrac, after_utc}, Lines.{OutOfRange, date_time_line}, Rows.front_of}
+use Rattle.ixdtf_grammar.proofs.parts.{Classes.all_append, CoreLetters.{core_unit, AllInside, of_sign, in_digits}}
+use Rattle.ixdtf_grammar.proofs.widths.PlainTexts.{IsPlain, is_plain, PlainShape, plain_nothing, plain_one, ◌and_then◌, ◌or_else◌, plain_digits, plain_fewer}
+use Rattle.ixdtf_grammar.proofs.widths.PlainTexts.{plain_some, plain_inside, plain_with}
+
+-- ---- what is derived
+
+in_full_date : (text : Text) (date : DateRecord) → FullDateText text date → AllInside text
+in_full_date text date h =
+    rw h.is (all_append _ h.years _ (in_digits 4 h.years h.year.0)
+    (refl, all_append _ h.months _ (in_digits 2 h.months h.month.0.0) (refl, in_digits 2 h.days h.day.0)))
+
+in_secfrac : (text : Text) (fraction : Option FractionParts) → OptionalSecfrac text fraction → AllInside text
+in_secfrac text None h = rw h tt
+in_secfrac text (Some fraction) h = rw h.is (refl, in_digits (suc h.some.0) h.ds h.some.1)
+
+in_partial_time : (text : Text) (time : TimeRecord) → IsPartialTime text time → AllInside text
+in_partial_time text time h =
+    rw h.is (all_append _ h.hs _ (in_digits 2 h.hs h.hour.0) (
+      refl,
+      all_append _ h.ms _ (in_digits 2 h.ms h.minute.0)
+          (refl, all_append _ h.ss _ (in_digits 2 h.ss h.second.0) (in_secfrac h.part time.fraction h.fraction)),
+    ))
+
+in_time_offset : (text : Text) (offset : UtcOffsetRecordOrZ) → IsTimeOffset text offset → AllInside text
+in_time_offset text offset (inl h) = let zulu = h.0 in rw zulu.1 (grind (arith, nat_tests, zulu.2), tt)
+in_time_offset text offset (inr (minutes, h, is)) =
+    rw h.is (of_sign h.c h.signed, all_append _ h.hs _ (in_digits 2 h.hs h.hour.0) (refl, in_digits 2 h.ms h.minute.0))
+
+in_rfc_3339 : (text : Text) (core : Core) → IsDateTime text core → AllInside text
+in_rfc_3339 text core h =
+    let letter = h.separates in
+    rw h.is (all_append _ h.dates _ (in_full_date h.dates h.date h.is_date.0)
+    (all_append _ h.letters _ (rw letter.1 (grind (arith, nat_tests, letter.2), tt))
+    (all_append _ h.times _ (in_partial_time h.times h.time h.is_time) (in_time_offset h.offsets h.offset h.is_offset))))
+
+-- a date-time is plain
+pub date_time_plain : (text : Text) (core : Core) → IsDateTime text core → IsPlain text
+date_time_plain text core h = is_plain _ text (in_rfc_3339 text core h)
+
+-- ---- fronts
+
+plain_number : {greatest : ℕ} → PlainShape (some (UpTo greatest))
+plain_number = plain_some (λ text n h. (plain_digits 2).plain text h.0)
+
+plain_month : PlainShape (some Month)
+plain_month = plain_some (λ text month h. (plain_digits 2).plain text h.0.0)
+
+-- a full date, of which more may be known
+plain_date : {more : DateRecord → Type 0} → PlainShape (some (λ text date. FullDateText text date × more date))
+plain_date = plain_inside (λ text date h. in_full_date text date h.0)
+
+plain_secfrac : PlainShape SecondFraction
+plain_secfrac = record { plain = λ text h. is_plain core_unit text (rw h.2 (refl, in_digits (suc h.1) h.0 h.3)) }
+
+plain_until_hour : PlainShape UntilHour
+plain_until_hour = plain_date and_then plain_one
+
+plain_until_minute : PlainShape UntilMinute
+plain_until_minute = plain_until_hour and_then plain_number and_then plain_one
+
+plain_until_second : PlainShape UntilSecond
+plain_until_second = plain_until_minute and_then plain_number and_then plain_one
+
+plain_through_second : PlainShape ThroughSecond
+plain_through_second = plain_until_second and_then plain_number
+
+plain_through_time : PlainShape ThroughTime
+plain_through_time = plain_through_second and_then (plain_nothing or_else plain_secfrac)
+
+plain_until_offset_hour : PlainShape UntilOffsetHour
+plain_until_offset_hour = plain_through_time and_then plain_one
+
+plain_until_offset_minute : PlainShape UntilOffsetMinute
+plain_until_offset_minute = plain_until_offset_hour and_then plain_number and_then plain_one
+
+plain_until : (field : Field) → PlainShape (Until field)
+plain_until month_field = plain_digits 4 and_then plain_one
+plain_until day_field = (plain_digits 4 and_then plain_one) and_then plain_month and_then plain_one
+plain_until hour_field = plain_until_hour
+plain_until minute_field = plain_until_minute
+plain_until second_field = plain_until_second
+plain_until offset_hour_field = plain_until_offset_hour
+plain_until offset_minute_field = plain_until_offset_minute
+
+plain_through : (brackets : Bool) (field : Field) → PlainShape (front_of (date_time_line brackets (after_field field)))
+plain_through brackets month_field = (plain_digits 4 and_then plain_one) and_then plain_month
+plain_through brackets day_field = plain_date
+plain_through brackets hour_field = plain_until_hour and_then plain_number
+plain_through brackets minute_field = plain_until_minute and_then plain_number
+plain_through brackets second_field = plain_through_second
+plain_through brackets offset_hour_field = plain_until_offset_hour and_then plain_number
+plain_through brackets offset_minute_field = plain_until_offset_minute and_then plain_number
+
+plain_out : (field : Field) → PlainShape (OutOfRange field)
+plain_out month_field = (plain_digits 4 and_then plain_one) and_then plain_with (plain_digits 2)
+plain_out day_field = plain_date
+plain_out hour_field = plain_until_hour and_then plain_with (plain_digits 2)
+plain_out minute_field = plain_until_minute and_then plain_with (plain_digits 2)
+plain_out second_field = plain_until_second and_then plain_with (plain_digits 2)
+plain_out offset_hour_field = plain_until_offset_hour and_then plain_with (plain_digits 2)
+plain_out offset_minute_field = plain_until_offset_minute and_then plain_with (plain_digits 2)
+
+pub plain_date_time_line : (brackets : Bool) (name : DateTimeLine) → PlainShape (front_of (date_time_line brackets name))
+plain_date_time_line brackets four_digits = plain_fewer
+plain_date_time_line brackets after_four_digits = plain_digits 4
+plain_date_time_line brackets (field_digits field) = plain_until field and_then plain_fewer
+plain_date_time_line brackets (field_range field) = plain_out field
+plain_date_time_line brackets (after_field field) = plain_through brackets field
+plain_date_time_line brackets after_point = plain_through_second and_then plain_one
+plain_date_time_line brackets after_secfrac = plain_through_second and_then plain_secfrac
+plain_date_time_line brackets after_utc = plain_through_time and_then plain_one

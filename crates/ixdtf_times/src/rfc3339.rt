@@ -1,0 +1,369 @@
+//! Reading date-times of RFC 3339: at their fixed places, and number by number where these do not fit, which is an error.
+
+#![tactic(auto, unfolding(ixdtf_reading::specs::reading::DateTimes::date_time_line_readings, ixdtf_reading::specs::reading::Looks::number_by))]
+
+ghost use Rattle.std.specs.Prelude.{◌≡◌, ◌+◌, ◌<◌, ◌≤◌, map, length, Some, None, IfOk, IfSome, OnOk, IsTrue, pos};
+ghost use Rattle.ixdtf_grammar.specs.declared.records.DateRecord.{DateRecord};
+ghost use Rattle.ixdtf_grammar.specs.declared.records.TimeRecord.{TimeRecord};
+ghost use Rattle.ixdtf_grammar.specs.Views.{IsEmptyRecord, parsed_of};
+ghost use Rattle.ixdtf_grammar.specs.language.Letters.{hyphen, colon, time_letter};
+ghost use Rattle.ixdtf_grammar.specs.table.Faults.Fault.{DateYear};
+ghost use Rattle.ixdtf_grammar.specs.table.DateTimeFronts.Field.{month_field, day_field};
+ghost use Rattle.ixdtf_grammar.specs.table.LineNames.LineName.{of_date_time};
+ghost use Rattle.ixdtf_grammar.specs.table.LineNames.DateTimeLine.{after_secfrac};
+ghost use Rattle.ixdtf_reading.specs.reading.Clauses.{Reads, Spends, SpendsOr, fault_of_stop};
+ghost use Rattle.ixdtf_reading.specs.reading.Looks.{error_of, as_number, digit_look, digits_by, look_for, next_by, letter_at};
+ghost use Rattle.ixdtf_reading.specs.reading.DateTimes.{field_at, is_month, is_day, secfrac_digits_at, time_offset_at, secfrac_at, after_whole_second_at};
+ghost use Rattle.ixdtf_reading.specs.reading.DateTimes.{full_time_at, full_day_at, full_month_at};
+ghost use Rattle.ixdtf_reading.specs.reading.DateTimes.{date_time_ends, rfc_3339_at};
+
+use crate::date_times::take_fixed_date_time;
+use crate::dates::{check_month, has_day};
+use crate::offsets::sign_from;
+use crate::time::{WholeTime, next_number, parse_fraction};
+use ixdtf_grammar::encoding::EncodingType;
+use ixdtf_grammar::records::{
+    DateRecord, Fraction, IxdtfParseRecord, MinutePrecisionOffset, TimeRecord, UtcOffsetRecord,
+    UtcOffsetRecordOrZ,
+};
+use ixdtf_reading::classes::{
+    is_ascii_sign, is_decimal_separator, is_hyphen, is_time_designator, is_time_separator,
+    is_utc_designator,
+};
+use ixdtf_reading::cursor::Cursor;
+use ixdtf_reading::stop::Stop;
+
+/// Takes a colon off. The end and any other code unit are this stop.
+#[inline(always)]
+fn take_colon<'a, T: EncodingType>(cursor: &mut Cursor<'a, T>, stop: Stop) -> Result<u8, Stop>
+    ensures colon { Reads T.letter (λ byte. byte) cursor.old result cursor.new
+        (next_by (look_for colon (Some (fault_of_stop stop)) (fault_of_stop stop))) }
+    ensures looks { Spends 1 cursor.old cursor.new }
+{
+    match cursor.look()? {
+        Some(byte) if is_time_separator(byte) => {
+            cursor.advance();
+            Ok(byte)
+        }
+        _ => Err(stop),
+    }
+}
+
+/// Takes the hyphen of a date off. The end is this stop, and any other code unit `DateSeparator`.
+#[inline(always)]
+fn take_date_hyphen<'a, T: EncodingType>(
+    cursor: &mut Cursor<'a, T>,
+    at_end: Stop,
+) -> Result<u8, Stop>
+    ensures hyphen { Reads T.letter (λ byte. byte) cursor.old result cursor.new
+        (next_by (look_for hyphen (Some (fault_of_stop at_end)) (fault_of_stop Stop.DateSeparator))) }
+    ensures looks { Spends 1 cursor.old cursor.new }
+{
+    match cursor.look()? {
+        None => Err(at_end),
+        Some(byte) if is_hyphen(byte) => {
+            cursor.advance();
+            Ok(byte)
+        }
+        Some(_) => Err(Stop::DateSeparator),
+    }
+}
+
+/// Takes `T` or `t` off.
+#[inline(always)]
+fn take_time_letter<'a, T: EncodingType>(cursor: &mut Cursor<'a, T>) -> Result<u8, Stop>
+    ensures letter { Reads T.letter (λ byte. byte) cursor.old result cursor.new
+        (next_by (look_for time_letter (Some (fault_of_stop Stop.TimeSeparator)) (fault_of_stop Stop.TimeSeparator))) }
+    ensures looks { Spends 1 cursor.old cursor.new }
+{
+    match cursor.look()? {
+        Some(byte) if is_time_designator(byte) => {
+            cursor.advance();
+            Ok(byte)
+        }
+        _ => Err(Stop::TimeSeparator),
+    }
+}
+
+/// Reads the four digits of a year, and returns their number.
+#[inline(always)]
+fn parse_year<'a, T: EncodingType>(cursor: &mut Cursor<'a, T>) -> Result<u16, Stop>
+    ensures number { Reads T.letter (λ number. number) cursor.old result cursor.new
+        (λ text. as_number (digits_by (digit_look DateYear) 4 text)) }
+    ensures looks { SpendsOr 1 0 cursor.old result cursor.new }
+{
+    let thousands = cursor.next_digit(Stop::DateYear)?;
+    let hundreds = cursor.next_digit(Stop::DateYear)?;
+    let tens = cursor.next_digit(Stop::DateYear)?;
+    let ones = cursor.next_digit(Stop::DateYear)?;
+    Ok(
+        1000 * u16::from(thousands - b'0')
+            + 100 * u16::from(hundreds - b'0')
+            + 10 * u16::from(tens - b'0')
+            + u16::from(ones - b'0'),
+    )
+}
+
+/// Reads a month from 01 to 12.
+#[inline(always)]
+fn parse_month<'a, T: EncodingType>(cursor: &mut Cursor<'a, T>) -> Result<u8, Stop>
+    ensures month { Reads T.letter (λ month. month) cursor.old result cursor.new
+        (field_at error_of month_field is_month) }
+    ensures looks { SpendsOr 2 0 cursor.old result cursor.new }
+{
+    let month = cursor.two_digits(Stop::DateMonth)?;
+    check_month(month)
+}
+
+/// Reads a day that the month of the year has.
+#[inline(always)]
+fn parse_day<'a, T: EncodingType>(
+    cursor: &mut Cursor<'a, T>,
+    year: u16,
+    month: u8,
+) -> Result<u8, Stop>
+    ensures day { Reads T.letter (λ day. day) cursor.old result cursor.new
+        (field_at error_of day_field (is_day (pos year) month)) }
+    ensures looks { SpendsOr 2 0 cursor.old result cursor.new }
+{
+    let day = cursor.two_digits(Stop::DateDay)?;
+    if !has_day(i32::from(year), month, day) {
+        return Err(Stop::InvalidDayRange);
+    }
+    Ok(day)
+}
+
+/// Reads a time offset after its first code unit, and wants the end. The date, the time and the offset enter the record.
+#[inline(always)]
+fn parse_time_offset<'a, T: EncodingType>(
+    cursor: &mut Cursor<'a, T>,
+    date: DateRecord,
+    time: TimeRecord,
+    lead: u8,
+    found: &mut IxdtfParseRecord<'a, T>,
+) -> Result<(), Stop>
+    requires no_zone { found.old.tz ≡ None }
+    requires no_calendar { found.old.calendar ≡ None }
+    ensures offset { Reads T.letter (λ _. parsed_of T.number found.new) cursor.old result cursor.new
+        (time_offset_at error_of (date_time_ends error_of) date time lead) }
+    ensures looks { Spends 3 cursor.old cursor.new }
+{
+    found.date = Some(date);
+    found.time = Some(time);
+    if is_utc_designator(lead) {
+        cursor.close()?;
+        found.offset = Some(UtcOffsetRecordOrZ::Z);
+        return Ok(());
+    }
+    let offset_hour = next_number(cursor, 23, Stop::TimeHour)?;
+    take_colon(cursor, Stop::UtcTimeSeparator)?;
+    let offset_minute = next_number(cursor, 59, Stop::TimeMinuteSecond)?;
+    cursor.close()?;
+    let offset = MinutePrecisionOffset {
+        sign: sign_from(lead),
+        hour: offset_hour,
+        minute: offset_minute,
+    };
+    found.offset = Some(UtcOffsetRecordOrZ::Offset(UtcOffsetRecord::MinutePrecision(offset)));
+    Ok(())
+}
+
+/// Takes what a time offset begins with off, after the digits of a fraction.
+#[inline(always)]
+fn take_lead<'a, T: EncodingType>(cursor: &mut Cursor<'a, T>) -> Result<u8, Stop>
+    ensures lead { Reads T.letter (λ byte. byte) cursor.old result cursor.new
+        (letter_at error_of (of_date_time after_secfrac)) }
+    ensures looks { Spends 1 cursor.old cursor.new }
+{
+    match cursor.look()? {
+        None => Err(Stop::AbruptOffset),
+        Some(byte) if byte.is_ascii_digit() || is_ascii_sign(byte) || is_utc_designator(byte) => {
+            cursor.advance();
+            Ok(byte)
+        }
+        Some(_) => Err(Stop::OffsetNeedsSign),
+    }
+}
+
+/// Reads the digits of a fraction after its point.
+#[inline(always)]
+fn parse_secfrac<'a, T: EncodingType>(cursor: &mut Cursor<'a, T>) -> Result<Fraction, Stop>
+    ensures fraction { Reads T.letter (λ fraction. fraction) cursor.old result cursor.new
+        (secfrac_digits_at error_of) }
+    ensures looks { Spends 2 cursor.old cursor.new }
+{
+    parse_fraction(cursor)
+}
+
+/// Reads a fraction after its point and an offset after it, and wants the end.
+#[inline(always)]
+fn parse_fractional<'a, T: EncodingType>(
+    cursor: &mut Cursor<'a, T>,
+    date: DateRecord,
+    whole: WholeTime,
+    found: &mut IxdtfParseRecord<'a, T>,
+) -> Result<(), Stop>
+    requires no_zone { found.old.tz ≡ None }
+    requires no_calendar { found.old.calendar ≡ None }
+    ensures rest { Reads T.letter (λ _. parsed_of T.number found.new) cursor.old result cursor.new
+        (secfrac_at error_of (date_time_ends error_of) date whole.hour whole.minute whole.second) }
+    ensures looks { Spends 6 cursor.old cursor.new }
+{
+    let fraction = parse_secfrac(cursor)?;
+    let lead = take_lead(cursor)?;
+    let time = whole.with_fraction(Some(fraction));
+    parse_time_offset(cursor, date, time, lead, found)
+}
+
+/// Reads what follows the seconds, and wants the end: a fraction where there is one, and an offset.
+#[inline(always)]
+fn parse_after_seconds<'a, T: EncodingType>(
+    cursor: &mut Cursor<'a, T>,
+    date: DateRecord,
+    whole: WholeTime,
+    found: &mut IxdtfParseRecord<'a, T>,
+) -> Result<(), Stop>
+    requires no_zone { found.old.tz ≡ None }
+    requires no_calendar { found.old.calendar ≡ None }
+    ensures rest { Reads T.letter (λ _. parsed_of T.number found.new) cursor.old result cursor.new
+        (after_whole_second_at error_of (date_time_ends error_of) date whole.hour whole.minute whole.second) }
+    ensures looks { Spends 7 cursor.old cursor.new }
+{
+    match cursor.look()? {
+        None => Err(Stop::AbruptOffset),
+        Some(byte) if byte == b'.' => {
+            cursor.advance();
+            parse_fractional(cursor, date, whole, found)
+        }
+        Some(byte) if is_ascii_sign(byte) || is_utc_designator(byte) => {
+            cursor.advance();
+            let time = whole.with_fraction(None);
+            parse_time_offset(cursor, date, time, byte, found)
+        }
+        Some(byte) if is_decimal_separator(byte) => Err(Stop::FractionPart),
+        Some(_) => Err(Stop::OffsetNeedsSign),
+    }
+}
+
+/// Takes off the date, `T` or `t` and the time that stand at the first nineteen places. It is `None`, with the rest
+/// unchanged, where they do not fit.
+#[inline(always)]
+fn take_fixed_rfc3339<'a, T: EncodingType>(
+    cursor: &mut Cursor<'a, T>,
+) -> Option<(DateRecord, WholeTime)>
+    ensures read { IfSome result (λ found. rfc_3339_at error_of (map T.letter cursor.old.rest) ≡
+        after_whole_second_at error_of (date_time_ends error_of) found.0 found.1.hour found.1.minute found.1.second (map T.letter cursor.new.rest)) }
+    ensures rest { result ≡ None → cursor.new.rest ≡ cursor.old.rest }
+    ensures few { cursor.new.looks ≤ cursor.old.looks + 20 }
+    ensures looks { Spends (length cursor.old.rest + 1) cursor.old cursor.new }
+{
+    if !is_time_designator(cursor.byte_at(10)) {
+        return None;
+    }
+    take_fixed_date_time(cursor)
+}
+
+// ==== Number by number ====
+
+/// Reads the time after a date and its letter, and wants the end.
+#[inline(always)]
+fn parse_time_by_numbers<'a, T: EncodingType>(
+    cursor: &mut Cursor<'a, T>,
+    date: DateRecord,
+    found: &mut IxdtfParseRecord<'a, T>,
+) -> Result<(), Stop>
+    requires no_zone { found.old.tz ≡ None }
+    requires no_calendar { found.old.calendar ≡ None }
+    ensures time { Reads T.letter (λ _. parsed_of T.number found.new) cursor.old result cursor.new
+        (full_time_at error_of (date_time_ends error_of) date) }
+    ensures looks { Spends 9 cursor.old cursor.new }
+{
+    let hour = next_number(cursor, 23, Stop::TimeHour)?;
+    take_colon(cursor, Stop::TimeSeparator)?;
+    let minute = next_number(cursor, 59, Stop::TimeMinuteSecond)?;
+    take_colon(cursor, Stop::TimeSeparator)?;
+    let second = next_number(cursor, 60, Stop::TimeSecond)?;
+    let whole = WholeTime {
+        hour,
+        minute,
+        second,
+    };
+    parse_after_seconds(cursor, date, whole, found)
+}
+
+/// Reads the day after a month and its hyphen, and what follows, and wants the end.
+#[inline(always)]
+fn parse_day_by_numbers<'a, T: EncodingType>(
+    cursor: &mut Cursor<'a, T>,
+    year: u16,
+    month: u8,
+    found: &mut IxdtfParseRecord<'a, T>,
+) -> Result<(), Stop>
+    requires no_zone { found.old.tz ≡ None }
+    requires no_calendar { found.old.calendar ≡ None }
+    ensures day { Reads T.letter (λ _. parsed_of T.number found.new) cursor.old result cursor.new
+        (full_day_at error_of (date_time_ends error_of) (pos year) month) }
+    ensures looks { Spends 10 cursor.old cursor.new }
+{
+    let day = parse_day(cursor, year, month)?;
+    take_time_letter(cursor)?;
+    let date = DateRecord {
+        year: i32::from(year),
+        month,
+        day,
+    };
+    parse_time_by_numbers(cursor, date, found)
+}
+
+/// Reads the month after a year and its hyphen, and what follows, and wants the end.
+#[inline(always)]
+fn parse_month_by_numbers<'a, T: EncodingType>(
+    cursor: &mut Cursor<'a, T>,
+    year: u16,
+    found: &mut IxdtfParseRecord<'a, T>,
+) -> Result<(), Stop>
+    requires no_zone { found.old.tz ≡ None }
+    requires no_calendar { found.old.calendar ≡ None }
+    ensures month { Reads T.letter (λ _. parsed_of T.number found.new) cursor.old result cursor.new
+        (full_month_at error_of (date_time_ends error_of) (pos year)) }
+    ensures looks { Spends 11 cursor.old cursor.new }
+{
+    let month = parse_month(cursor)?;
+    take_date_hyphen(cursor, Stop::DateSeparator)?;
+    parse_day_by_numbers(cursor, year, month, found)
+}
+
+/// Reads a date-time number by number, and wants the end. It is not inlined: no text is read so that has no error.
+#[inline(never)]
+#[tactic(auto, using(ixdtf_reading::proofs::code::FixedDateTimes::year_then), unfolding(ixdtf_reading::specs::reading::Looks::look_readings))]
+fn parse_by_numbers<'a, T: EncodingType>(
+    cursor: &mut Cursor<'a, T>,
+    found: &mut IxdtfParseRecord<'a, T>,
+) -> Result<(), Stop>
+    requires no_zone { found.old.tz ≡ None }
+    requires no_calendar { found.old.calendar ≡ None }
+    ensures date_time { Reads T.letter (λ _. parsed_of T.number found.new) cursor.old result cursor.new
+        (rfc_3339_at error_of) }
+    ensures looks { Spends 12 cursor.old cursor.new }
+{
+    let year = parse_year(cursor)?;
+    take_date_hyphen(cursor, Stop::AbruptDate)?;
+    parse_month_by_numbers(cursor, year, found)
+}
+
+/// Reads a date-time of RFC 3339 into an empty record, and wants the end.
+#[inline(always)]
+pub fn parse_rfc3339_text<'a, T: EncodingType>(
+    cursor: &mut Cursor<'a, T>,
+    found: &mut IxdtfParseRecord<'a, T>,
+) -> Result<(), Stop>
+    requires empty { IsEmptyRecord found.old }
+    ensures date_time { Reads T.letter (λ _. parsed_of T.number found.new) cursor.old result cursor.new
+        (rfc_3339_at error_of) }
+    ensures looks { Spends (length cursor.old.rest + 13) cursor.old cursor.new }
+{
+    match take_fixed_rfc3339(cursor) {
+        Some((date, whole)) => parse_after_seconds(cursor, date, whole, found),
+        None => parse_by_numbers(cursor, found),
+    }
+}

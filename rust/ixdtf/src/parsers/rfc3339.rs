@@ -1,0 +1,268 @@
+// Made by tools/to_rust.py of crates/ixdtf_times/src/rfc3339.rt. Do not edit.
+
+//! Reading date-times of RFC 3339: at their fixed places, and number by number where these do not fit, which is an error.
+
+use crate::parsers::date_times::take_fixed_date_time;
+use crate::parsers::dates::{check_month, has_day};
+use crate::parsers::offsets::sign_from;
+use crate::parsers::time::{WholeTime, next_number, parse_fraction};
+use crate::encoding::EncodingType;
+use crate::records::{
+    DateRecord, Fraction, IxdtfParseRecord, MinutePrecisionOffset, TimeRecord, UtcOffsetRecord,
+    UtcOffsetRecordOrZ,
+};
+use crate::classes::{
+    is_ascii_sign, is_decimal_separator, is_hyphen, is_time_designator, is_time_separator,
+    is_utc_designator,
+};
+use crate::cursor::Cursor;
+use crate::stop::Stop;
+
+/// Takes a colon off. The end and any other code unit are this stop.
+#[inline(always)]
+fn take_colon<'a, T: EncodingType>(cursor: &mut Cursor<'a, T>, stop: Stop) -> Result<u8, Stop> {
+    match cursor.look()? {
+        Some(byte) if is_time_separator(byte) => {
+            cursor.advance();
+            Ok(byte)
+        }
+        _ => Err(stop),
+    }
+}
+
+/// Takes the hyphen of a date off. The end is this stop, and any other code unit `DateSeparator`.
+#[inline(always)]
+fn take_date_hyphen<'a, T: EncodingType>(
+    cursor: &mut Cursor<'a, T>,
+    at_end: Stop,
+) -> Result<u8, Stop> {
+    match cursor.look()? {
+        None => Err(at_end),
+        Some(byte) if is_hyphen(byte) => {
+            cursor.advance();
+            Ok(byte)
+        }
+        Some(_) => Err(Stop::DateSeparator),
+    }
+}
+
+/// Takes `T` or `t` off.
+#[inline(always)]
+fn take_time_letter<'a, T: EncodingType>(cursor: &mut Cursor<'a, T>) -> Result<u8, Stop> {
+    match cursor.look()? {
+        Some(byte) if is_time_designator(byte) => {
+            cursor.advance();
+            Ok(byte)
+        }
+        _ => Err(Stop::TimeSeparator),
+    }
+}
+
+/// Reads the four digits of a year, and returns their number.
+#[inline(always)]
+fn parse_year<'a, T: EncodingType>(cursor: &mut Cursor<'a, T>) -> Result<u16, Stop> {
+    let thousands = cursor.next_digit(Stop::DateYear)?;
+    let hundreds = cursor.next_digit(Stop::DateYear)?;
+    let tens = cursor.next_digit(Stop::DateYear)?;
+    let ones = cursor.next_digit(Stop::DateYear)?;
+    Ok(
+        1000 * u16::from(thousands - b'0')
+            + 100 * u16::from(hundreds - b'0')
+            + 10 * u16::from(tens - b'0')
+            + u16::from(ones - b'0'),
+    )
+}
+
+/// Reads a month from 01 to 12.
+#[inline(always)]
+fn parse_month<'a, T: EncodingType>(cursor: &mut Cursor<'a, T>) -> Result<u8, Stop> {
+    let month = cursor.two_digits(Stop::DateMonth)?;
+    check_month(month)
+}
+
+/// Reads a day that the month of the year has.
+#[inline(always)]
+fn parse_day<'a, T: EncodingType>(
+    cursor: &mut Cursor<'a, T>,
+    year: u16,
+    month: u8,
+) -> Result<u8, Stop> {
+    let day = cursor.two_digits(Stop::DateDay)?;
+    if !has_day(i32::from(year), month, day) {
+        return Err(Stop::InvalidDayRange);
+    }
+    Ok(day)
+}
+
+/// Reads a time offset after its first code unit, and wants the end. The date, the time and the offset enter the record.
+#[inline(always)]
+fn parse_time_offset<'a, T: EncodingType>(
+    cursor: &mut Cursor<'a, T>,
+    date: DateRecord,
+    time: TimeRecord,
+    lead: u8,
+    found: &mut IxdtfParseRecord<'a, T>,
+) -> Result<(), Stop> {
+    found.date = Some(date);
+    found.time = Some(time);
+    if is_utc_designator(lead) {
+        cursor.close()?;
+        found.offset = Some(UtcOffsetRecordOrZ::Z);
+        return Ok(());
+    }
+    let offset_hour = next_number(cursor, 23, Stop::TimeHour)?;
+    take_colon(cursor, Stop::UtcTimeSeparator)?;
+    let offset_minute = next_number(cursor, 59, Stop::TimeMinuteSecond)?;
+    cursor.close()?;
+    let offset = MinutePrecisionOffset {
+        sign: sign_from(lead),
+        hour: offset_hour,
+        minute: offset_minute,
+    };
+    found.offset = Some(UtcOffsetRecordOrZ::Offset(UtcOffsetRecord::MinutePrecision(offset)));
+    Ok(())
+}
+
+/// Takes what a time offset begins with off, after the digits of a fraction.
+#[inline(always)]
+fn take_lead<'a, T: EncodingType>(cursor: &mut Cursor<'a, T>) -> Result<u8, Stop> {
+    match cursor.look()? {
+        None => Err(Stop::AbruptOffset),
+        Some(byte) if byte.is_ascii_digit() || is_ascii_sign(byte) || is_utc_designator(byte) => {
+            cursor.advance();
+            Ok(byte)
+        }
+        Some(_) => Err(Stop::OffsetNeedsSign),
+    }
+}
+
+/// Reads the digits of a fraction after its point.
+#[inline(always)]
+fn parse_secfrac<'a, T: EncodingType>(cursor: &mut Cursor<'a, T>) -> Result<Fraction, Stop> {
+    parse_fraction(cursor)
+}
+
+/// Reads a fraction after its point and an offset after it, and wants the end.
+#[inline(always)]
+fn parse_fractional<'a, T: EncodingType>(
+    cursor: &mut Cursor<'a, T>,
+    date: DateRecord,
+    whole: WholeTime,
+    found: &mut IxdtfParseRecord<'a, T>,
+) -> Result<(), Stop> {
+    let fraction = parse_secfrac(cursor)?;
+    let lead = take_lead(cursor)?;
+    let time = whole.with_fraction(Some(fraction));
+    parse_time_offset(cursor, date, time, lead, found)
+}
+
+/// Reads what follows the seconds, and wants the end: a fraction where there is one, and an offset.
+#[inline(always)]
+fn parse_after_seconds<'a, T: EncodingType>(
+    cursor: &mut Cursor<'a, T>,
+    date: DateRecord,
+    whole: WholeTime,
+    found: &mut IxdtfParseRecord<'a, T>,
+) -> Result<(), Stop> {
+    match cursor.look()? {
+        None => Err(Stop::AbruptOffset),
+        Some(byte) if byte == b'.' => {
+            cursor.advance();
+            parse_fractional(cursor, date, whole, found)
+        }
+        Some(byte) if is_ascii_sign(byte) || is_utc_designator(byte) => {
+            cursor.advance();
+            let time = whole.with_fraction(None);
+            parse_time_offset(cursor, date, time, byte, found)
+        }
+        Some(byte) if is_decimal_separator(byte) => Err(Stop::FractionPart),
+        Some(_) => Err(Stop::OffsetNeedsSign),
+    }
+}
+
+/// Takes off the date, `T` or `t` and the time that stand at the first nineteen places. It is `None`, with the rest
+/// unchanged, where they do not fit.
+#[inline(always)]
+fn take_fixed_rfc3339<'a, T: EncodingType>(
+    cursor: &mut Cursor<'a, T>,
+) -> Option<(DateRecord, WholeTime)> {
+    if !is_time_designator(cursor.byte_at(10)) {
+        return None;
+    }
+    take_fixed_date_time(cursor)
+}
+
+// ==== Number by number ====
+
+/// Reads the time after a date and its letter, and wants the end.
+#[inline(always)]
+fn parse_time_by_numbers<'a, T: EncodingType>(
+    cursor: &mut Cursor<'a, T>,
+    date: DateRecord,
+    found: &mut IxdtfParseRecord<'a, T>,
+) -> Result<(), Stop> {
+    let hour = next_number(cursor, 23, Stop::TimeHour)?;
+    take_colon(cursor, Stop::TimeSeparator)?;
+    let minute = next_number(cursor, 59, Stop::TimeMinuteSecond)?;
+    take_colon(cursor, Stop::TimeSeparator)?;
+    let second = next_number(cursor, 60, Stop::TimeSecond)?;
+    let whole = WholeTime {
+        hour,
+        minute,
+        second,
+    };
+    parse_after_seconds(cursor, date, whole, found)
+}
+
+/// Reads the day after a month and its hyphen, and what follows, and wants the end.
+#[inline(always)]
+fn parse_day_by_numbers<'a, T: EncodingType>(
+    cursor: &mut Cursor<'a, T>,
+    year: u16,
+    month: u8,
+    found: &mut IxdtfParseRecord<'a, T>,
+) -> Result<(), Stop> {
+    let day = parse_day(cursor, year, month)?;
+    take_time_letter(cursor)?;
+    let date = DateRecord {
+        year: i32::from(year),
+        month,
+        day,
+    };
+    parse_time_by_numbers(cursor, date, found)
+}
+
+/// Reads the month after a year and its hyphen, and what follows, and wants the end.
+#[inline(always)]
+fn parse_month_by_numbers<'a, T: EncodingType>(
+    cursor: &mut Cursor<'a, T>,
+    year: u16,
+    found: &mut IxdtfParseRecord<'a, T>,
+) -> Result<(), Stop> {
+    let month = parse_month(cursor)?;
+    take_date_hyphen(cursor, Stop::DateSeparator)?;
+    parse_day_by_numbers(cursor, year, month, found)
+}
+
+/// Reads a date-time number by number, and wants the end. It is not inlined: no text is read so that has no error.
+#[inline(never)]
+fn parse_by_numbers<'a, T: EncodingType>(
+    cursor: &mut Cursor<'a, T>,
+    found: &mut IxdtfParseRecord<'a, T>,
+) -> Result<(), Stop> {
+    let year = parse_year(cursor)?;
+    take_date_hyphen(cursor, Stop::AbruptDate)?;
+    parse_month_by_numbers(cursor, year, found)
+}
+
+/// Reads a date-time of RFC 3339 into an empty record, and wants the end.
+#[inline(always)]
+pub fn parse_rfc3339_text<'a, T: EncodingType>(
+    cursor: &mut Cursor<'a, T>,
+    found: &mut IxdtfParseRecord<'a, T>,
+) -> Result<(), Stop> {
+    match take_fixed_rfc3339(cursor) {
+        Some((date, whole)) => parse_after_seconds(cursor, date, whole, found),
+        None => parse_by_numbers(cursor, found),
+    }
+}
