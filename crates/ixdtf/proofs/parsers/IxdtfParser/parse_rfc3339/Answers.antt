@@ -18,9 +18,7 @@ pub returns-in-Err : goal.returns-in-Err
 returns-in-Err g c =
     let gives = rw c.in-Err.is at (exact g.T.EncodingType.letter (λ done. parsed_of g.T.EncodingType.number c.parse_rfc3339_text-read.new.found) reader_rfc3339 dated (λ x y e. cc) tt _ c.fork-here.result
     c.parse_rfc3339_text-read.new.cursor refl _ _ _ c.parse_rfc3339_text-read.ensures.date_time c.settle.ensures.settled) in
-    let kept = rw c.in-Err.is at c.settle.ensures.unchanged in
-    let spent = c.parse_rfc3339_text-read.ensures.looks in
     rw (← c.self.view_is, ← c.fork-here.ensures.same) (record {
-      reads = record { ok = gives.ok; err = gives.err; no_row = gives.no_row; only = gives.only; leaves = record { empty = tt; unchanged = kept; comes = gives.comes; looks = omega (arith, c.settle.ensures.looks, spent.0); counted = omega (arith, c.settle.ensures.looks, spent.1) } };
+      reads = record { ok = gives.ok; err = gives.err; no_row = gives.no_row; only = gives.only; leaves = search rules };
       profile = search rules;
     })

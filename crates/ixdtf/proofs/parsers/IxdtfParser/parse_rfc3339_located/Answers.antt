@@ -22,9 +22,7 @@ returns-in-Err g c =
     c.parse_rfc3339_text-read.new.cursor refl _ (rfc_3339_read error_of _) _ (c.fork-here.ensures.rest ∙ ap (λ (u : Unread). u.rest) (sym c.fork-here.ensures.same)) _ _
     c.parse_rfc3339_text-read.ensures.date_time c.settle.ensures.settled c.settle.ensures.place) in
     let plain = gives.plain in
-    let kept = rw c.in-Err.is at c.settle.ensures.unchanged in
-    let spent = c.parse_rfc3339_text-read.ensures.looks in
     rw (← c.self.view_is, ← c.fork-here.ensures.same) (record {
-      reads = record { ok = plain.ok; err = gives.err; place = gives.place; no_row = plain.no_row; only = plain.only; leaves = record { empty = tt; unchanged = kept; comes = plain.comes; looks = omega (arith, c.settle.ensures.looks, spent.0); counted = omega (arith, c.settle.ensures.looks, spent.1) } };
+      reads = record { ok = plain.ok; err = gives.err; place = gives.place; no_row = plain.no_row; only = plain.only; leaves = search rules };
       profile = search rules;
     })
