@@ -51,7 +51,7 @@ fn check_with_room(rt: &impl Abort, duration: &DurationParseRecord, canonical: &
 
 /// Whether the bytes are read as the duration, under the profile.
 fn is_read_under(bytes: &[u8], profile: Profile, duration: &DurationParseRecord) -> bool {
-    match core::str::from_utf8(bytes) {
+    match str::from_utf8(bytes) {
         Ok(text) => {
             IsoDurationParser::from_str(text)
                 .with_profile(profile)
