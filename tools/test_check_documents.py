@@ -244,14 +244,14 @@ class Repository(unittest.TestCase):
     def test_counts(self):
         self.assertEqual(self.found('docs/FAULTS.md', '46 variants', '45 variants', check.findings_in_counts),
                          ['"45 variants": there are 46'])
-        self.assertEqual(len(self.found('docs/TRUST.md', 'They have 3', 'They have 4', check.findings_in_counts)), 1)
+        self.assertEqual(len(self.found('docs/TRUST.md', 'of the list have 3', 'of the list have 4', check.findings_in_counts)), 1)
 
     def test_the_order_of_reading(self):
         self.assertEqual(self.found('docs/TRUST.md', '3. `Handlers`, ', '3. ', check.findings_in_reading_order),
                          ['crates/ixdtf_grammar/specs/Handlers.antt is missing in the order of reading'])
 
     def test_files_that_have_no_contract(self):
-        self.assertEqual(self.found('docs/TRUST.md', 'what it returns | `handled.rt` |', 'what it returns | `parsers.rt` |', check.findings_in_files),
+        self.assertEqual(self.found('docs/TRUST.md', 'returns. | `handled.rt` |', 'returns. | `parsers.rt` |', check.findings_in_files),
                          ['the contract of `IxdtfParser::parse_month_day_with_annotation_handler` is in crates/ixdtf/src/parsers/handled.rt, '
                           'which the row does not name', '`parsers.rt` has no contract that the row names'])
         self.assertEqual(self.found('docs/TRUST.md', '`parsers.rt`, `unhandled.rt`, ', '`parsers.rt`, ', check.findings_in_reading_order),
