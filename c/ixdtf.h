@@ -1,53 +1,64 @@
-/* ixdtf.h: a reader of date-times of RFC 9557, of offsets and time zones, and of durations, and a
- * printer of date-times. Version 2 of the interface.
+/* ixdtf.h: functions that read date-times of RFC 9557, offsets, time zones and durations, and that
+ * print date-times. This is version 2 of the interface.
  *
- * LIBRARY. Link libixdtf.a or libixdtf.so. It takes no memory, keeps no state and starts no thread.
- * The proved library is for Linux on x86-64 processors with SSE4.2 and POPCNT (x86-64-v2), and
- * calls nothing. The plain one is for each 64-bit system that rustc has, and may call memcmp,
- * memcpy and their like of the C library. docs/C.md says what is proved of each.
+ * LIBRARY. Link libixdtf.a or libixdtf.so. The library allocates no memory, keeps no state and
+ * starts no thread. There are two libraries with the same functions. The proved library is for
+ * Linux on x86-64 processors with SSE4.2 and POPCNT (x86-64-v2), and calls nothing. The plain
+ * library is for each 64-bit system that rustc supports. It may call memcmp, memcpy and similar
+ * functions of the C library. docs/C.md says what is proved about each of the two.
  *
- * TEXTS. A text is a pointer to its first unit and a length in units. A unit has 8 bits in
- * ixdtf_.., and 16 in ixdtf16_... Exactly these units are read, all of them, and none is written. A
- * text need not end in a zero, which counts as a unit where it is inside the length. It need not be
- * UTF-8 or UTF-16. With length 0 the pointer may be NULL. A text of 16-bit units is aligned as
- * uint16_t is. A length is at most PTRDIFF_MAX bytes, as that of every object.
+ * TEXTS. A text is a pointer to its first code unit, and a length in code units. A code unit has 8
+ * bits in the functions whose names begin with ixdtf_, and 16 bits in those that begin with
+ * ixdtf16_. The text is exactly these code units, all of them. A function reads no other code units
+ * of the memory around them, and writes none of them. A text need not end in a zero. A zero within
+ * the length counts as a code unit. A text need not be UTF-8 or UTF-16. If the length is 0, the
+ * pointer may be NULL. A text of 16-bit code units must have the alignment of uint16_t. A text has
+ * at most PTRDIFF_MAX bytes, as every object has.
  *
- * RESULTS. Each reader returns 0 (IXDTF_OK) or the number of the error that the text is refused
- * with. A compiler warns where what a call returns is not looked at.
- * After 0 every field of the record is what the text gives, whatever stood there before. Of a part
- * that the text does not have all fields are 0, false or a slice of length 0, and so are `location`
- * and `place`.
- * After an error the record is as it was, but for these two: what it says is of the text before.
- * `location` is what the text broke off in, as "digit", after IXDTF_ABRUPT_END, and has length 0
- * after every other error. `place` is how many units of the text stand before the place of the
- * error: the unit that does not fit, or the end of a text that ends too soon, or just behind what
- * is wrong as a whole, as a number out of its range or an annotation that is refused.
- * docs/FAULTS.md says it of each error.
+ * RESULTS. A reader is a function that reads a text. Each reader returns 0 (IXDTF_OK) if it accepts
+ * the text, and otherwise the number of the error of the text. If a program ignores the result, a
+ * compiler such as GCC or Clang warns.
+ * After 0, every field of the record has the value that the text gives, whatever the field
+ * contained before. If the text does not have a part, all fields of this part are 0, false or a
+ * slice of length 0. After 0, `location` has length 0, and `place` is 0.
+ * After an error, the record is unchanged, except for `location` and `place`. So its other fields
+ * still say what they said before the call, for example about an earlier text.
+ * - `location` says what was being parsed, such as "digit", if the error is IXDTF_ABRUPT_END: the
+ *   text ends too early. After every other error, `location` has length 0.
+ * - `place` is the position of the error: the number of code units before it. If a code unit does
+ *   not fit, the error is at this code unit. If the text ends too early, the error is at the end of
+ *   the text. If something is wrong as a whole, the error is directly after it: for example, after
+ *   a number that is out of range, or after an annotation that is refused. docs/FAULTS.md has the
+ *   position of each error.
  *
- * RECORDS. The caller owns every record, array and text. A record is handed in initialised, by
- * zeros ({0}, calloc), by the macro of its type (IXDTF_RECORD for an ixdtf_record) or by a call
- * before, and aligned as it is. Whatever a call left in it may stand there, also slices of a text
- * that is gone: no reader reads them. ixdtf_print reads those of the parts that are there.
- * `is_there`, `form` and `has_..` say which parts are there. After 0 no `form` is another one than
- * those that are named below. What a call writes overlaps nothing else that is handed in. A pointer
- * with a length or a room of 0 may be NULL, also in a struct. No other pointer handed in is NULL.
+ * RECORDS. The caller owns every record, array and text. A record must be initialised before it is
+ * passed to a call: by zeros ({0}, calloc), by the macro of its type (IXDTF_RECORD for an
+ * ixdtf_record), or by an earlier call. It must have the alignment of its type. A record may contain
+ * all that an earlier call left in it, even slices of a text that no longer exists: no reader reads
+ * these slices. But ixdtf_print reads the slices of the parts that are present.
+ * The fields `is_there`, `form` and `has_..` say which parts are present. After 0, each `form` has
+ * one of the values that are named below.
+ * The memory that a call writes must not overlap anything else that is passed to the call. If a
+ * length or a room is 0, its pointer may be NULL, also in a struct. No other pointer that is passed
+ * may be NULL.
  *
- * SLICES. A name, a calendar, a key or a value in a record is a pointer into the text that was
- * read, and a length. It is not ended by a zero. It is valid while the text is there, unchanged.
- * The library keeps no pointer between calls. A location and an error's text are valid as long as
- * the program runs. No slice that a call writes is NULL, also where its length is 0.
- * The name of a time zone is what the text has. It may have parts "." and "..", as
- * ../../etc/passwd has. A name is never to be joined to a path as it is.
+ * SLICES. A name, a calendar, a key or a value in a record is a slice of the text that was read: a
+ * pointer into this text, and a length. No zero ends it. It is valid as long as the text exists and
+ * is unchanged. The library keeps no pointer between calls. A location and the text of an error are
+ * valid as long as the program runs. The pointer of a slice that a call writes is never NULL, even
+ * if the length is 0.
+ * The name of a time zone is the name that is written in the text. It may have the parts "." and
+ * "..", as ../../etc/passwd has. Never join a name to a path without a check.
  *
- * THREADS. Any number of threads may call at one time, as long as none writes what another uses. No
- * call blocks, and each returns, in time linear in the length of its text, or of the slices of its
- * record. A call may be made in a signal handler.
+ * THREADS. Any number of threads may call the library at the same time, as long as no thread writes
+ * what another thread uses. No call blocks, and each call returns. Its time is linear in the length
+ * of its text, or of the slices of its record. A signal handler may call the library.
  *
- * VERSIONS. Names, numbers, sizes and places of fields do not change within a version of the
- * interface, and none is taken away. Calls and numbers may be added: then its revision is raised.
- * A program runs with each library of its version and of its own revision or a later one. This is
- * version 2. ixdtf_interface_version() is that of the library, and is to be
- * IXDTF_INTERFACE_VERSION. The shared library has the version in its file name.
+ * VERSIONS. Names, numbers, sizes and the offsets of fields do not change within a version of the
+ * interface, and none of them is removed. Functions and numbers may be added: this raises the
+ * revision. A program runs with each library that has its version, and its revision or a later one.
+ * This header has version 2. ixdtf_interface_version() returns the version of the library. It must
+ * be equal to IXDTF_INTERFACE_VERSION. The file name of the shared library has the version.
  */
 #ifndef IXDTF_H
 #define IXDTF_H
@@ -59,12 +70,12 @@
 extern "C" {
 #endif
 
-/* The version of the interface that this header is of. */
+/* The version of the interface that this header describes. */
 #define IXDTF_INTERFACE_VERSION 2
-/* How often calls or numbers were added within this version. */
+/* How many times functions or numbers were added within this version. */
 #define IXDTF_INTERFACE_REVISION 1
 
-/* What a call returns is looked at: else there is no record. */
+/* The caller must test the result of a call: if it is an error, there is no new record. */
 #if defined(__cplusplus) && __cplusplus >= 201703L
 #define IXDTF_CHECKED_ [[nodiscard]]
 #elif !defined(__cplusplus) && defined(__STDC_VERSION__) && __STDC_VERSION__ >= 202311L
@@ -75,14 +86,15 @@ extern "C" {
 #define IXDTF_CHECKED_
 #endif
 
-/* What a reader returns. ixdtf_error_message has the text of each, docs/FAULTS.md says where each
- * comes. Those marked - are returned by no reader, and keep their numbers. */
+/* The numbers that a reader returns. ixdtf_error_message returns the text of each error, and
+ * docs/FAULTS.md says when each error is returned. No reader returns an error that is marked with -.
+ * These errors keep their numbers. */
 enum {
     IXDTF_OK = 0,
     IXDTF_IMPL_ASSERT = 1, /* - */
-    IXDTF_NON_ASCII_CODE_POINT = 2, /* 16-bit texts alone */
+    IXDTF_NON_ASCII_CODE_POINT = 2, /* only for 16-bit text */
     IXDTF_PARSE_FLOAT = 3, /* - */
-    IXDTF_ABRUPT_END = 4, /* `location` says what the text broke off in */
+    IXDTF_ABRUPT_END = 4, /* `location` says what was being parsed */
     IXDTF_INVALID_END = 5,
     IXDTF_INVALID_MONTH_RANGE = 6,
     IXDTF_INVALID_DAY_RANGE = 7,
@@ -109,8 +121,8 @@ enum {
     IXDTF_ANNOTATION_VALUE_CHAR_POST_HYPHEN = 28,
     IXDTF_ANNOTATION_VALUE_CHAR = 29,
     IXDTF_INVALID_MINUTE_PRECISION_OFFSET = 30,
-    IXDTF_CRITICAL_DUPLICATE_CALENDAR = 31, /* of an annotation or a reply */
-    IXDTF_UNRECOGNIZED_CRITICAL = 32, /* of an annotation or a reply */
+    IXDTF_CRITICAL_DUPLICATE_CALENDAR = 31, /* about an annotation or a reply */
+    IXDTF_UNRECOGNIZED_CRITICAL = 32, /* about an annotation or a reply */
     IXDTF_TZ_LEADING_CHAR = 33,
     IXDTF_IANA_CHAR_POST_SEPARATOR = 34,
     IXDTF_IANA_CHAR = 35,
@@ -127,54 +139,55 @@ enum {
     IXDTF_INVALID_MONTH_DAY = 46
 };
 
-/* What ixdtf_print returns besides IXDTF_OK. These are no errors of a text. */
+/* The numbers that ixdtf_print returns besides IXDTF_OK. They are not errors of a text. */
 enum {
-    IXDTF_NOT_PRINTABLE = 101, /* no text stands for the record */
-    IXDTF_TOO_SHORT = 102      /* there is less room than the text takes, which `count` says */
+    IXDTF_NOT_PRINTABLE = 101, /* ixdtf_parse gives this record for no text */
+    IXDTF_TOO_SHORT = 102      /* `room` is less than the length of the text, which is in `count` */
 };
 
-/* Bytes that are valid as long as the program runs, without a zero at their end. */
+/* A slice of bytes that are valid as long as the program runs. They need not end in a zero. */
 typedef struct ixdtf_text { const char *at; size_t length; } ixdtf_text;
 
-/* Units of a text that was read. */
+/* A slice of code units: a part of a text that was read. */
 typedef struct ixdtf_units { const uint8_t *at; size_t length; } ixdtf_units;
 typedef struct ixdtf16_units { const uint16_t *at; size_t length; } ixdtf16_units;
 
 typedef struct ixdtf_date {
-    int32_t year;  /* -999999 to 999999; 0 for a month and a day alone */
+    int32_t year;  /* -999999 to 999999; 0 if only a month and a day are read */
     uint8_t month; /* 1 to 12 */
-    uint8_t day;   /* 1 to 31; 1 for a year and a month alone; 0 where a day 00 is read */
-    bool is_there; /* else the other fields are 0 */
+    uint8_t day;   /* 1 to 31; 1 if only a year and a month are read; 0 if the day 00 is read */
+    bool is_there; /* whether there is a date; if not, the other fields are 0 */
 } ixdtf_date;
 
 typedef struct ixdtf_time {
-    uint64_t fraction;       /* the number of its digits, of the first 18 of them; else 0 */
-    uint8_t fraction_digits; /* how many digits it has, 255 of more; 0: there is no fraction */
+    uint64_t fraction;       /* the first 18 digits of the fraction, as one number; 0 without one */
+    uint8_t fraction_digits; /* how many digits it has, 255 if more; 0 without a fraction */
     uint8_t hour;            /* 0 to 23 */
     uint8_t minute;          /* 0 to 59 */
     uint8_t second;          /* 0 to 60 */
-    bool is_there;           /* else the other fields are 0 */
+    bool is_there;           /* whether there is a time; if not, the other fields are 0 */
 } ixdtf_time;
 
-/* The values of `form` of an offset. IXDTF_UTC is Z, which says nothing of local time. */
+/* The values of `form` in an offset. IXDTF_UTC is Z, which does not say what the local time is.
+ * IXDTF_MINUTES is an offset without seconds, and IXDTF_SECONDS is an offset with seconds. */
 enum { IXDTF_NO_OFFSET = 0, IXDTF_UTC = 1, IXDTF_MINUTES = 2, IXDTF_SECONDS = 3 };
 typedef struct ixdtf_offset {
-    uint64_t fraction;       /* this and the next where form is IXDTF_SECONDS, as in ixdtf_time */
+    uint64_t fraction;       /* these two as in ixdtf_time; 0 if form is not IXDTF_SECONDS */
     uint8_t fraction_digits;
-    uint8_t form;            /* one of the four */
-    bool is_negative;        /* this and the next two of IXDTF_MINUTES and IXDTF_SECONDS, else 0; */
-    uint8_t hour;            /*   -00:00 is negative */
-    uint8_t minute;
-    uint8_t second;          /* of IXDTF_SECONDS, else 0 */
+    uint8_t form;            /* one of the four values above */
+    bool is_negative;        /* true for -00:00 too */
+    uint8_t hour;            /* these two and is_negative: 0 or false if form is neither */
+    uint8_t minute;          /*   IXDTF_MINUTES nor IXDTF_SECONDS */
+    uint8_t second;          /* 0 if form is not IXDTF_SECONDS */
 } ixdtf_offset;
 
-/* The values of `form` of a time zone. */
+/* The values of `form` in a time zone. */
 enum { IXDTF_NO_ZONE = 0, IXDTF_NAME = 1, IXDTF_ZONE_OFFSET = 2 };
 typedef struct ixdtf_zone {
-    ixdtf_units name; /* where form is IXDTF_NAME, and else of length 0 */
+    ixdtf_units name; /* of length 0 if form is not IXDTF_NAME */
     uint8_t form;     /* IXDTF_NO_ZONE, IXDTF_NAME or IXDTF_ZONE_OFFSET */
-    bool is_critical; /* whether a ! stands before it: then honour the zone, or reject the text */
-    bool is_negative; /* this and the next two where form is IXDTF_ZONE_OFFSET, and else 0 */
+    bool is_critical; /* whether it has a !: if so, follow the zone, or reject the text */
+    bool is_negative; /* these three: 0 or false if form is not IXDTF_ZONE_OFFSET */
     uint8_t hour;
     uint8_t minute;
 } ixdtf_zone;
@@ -192,10 +205,10 @@ typedef struct ixdtf_record {
     ixdtf_time time;
     ixdtf_offset offset;
     ixdtf_zone zone;
-    ixdtf_units calendar; /* where has_calendar, and else of length 0 */
+    ixdtf_units calendar; /* of length 0 if has_calendar is false */
     bool has_calendar;
-    ixdtf_text location;  /* after IXDTF_ABRUPT_END: what the text broke off in */
-    size_t place;         /* after an error: how many units stand before its place; else 0 */
+    ixdtf_text location;  /* after IXDTF_ABRUPT_END: what was being parsed */
+    size_t place;         /* after an error: how many code units are before it; otherwise 0 */
 } ixdtf_record;
 typedef struct ixdtf16_record {
     ixdtf_date date;
@@ -208,38 +221,39 @@ typedef struct ixdtf16_record {
     size_t place;
 } ixdtf16_record;
 
-/* An annotation of a key and a value, as [u-ca=hebrew]; or a reply to one. */
+/* An annotation, which is a key and a value, such as [u-ca=hebrew]; or the reply to one. */
 typedef struct ixdtf_annotation { ixdtf_units key, value; bool is_critical; } ixdtf_annotation;
 typedef struct ixdtf16_annotation {
     ixdtf16_units key, value;
     bool is_critical;
 } ixdtf16_annotation;
 
-/* The calendar that ixdtf_reply keeps of the replies so far. */
+/* The calendar that ixdtf_reply kept from the replies so far. */
 typedef struct ixdtf_calendar { ixdtf_units value; bool is_critical, is_there; } ixdtf_calendar;
 typedef struct ixdtf16_calendar {
     ixdtf16_units value;
     bool is_critical, is_there;
 } ixdtf16_calendar;
 
-/* The values of `time_form`: there is no time, or its last unit. */
+/* The values of `time_form`. IXDTF_NO_TIME says that there is no time. The others name the last
+ * duration unit of the time. */
 enum { IXDTF_NO_TIME = 0, IXDTF_LAST_HOURS = 1, IXDTF_LAST_MINUTES = 2, IXDTF_LAST_SECONDS = 3 };
 typedef struct ixdtf_duration {
-    uint64_t days;           /* where has_date, and else 0 */
-    uint64_t hours;          /* where time_form is not IXDTF_NO_TIME, and else 0 */
-    uint64_t minutes;        /* where it is IXDTF_LAST_MINUTES or IXDTF_LAST_SECONDS, and else 0 */
-    uint64_t seconds;        /* where it is IXDTF_LAST_SECONDS, and else 0 */
-    uint64_t fraction;       /* of the last unit of the time; as in ixdtf_time */
-    uint32_t years, months, weeks; /* where has_date, and else 0 */
+    uint64_t days;           /* 0 if has_date is false */
+    uint64_t hours;          /* 0 if time_form is IXDTF_NO_TIME */
+    uint64_t minutes;        /* 0 if it is neither IXDTF_LAST_MINUTES nor IXDTF_LAST_SECONDS */
+    uint64_t seconds;        /* 0 if it is not IXDTF_LAST_SECONDS */
+    uint64_t fraction;       /* that of the last duration unit; otherwise as in ixdtf_time */
+    uint32_t years, months, weeks; /* 0 if has_date is false */
     uint8_t fraction_digits; /* as in ixdtf_time */
-    uint8_t time_form;       /* IXDTF_NO_TIME, or the last unit of the time */
+    uint8_t time_form;       /* IXDTF_NO_TIME, or the last duration unit of the time */
     bool has_date;           /* whether there are years, months, weeks or days */
     bool is_negative;
-    ixdtf_text location;     /* this and the next as in ixdtf_record */
+    ixdtf_text location;     /* these two as in ixdtf_record */
     size_t place;
 } ixdtf_duration;
 
-/* Initial values of one, as ixdtf_record record = IXDTF_RECORD. Zeros are as good. */
+/* Initial values of structs, as in ixdtf_record record = IXDTF_RECORD. Zeros are equally good. */
 #ifdef __cplusplus
 #define IXDTF_AT_(type, text) reinterpret_cast<const type *>(text)
 #define IXDTF_AS_(type, value) static_cast<type>(value)
@@ -265,36 +279,39 @@ typedef struct ixdtf_duration {
 #define IXDTF_DURATION { 0, 0, 0, 0, 0, 0, 0, 0, 0, 0, false, false, IXDTF_NO_TEXT_, 0 }
 #define IXDTF_TEXT IXDTF_NO_TEXT_
 
-/* Readers of 8-bit texts. Each reads the whole text, and gives what docs/GRAMMAR.md says. */
+/* Readers of 8-bit text. Each reads the complete text, and gives what docs/GRAMMAR.md says. */
 
-/* A date, or a date and a time, with an offset, a zone and annotations:
+/* Reads a date, or a date and a time, which may have an offset. A zone and annotations may follow:
  * 2024-03-02T08:48:00-05:00[America/New_York][u-ca=hebrew]. */
 IXDTF_CHECKED_ uint32_t ixdtf_parse(const uint8_t *text, size_t length, ixdtf_record *out);
-/* A year and a month: 2020-11. The brackets of all texts may follow; so below. */
+/* Reads a year and a month, such as 2020-11. A zone and annotations may follow in brackets. They
+ * may follow in the texts of the next two readers too. */
 IXDTF_CHECKED_ uint32_t ixdtf_parse_year_month(const uint8_t *text, size_t length,
     ixdtf_record *out);
-/* A month and a day: 11-07. */
+/* Reads a month and a day, such as 11-07. */
 IXDTF_CHECKED_ uint32_t ixdtf_parse_month_day(const uint8_t *text, size_t length,
     ixdtf_record *out);
-/* A time: T12:30. */
+/* Reads a time, such as T12:30. */
 IXDTF_CHECKED_ uint32_t ixdtf_parse_time(const uint8_t *text, size_t length, ixdtf_record *out);
-/* An offset, +05:30, into `offset`, whose form is then IXDTF_MINUTES or IXDTF_SECONDS. No other
- * part is there then. */
+/* Reads an offset, such as +05:30, into `offset`. After 0, its form is IXDTF_MINUTES or
+ * IXDTF_SECONDS, and no other part is present. */
 IXDTF_CHECKED_ uint32_t ixdtf_parse_offset(const uint8_t *text, size_t length, ixdtf_record *out);
-/* A time zone by its name or its offset, Europe/Berlin or +05:30, into `zone`, which is not
- * critical. No other part is there then. */
+/* Reads a time zone into `zone`. The text is its name or its offset, such as Europe/Berlin or
+ * +05:30. After 0, the zone is not critical, and no other part is present. */
 IXDTF_CHECKED_ uint32_t ixdtf_parse_identifier(const uint8_t *text, size_t length,
     ixdtf_record *out);
-/* The name of a time zone, Europe/Berlin, into `zone`, whose form is then IXDTF_NAME, and which is
- * not critical. No other part is there then. */
+/* Reads the name of a time zone, such as Europe/Berlin, into `zone`. After 0, its form is
+ * IXDTF_NAME, the zone is not critical, and no other part is present. */
 IXDTF_CHECKED_ uint32_t ixdtf_parse_iana_identifier(const uint8_t *text, size_t length,
     ixdtf_record *out);
-/* A duration: -P1Y2M3W4DT5H6M7.5S. */
+/* Reads a duration, such as -P1Y2M3W4DT5H6M7.5S. */
 IXDTF_CHECKED_ uint32_t ixdtf_parse_duration(const uint8_t *text, size_t length,
     ixdtf_duration *out);
 
-/* The strict profile: no day 00 of a month and a day, and no unit of a duration twice. Dates, and
- * years and months, are read alike in both. */
+/* Readers that follow the strict profile, which has stricter rules. A month and a day cannot have
+ * the day 00, and a duration cannot repeat a duration unit. So the time 1200 is accepted, because it
+ * cannot mean month 12, day 00. The strict profile changes nothing for dates, for years with months,
+ * for offsets and for time zones. */
 IXDTF_CHECKED_ uint32_t ixdtf_parse_month_day_strict(const uint8_t *text, size_t length,
     ixdtf_record *out);
 IXDTF_CHECKED_ uint32_t ixdtf_parse_time_strict(const uint8_t *text, size_t length,
@@ -302,13 +319,15 @@ IXDTF_CHECKED_ uint32_t ixdtf_parse_time_strict(const uint8_t *text, size_t leng
 IXDTF_CHECKED_ uint32_t ixdtf_parse_duration_strict(const uint8_t *text, size_t length,
     ixdtf_duration *out);
 
-/* Readers that list annotations. Each reads as the one above, but accepts every annotation of a key
- * and a value, keeps no calendar (has_calendar is false after 0), and lists the annotations.
- * `count` is how many stand before the end of the text, or before its error. It is written after an
- * error too. The first `room` of them are written to `annotations`, in order; the other places of
- * the array stay. So a loop over the array ends at the smaller of `count` and `room`. Where `count`
- * is more than `room`, call again with an array of `count`. A text of n units has at most n / 5
- * annotations. docs/C.md says what to do with the list ("Handlers"). */
+/* Readers that list annotations. Each of them reads like the reader above whose name has no
+ * _with_annotations. But it accepts every annotation that has a key and a value, it keeps no
+ * calendar (after 0, has_calendar is false), and it lists the annotations.
+ * `count` is the number of annotations before the end of the text, or before its error. It is
+ * written after an error too. The first `room` annotations are written to the array `annotations`,
+ * in order. The elements of the array after them are unchanged. So a loop over the array must end at
+ * the smaller of `count` and `room`. If `count` is greater than `room`, call the reader again with
+ * an array of `count` elements. A text of n code units has at most n / 5 annotations. docs/C.md says
+ * what to do with the list ("Handlers"). */
 IXDTF_CHECKED_ uint32_t ixdtf_parse_with_annotations(const uint8_t *text, size_t length,
     ixdtf_annotation *annotations, size_t room, size_t *count, ixdtf_record *out);
 IXDTF_CHECKED_ uint32_t ixdtf_parse_year_month_with_annotations(const uint8_t *text, size_t length,
@@ -322,33 +341,39 @@ IXDTF_CHECKED_ uint32_t ixdtf_parse_month_day_with_annotations_strict(const uint
 IXDTF_CHECKED_ uint32_t ixdtf_parse_time_with_annotations_strict(const uint8_t *text,
     size_t length, ixdtf_annotation *annotations, size_t room, size_t *count, ixdtf_record *out);
 
-/* Takes the reply to an annotation: the annotation itself, as it is without a handler, or another
- * one. It returns 0, and the first reply whose key is u-ca is kept in `calendar`. Or it returns the
- * error that the reply is refused with, IXDTF_CRITICAL_DUPLICATE_CALENDAR or
- * IXDTF_UNRECOGNIZED_CRITICAL, and `calendar` is as it was. Replies are taken in the order of the
- * list, and none after the first refusal. The kept value is a slice of the reply, and is valid as
- * long as its units are. It is in no record till ixdtf_keep_calendar puts it there.
- * The place of a refused reply is ixdtf_reply_place. */
+/* Checks the reply to an annotation of the list. The reply is the annotation itself, as in a reader
+ * that does not list annotations, or another annotation.
+ * If the function accepts the reply, it returns 0. It keeps the first reply whose key is u-ca in
+ * `calendar`. If it refuses the reply, it returns the error, IXDTF_CRITICAL_DUPLICATE_CALENDAR or
+ * IXDTF_UNRECOGNIZED_CRITICAL, and `calendar` is unchanged.
+ * Pass the replies in the order of the list, and pass no reply after the first error. The value that
+ * is kept is a slice of the reply, and is valid as long as the code units of this slice are. No
+ * record has this calendar until ixdtf_keep_calendar writes it there. ixdtf_reply_place returns the
+ * position of a refused reply. */
 IXDTF_CHECKED_ uint32_t ixdtf_reply(ixdtf_calendar *calendar, const ixdtf_annotation *reply);
 
-/* Prints a record as its one canonical text, in ASCII: writes the text, without a zero behind it,
- * into the first bytes of `out`, which has `room` of them, and to `count` how many these are.
- * ixdtf_parse reads that text as the same record, and no other record is printed so.
- * It returns 0. Or it returns IXDTF_NOT_PRINTABLE, where ixdtf_parse gives the record for no text:
- * one of the 30th of February, one without a date, one with a `form` that is not named above, one
- * with a fraction whose number has more digits than it counts. Or else it returns IXDTF_TOO_SHORT:
- * `count` is then how much room the text takes (SIZE_MAX where that is no size_t).
- * The other bytes of `out` are as they were, after an error all of them, and after
- * IXDTF_NOT_PRINTABLE `count` too.
- * A record that ixdtf_parse gave of a text of n bytes is always printed where there is room for
- * n + 14. Its slices are read, so that text is still there. A record may also be filled in by hand:
- * then the fields of each part that is there are set. What stands in the other fields does not
- * matter. */
+/* Prints a record as its one canonical text, in ASCII. `out` has `room` bytes. The function returns
+ * one of these:
+ * - IXDTF_OK: the text was written into the first bytes of `out`, without a zero after it, and its
+ *   length to `count`. ixdtf_parse reads this text as the same record, and no other record has this
+ *   canonical text.
+ * - IXDTF_NOT_PRINTABLE: ixdtf_parse gives this record for no text. For example, the record has the
+ *   30th of February, or no date, or a `form` that is not named above, or a fraction whose number
+ *   has more digits than `fraction_digits` says. `count` is unchanged.
+ * - IXDTF_TOO_SHORT: the record can be printed, but `room` is less than the length of its text.
+ *   `count` is this length, or SIZE_MAX if a size_t cannot hold the length.
+ * After IXDTF_OK, the other bytes of `out` are unchanged. After the other two results, all bytes of
+ * `out` are unchanged.
+ * If ixdtf_parse wrote the record for a text of n bytes, the record is always printed if `room` is
+ * at least n + 14. The function reads the slices of the record, so this text must still exist.
+ * You can also write the fields of a record yourself. Then set all fields of each part that is
+ * present. The values of the other fields do not matter. */
 IXDTF_CHECKED_ uint32_t ixdtf_print(const ixdtf_record *record, uint8_t *out, size_t room,
     size_t *count);
 
-/* The same of 16-bit texts, but for ixdtf_print. A unit outside 1 to 126 stands for no letter:
- * where a letter has to stand it is IXDTF_NON_ASCII_CODE_POINT. */
+/* The same functions for 16-bit text. There is no such function for ixdtf_print. A code unit outside
+ * 1 to 126 stands for no character. If a reader needs a character and comes to such a code unit, the
+ * error is IXDTF_NON_ASCII_CODE_POINT. */
 IXDTF_CHECKED_ uint32_t ixdtf16_parse(const uint16_t *text, size_t length, ixdtf16_record *out);
 IXDTF_CHECKED_ uint32_t ixdtf16_parse_year_month(const uint16_t *text, size_t length,
     ixdtf16_record *out);
@@ -388,40 +413,45 @@ IXDTF_CHECKED_ uint32_t ixdtf16_parse_time_with_annotations_strict(const uint16_
     ixdtf16_record *out);
 IXDTF_CHECKED_ uint32_t ixdtf16_reply(ixdtf16_calendar *calendar, const ixdtf16_annotation *reply);
 
-/* The text of an error by its number, from 1 to 46, as ixdtf_error_message has it, but without a
- * zero behind it. Any other number has the empty text. */
+/* Writes the text of an error, by its number from 1 to 46, as a slice. It is the text that
+ * ixdtf_error_message returns, but without a zero after it. For any other number, the text is
+ * empty. */
 void ixdtf_error_text(uint32_t error, ixdtf_text *out);
 
-/* The name of what a call returns, as "IXDTF_DATE_MONTH", or "IXDTF_OK". Any other number has the
- * empty text. A zero stands behind it, which `length` does not count. */
+/* Writes the name of a number that a call returns, such as "IXDTF_DATE_MONTH" or "IXDTF_OK", as a
+ * slice. For any other number, the name is empty. A zero follows the name. `length` does not count
+ * this zero. */
 void ixdtf_error_constant(uint32_t error, ixdtf_text *out);
 
-/* The nanoseconds of a fraction of a second, cut behind the ninth digit; 0 where `digits` is 0, and
- * where no fraction of so many digits has this number. */
+/* Returns the nanoseconds of a fraction of a second. The digits after the ninth are dropped. The
+ * result is 0 if `digits` is 0. It is also 0 if no fraction with this number of digits has this
+ * value. */
 IXDTF_CHECKED_ uint32_t ixdtf_nanoseconds(uint64_t fraction, uint8_t digits);
 
-/* How many seconds local time is ahead of UTC, cut to whole ones; 0 of Z and of no offset. */
+/* Returns how many seconds local time is ahead of UTC. A fraction of a second is dropped. The result
+ * is 0 for Z and if there is no offset. */
 IXDTF_CHECKED_ int32_t ixdtf_offset_seconds(const ixdtf_offset *offset);
 
-/* Puts the calendar that ixdtf_reply kept, or that there is none, into a record. */
+/* Writes the calendar that ixdtf_reply kept into a record, or writes that there is none. */
 void ixdtf_keep_calendar(ixdtf_record *record, const ixdtf_calendar *calendar);
 void ixdtf16_keep_calendar(ixdtf16_record *record, const ixdtf16_calendar *calendar);
 
-/* How many bytes ixdtf_print writes of a record with room for them; 0 of one not printable, and of
- * one whose text is longer than SIZE_MAX. */
+/* Returns how many bytes ixdtf_print writes for the record if there is enough room. The result is 0
+ * if the record is not printable, or if its text is longer than SIZE_MAX. */
 IXDTF_CHECKED_ size_t ixdtf_printed_length(const ixdtf_record *record);
 
-/* The version of the interface that the library has. */
+/* Returns the version of the interface that the library has. */
 IXDTF_CHECKED_ uint32_t ixdtf_interface_version(void);
 
-/* What follows is compiled into the program. It is tested, and not proved. */
+/* The functions after this line are compiled into your program. They are tested, and not proved. */
 
 /* Readers of C strings: ixdtf_parse_text, ixdtf_parse_duration_strict_text and so on, one for each
- * reader of 8-bit texts. Each reads the bytes before the zero as the reader without _text does:
+ * reader of 8-bit text. Each reads the bytes before the zero, as the reader without _text does. For
+ * example:
  *     uint32_t ixdtf_parse_text(const char *text, ixdtf_record *out);
  *     uint32_t ixdtf_parse_with_annotations_text(const char *text, ixdtf_annotation *annotations,
  *         size_t room, size_t *count, ixdtf_record *out);
- * From C++17 on each takes a std::string_view too. */
+ * From C++17 on, each of them also accepts a std::string_view. */
 #define IXDTF_READERS_(one) \
     one(ixdtf_parse, ixdtf_record) \
     one(ixdtf_parse_year_month, ixdtf_record) \
@@ -455,15 +485,16 @@ IXDTF_LISTING_READERS_(IXDTF_LISTING_OF_TEXT_)
 #undef IXDTF_OF_TEXT_
 #undef IXDTF_LISTING_OF_TEXT_
 
-/* The name of what a call returns, as ixdtf_error_constant has it, as a C string. */
+/* Returns the name that ixdtf_error_constant writes, as a C string. */
 static inline const char *ixdtf_error_name(uint32_t error) {
     ixdtf_text name = IXDTF_TEXT;
     ixdtf_error_constant(error, &name);
     return name.at;
 }
 
-/* The text of an error, as "Invalid character while parsing month value.": that of
- * ixdtf_error_text, and one of each error of ixdtf_print; of another number "". */
+/* Returns the text of an error, such as "Invalid character while parsing month value.". For the
+ * errors of texts, it is the text that ixdtf_error_text writes. The errors of ixdtf_print have a
+ * text too. For any other number, the result is "". */
 static inline const char *ixdtf_error_message(uint32_t error) {
     switch (error) {
     case IXDTF_IMPL_ASSERT:
@@ -567,7 +598,8 @@ static inline const char *ixdtf_error_message(uint32_t error) {
     }
 }
 
-/* The place of the error of a refused reply: behind the bracket of its annotation of the list. */
+/* Returns the position of the error of a refused reply. `listed` is the annotation of the list to
+ * which the reply belongs. The position is directly after the bracket of this annotation. */
 static inline size_t ixdtf_reply_place(const uint8_t *text, const ixdtf_annotation *listed) {
     return IXDTF_AS_(size_t, listed->value.at + listed->value.length - text) + 1;
 }
@@ -575,7 +607,7 @@ static inline size_t ixdtf16_reply_place(const uint16_t *text, const ixdtf16_ann
     return IXDTF_AS_(size_t, listed->value.at + listed->value.length - text) + 1;
 }
 
-/* Sets each place of an array to the initial value, as zeros in each would do too. */
+/* Sets each element of an array to the initial value. Zeros in each element are equally good. */
 static inline void ixdtf_set_annotations(ixdtf_annotation *annotations, size_t room) {
     const ixdtf_annotation none = IXDTF_ANNOTATION;
     size_t i;
@@ -591,7 +623,8 @@ static inline void ixdtf16_set_annotations(ixdtf16_annotation *annotations, size
     }
 }
 
-/* The layout is the library's: where it is another one for this compiler, nothing compiles. */
+/* Asserts that this compiler lays out each struct as the library does. If not, the header does not
+ * compile. */
 #if defined(__cplusplus) && __cplusplus >= 201103L
 #define IXDTF_ASSERT_(what, name) static_assert(what, #name)
 #elif !defined(__cplusplus) && defined(__STDC_VERSION__) && __STDC_VERSION__ >= 201112L
@@ -682,7 +715,7 @@ IXDTF_PLACE_(ixdtf_duration, place, 72);
 #if defined(__cplusplus) && __cplusplus >= 201703L
 #include <string_view>
 
-/* The readers of C strings for each text that C++ has. */
+/* The readers of C strings, for a std::string_view. */
 #define IXDTF_OF_VIEW_(reader, type) \
     [[nodiscard]] inline uint32_t reader##_text(std::string_view text, type *out) { \
         return reader(IXDTF_AT_(uint8_t, text.data()), text.size(), out); \
@@ -698,7 +731,7 @@ IXDTF_LISTING_READERS_(IXDTF_LISTING_OF_VIEW_)
 #undef IXDTF_OF_VIEW_
 #undef IXDTF_LISTING_OF_VIEW_
 
-/* A slice of a record, or a text of the library, as C++ has it. It is valid as long as the slice. */
+/* Returns a slice as a std::string_view. This is valid as long as the slice is. */
 inline std::string_view ixdtf_view(ixdtf_units units) {
     return std::string_view(reinterpret_cast<const char *>(units.at), units.length);
 }
