@@ -8,7 +8,7 @@ ghost use Rattle.ixdtf_grammar.specs.Views.{unread_of, parsed_of};
 ghost use Rattle.ixdtf_grammar.specs.Promises.{ReadsPart, ReadsPartAt};
 
 use crate::parsers::IxdtfParser;
-use crate::{LocatedError, ParseError, ParserResult};
+use crate::{LocatedError, ParserResult};
 use ixdtf_grammar::encoding::EncodingType;
 use ixdtf_grammar::records::IxdtfParseRecord;
 use ixdtf_times::rfc3339::parse_rfc3339_text;
@@ -74,10 +74,16 @@ impl<'a, T: EncodingType> IxdtfParser<'a, T> {
     {
         let mut found = IxdtfParseRecord::default();
         let mut here = self.cursor.fork();
-        let read = parse_rfc3339_text(&mut here, &mut found);
-        match self.cursor.settle::<_, ParseError>(here, read) {
-            Ok(()) => Ok(found),
-            Err(error) => return Err(error),
+        // A refusal returns in an arm of its own, and the record is made where it is returned, as in `parse`.
+        match parse_rfc3339_text(&mut here, &mut found) {
+            Ok(()) => {
+                self.cursor = here;
+                Ok(found)
+            }
+            Err(stop) => {
+                self.cursor.keep_looks(here);
+                return Err(stop.error());
+            }
         }
     }
 

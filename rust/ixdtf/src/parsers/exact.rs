@@ -3,7 +3,7 @@
 //! The forms of [`IxdtfParser`] that read exactly the texts of a standard, as RFC 3339 has them.
 
 use crate::parsers::IxdtfParser;
-use crate::{LocatedError, ParseError, ParserResult};
+use crate::{LocatedError, ParserResult};
 use crate::encoding::EncodingType;
 use crate::records::IxdtfParseRecord;
 use crate::parsers::rfc3339::parse_rfc3339_text;
@@ -66,10 +66,15 @@ impl<'a, T: EncodingType> IxdtfParser<'a, T> {
     pub fn parse_rfc3339(&mut self) -> ParserResult<IxdtfParseRecord<'a, T>> {
         let mut found = IxdtfParseRecord::default();
         let mut here = self.cursor.fork();
-        let read = parse_rfc3339_text(&mut here, &mut found);
-        match self.cursor.settle::<_, ParseError>(here, read) {
-            Ok(()) => Ok(found),
-            Err(error) => return Err(error),
+        // A refusal returns in an arm of its own, and the record is made where it is returned, as in `parse`.
+        match parse_rfc3339_text(&mut here, &mut found) {
+            Ok(()) => {
+                self.cursor = here;
+                Ok(found)
+            }
+            Err(stop) => {
+                return Err(stop.error());
+            }
         }
     }
 
