@@ -7,7 +7,7 @@ use Rattle.ixdtf_buffers.specs.Lines.{newline}
 use Rattle.ixdtf_grammar.specs.{declared.profile.Profile.Profile, Places.HasUnhandledFaultAt}
 use Rattle.ixdtf_grammar.specs.Widths.{byte_text}
 use Rattle.ixdtf_grammar.specs.language.{Letters.{Text, Letter, byte_letter}, Readers.{Reader, parse}}
-use Rattle.ixdtf_grammar.specs.language.Readers.Reader.{bracketed, parse_offset, parse_identifier, parse_iana_identifier, parse_duration}
+use Rattle.ixdtf_grammar.specs.language.Readers.Reader.{bracketed, parse_rfc3339, parse_offset, parse_identifier, parse_iana_identifier, parse_duration}
 use Rattle.ixdtf_grammar.specs.table.{ErrorTexts.message_of, Faults.Fault}
 use Rattle.ixdtf_print.proofs.theorems.ShortErrors.{message_short}
 use Rattle.ixdtf_checks.specs.{Seen.lines_at, Kinds.reader_of, Parts.{Text as Part}, Refusals.IsRefusal}
@@ -20,6 +20,7 @@ at_most (bracketed kind) text fault at (pairs, given) = elim given [
   | inl p ↦ (let ((front, rest, whole, is, read, derived), last) = p in omega (arith, is, ap length whole, length-append front rest))
   | inr p ↦ (let ((row, fits, error, sum), none) = p in omega (arith, sum))
 ]
+at_most parse_rfc3339 text fault at (row, fits, error, sum) = omega (arith, sum)
 at_most parse_offset text fault at (row, fits, error, sum) = omega (arith, sum)
 at_most parse_identifier text fault at (row, fits, error, sum) = omega (arith, sum)
 at_most parse_iana_identifier text fault at (row, fits, error, sum) = omega (arith, sum)
@@ -39,6 +40,7 @@ fault_short (bracketed kind) text fault at (pairs, given) = message_short (brack
     | inr p ↦ (let ((row, fits, error, sum), none) = p in inr ((row, fits, error), none))
   ],
 )
+fault_short parse_rfc3339 text fault at (row, fits, error, sum) = message_short parse_rfc3339 text fault (row, fits, error)
 fault_short parse_offset text fault at (row, fits, error, sum) = message_short parse_offset text fault (row, fits, error)
 fault_short parse_identifier text fault at (row, fits, error, sum) = message_short parse_identifier text fault (row, fits, error)
 fault_short parse_iana_identifier text fault at (row, fits, error, sum) = message_short parse_iana_identifier text fault (row, fits, error)
