@@ -343,6 +343,17 @@ static void test_functions(void) {
     row_shown = "";
 }
 
+/* Whether two records are alike in all but the location and the place of an error, wherever their empty slices point. */
+static int reads_alike(ixdtf_record a, ixdtf_record b) {
+    if (a.zone.name.length == 0 && b.zone.name.length == 0) {
+        b.zone.name.at = a.zone.name.at;
+    }
+    if (a.calendar.length == 0 && b.calendar.length == 0) {
+        b.calendar.at = a.calendar.at;
+    }
+    return narrow_same_but_error(&a, &b);
+}
+
 /* Each reader of C strings reads as the reader of bytes does. */
 static void test_texts(void) {
 #define READ_ALIKE(reader, type, initial, text) do { \
@@ -355,7 +366,7 @@ static void test_texts(void) {
         ixdtf_record by_bytes = IXDTF_RECORD, by_text = IXDTF_RECORD; \
         READ_ALIKE(reader, ixdtf_record, IXDTF_RECORD, texts[i]); \
         error = reader((const uint8_t *)texts[i], strlen(texts[i]), &by_bytes); \
-        check(reader##_text(texts[i], &by_text) == error && narrow_same_but_error(&by_bytes, &by_text), "the record that it writes"); \
+        check(reader##_text(texts[i], &by_text) == error && reads_alike(by_bytes, by_text), "the record that it writes"); \
     } while (0)
 #define LISTED_ALIKE(reader) do { \
         ixdtf_record by_bytes = IXDTF_RECORD, by_text = IXDTF_RECORD; \
@@ -365,7 +376,7 @@ static void test_texts(void) {
         error = reader((const uint8_t *)texts[i], strlen(texts[i]), list, 2, &count_by_bytes, &by_bytes); \
         ixdtf_set_annotations(list, 2); \
         check(reader##_text(texts[i], list, 2, &count_by_text, &by_text) == error && count_by_text == count_by_bytes, "what it lists"); \
-        check(narrow_same_but_error(&by_bytes, &by_text) && by_text.place == by_bytes.place, "the record beside the list"); \
+        check(reads_alike(by_bytes, by_text) && by_text.place == by_bytes.place, "the record beside the list"); \
         check((count_by_text > 0) == (list[0].key.length > 0), "the list is that of the caller"); \
     } while (0)
     static const char *const texts[] = {
@@ -421,6 +432,9 @@ static void test_places(const char *path) {
     while (fgets(line, sizeof line, lines) != NULL) {
         struct place_row row = place_row(line);
         row_shown = row.text;
+        if (strcmp(row.reader, "parse_rfc3339") == 0) {
+            continue; /* no function of this library reads RFC 3339 alone */
+        }
         if (row.width == 1) {
             narrow_test_place(&row);
         }
