@@ -1,9 +1,8 @@
 //! Instants. The seconds are those of Python's `datetime`, and of a count year by year where it does not reach.
 
-use super::{check, dated, parts, timed};
+use super::check;
 use ixdtf::Instant;
 use ixdtf::parsers::IxdtfParser;
-use ixdtf::records::UtcOffsetRecordOrZ;
 
 // Texts of `parse`, with the seconds and the nanoseconds of their instants.
 #[rattlefmt::skip]
@@ -85,44 +84,6 @@ fn texts_without_an_offset_have_no_instant(rt: HostRuntime) {
         check(&rt, text, IxdtfParser::from_str(text).parse().is_ok());
         check(&rt, text, instant_of(text).is_none());
     }
-}
-
-// The seconds of a record made by hand, at midnight in UTC.
-fn seconds_at(year: i32, month: u8, day: u8) -> Option<i64> {
-    let mut record = dated(year, month, day, timed(0, 0, 0, None));
-    record.offset = Some(UtcOffsetRecordOrZ::Z);
-    match record.instant() {
-        Some(instant) => Some(instant.seconds),
-        None => None,
-    }
-}
-
-#[test]
-fn records_that_no_reader_returns(rt: HostRuntime) {
-    check(&rt, "no month 0", seconds_at(2024, 0, 1).is_none());
-    check(&rt, "no month 13", seconds_at(2024, 13, 1).is_none());
-    let march = seconds_at(2023, 3, 1);
-    check(&rt, "29 February 2023", seconds_at(2023, 2, 29) == march);
-    let january = seconds_at(2023, 1, 31);
-    check(&rt, "day 0", seconds_at(2023, 2, 0) == january);
-    check(
-        &rt,
-        "the last year",
-        seconds_at(i32::MAX, 12, 31) == Some(67_767_976_233_446_400),
-    );
-    check(
-        &rt,
-        "the first year",
-        seconds_at(i32::MIN, 1, 1) == Some(-67_768_100_567_971_200),
-    );
-    let alone = parts(
-        None,
-        timed(8, 48, 0, None),
-        Some(UtcOffsetRecordOrZ::Z),
-        None,
-        None,
-    );
-    check(&rt, "no date", alone.instant().is_none());
 }
 
 #[test]
