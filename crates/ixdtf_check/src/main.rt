@@ -17,7 +17,8 @@ use watched::Watched;
 const USAGE: &str = "\
 usage: ixdtf_check [OPTION..] [FILE..]\n\
 Reads each line of the files, or of standard input, and says which are wrong, where, and why.\n\
-  --kind KIND    date-time (the default), year-month, month-day, time, offset, zone, zone-name, duration\n\
+  --kind KIND    date-time (the default), year-month, month-day, time, offset, zone, zone-name or iana,\n\
+                 duration, rfc3339\n\
   --strict       without the day 00, and without a unit of a duration that stands twice\n\
   --field N      the N-th field of each line, from 1, in place of the whole line\n\
   --separator C  the byte between two fields; a tab where it is not said\n\

@@ -29,7 +29,8 @@ use tally::Tally;
 const USAGE: &str = "\
 usage: ixdtf_check [OPTION..] [FILE..]
 Reads each line of the files, or of standard input, and says which are wrong, where, and why.
-  --kind KIND    date-time (the default), year-month, month-day, time, offset, zone, zone-name, duration
+  --kind KIND    date-time (the default), year-month, month-day, time, offset, zone, zone-name or iana,
+                 duration, rfc3339
   --strict       without the day 00, and without a unit of a duration that stands twice
   --field N      the N-th field of each line, from 1, in place of the whole line
   --separator C  the byte between two fields; a tab where it is not said
