@@ -5,7 +5,9 @@
 ghost use Rattle.std.specs.Prelude.{◌≡◌, ◌+◌, ◌<◌, ◌≤◌, map, length, Some, None, IfOk, IfSome, OnOk, IsTrue, pos};
 ghost use Rattle.ixdtf_grammar.specs.declared.records.DateRecord.{DateRecord};
 ghost use Rattle.ixdtf_grammar.specs.declared.records.TimeRecord.{TimeRecord};
-ghost use Rattle.ixdtf_grammar.specs.Views.{IsEmptyRecord, parsed_of};
+ghost use Rattle.ixdtf_grammar.specs.Views.{parsed_of};
+ghost use Rattle.ixdtf_grammar.specs.language.Cores.{core_of};
+ghost use Rattle.ixdtf_grammar.specs.language.Languages.{parsed_with};
 ghost use Rattle.ixdtf_grammar.specs.language.Letters.{hyphen, colon, time_letter};
 ghost use Rattle.ixdtf_grammar.specs.table.Faults.Fault.{DateYear};
 ghost use Rattle.ixdtf_grammar.specs.table.DateTimeFronts.Field.{month_field, day_field};
@@ -13,13 +15,13 @@ ghost use Rattle.ixdtf_grammar.specs.table.LineNames.LineName.{of_date_time};
 ghost use Rattle.ixdtf_grammar.specs.table.LineNames.DateTimeLine.{after_secfrac};
 ghost use Rattle.ixdtf_reading.specs.reading.Clauses.{Reads, Spends, SpendsOr, fault_of_stop};
 ghost use Rattle.ixdtf_reading.specs.reading.Looks.{error_of, as_number, digit_look, digits_by, look_for, next_by, letter_at};
-ghost use Rattle.ixdtf_reading.specs.reading.DateTimes.{field_at, is_month, is_day, secfrac_digits_at, time_offset_at, secfrac_at, after_whole_second_at};
-ghost use Rattle.ixdtf_reading.specs.reading.DateTimes.{full_time_at, full_day_at, full_month_at};
+ghost use Rattle.ixdtf_reading.specs.reading.DateTimes.{field_at, is_month, is_day, secfrac_digits_at, num_offset_at, time_offset_at, secfrac_at, after_whole_second_at};
+ghost use Rattle.ixdtf_reading.specs.reading.DateTimes.{full_time_at, full_day_at, full_month_at, numeric_core};
 ghost use Rattle.ixdtf_reading.specs.reading.DateTimes.{date_time_ends, rfc_3339_at};
 
 use crate::date_times::take_fixed_date_time;
 use crate::dates::{check_month, has_day};
-use crate::offsets::sign_from;
+use crate::offsets::{sign_from, take_last_offset};
 use crate::time::{WholeTime, next_number, parse_fraction};
 use ixdtf_grammar::encoding::EncodingType;
 use ixdtf_grammar::records::{
@@ -133,39 +135,62 @@ fn parse_day<'a, T: EncodingType>(
     Ok(day)
 }
 
-/// Reads a time offset after its first code unit, and wants the end. The date, the time and the offset enter the record.
+/// Returns the record of a date, a time and an offset.
+#[inline(always)]
+fn date_time_record<'a, T: EncodingType>(
+    date: DateRecord,
+    time: TimeRecord,
+    offset: UtcOffsetRecordOrZ,
+) -> IxdtfParseRecord<'a, T>
+    ensures { parsed_of T.number result ≡ parsed_with (core_of (Some date) (Some time) (Some offset)) None }
+{
+    IxdtfParseRecord {
+        date: Some(date),
+        time: Some(time),
+        offset: Some(offset),
+        tz: None,
+        calendar: None,
+    }
+}
+
+/// Returns the record of a date, a time and an offset of hours and minutes.
+#[inline(always)]
+fn numeric_record<'a, T: EncodingType>(
+    date: DateRecord,
+    time: TimeRecord,
+    offset: MinutePrecisionOffset,
+) -> IxdtfParseRecord<'a, T>
+    ensures { parsed_of T.number result ≡ parsed_with (numeric_core date time offset) None }
+{
+    date_time_record(
+        date,
+        time,
+        UtcOffsetRecordOrZ::Offset(UtcOffsetRecord::MinutePrecision(offset)),
+    )
+}
+
+/// Reads a time offset after its first code unit, and expects the end.
+///
+/// An offset in its fixed columns is read there. Any other offset is an error, which is found number by number.
 #[inline(always)]
 fn parse_time_offset<'a, T: EncodingType>(
     cursor: &mut Cursor<'a, T>,
     date: DateRecord,
     time: TimeRecord,
     lead: u8,
-    found: &mut IxdtfParseRecord<'a, T>,
-) -> Result<(), Stop>
-    requires no_zone { found.old.tz ≡ None }
-    requires no_calendar { found.old.calendar ≡ None }
-    ensures offset { Reads T.letter (λ _. parsed_of T.number found.new) cursor.old result cursor.new
+) -> Result<IxdtfParseRecord<'a, T>, Stop>
+    ensures offset { Reads T.letter (parsed_of T.number) cursor.old result cursor.new
         (time_offset_at error_of (date_time_ends error_of) date time lead) }
-    ensures looks { Spends 3 cursor.old cursor.new }
+    ensures looks { Spends 8 cursor.old cursor.new }
 {
-    found.date = Some(date);
-    found.time = Some(time);
     if is_utc_designator(lead) {
         cursor.close()?;
-        found.offset = Some(UtcOffsetRecordOrZ::Z);
-        return Ok(());
+        return Ok(date_time_record(date, time, UtcOffsetRecordOrZ::Z));
     }
-    let offset_hour = next_number(cursor, 23, Stop::TimeHour)?;
-    take_colon(cursor, Stop::UtcTimeSeparator)?;
-    let offset_minute = next_number(cursor, 59, Stop::TimeMinuteSecond)?;
-    cursor.close()?;
-    let offset = MinutePrecisionOffset {
-        sign: sign_from(lead),
-        hour: offset_hour,
-        minute: offset_minute,
-    };
-    found.offset = Some(UtcOffsetRecordOrZ::Offset(UtcOffsetRecord::MinutePrecision(offset)));
-    Ok(())
+    if let Some(offset) = take_last_offset(cursor, lead) {
+        return Ok(numeric_record(date, time, offset));
+    }
+    parse_offset_by_numbers(cursor, date, time, lead)
 }
 
 /// Takes what a time offset begins with off, after the digits of a fraction.
@@ -201,18 +226,15 @@ fn parse_fractional<'a, T: EncodingType>(
     cursor: &mut Cursor<'a, T>,
     date: DateRecord,
     whole: WholeTime,
-    found: &mut IxdtfParseRecord<'a, T>,
-) -> Result<(), Stop>
-    requires no_zone { found.old.tz ≡ None }
-    requires no_calendar { found.old.calendar ≡ None }
-    ensures rest { Reads T.letter (λ _. parsed_of T.number found.new) cursor.old result cursor.new
+) -> Result<IxdtfParseRecord<'a, T>, Stop>
+    ensures rest { Reads T.letter (parsed_of T.number) cursor.old result cursor.new
         (secfrac_at error_of (date_time_ends error_of) date whole.hour whole.minute whole.second) }
-    ensures looks { Spends 6 cursor.old cursor.new }
+    ensures looks { Spends 11 cursor.old cursor.new }
 {
     let fraction = parse_secfrac(cursor)?;
     let lead = take_lead(cursor)?;
     let time = whole.with_fraction(Some(fraction));
-    parse_time_offset(cursor, date, time, lead, found)
+    parse_time_offset(cursor, date, time, lead)
 }
 
 /// Reads what follows the seconds, and wants the end: a fraction where there is one, and an offset.
@@ -221,24 +243,21 @@ fn parse_after_seconds<'a, T: EncodingType>(
     cursor: &mut Cursor<'a, T>,
     date: DateRecord,
     whole: WholeTime,
-    found: &mut IxdtfParseRecord<'a, T>,
-) -> Result<(), Stop>
-    requires no_zone { found.old.tz ≡ None }
-    requires no_calendar { found.old.calendar ≡ None }
-    ensures rest { Reads T.letter (λ _. parsed_of T.number found.new) cursor.old result cursor.new
+) -> Result<IxdtfParseRecord<'a, T>, Stop>
+    ensures rest { Reads T.letter (parsed_of T.number) cursor.old result cursor.new
         (after_whole_second_at error_of (date_time_ends error_of) date whole.hour whole.minute whole.second) }
-    ensures looks { Spends 7 cursor.old cursor.new }
+    ensures looks { Spends 12 cursor.old cursor.new }
 {
     match cursor.look()? {
         None => Err(Stop::AbruptOffset),
         Some(byte) if byte == b'.' => {
             cursor.advance();
-            parse_fractional(cursor, date, whole, found)
+            parse_fractional(cursor, date, whole)
         }
         Some(byte) if is_ascii_sign(byte) || is_utc_designator(byte) => {
             cursor.advance();
             let time = whole.with_fraction(None);
-            parse_time_offset(cursor, date, time, byte, found)
+            parse_time_offset(cursor, date, time, byte)
         }
         Some(byte) if is_decimal_separator(byte) => Err(Stop::FractionPart),
         Some(_) => Err(Stop::OffsetNeedsSign),
@@ -265,18 +284,39 @@ fn take_fixed_rfc3339<'a, T: EncodingType>(
 
 // ==== Number by number ====
 
+/// Reads an offset after its sign, and expects the end.
+#[inline(always)]
+fn parse_offset_by_numbers<'a, T: EncodingType>(
+    cursor: &mut Cursor<'a, T>,
+    date: DateRecord,
+    time: TimeRecord,
+    sign: u8,
+) -> Result<IxdtfParseRecord<'a, T>, Stop>
+    ensures offset { Reads T.letter (parsed_of T.number) cursor.old result cursor.new
+        (num_offset_at error_of (date_time_ends error_of) date time sign) }
+    ensures looks { Spends 3 cursor.old cursor.new }
+{
+    let offset_hour = next_number(cursor, 23, Stop::TimeHour)?;
+    take_colon(cursor, Stop::UtcTimeSeparator)?;
+    let offset_minute = next_number(cursor, 59, Stop::TimeMinuteSecond)?;
+    cursor.close()?;
+    let offset = MinutePrecisionOffset {
+        sign: sign_from(sign),
+        hour: offset_hour,
+        minute: offset_minute,
+    };
+    Ok(numeric_record(date, time, offset))
+}
+
 /// Reads the time after a date and its letter, and wants the end.
 #[inline(always)]
 fn parse_time_by_numbers<'a, T: EncodingType>(
     cursor: &mut Cursor<'a, T>,
     date: DateRecord,
-    found: &mut IxdtfParseRecord<'a, T>,
-) -> Result<(), Stop>
-    requires no_zone { found.old.tz ≡ None }
-    requires no_calendar { found.old.calendar ≡ None }
-    ensures time { Reads T.letter (λ _. parsed_of T.number found.new) cursor.old result cursor.new
+) -> Result<IxdtfParseRecord<'a, T>, Stop>
+    ensures time { Reads T.letter (parsed_of T.number) cursor.old result cursor.new
         (full_time_at error_of (date_time_ends error_of) date) }
-    ensures looks { Spends 9 cursor.old cursor.new }
+    ensures looks { Spends 14 cursor.old cursor.new }
 {
     let hour = next_number(cursor, 23, Stop::TimeHour)?;
     take_colon(cursor, Stop::TimeSeparator)?;
@@ -288,7 +328,7 @@ fn parse_time_by_numbers<'a, T: EncodingType>(
         minute,
         second,
     };
-    parse_after_seconds(cursor, date, whole, found)
+    parse_after_seconds(cursor, date, whole)
 }
 
 /// Reads the day after a month and its hyphen, and what follows, and wants the end.
@@ -297,13 +337,10 @@ fn parse_day_by_numbers<'a, T: EncodingType>(
     cursor: &mut Cursor<'a, T>,
     year: u16,
     month: u8,
-    found: &mut IxdtfParseRecord<'a, T>,
-) -> Result<(), Stop>
-    requires no_zone { found.old.tz ≡ None }
-    requires no_calendar { found.old.calendar ≡ None }
-    ensures day { Reads T.letter (λ _. parsed_of T.number found.new) cursor.old result cursor.new
+) -> Result<IxdtfParseRecord<'a, T>, Stop>
+    ensures day { Reads T.letter (parsed_of T.number) cursor.old result cursor.new
         (full_day_at error_of (date_time_ends error_of) (pos year) month) }
-    ensures looks { Spends 10 cursor.old cursor.new }
+    ensures looks { Spends 15 cursor.old cursor.new }
 {
     let day = parse_day(cursor, year, month)?;
     take_time_letter(cursor)?;
@@ -312,7 +349,7 @@ fn parse_day_by_numbers<'a, T: EncodingType>(
         month,
         day,
     };
-    parse_time_by_numbers(cursor, date, found)
+    parse_time_by_numbers(cursor, date)
 }
 
 /// Reads the month after a year and its hyphen, and what follows, and wants the end.
@@ -320,17 +357,14 @@ fn parse_day_by_numbers<'a, T: EncodingType>(
 fn parse_month_by_numbers<'a, T: EncodingType>(
     cursor: &mut Cursor<'a, T>,
     year: u16,
-    found: &mut IxdtfParseRecord<'a, T>,
-) -> Result<(), Stop>
-    requires no_zone { found.old.tz ≡ None }
-    requires no_calendar { found.old.calendar ≡ None }
-    ensures month { Reads T.letter (λ _. parsed_of T.number found.new) cursor.old result cursor.new
+) -> Result<IxdtfParseRecord<'a, T>, Stop>
+    ensures month { Reads T.letter (parsed_of T.number) cursor.old result cursor.new
         (full_month_at error_of (date_time_ends error_of) (pos year)) }
-    ensures looks { Spends 11 cursor.old cursor.new }
+    ensures looks { Spends 16 cursor.old cursor.new }
 {
     let month = parse_month(cursor)?;
     take_date_hyphen(cursor, Stop::DateSeparator)?;
-    parse_day_by_numbers(cursor, year, month, found)
+    parse_day_by_numbers(cursor, year, month)
 }
 
 /// Reads a date-time number by number, and wants the end. It is not inlined: no text is read so that has no error.
@@ -338,32 +372,27 @@ fn parse_month_by_numbers<'a, T: EncodingType>(
 #[tactic(auto, using(ixdtf_reading::proofs::code::FixedDateTimes::year_then), unfolding(ixdtf_reading::specs::reading::Looks::look_readings))]
 fn parse_by_numbers<'a, T: EncodingType>(
     cursor: &mut Cursor<'a, T>,
-    found: &mut IxdtfParseRecord<'a, T>,
-) -> Result<(), Stop>
-    requires no_zone { found.old.tz ≡ None }
-    requires no_calendar { found.old.calendar ≡ None }
-    ensures date_time { Reads T.letter (λ _. parsed_of T.number found.new) cursor.old result cursor.new
+) -> Result<IxdtfParseRecord<'a, T>, Stop>
+    ensures date_time { Reads T.letter (parsed_of T.number) cursor.old result cursor.new
         (rfc_3339_at error_of) }
-    ensures looks { Spends 12 cursor.old cursor.new }
+    ensures looks { Spends 17 cursor.old cursor.new }
 {
     let year = parse_year(cursor)?;
     take_date_hyphen(cursor, Stop::AbruptDate)?;
-    parse_month_by_numbers(cursor, year, found)
+    parse_month_by_numbers(cursor, year)
 }
 
-/// Reads a date-time of RFC 3339 into an empty record, and wants the end.
+/// Reads a date-time of RFC 3339, and wants the end.
 #[inline(always)]
 pub fn parse_rfc3339_text<'a, T: EncodingType>(
     cursor: &mut Cursor<'a, T>,
-    found: &mut IxdtfParseRecord<'a, T>,
-) -> Result<(), Stop>
-    requires empty { IsEmptyRecord found.old }
-    ensures date_time { Reads T.letter (λ _. parsed_of T.number found.new) cursor.old result cursor.new
+) -> Result<IxdtfParseRecord<'a, T>, Stop>
+    ensures date_time { Reads T.letter (parsed_of T.number) cursor.old result cursor.new
         (rfc_3339_at error_of) }
-    ensures looks { Spends (length cursor.old.rest + 13) cursor.old cursor.new }
+    ensures looks { Spends (length cursor.old.rest + 18) cursor.old cursor.new }
 {
     match take_fixed_rfc3339(cursor) {
-        Some((date, whole)) => parse_after_seconds(cursor, date, whole, found),
-        None => parse_by_numbers(cursor, found),
+        Some((date, whole)) => parse_after_seconds(cursor, date, whole),
+        None => parse_by_numbers(cursor),
     }
 }

@@ -45,6 +45,31 @@ impl<'a, T: EncodingType> IxdtfParseRecord<'a, T> {
     }
 }
 
+impl UtcOffsetRecord {
+    /// Returns how many seconds local time is ahead of UTC. The number is below zero if local time is behind UTC.
+    ///
+    /// A fraction of a second is dropped: it is that of [`fraction`](Self::fraction). The result is 0 for `+00:00` and for
+    /// `-00:00`. RFC 9557, section 2, gives these two a different meaning.
+    ///
+    /// # Examples
+    ///
+    /// ```rust
+    /// use ixdtf::parsers::TimeZoneParser;
+    ///
+    /// assert_eq!(TimeZoneParser::from_str("+05:30").parse_offset()?.to_seconds(), 19_800);
+    /// assert_eq!(TimeZoneParser::from_str("-05:00:30.5").parse_offset()?.to_seconds(), -18_030);
+    /// # Ok::<(), ixdtf::ParseError>(())
+    /// ```
+    #[must_use]
+    pub fn to_seconds(&self) -> i32 {
+        let seconds = seconds_in(self.hour(), self.minute(), self.second().unwrap_or(0)) as i32;
+        match self.sign() {
+            Sign::Positive => seconds,
+            Sign::Negative => -seconds,
+        }
+    }
+}
+
 // The instant at which a clock in UTC shows the date and the time, or `None` where the calendar has no such month.
 #[inline(always)]
 fn clock_at(date: &DateRecord, time: &TimeRecord) -> Option<Instant> {

@@ -29,6 +29,8 @@ pub use pointed::PointedText;
 /// The result of a reader: the value that it found, or the error.
 pub type ParserResult<T> = Result<T, ParseError>;
 
+mod from_text;
+
 #[cfg(test)]
 #[macro_use]
 mod runtime;

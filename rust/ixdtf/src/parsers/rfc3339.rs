@@ -4,7 +4,7 @@
 
 use crate::parsers::date_times::take_fixed_date_time;
 use crate::parsers::dates::{check_month, has_day};
-use crate::parsers::offsets::sign_from;
+use crate::parsers::offsets::{sign_from, take_last_offset};
 use crate::parsers::time::{WholeTime, next_number, parse_fraction};
 use crate::encoding::EncodingType;
 use crate::records::{
@@ -94,33 +94,54 @@ fn parse_day<'a, T: EncodingType>(
     Ok(day)
 }
 
-/// Reads a time offset after its first code unit, and wants the end. The date, the time and the offset enter the record.
+/// Returns the record of a date, a time and an offset.
+#[inline(always)]
+fn date_time_record<'a, T: EncodingType>(
+    date: DateRecord,
+    time: TimeRecord,
+    offset: UtcOffsetRecordOrZ,
+) -> IxdtfParseRecord<'a, T> {
+    IxdtfParseRecord {
+        date: Some(date),
+        time: Some(time),
+        offset: Some(offset),
+        tz: None,
+        calendar: None,
+    }
+}
+
+/// Returns the record of a date, a time and an offset of hours and minutes.
+#[inline(always)]
+fn numeric_record<'a, T: EncodingType>(
+    date: DateRecord,
+    time: TimeRecord,
+    offset: MinutePrecisionOffset,
+) -> IxdtfParseRecord<'a, T> {
+    date_time_record(
+        date,
+        time,
+        UtcOffsetRecordOrZ::Offset(UtcOffsetRecord::MinutePrecision(offset)),
+    )
+}
+
+/// Reads a time offset after its first code unit, and expects the end.
+///
+/// An offset in its fixed columns is read there. Any other offset is an error, which is found number by number.
 #[inline(always)]
 fn parse_time_offset<'a, T: EncodingType>(
     cursor: &mut Cursor<'a, T>,
     date: DateRecord,
     time: TimeRecord,
     lead: u8,
-    found: &mut IxdtfParseRecord<'a, T>,
-) -> Result<(), Stop> {
-    found.date = Some(date);
-    found.time = Some(time);
+) -> Result<IxdtfParseRecord<'a, T>, Stop> {
     if is_utc_designator(lead) {
         cursor.close()?;
-        found.offset = Some(UtcOffsetRecordOrZ::Z);
-        return Ok(());
+        return Ok(date_time_record(date, time, UtcOffsetRecordOrZ::Z));
     }
-    let offset_hour = next_number(cursor, 23, Stop::TimeHour)?;
-    take_colon(cursor, Stop::UtcTimeSeparator)?;
-    let offset_minute = next_number(cursor, 59, Stop::TimeMinuteSecond)?;
-    cursor.close()?;
-    let offset = MinutePrecisionOffset {
-        sign: sign_from(lead),
-        hour: offset_hour,
-        minute: offset_minute,
-    };
-    found.offset = Some(UtcOffsetRecordOrZ::Offset(UtcOffsetRecord::MinutePrecision(offset)));
-    Ok(())
+    if let Some(offset) = take_last_offset(cursor, lead) {
+        return Ok(numeric_record(date, time, offset));
+    }
+    parse_offset_by_numbers(cursor, date, time, lead)
 }
 
 /// Takes what a time offset begins with off, after the digits of a fraction.
@@ -148,12 +169,11 @@ fn parse_fractional<'a, T: EncodingType>(
     cursor: &mut Cursor<'a, T>,
     date: DateRecord,
     whole: WholeTime,
-    found: &mut IxdtfParseRecord<'a, T>,
-) -> Result<(), Stop> {
+) -> Result<IxdtfParseRecord<'a, T>, Stop> {
     let fraction = parse_secfrac(cursor)?;
     let lead = take_lead(cursor)?;
     let time = whole.with_fraction(Some(fraction));
-    parse_time_offset(cursor, date, time, lead, found)
+    parse_time_offset(cursor, date, time, lead)
 }
 
 /// Reads what follows the seconds, and wants the end: a fraction where there is one, and an offset.
@@ -162,18 +182,17 @@ fn parse_after_seconds<'a, T: EncodingType>(
     cursor: &mut Cursor<'a, T>,
     date: DateRecord,
     whole: WholeTime,
-    found: &mut IxdtfParseRecord<'a, T>,
-) -> Result<(), Stop> {
+) -> Result<IxdtfParseRecord<'a, T>, Stop> {
     match cursor.look()? {
         None => Err(Stop::AbruptOffset),
         Some(byte) if byte == b'.' => {
             cursor.advance();
-            parse_fractional(cursor, date, whole, found)
+            parse_fractional(cursor, date, whole)
         }
         Some(byte) if is_ascii_sign(byte) || is_utc_designator(byte) => {
             cursor.advance();
             let time = whole.with_fraction(None);
-            parse_time_offset(cursor, date, time, byte, found)
+            parse_time_offset(cursor, date, time, byte)
         }
         Some(byte) if is_decimal_separator(byte) => Err(Stop::FractionPart),
         Some(_) => Err(Stop::OffsetNeedsSign),
@@ -194,13 +213,32 @@ fn take_fixed_rfc3339<'a, T: EncodingType>(
 
 // ==== Number by number ====
 
+/// Reads an offset after its sign, and expects the end.
+#[inline(always)]
+fn parse_offset_by_numbers<'a, T: EncodingType>(
+    cursor: &mut Cursor<'a, T>,
+    date: DateRecord,
+    time: TimeRecord,
+    sign: u8,
+) -> Result<IxdtfParseRecord<'a, T>, Stop> {
+    let offset_hour = next_number(cursor, 23, Stop::TimeHour)?;
+    take_colon(cursor, Stop::UtcTimeSeparator)?;
+    let offset_minute = next_number(cursor, 59, Stop::TimeMinuteSecond)?;
+    cursor.close()?;
+    let offset = MinutePrecisionOffset {
+        sign: sign_from(sign),
+        hour: offset_hour,
+        minute: offset_minute,
+    };
+    Ok(numeric_record(date, time, offset))
+}
+
 /// Reads the time after a date and its letter, and wants the end.
 #[inline(always)]
 fn parse_time_by_numbers<'a, T: EncodingType>(
     cursor: &mut Cursor<'a, T>,
     date: DateRecord,
-    found: &mut IxdtfParseRecord<'a, T>,
-) -> Result<(), Stop> {
+) -> Result<IxdtfParseRecord<'a, T>, Stop> {
     let hour = next_number(cursor, 23, Stop::TimeHour)?;
     take_colon(cursor, Stop::TimeSeparator)?;
     let minute = next_number(cursor, 59, Stop::TimeMinuteSecond)?;
@@ -211,7 +249,7 @@ fn parse_time_by_numbers<'a, T: EncodingType>(
         minute,
         second,
     };
-    parse_after_seconds(cursor, date, whole, found)
+    parse_after_seconds(cursor, date, whole)
 }
 
 /// Reads the day after a month and its hyphen, and what follows, and wants the end.
@@ -220,8 +258,7 @@ fn parse_day_by_numbers<'a, T: EncodingType>(
     cursor: &mut Cursor<'a, T>,
     year: u16,
     month: u8,
-    found: &mut IxdtfParseRecord<'a, T>,
-) -> Result<(), Stop> {
+) -> Result<IxdtfParseRecord<'a, T>, Stop> {
     let day = parse_day(cursor, year, month)?;
     take_time_letter(cursor)?;
     let date = DateRecord {
@@ -229,7 +266,7 @@ fn parse_day_by_numbers<'a, T: EncodingType>(
         month,
         day,
     };
-    parse_time_by_numbers(cursor, date, found)
+    parse_time_by_numbers(cursor, date)
 }
 
 /// Reads the month after a year and its hyphen, and what follows, and wants the end.
@@ -237,32 +274,29 @@ fn parse_day_by_numbers<'a, T: EncodingType>(
 fn parse_month_by_numbers<'a, T: EncodingType>(
     cursor: &mut Cursor<'a, T>,
     year: u16,
-    found: &mut IxdtfParseRecord<'a, T>,
-) -> Result<(), Stop> {
+) -> Result<IxdtfParseRecord<'a, T>, Stop> {
     let month = parse_month(cursor)?;
     take_date_hyphen(cursor, Stop::DateSeparator)?;
-    parse_day_by_numbers(cursor, year, month, found)
+    parse_day_by_numbers(cursor, year, month)
 }
 
 /// Reads a date-time number by number, and wants the end. It is not inlined: no text is read so that has no error.
 #[inline(never)]
 fn parse_by_numbers<'a, T: EncodingType>(
     cursor: &mut Cursor<'a, T>,
-    found: &mut IxdtfParseRecord<'a, T>,
-) -> Result<(), Stop> {
+) -> Result<IxdtfParseRecord<'a, T>, Stop> {
     let year = parse_year(cursor)?;
     take_date_hyphen(cursor, Stop::AbruptDate)?;
-    parse_month_by_numbers(cursor, year, found)
+    parse_month_by_numbers(cursor, year)
 }
 
-/// Reads a date-time of RFC 3339 into an empty record, and wants the end.
+/// Reads a date-time of RFC 3339, and wants the end.
 #[inline(always)]
 pub fn parse_rfc3339_text<'a, T: EncodingType>(
     cursor: &mut Cursor<'a, T>,
-    found: &mut IxdtfParseRecord<'a, T>,
-) -> Result<(), Stop> {
+) -> Result<IxdtfParseRecord<'a, T>, Stop> {
     match take_fixed_rfc3339(cursor) {
-        Some((date, whole)) => parse_after_seconds(cursor, date, whole, found),
-        None => parse_by_numbers(cursor, found),
+        Some((date, whole)) => parse_after_seconds(cursor, date, whole),
+        None => parse_by_numbers(cursor),
     }
 }
