@@ -73,7 +73,7 @@ extern "C" {
 /* The version of the interface that this header describes. */
 #define IXDTF_INTERFACE_VERSION 2
 /* How many times functions or numbers were added within this version. */
-#define IXDTF_INTERFACE_REVISION 1
+#define IXDTF_INTERFACE_REVISION 2
 
 /* The caller must test the result of a call: if it is an error, there is no new record. */
 #if defined(__cplusplus) && __cplusplus >= 201703L
@@ -293,6 +293,10 @@ IXDTF_CHECKED_ uint32_t ixdtf_parse_month_day(const uint8_t *text, size_t length
     ixdtf_record *out);
 /* Reads a time, such as T12:30. */
 IXDTF_CHECKED_ uint32_t ixdtf_parse_time(const uint8_t *text, size_t length, ixdtf_record *out);
+/* Reads a date-time of RFC 3339, section 5.6, such as 2024-03-02T08:48:00.25-05:00, and accepts no
+ * other text. ixdtf_parse accepts each of these texts too, and writes the same record. After 0, the
+ * date, the time and the offset are present, and no other part is. */
+IXDTF_CHECKED_ uint32_t ixdtf_parse_rfc3339(const uint8_t *text, size_t length, ixdtf_record *out);
 /* Reads an offset, such as +05:30, into `offset`. After 0, its form is IXDTF_MINUTES or
  * IXDTF_SECONDS, and no other part is present. */
 IXDTF_CHECKED_ uint32_t ixdtf_parse_offset(const uint8_t *text, size_t length, ixdtf_record *out);
@@ -381,6 +385,8 @@ IXDTF_CHECKED_ uint32_t ixdtf16_parse_month_day(const uint16_t *text, size_t len
     ixdtf16_record *out);
 IXDTF_CHECKED_ uint32_t ixdtf16_parse_time(const uint16_t *text, size_t length,
     ixdtf16_record *out);
+IXDTF_CHECKED_ uint32_t ixdtf16_parse_rfc3339(const uint16_t *text, size_t length,
+    ixdtf16_record *out);
 IXDTF_CHECKED_ uint32_t ixdtf16_parse_offset(const uint16_t *text, size_t length,
     ixdtf16_record *out);
 IXDTF_CHECKED_ uint32_t ixdtf16_parse_identifier(const uint16_t *text, size_t length,
@@ -457,6 +463,7 @@ IXDTF_CHECKED_ uint32_t ixdtf_interface_version(void);
     one(ixdtf_parse_year_month, ixdtf_record) \
     one(ixdtf_parse_month_day, ixdtf_record) \
     one(ixdtf_parse_time, ixdtf_record) \
+    one(ixdtf_parse_rfc3339, ixdtf_record) \
     one(ixdtf_parse_offset, ixdtf_record) \
     one(ixdtf_parse_identifier, ixdtf_record) \
     one(ixdtf_parse_iana_identifier, ixdtf_record) \

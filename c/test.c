@@ -232,7 +232,7 @@ static char *cell(char **line) {
 static const char *reader_word(const char *name) {
     static const char *words[][2] = {
         { "parse_year_month", "year-month" }, { "parse_month_day", "month-day" }, { "parse_time", "time" }, { "parse_offset", "offset" },
-        { "parse_identifier", "zone" }, { "parse_iana_identifier", "iana" },
+        { "parse_identifier", "zone" }, { "parse_iana_identifier", "iana" }, { "parse_rfc3339", "rfc3339" },
     };
     size_t i;
     for (i = 0; i < COUNT(words); i++) {
@@ -382,6 +382,7 @@ static void test_texts(void) {
     static const char *const texts[] = {
         "", "2024-03-02T08:48:00-05:00[Europe/Paris][u-ca=hebrew][a=b]", "2024-03-02[!a=b]", "2024-11[u-ca=iso8601]", "11-00[a=b]", "--11-07[a=b][c=d]",
         "T12:30:45.25+01[x=y]", "1200", "+05:30", "-05:00:30.5", "Europe/Berlin", "P1Y2Y", "-P1DT2H0.5M", "2024-", "2024-03-0x",
+        "2024-03-02T08:48:00.25-05:00",
     };
     size_t i;
     uint32_t error;
@@ -391,6 +392,7 @@ static void test_texts(void) {
         READ_RECORD_ALIKE(ixdtf_parse_year_month);
         READ_RECORD_ALIKE(ixdtf_parse_month_day);
         READ_RECORD_ALIKE(ixdtf_parse_time);
+        READ_RECORD_ALIKE(ixdtf_parse_rfc3339);
         READ_RECORD_ALIKE(ixdtf_parse_offset);
         READ_RECORD_ALIKE(ixdtf_parse_identifier);
         READ_RECORD_ALIKE(ixdtf_parse_iana_identifier);
@@ -432,9 +434,6 @@ static void test_places(const char *path) {
     while (fgets(line, sizeof line, lines) != NULL) {
         struct place_row row = place_row(line);
         row_shown = row.text;
-        if (strcmp(row.reader, "parse_rfc3339") == 0) {
-            continue; /* no function of this library reads RFC 3339 alone */
-        }
         if (row.width == 1) {
             narrow_test_place(&row);
         }

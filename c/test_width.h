@@ -77,6 +77,8 @@ static uint32_t OWN(read)(const char *reader, int strict, const UNIT *text, size
         return strict ? CALL(parse_month_day_strict)(text, length, out) : CALL(parse_month_day)(text, length, out);
     } else if (!strcmp(reader, "time")) {
         return strict ? CALL(parse_time_strict)(text, length, out) : CALL(parse_time)(text, length, out);
+    } else if (!strcmp(reader, "rfc3339")) {
+        return CALL(parse_rfc3339)(text, length, out);
     } else if (!strcmp(reader, "offset")) {
         return CALL(parse_offset)(text, length, out);
     } else if (!strcmp(reader, "zone")) {
@@ -418,7 +420,7 @@ static void OWN(test_texts)(void) {
 
 /* NULL with length 0 is the text without units, and the list without room. */
 static void OWN(test_null)(void) {
-    static const char *readers[] = { "parse", "year-month", "month-day", "time", "offset", "zone", "iana", "duration" };
+    static const char *readers[] = { "parse", "year-month", "month-day", "time", "rfc3339", "offset", "zone", "iana", "duration" };
     static const UNIT nothing[1] = { 0 };
     static const UNIT listed[] = { '2', '0', '2', '4', '-', '0', '3', '-', '0', '2', '[', 'a', '=', 'b', ']', '[', 'c', '=', 'd', ']' };
     size_t i, count;

@@ -20,6 +20,7 @@ READERS = {
     "parse_year_month": ixdtf.parse_year_month,
     "parse_month_day": ixdtf.parse_month_day,
     "parse_time": ixdtf.parse_time,
+    "parse_rfc3339": ixdtf.parse_rfc3339,
     "parse_offset": ixdtf.parse_offset,
     "parse_identifier": ixdtf.parse_zone,
     "parse_iana_identifier": ixdtf.parse_zone_name,
@@ -30,6 +31,7 @@ KINDS = {
     "parse_year_month": "year-month",
     "parse_month_day": "month-day",
     "parse_time": "time",
+    "parse_rfc3339": "rfc3339",
     "parse_offset": "offset",
     "parse_identifier": "zone",
     "parse_iana_identifier": "zone-name",
@@ -55,8 +57,7 @@ class Rows(unittest.TestCase):
         seen = 0
         with open(TOP / "tools" / "places.tsv", encoding="utf-8", newline="") as file:
             for row in csv.DictReader(file, delimiter="\t", quoting=csv.QUOTE_NONE):
-                # the package has no reader of RFC 3339 alone
-                if row["bits"] != "8" or row["reader"] == "parse_rfc3339":
+                if row["bits"] != "8":
                     continue
                 text = row["text"].encode("utf-8").decode("unicode_escape").encode("latin-1")
                 keywords = {"strict": True} if row["profile"] == "strict" and row["reader"] in WITH_PROFILES else {}
@@ -67,7 +68,7 @@ class Rows(unittest.TestCase):
                     self.assertEqual((error.position, error.within), (int(row["place"]), within))
                     self.assertFalse(ixdtf.is_valid(text, KINDS[row["reader"]], **keywords))
                 seen += 1
-        self.assertGreater(seen, 200)
+        self.assertGreater(seen, 250)
 
 
 class Texts(unittest.TestCase):
@@ -356,7 +357,7 @@ def changes_of(zone):
 
 class Calls(unittest.TestCase):
     def test_kinds(self):
-        for kind, text in (("date-time", "2024-03-02"), ("year-month", "2020-11"), ("month-day", "11-07"), ("time", "T12"), ("offset", "+05:30"), ("zone", "+05:30"),
+        for kind, text in (("date-time", "2024-03-02"), ("year-month", "2020-11"), ("month-day", "11-07"), ("time", "T12"), ("rfc3339", "2024-03-02T08:48:00Z"), ("offset", "+05:30"), ("zone", "+05:30"),
                            ("zone-name", "Europe/Paris"), ("duration", "P1D")):
             self.assertTrue(ixdtf.is_valid(text, kind))
             self.assertTrue(ixdtf.is_valid(text, kind=kind))
@@ -370,6 +371,16 @@ class Calls(unittest.TestCase):
         self.assertFalse(ixdtf.is_valid("1200", "time"))
         self.assertFalse(ixdtf.is_valid("11-00", "month-day", strict=True))
         self.assertEqual(ixdtf.parse_month_day("11-00").date, Date(0, 11, 0))
+
+    def test_rfc3339(self):
+        for text in ("1985-04-12T23:20:50.52Z", "1996-12-19t16:39:57-08:00", "1990-12-31T23:59:60z"):
+            self.assertEqual(ixdtf.parse_rfc3339(text), ixdtf.parse(text))
+        for text in ("2024-03-02", "20240302T084800Z", "2024-03-02 08:48:00Z", "2024-03-02T08:48Z", "2024-03-02T08:48:00Z[UTC]"):
+            self.assertTrue(ixdtf.is_valid(text))
+            self.assertFalse(ixdtf.is_valid(text, "rfc3339"))
+            refusal(ixdtf.parse_rfc3339, text)
+        with self.assertRaises(TypeError):
+            ixdtf.parse_rfc3339("1985-04-12T23:20:50.52Z", handler=None)
 
     def test_parts(self):
         self.assertEqual(ixdtf.parse_offset("-05:00:30.5"), Offset(-1, 5, 0, 30, Fraction(1, 5)))

@@ -109,7 +109,7 @@ typedef struct {
     list_record *list, *list_strict;
 } kind;
 
-enum { DATE_TIME, YEAR_MONTH, MONTH_DAY, TIME, OFFSET, ZONE, ZONE_NAME, RECORD_KINDS };
+enum { DATE_TIME, YEAR_MONTH, MONTH_DAY, TIME, RFC3339, OFFSET, ZONE, ZONE_NAME, RECORD_KINDS };
 
 static const kind KINDS[RECORD_KINDS] = {
     { "date-time", ixdtf_parse, ixdtf_parse, ixdtf_parse_with_annotations, ixdtf_parse_with_annotations },
@@ -118,6 +118,7 @@ static const kind KINDS[RECORD_KINDS] = {
     { "month-day", ixdtf_parse_month_day, ixdtf_parse_month_day_strict, ixdtf_parse_month_day_with_annotations,
       ixdtf_parse_month_day_with_annotations_strict },
     { "time", ixdtf_parse_time, ixdtf_parse_time_strict, ixdtf_parse_time_with_annotations, ixdtf_parse_time_with_annotations_strict },
+    { "rfc3339", ixdtf_parse_rfc3339, ixdtf_parse_rfc3339, NULL, NULL },
     { "offset", ixdtf_parse_offset, ixdtf_parse_offset, NULL, NULL },
     { "zone", ixdtf_parse_identifier, ixdtf_parse_identifier, NULL, NULL },
     { "zone-name", ixdtf_parse_iana_identifier, ixdtf_parse_iana_identifier, NULL, NULL },
@@ -786,6 +787,7 @@ READER(parse, DATE_TIME, 0, 1)
 READER(parse_year_month, YEAR_MONTH, 0, 1)
 READER(parse_month_day, MONTH_DAY, 1, 1)
 READER(parse_time, TIME, 1, 1)
+READER(parse_rfc3339, RFC3339, 0, 0)
 
 /* The offset or the zone of a text that is nothing else. */
 static PyObject *read_part(PyObject *module, PyObject *text, const kind *what) {
@@ -858,7 +860,7 @@ static int kind_number(PyObject *name) {
             return RECORD_KINDS;
         }
     }
-    PyErr_Format(PyExc_ValueError, "%R is no kind of text: the kinds are date-time, year-month, month-day, time, offset, zone, zone-name and duration", name);
+    PyErr_Format(PyExc_ValueError, "%R is no kind of text: the kinds are date-time, year-month, month-day, time, rfc3339, offset, zone, zone-name and duration", name);
     return -1;
 }
 
@@ -941,6 +943,9 @@ static PyMethodDef module_methods[] = {
     { "parse_time", FAST(parse_time),
       "parse_time(text, /, *, strict=False, handler=None)\n--\n\nReturns the Record of a time, such as 'T12:30'. Without T a time that could be a month and a day, or a year and a month, is\n"
       "refused. In the strict profile there is no day 00, so that '1200' is a time." },
+    { "parse_rfc3339", FAST(parse_rfc3339),
+      "parse_rfc3339(text, /)\n--\n\nReturns the Record of a date-time of RFC 3339, section 5.6, such as '2024-03-02T08:48:00.25-05:00'. It refuses every other text.\n"
+      "parse() accepts each of these texts too, and returns an equal Record." },
     { "parse_offset", parse_offset, METH_O, "parse_offset(text, /)\n--\n\nReturns the Offset of a text such as '+05:30'." },
     { "parse_zone", parse_zone, METH_O, "parse_zone(text, /)\n--\n\nReturns the Zone of a name or an offset, such as 'Europe/Berlin' or '+05:30'." },
     { "parse_zone_name", parse_zone_name, METH_O, "parse_zone_name(text, /)\n--\n\nReturns the Zone of a name, such as 'Europe/Berlin'." },
@@ -948,7 +953,7 @@ static PyMethodDef module_methods[] = {
       "parse_duration(text, /, *, strict=False)\n--\n\nReturns the Duration of a text such as '-P1Y2M3W4DT5H6M7.5S'. The strict profile refuses a unit that stands twice." },
     { "is_valid", FAST(is_valid),
       "is_valid(text, /, kind='date-time', *, strict=False)\n--\n\n"
-      "Returns whether a text is accepted. The kinds are date-time, year-month, month-day, time, offset, zone, zone-name and duration." },
+      "Returns whether a text is accepted. The kinds are date-time, year-month, month-day, time, rfc3339, offset, zone, zone-name and duration." },
     { "canonical", canonical, METH_O,
       "canonical(record, /)\n--\n\nReturns the one canonical text of a Record: parse() reads it back as an equal record. ValueError is raised if parse() returns this\nrecord for no text." },
     { NULL, NULL, 0, NULL },
