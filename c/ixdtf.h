@@ -139,10 +139,12 @@ enum {
     IXDTF_INVALID_MONTH_DAY = 46
 };
 
-/* The numbers that ixdtf_print returns besides IXDTF_OK. They are not errors of a text. */
+/* The numbers that ixdtf_print and ixdtf_instant return besides IXDTF_OK. They are not errors of a
+ * text. */
 enum {
     IXDTF_NOT_PRINTABLE = 101, /* ixdtf_parse gives this record for no text */
-    IXDTF_TOO_SHORT = 102      /* `room` is less than the length of the text, which is in `count` */
+    IXDTF_TOO_SHORT = 102,     /* `room` is less than the length of the text, which is in `count` */
+    IXDTF_NO_INSTANT = 103     /* the record has no date, no time, or no offset */
 };
 
 /* A slice of bytes that are valid as long as the program runs. They need not end in a zero. */
@@ -438,6 +440,23 @@ IXDTF_CHECKED_ uint32_t ixdtf_nanoseconds(uint64_t fraction, uint8_t digits);
  * is 0 for Z and if there is no offset. */
 IXDTF_CHECKED_ int32_t ixdtf_offset_seconds(const ixdtf_offset *offset);
 
+/* Writes the instant of a record: how many seconds it is after 1970-01-01T00:00:00Z, rounded down,
+ * and how many nanoseconds after that, from 0 to 999999999. Before 1970, the seconds are below 0.
+ * Leap seconds are not counted: each day has 86400 seconds. The function returns one of these:
+ * - IXDTF_OK: the instant was written.
+ * - IXDTF_NO_INSTANT: the record has no date, no time, or neither an offset nor Z. Then nothing is
+ *   written.
+ * The instant is the local time minus the offset. The time zone in brackets and the calendar do not
+ * matter. Digits of a fraction after the ninth are dropped. The second 60 is the same instant as
+ * the second 59, with the same fraction.
+ * If you write the fields of the record yourself, a day, an hour, a minute or an offset that is out
+ * of range is counted on, and a second above 59 is 59. The result is IXDTF_NO_INSTANT if the month
+ * is not 1 to 12, or if a fraction or a `form` is one that no reader writes. */
+IXDTF_CHECKED_ uint32_t ixdtf_instant(const ixdtf_record *record, int64_t *seconds,
+    uint32_t *nanoseconds);
+IXDTF_CHECKED_ uint32_t ixdtf16_instant(const ixdtf16_record *record, int64_t *seconds,
+    uint32_t *nanoseconds);
+
 /* Writes the calendar that ixdtf_reply kept into a record, or writes that there is none. */
 void ixdtf_keep_calendar(ixdtf_record *record, const ixdtf_calendar *calendar);
 void ixdtf16_keep_calendar(ixdtf16_record *record, const ixdtf16_calendar *calendar);
@@ -500,8 +519,8 @@ static inline const char *ixdtf_error_name(uint32_t error) {
 }
 
 /* Returns the text of an error, such as "Invalid character while parsing month value.". For the
- * errors of texts, it is the text that ixdtf_error_text writes. The errors of ixdtf_print have a
- * text too. For any other number, the result is "". */
+ * errors of texts, it is the text that ixdtf_error_text writes. The errors of ixdtf_print and of
+ * ixdtf_instant have a text too. For any other number, the result is "". */
 static inline const char *ixdtf_error_message(uint32_t error) {
     switch (error) {
     case IXDTF_IMPL_ASSERT:
@@ -600,6 +619,8 @@ static inline const char *ixdtf_error_message(uint32_t error) {
         return "No text stands for the record.";
     case IXDTF_TOO_SHORT:
         return "There is less room than the text takes.";
+    case IXDTF_NO_INSTANT:
+        return "The record has no instant.";
     default:
         return "";
     }

@@ -257,6 +257,25 @@ static struct place_row place_row(char *line) {
     return row;
 }
 
+/* Texts with their instants. The seconds are those of `date -u +%s` of GNU, and of the limits of ECMAScript's Date. */
+static const struct { const char *text; uint32_t result; int64_t seconds; uint32_t nanoseconds; } instant_rows[] = {
+    { "1970-01-01T00:00:00Z", IXDTF_OK, 0, 0 },
+    { "2024-03-02T08:48:00.25Z", IXDTF_OK, 1709369280, 250000000 },
+    { "2024-03-02T08:48:00.25-05:00[America/New_York][u-ca=hebrew]", IXDTF_OK, 1709387280, 250000000 },
+    { "1969-12-31T23:59:59.5Z", IXDTF_OK, -1, 500000000 },
+    { "2016-12-31T23:59:60.75Z", IXDTF_OK, 1483228799, 750000000 },
+    { "1900-03-01T00:00Z", IXDTF_OK, -2203891200, 0 },
+    { "2000-02-29T12:30:15+05:30", IXDTF_OK, 951807615, 0 },
+    { "0001-01-01T00:00:00Z", IXDTF_OK, -62135596800, 0 },
+    { "9999-12-31T23:59:59.999999999999Z", IXDTF_OK, 253402300799, 999999999 },
+    { "-271821-04-20T00:00Z", IXDTF_OK, -8640000000000, 0 },
+    { "+275760-09-13T00:00Z", IXDTF_OK, 8640000000000, 0 },
+    { "1970-01-01T00:00:00.1-00:00:00.9", IXDTF_OK, 1, 0 },
+    { "1970-01-01T00:00:00.1+00:00:00.2", IXDTF_OK, -1, 900000000 },
+    { "2024-03-02", IXDTF_NO_INSTANT, 0, 0 },
+    { "2024-03-02T08:48[UTC]", IXDTF_NO_INSTANT, 0, 0 },
+};
+
 #define UNIT uint8_t
 #define CALL(name) ixdtf_##name
 #define OWN(name) narrow_##name
@@ -274,7 +293,7 @@ static struct place_row place_row(char *line) {
 #include "test_width.h"
 
 static void test_errors(void) {
-    static const uint32_t others[] = { 0, 47, 100, 101, 102, 103, 0x80000000u, 0xffffffffu };
+    static const uint32_t others[] = { 0, 47, 100, 101, 102, 103, 104, 0x80000000u, 0xffffffffu };
     size_t i;
     check(COUNT(error_rows) == 46, "there are 46 errors");
     for (i = 0; i < COUNT(error_rows); i++) {
@@ -292,9 +311,9 @@ static void test_errors(void) {
         text.length = 4;
         ixdtf_error_text(others[i], &text);
         check(text.length == 0 && text.at != NULL, "another number has the empty text");
-        check((ixdtf_error_message(others[i])[0] != 0) == (others[i] == 101 || others[i] == 102), "what printing returns has a message, and no other number");
+        check((ixdtf_error_message(others[i])[0] != 0) == (others[i] >= 101 && others[i] <= 103), "what calls return has a message, and no other number");
         check(!strcmp(ixdtf_error_name(others[i]), others[i] == 0 ? "IXDTF_OK" : others[i] == 101 ? "IXDTF_NOT_PRINTABLE"
-                      : others[i] == 102 ? "IXDTF_TOO_SHORT" : ""), "another number has no name, but for those that are named");
+                      : others[i] == 102 ? "IXDTF_TOO_SHORT" : others[i] == 103 ? "IXDTF_NO_INSTANT" : ""), "another number has no name, but for those that are named");
     }
 }
 
@@ -306,7 +325,7 @@ static void test_names(void) {
         ixdtf_error_constant(number, &name);
         check(name.at != NULL && name.at[name.length] == 0 && name.length == strlen(name.at), "a zero stands behind a name");
         check(!strcmp(name.at, ixdtf_error_name(number)), "the name of the library is that of the header");
-        check((name.length != 0) == (number <= 46 || number == 101 || number == 102), "what a call returns has a name, and no other number");
+        check((name.length != 0) == (number <= 46 || (number >= 101 && number <= 103)), "what a call returns has a name, and no other number");
     }
 }
 

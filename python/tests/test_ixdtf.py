@@ -6,13 +6,14 @@ import doctest
 import gc
 import pathlib
 import pickle
+import random
 import sys
 import threading
 import unittest
 import zoneinfo
 
 import ixdtf
-from ixdtf import Annotation, Date, Duration, Fraction, IxdtfError, Offset, Record, Time, Z, Zone
+from ixdtf import Annotation, Date, Duration, Fraction, Instant, IxdtfError, Offset, Record, Time, Z, Zone
 
 TOP = pathlib.Path(__file__).resolve().parents[2]
 READERS = {
@@ -186,6 +187,39 @@ class Records(unittest.TestCase):
             printed = ixdtf.canonical(ixdtf.parse(text))
             self.assertLessEqual(len(printed), len(text) + 14)
             self.assertEqual(ixdtf.canonical(ixdtf.parse(printed)), printed)
+
+
+class Instants(unittest.TestCase):
+    """The instants of records, beside those of datetime."""
+
+    def test_known(self):
+        for text, seconds, nanoseconds in (("1970-01-01T00:00Z", 0, 0), ("1969-12-31T23:59:59.5Z", -1, 500_000_000),
+                                           ("2016-12-31T23:59:60Z", 1483228799, 0), ("-271821-04-20T00:00Z", -8640000000000, 0),
+                                           ("1970-01-01T00:00:00.1+00:00:00.2", -1, 900_000_000), ("2024-03-02T00:00-05:00[Europe/Paris]", 1709355600, 0)):
+            self.assertEqual(ixdtf.instant(ixdtf.parse(text)), Instant(seconds, nanoseconds))
+        found = ixdtf.instant(ixdtf.parse("2024-03-02T00:00Z"))
+        self.assertEqual((pickle.loads(pickle.dumps(found)), repr(found)), (found, "Instant(seconds=1709337600, nanoseconds=0)"))
+
+    def test_beside_datetime(self):
+        generator = random.Random(1)
+        texts = []
+        for _ in range(3000):
+            delta = datetime.timedelta(days=generator.randrange(3652059), microseconds=generator.randrange(86_400_000_000))
+            zone = datetime.timezone(datetime.timedelta(seconds=generator.randrange(-86399, 86400)))
+            texts.append((datetime.datetime.min + delta).replace(tzinfo=zone).isoformat())
+        epoch = datetime.datetime(1970, 1, 1, tzinfo=UTC)
+        for text in texts:
+            microseconds = (datetime.datetime.fromisoformat(text) - epoch) // datetime.timedelta(microseconds=1)
+            found = ixdtf.instant(ixdtf.parse(text))
+            self.assertEqual((found.seconds, found.nanoseconds), (microseconds // 10**6, microseconds % 10**6 * 1000), text)
+
+    def test_none(self):
+        for record, part in ((ixdtf.parse("2024-03-02"), "time"), (ixdtf.parse("2024-03-02T08:48[UTC]"), "offset"), (ixdtf.parse_time("T12Z"), "date"),
+                             (Record(Date(2024, 3, 2), Time(8, 48, 0, Fraction(1, 25)), Z), "fraction")):
+            with self.assertRaisesRegex(ValueError, part):
+                ixdtf.instant(record)
+        with self.assertRaises(TypeError):
+            ixdtf.instant("2024-03-02T08:48Z")
 
 
 class Durations(unittest.TestCase):
@@ -405,6 +439,7 @@ class Runs(unittest.TestCase):
             record.date, record.time, record.offset, record.zone, record.calendar, hash(record), repr(record), record == record
             record.to_datetime()
             ixdtf.canonical(record)
+            ixdtf.instant(record)
             pickle.loads(pickle.dumps(record))
             ixdtf.parse("2024-03-02[u-ca=a][b=c]", handler=lambda it: it)
             for text in ("2024-13-01", "2024\u20ac", b"\xff"):

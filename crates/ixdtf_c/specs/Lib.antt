@@ -1,6 +1,7 @@
 pub mod Computed
 pub mod Crossing
 pub mod Fielded
+pub mod Instants
 pub mod Lasting
 pub mod Listing
 pub mod Located

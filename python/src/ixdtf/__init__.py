@@ -23,6 +23,7 @@ from ixdtf._errors import IxdtfError
 from ixdtf._reader import (
     Record,
     canonical,
+    instant,
     is_valid,
     parse,
     parse_duration,
@@ -34,13 +35,14 @@ from ixdtf._reader import (
     parse_zone,
     parse_zone_name,
 )
-from ixdtf._records import Annotation, Date, Duration, Fraction, Offset, Time, Z, Zone
+from ixdtf._records import Annotation, Date, Duration, Fraction, Instant, Offset, Time, Z, Zone
 
 __all__ = [
     "Annotation",
     "Date",
     "Duration",
     "Fraction",
+    "Instant",
     "IxdtfError",
     "Offset",
     "Record",
@@ -49,6 +51,7 @@ __all__ = [
     "Zone",
     "ZoneConflictError",
     "canonical",
+    "instant",
     "is_valid",
     "parse",
     "parse_duration",

@@ -24,6 +24,7 @@ typedef struct {
     PyObject *make_offset;
     PyObject *make_zone;
     PyObject *make_duration;
+    PyObject *make_instant;
     PyObject *to_datetime; /* of _datetimes.py */
     PyObject *describe;    /* of _records.py: what repr() shows */
     PyObject *record_type;
@@ -929,6 +930,24 @@ static PyObject *canonical(PyObject *module, PyObject *record) {
     return made;
 }
 
+static PyObject *instant(PyObject *module, PyObject *record) {
+    module_state *state = state_of(module);
+    if (!PyObject_TypeCheck(record, (PyTypeObject *)state->record_type)) {
+        return PyErr_Format(PyExc_TypeError, "instant() takes a Record, and not %.100s", Py_TYPE(record)->tp_name);
+    }
+    const ixdtf_record *fields = &((record_object *)record)->fields;
+    int64_t seconds = 0;
+    uint32_t nanoseconds = 0;
+    if (ixdtf_instant(fields, &seconds, &nanoseconds) != IXDTF_OK) {
+        PyErr_SetString(PyExc_ValueError, !fields->date.is_there ? "the record has no date, and so no instant"
+                : !fields->time.is_there                         ? "the record has no time, and so no instant"
+                : fields->offset.form == IXDTF_NO_OFFSET         ? "the record has no offset, and so no instant"
+                                                                 : "a fraction has more digits than it says, so the record has no instant");
+        return NULL;
+    }
+    return PyObject_CallFunction(state->make_instant, "LI", (long long)seconds, (unsigned)nanoseconds);
+}
+
 #define FAST(function) (PyCFunction)(void (*)(void))function, METH_FASTCALL | METH_KEYWORDS
 
 static PyMethodDef module_methods[] = {
@@ -956,6 +975,10 @@ static PyMethodDef module_methods[] = {
       "Returns whether a text is accepted. The kinds are date-time, year-month, month-day, time, rfc3339, offset, zone, zone-name and duration." },
     { "canonical", canonical, METH_O,
       "canonical(record, /)\n--\n\nReturns the one canonical text of a Record: parse() reads it back as an equal record. ValueError is raised if parse() returns this\nrecord for no text." },
+    { "instant", instant, METH_O,
+      "instant(record, /)\n--\n\nReturns the Instant of a Record: the seconds since 1970-01-01T00:00:00Z, rounded down, and the nanoseconds after them.\n\n"
+      "ValueError is raised if the record has no date, no time or no offset. The zone does not count. The second 60 is the same\n"
+      "instant as the second 59." },
     { NULL, NULL, 0, NULL },
 };
 
@@ -979,8 +1002,9 @@ static int take_names(PyObject *module, const char *from, const char *const *nam
 
 static int execute(PyObject *module) {
     module_state *state = state_of(module);
-    static const char *const records[] = { "make_date", "make_time", "make_offset", "make_zone", "make_duration", "describe" };
-    PyObject **places[] = { &state->make_date, &state->make_time, &state->make_offset, &state->make_zone, &state->make_duration, &state->describe };
+    static const char *const records[] = { "make_date", "make_time", "make_offset", "make_zone", "make_duration", "make_instant", "describe" };
+    PyObject **places[] = { &state->make_date, &state->make_time, &state->make_offset, &state->make_zone, &state->make_duration, &state->make_instant,
+                             &state->describe };
     static const char *const errors[] = { "IxdtfError" };
     static const char *const datetimes[] = { "to_datetime" };
     if (ixdtf_interface_version() != IXDTF_INTERFACE_VERSION) {
@@ -988,7 +1012,7 @@ static int execute(PyObject *module) {
         return -1;
     }
     PyDateTime_IMPORT;
-    if (PyDateTimeAPI == NULL || take_names(module, "ixdtf._records", records, places, 6) < 0
+    if (PyDateTimeAPI == NULL || take_names(module, "ixdtf._records", records, places, (int)(sizeof places / sizeof *places)) < 0
         || take_names(module, "ixdtf._errors", errors, (PyObject **[]){ &state->error }, 1) < 0
         || take_names(module, "ixdtf._datetimes", datetimes, (PyObject **[]){ &state->to_datetime }, 1) < 0) {
         return -1;
@@ -1019,6 +1043,7 @@ static int traverse(PyObject *module, visitproc visit, void *arg) {
     Py_VISIT(state->make_offset);
     Py_VISIT(state->make_zone);
     Py_VISIT(state->make_duration);
+    Py_VISIT(state->make_instant);
     Py_VISIT(state->to_datetime);
     Py_VISIT(state->describe);
     Py_VISIT(state->record_type);
@@ -1034,6 +1059,7 @@ static int clear(PyObject *module) {
     Py_CLEAR(state->make_offset);
     Py_CLEAR(state->make_zone);
     Py_CLEAR(state->make_duration);
+    Py_CLEAR(state->make_instant);
     Py_CLEAR(state->to_datetime);
     Py_CLEAR(state->describe);
     Py_CLEAR(state->record_type);

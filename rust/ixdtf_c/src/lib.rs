@@ -9,6 +9,7 @@ mod errors;
 mod exports;
 mod fields;
 mod forms;
+mod instants;
 mod names;
 pub mod narrow;
 mod narrow_annotations;

@@ -24,7 +24,7 @@ fn fraction_of(digits: u8, value: u64) -> Option<Option<Fraction>> {
 }
 
 /// The date.
-fn date_of(date: &Date) -> Option<DateRecord> {
+pub fn date_of(date: &Date) -> Option<DateRecord> {
     if !date.is_there {
         return None;
     }
@@ -36,7 +36,7 @@ fn date_of(date: &Date) -> Option<DateRecord> {
 }
 
 /// The time, where its fraction is one.
-fn time_of(time: &Time) -> Option<Option<TimeRecord>> {
+pub fn time_of(time: &Time) -> Option<Option<TimeRecord>> {
     if !time.is_there {
         return Some(None);
     }
@@ -61,7 +61,7 @@ fn minutes_of(is_negative: bool, hour: u8, minute: u8) -> MinutePrecisionOffset 
 }
 
 /// The offset, where its form has a name and its fraction is one.
-fn offset_of(offset: &Offset) -> Option<Option<UtcOffsetRecordOrZ>> {
+pub fn offset_of(offset: &Offset) -> Option<Option<UtcOffsetRecordOrZ>> {
     if offset.form == 0 {
         return Some(None);
     }
