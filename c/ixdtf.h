@@ -139,10 +139,10 @@ enum {
     IXDTF_INVALID_MONTH_DAY = 46
 };
 
-/* The numbers that ixdtf_print and ixdtf_instant return besides IXDTF_OK. They are not errors of a
+/* The numbers that printers and ixdtf_instant return besides IXDTF_OK. They are not errors of a
  * text. */
 enum {
-    IXDTF_NOT_PRINTABLE = 101, /* ixdtf_parse gives this record for no text */
+    IXDTF_NOT_PRINTABLE = 101, /* the reader of such texts gives this record for no text */
     IXDTF_TOO_SHORT = 102,     /* `room` is less than the length of the text, which is in `count` */
     IXDTF_NO_INSTANT = 103     /* the record has no date, no time, or no offset */
 };
@@ -377,7 +377,20 @@ IXDTF_CHECKED_ uint32_t ixdtf_reply(ixdtf_calendar *calendar, const ixdtf_annota
 IXDTF_CHECKED_ uint32_t ixdtf_print(const ixdtf_record *record, uint8_t *out, size_t room,
     size_t *count);
 
-/* The same functions for 16-bit text. There is no such function for ixdtf_print. A code unit outside
+/* Prints a duration as its one canonical text, such as -P1Y2DT3H0.5M, in ASCII. What the function
+ * returns and writes is what ixdtf_print returns and writes. ixdtf_parse_duration reads this text as
+ * the same duration, and no other duration has this canonical text. The text begins with - if the
+ * duration is negative. It has each unit that is not 0, and 0D if all numbers of the date are 0. The
+ * last unit of the time is always written: PT0H and PT0S are two durations.
+ * If ixdtf_parse_duration wrote the duration for a text of n bytes, it is always printed if `room` is
+ * at least n. A canonical text of a duration has at most 406 bytes.
+ * You can also write the fields of a duration yourself. IXDTF_NOT_PRINTABLE says that it has neither
+ * a date nor a time, or a `time_form` that is not named above, or a fraction whose number has more
+ * digits than `fraction_digits` says. */
+IXDTF_CHECKED_ uint32_t ixdtf_print_duration(const ixdtf_duration *duration, uint8_t *out,
+    size_t room, size_t *count);
+
+/* The same functions for 16-bit text. There is no such function for a printer. A code unit outside
  * 1 to 126 stands for no character. If a reader needs a character and comes to such a code unit, the
  * error is IXDTF_NON_ASCII_CODE_POINT. */
 IXDTF_CHECKED_ uint32_t ixdtf16_parse(const uint16_t *text, size_t length, ixdtf16_record *out);
@@ -465,6 +478,10 @@ void ixdtf16_keep_calendar(ixdtf16_record *record, const ixdtf16_calendar *calen
  * if the record is not printable, or if its text is longer than SIZE_MAX. */
 IXDTF_CHECKED_ size_t ixdtf_printed_length(const ixdtf_record *record);
 
+/* Returns how many bytes ixdtf_print_duration writes for the duration if there is enough room. The
+ * result is 0 if the duration is not printable. */
+IXDTF_CHECKED_ size_t ixdtf_printed_duration_length(const ixdtf_duration *duration);
+
 /* Returns the version of the interface that the library has. */
 IXDTF_CHECKED_ uint32_t ixdtf_interface_version(void);
 
@@ -519,8 +536,8 @@ static inline const char *ixdtf_error_name(uint32_t error) {
 }
 
 /* Returns the text of an error, such as "Invalid character while parsing month value.". For the
- * errors of texts, it is the text that ixdtf_error_text writes. The errors of ixdtf_print and of
- * ixdtf_instant have a text too. For any other number, the result is "". */
+ * errors of texts, it is the text that ixdtf_error_text writes. The numbers that printers and
+ * ixdtf_instant return have a text too. For any other number, the result is "". */
 static inline const char *ixdtf_error_message(uint32_t error) {
     switch (error) {
     case IXDTF_IMPL_ASSERT:

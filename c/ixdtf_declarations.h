@@ -39,6 +39,7 @@ uint32_t ixdtf_parse_month_day_with_annotations_strict(const uint8_t *text, size
 uint32_t ixdtf_parse_time_with_annotations_strict(const uint8_t *text, size_t length, ixdtf_annotation *annotations, size_t room, size_t *count, ixdtf_record *out);
 uint32_t ixdtf_reply(ixdtf_calendar *calendar, const ixdtf_annotation *reply);
 uint32_t ixdtf_print(const ixdtf_record *record, uint8_t *out, size_t room, size_t *count);
+uint32_t ixdtf_print_duration(const ixdtf_duration *duration, uint8_t *out, size_t room, size_t *count);
 uint32_t ixdtf16_parse(const uint16_t *text, size_t length, ixdtf16_record *out);
 uint32_t ixdtf16_parse_year_month(const uint16_t *text, size_t length, ixdtf16_record *out);
 uint32_t ixdtf16_parse_month_day(const uint16_t *text, size_t length, ixdtf16_record *out);
@@ -67,4 +68,5 @@ uint32_t ixdtf16_instant(const ixdtf16_record *record, int64_t *seconds, uint32_
 void ixdtf_keep_calendar(ixdtf_record *record, const ixdtf_calendar *calendar);
 void ixdtf16_keep_calendar(ixdtf16_record *record, const ixdtf16_calendar *calendar);
 size_t ixdtf_printed_length(const ixdtf_record *record);
+size_t ixdtf_printed_duration_length(const ixdtf_duration *duration);
 uint32_t ixdtf_interface_version(void);

@@ -568,6 +568,85 @@ static void test_printed(const ixdtf_record *record, uint32_t wanted, const char
     check(narrow_same_but_error(&before, record) && same_text(before.location, record->location) && before.place == record->place, "a record that is printed stays");
 }
 
+/* What ixdtf_print_duration gives of a duration, for every room up to one more than the text takes. */
+static void test_printed_duration(const ixdtf_duration *duration, uint32_t wanted, const char *canonical) {
+    size_t length = strlen(canonical), places, i;
+    for (places = 0; places <= length + 1; places++) {
+        uint8_t *out = room + ROOM - places;
+        size_t count = 7;
+        uint32_t error, found = wanted == IXDTF_OK && places < length ? (uint32_t)IXDTF_TOO_SHORT : wanted;
+        memset(room, 0xa5, ROOM);
+        error = ixdtf_print_duration(duration, out, places, &count);
+        check(error == found, "what printing a duration returns");
+        check(count == (wanted == IXDTF_OK ? length : 7), "the count of what is printed");
+        check(error != IXDTF_OK || !memcmp(out, canonical, length), "the canonical text of a duration");
+        for (i = error == IXDTF_OK ? length : 0; i < places; i++) {
+            check(out[i] == 0xa5, "the other bytes stay");
+        }
+        check(places == ROOM || out[-1] == 0xa5, "nothing before the bytes is written");
+    }
+    check(ixdtf_printed_duration_length(duration) == length, "the length of what is printed, and 0 where nothing is");
+}
+
+/* Texts of durations and their canonical texts, written out by the rules of docs/GRAMMAR.md; and durations that are filled in by hand. */
+static void test_durations(void) {
+    static const struct { const char *text, *canonical; } texts[] = {
+        { "+p1y0m03dt04,50m", "P1Y3DT4.50M" }, { "-P0Y", "-P0D" }, { "P0WT0H0S", "P0DT0S" }, { "PT0H", "PT0H" }, { "PT0H0M", "PT0M" },
+        { "P1Y2Y", "P2Y" }, { "-P1Y2M3W4DT5H6M7.890S", "-P1Y2M3W4DT5H6M7.890S" }, { "PT0.000000000000000001H", "PT0.000000000000000001H" },
+        { "P00018446744073709551615D", "P18446744073709551615D" }, { "pt18446744073709551615h0m0,0s", "PT18446744073709551615H0.0S" },
+        { "P4294967295Y4294967295M4294967295W", "P4294967295Y4294967295M4294967295W" }, { "PT1.1234567890123456789S", "PT1.1234567890123456780S" },
+    };
+    ixdtf_duration full = IXDTF_DURATION, it;
+    size_t i;
+    for (i = 0; i < COUNT(texts); i++) {
+        ixdtf_duration duration = used_duration();
+        row_shown = texts[i].text;
+        check(ixdtf_parse_duration_text(texts[i].text, &duration) == IXDTF_OK, "a duration that is printed");
+        test_printed_duration(&duration, IXDTF_OK, texts[i].canonical);
+    }
+    test_printed_duration(&full, IXDTF_NOT_PRINTABLE, "");
+    memset(&it, 0, sizeof it);
+    test_printed_duration(&it, IXDTF_NOT_PRINTABLE, "");
+    check(ixdtf_parse_duration_text("P1DT2H3M4.5S", &full) == IXDTF_OK, "a duration with a date and a time");
+#define CHANGED(change, wanted, text) \
+    it = full; \
+    change; \
+    row_shown = #change; \
+    test_printed_duration(&it, wanted, text)
+    CHANGED(it.has_date = false, IXDTF_OK, "PT2H3M4.5S");
+    CHANGED(it.time_form = IXDTF_NO_TIME, IXDTF_OK, "P1D");
+    CHANGED((it.time_form = IXDTF_NO_TIME, it.fraction = UINT64_MAX), IXDTF_OK, "P1D");
+    CHANGED((it.has_date = false, it.time_form = IXDTF_NO_TIME), IXDTF_NOT_PRINTABLE, "");
+    CHANGED(it.time_form = IXDTF_LAST_HOURS, IXDTF_OK, "P1DT2.5H");
+    CHANGED(it.time_form = IXDTF_LAST_MINUTES, IXDTF_OK, "P1DT2H3.5M");
+    CHANGED(it.time_form = 4, IXDTF_NOT_PRINTABLE, "");
+    CHANGED(it.time_form = 255, IXDTF_NOT_PRINTABLE, "");
+    CHANGED(it.fraction = 10, IXDTF_NOT_PRINTABLE, "");
+    CHANGED((it.fraction = 10, it.fraction_digits = 0), IXDTF_OK, "P1DT2H3M4S");
+    CHANGED(it.fraction_digits = 3, IXDTF_OK, "P1DT2H3M4.005S");
+    CHANGED(it.is_negative = true, IXDTF_OK, "-P1DT2H3M4.5S");
+    CHANGED((it.location.at = behind, it.location.length = 4, it.place = 99), IXDTF_OK, "P1DT2H3M4.5S");
+#undef CHANGED
+    row_shown = "";
+    for (i = 0; i < COUNT(rows); i++) {
+        ixdtf_duration duration = IXDTF_DURATION, again = IXDTF_DURATION;
+        ixdtf_record none = IXDTF_RECORD;
+        struct line line;
+        uint8_t out[1024];
+        size_t count = 0;
+        row_shown = rows[i].text;
+        if (strcmp(rows[i].reader, "duration") || rows[i].length > sizeof out
+            || ixdtf_parse_duration((const uint8_t *)rows[i].text, rows[i].length, &duration) != IXDTF_OK) {
+            continue;
+        }
+        check(ixdtf_print_duration(&duration, out, rows[i].length, &count) == IXDTF_OK && count <= rows[i].length, "a duration that was read is printed");
+        check(ixdtf_parse_duration(out, count, &again) == IXDTF_OK, "what is printed is read");
+        narrow_show_outcome(&line, "duration", 0, &none, &again);
+        is(line.text, rows[i].answer, "what is printed", rows[i].text);
+    }
+    row_shown = "";
+}
+
 /* A calendar that was kept is printed with the record, and a place for one that was not has none. */
 static void test_kept_calendar(void) {
     static const char *text = "2024-03-02T08:48[!u-ca=hebrew][a=b]";
@@ -776,6 +855,7 @@ int main(int count, char **arguments) {
     test_read_back();
     test_by_hand();
     test_zeros();
+    test_durations();
     test_met();
     printf("%lu checks, %lu failed\n", checks, failures);
     return failures == 0 ? 0 : 1;

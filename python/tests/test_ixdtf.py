@@ -235,6 +235,21 @@ class Durations(unittest.TestCase):
         self.assertFalse(ixdtf.is_valid("P1Y2Y", "duration", strict=True))
         refusal(ixdtf.parse_duration, "P1Y2Y", strict=True)
 
+    def test_canonical(self):
+        for text, printed in (("+p1y0m03dt04,50m", "P1Y3DT4.50M"), ("-P0Y", "-P0D"), ("P0WT0H0S", "P0DT0S"), ("PT0H", "PT0H"), ("P1Y2Y", "P2Y"),
+                              ("P4294967295Y18446744073709551615D", "P4294967295Y18446744073709551615D"),
+                              ("PT18446744073709551615H00." + "1" * 300 + "M", "PT18446744073709551615H0." + "1" * 18 + "0" * 237 + "M")):
+            duration = ixdtf.parse_duration(text)
+            self.assertEqual(ixdtf.canonical(duration), printed)
+            self.assertEqual(ixdtf.parse_duration(printed), duration)
+        for wrong in (Duration(), Duration(0, 0, 0, 0, 0), Duration(1, 1), Duration(1, minutes=5), Duration(1, fraction=Fraction(1, 5)),
+                      Duration(1, 1 << 32, 0, 0, 0), Duration(1, hours=1 << 64), Duration(1, hours=-1), Duration(1, hours=1, fraction=Fraction(1, 10))):
+            with self.assertRaises(ValueError):
+                ixdtf.canonical(wrong)
+        for wrong in (Duration(1, hours="5"), "P1D", None):
+            with self.assertRaises(TypeError):
+                ixdtf.canonical(wrong)
+
     def test_timedelta(self):
         for text, seconds in (("P1W", 604800), ("-P1DT1H", -90000), ("PT1.5H", 5400), ("PT1.5M", 90), ("PT0.000001S", 1e-6), ("PT0.0000010S", 1e-6)):
             self.assertEqual(ixdtf.parse_duration(text).to_timedelta().total_seconds(), seconds)
@@ -445,6 +460,7 @@ class Runs(unittest.TestCase):
             for text in ("2024-13-01", "2024\u20ac", b"\xff"):
                 refusal(ixdtf.parse, text)
             refusal(ixdtf.parse, "2024-03-02[!b=c]", handler=lambda it: it)
+            ixdtf.canonical(ixdtf.parse_duration("P1DT1.5H"))
             ixdtf.parse_duration("P1DT1.5H").to_timedelta()
             ixdtf.is_valid("P1D", "duration")
 

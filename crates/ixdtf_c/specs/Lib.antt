@@ -9,6 +9,7 @@ pub mod Names
 pub mod Narrow
 pub mod Numbers
 pub mod Outcomes
+pub mod Printing
 pub mod Replying
 pub mod Standing
 pub mod Turns

@@ -22,7 +22,7 @@ use ixdtf::records::{
 use ixdtf_print::{PrintError, length_of, print};
 
 /// The fraction of so many digits and this value, where there is one of them.
-fn fraction_of(digits: u8, value: u64) -> Option<Option<Fraction>>
+pub fn fraction_of(digits: u8, value: u64) -> Option<Option<Fraction>>
     ensures found { IfSome result (λ fraction. fraction ≡ fraction_by digits value) }
     ensures digits { OnSome result (HasDigits (fraction_by digits value)) }
     ensures none { IfNone result (¬ (HasDigits (fraction_by digits value))) }

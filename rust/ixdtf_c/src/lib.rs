@@ -4,6 +4,7 @@
 
 #![cfg_attr(not(test), no_std)]
 
+mod duration_texts;
 mod durations;
 mod errors;
 mod exports;
@@ -16,6 +17,7 @@ mod narrow_annotations;
 mod printing;
 mod readers;
 mod slices;
+mod texts;
 mod version;
 pub mod wide;
 mod wide_annotations;

@@ -13,7 +13,7 @@ use ixdtf::records::{
 use ixdtf_print::{PrintError, length_of, print};
 
 /// The fraction of so many digits and this value, where there is one of them.
-fn fraction_of(digits: u8, value: u64) -> Option<Option<Fraction>> {
+pub fn fraction_of(digits: u8, value: u64) -> Option<Option<Fraction>> {
     if digits == 0 {
         return Some(None);
     }
