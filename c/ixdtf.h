@@ -139,12 +139,13 @@ enum {
     IXDTF_INVALID_MONTH_DAY = 46
 };
 
-/* The numbers that printers and ixdtf_instant return besides IXDTF_OK. They are not errors of a
- * text. */
+/* The numbers that printers, ixdtf_instant and ixdtf_duration_fraction return besides IXDTF_OK. They
+ * are not errors of a text. */
 enum {
     IXDTF_NOT_PRINTABLE = 101, /* the reader of such texts gives this record for no text */
     IXDTF_TOO_SHORT = 102,     /* `room` is less than the length of the text, which is in `count` */
-    IXDTF_NO_INSTANT = 103     /* the record has no date, no time, or no offset */
+    IXDTF_NO_INSTANT = 103,    /* the record has no date, no time, or no offset */
+    IXDTF_NOT_EXACT = 104      /* the fraction is no whole number of nanoseconds, or is not known */
 };
 
 /* A slice of bytes that are valid as long as the program runs. They need not end in a zero. */
@@ -470,6 +471,16 @@ IXDTF_CHECKED_ uint32_t ixdtf_instant(const ixdtf_record *record, int64_t *secon
 IXDTF_CHECKED_ uint32_t ixdtf16_instant(const ixdtf16_record *record, int64_t *seconds,
     uint32_t *nanoseconds);
 
+/* Writes what the fraction of a duration is in whole seconds, and in nanoseconds after them, from 0
+ * to 999999999. The fraction is a part of the last duration unit: 0.5 of PT1.5H is 1800 seconds. Both
+ * numbers are 0 if the duration has no fraction. The sign of the duration does not matter. The
+ * function returns one of these:
+ * - IXDTF_OK: the two numbers are exactly the fraction.
+ * - IXDTF_NOT_EXACT: the fraction is no whole number of nanoseconds, as in PT0.0000000001S, or it has
+ *   more than 18 digits, of which the record has only the first 18. Then nothing is written. */
+IXDTF_CHECKED_ uint32_t ixdtf_duration_fraction(const ixdtf_duration *duration, uint32_t *seconds,
+    uint32_t *nanoseconds);
+
 /* Writes the calendar that ixdtf_reply kept into a record, or writes that there is none. */
 void ixdtf_keep_calendar(ixdtf_record *record, const ixdtf_calendar *calendar);
 void ixdtf16_keep_calendar(ixdtf16_record *record, const ixdtf16_calendar *calendar);
@@ -536,8 +547,8 @@ static inline const char *ixdtf_error_name(uint32_t error) {
 }
 
 /* Returns the text of an error, such as "Invalid character while parsing month value.". For the
- * errors of texts, it is the text that ixdtf_error_text writes. The numbers that printers and
- * ixdtf_instant return have a text too. For any other number, the result is "". */
+ * errors of texts, it is the text that ixdtf_error_text writes. The numbers that other
+ * functions return have a text too. For any other number, the result is "". */
 static inline const char *ixdtf_error_message(uint32_t error) {
     switch (error) {
     case IXDTF_IMPL_ASSERT:
@@ -638,6 +649,8 @@ static inline const char *ixdtf_error_message(uint32_t error) {
         return "There is less room than the text takes.";
     case IXDTF_NO_INSTANT:
         return "The record has no instant.";
+    case IXDTF_NOT_EXACT:
+        return "The fraction is not known as a whole number of nanoseconds.";
     default:
         return "";
     }

@@ -293,7 +293,7 @@ static const struct { const char *text; uint32_t result; int64_t seconds; uint32
 #include "test_width.h"
 
 static void test_errors(void) {
-    static const uint32_t others[] = { 0, 47, 100, 101, 102, 103, 104, 0x80000000u, 0xffffffffu };
+    static const uint32_t others[] = { 0, 47, 100, 101, 102, 103, 104, 105, 0x80000000u, 0xffffffffu };
     size_t i;
     check(COUNT(error_rows) == 46, "there are 46 errors");
     for (i = 0; i < COUNT(error_rows); i++) {
@@ -311,9 +311,10 @@ static void test_errors(void) {
         text.length = 4;
         ixdtf_error_text(others[i], &text);
         check(text.length == 0 && text.at != NULL, "another number has the empty text");
-        check((ixdtf_error_message(others[i])[0] != 0) == (others[i] >= 101 && others[i] <= 103), "what calls return has a message, and no other number");
+        check((ixdtf_error_message(others[i])[0] != 0) == (others[i] >= 101 && others[i] <= 104), "what calls return has a message, and no other number");
         check(!strcmp(ixdtf_error_name(others[i]), others[i] == 0 ? "IXDTF_OK" : others[i] == 101 ? "IXDTF_NOT_PRINTABLE"
-                      : others[i] == 102 ? "IXDTF_TOO_SHORT" : others[i] == 103 ? "IXDTF_NO_INSTANT" : ""), "another number has no name, but for those that are named");
+                      : others[i] == 102 ? "IXDTF_TOO_SHORT" : others[i] == 103 ? "IXDTF_NO_INSTANT"
+                      : others[i] == 104 ? "IXDTF_NOT_EXACT" : ""), "another number has no name, but for those that are named");
     }
 }
 
@@ -325,7 +326,7 @@ static void test_names(void) {
         ixdtf_error_constant(number, &name);
         check(name.at != NULL && name.at[name.length] == 0 && name.length == strlen(name.at), "a zero stands behind a name");
         check(!strcmp(name.at, ixdtf_error_name(number)), "the name of the library is that of the header");
-        check((name.length != 0) == (number <= 46 || (number >= 101 && number <= 103)), "what a call returns has a name, and no other number");
+        check((name.length != 0) == (number <= 46 || (number >= 101 && number <= 104)), "what a call returns has a name, and no other number");
     }
 }
 
@@ -647,6 +648,42 @@ static void test_durations(void) {
     row_shown = "";
 }
 
+/* Durations, and their fractions in seconds and nanoseconds, which were reckoned by hand. */
+static void test_last_fractions(void) {
+    static const struct { const char *text; uint32_t result, seconds, nanoseconds; } texts[] = {
+        { "P1D", IXDTF_OK, 0, 0 }, { "PT5H", IXDTF_OK, 0, 0 }, { "PT1.5H", IXDTF_OK, 1800, 0 }, { "-PT1,5M", IXDTF_OK, 30, 0 }, { "PT0.5S", IXDTF_OK, 0, 500000000 },
+        { "PT1.000000001S", IXDTF_OK, 0, 1 }, { "PT1.0000000001S", IXDTF_NOT_EXACT, 0, 0 }, { "PT1.0000000010S", IXDTF_OK, 0, 1 },
+        { "PT0.999999999H", IXDTF_OK, 3599, 999996400 }, { "PT0.0000000001H", IXDTF_OK, 0, 360 }, { "PT0.0000000000001H", IXDTF_NOT_EXACT, 0, 0 },
+        { "PT0.0000000025H", IXDTF_OK, 0, 9000 }, { "PT0.00000000025H", IXDTF_OK, 0, 900 }, { "PT0.0000000000025H", IXDTF_OK, 0, 9 },
+        { "PT0.333333333333333333H", IXDTF_NOT_EXACT, 0, 0 }, { "PT0.999999999999999999S", IXDTF_NOT_EXACT, 0, 0 },
+        { "PT0.123456789000000000S", IXDTF_OK, 0, 123456789 }, { "PT0.500000000000000000M", IXDTF_OK, 30, 0 }, { "PT0.5000000000000000000M", IXDTF_NOT_EXACT, 0, 0 },
+        { "PT0.000000000000000000H", IXDTF_OK, 0, 0 }, { "PT18446744073709551615.75H", IXDTF_OK, 2700, 0 },
+    };
+    ixdtf_duration it = IXDTF_DURATION;
+    size_t i;
+    uint32_t seconds, nanoseconds;
+    for (i = 0; i < COUNT(texts); i++) {
+        ixdtf_duration duration = used_duration();
+        row_shown = texts[i].text;
+        seconds = 77;
+        nanoseconds = 78;
+        check(ixdtf_parse_duration_text(texts[i].text, &duration) == IXDTF_OK, "a duration with a fraction");
+        check(ixdtf_duration_fraction(&duration, &seconds, &nanoseconds) == texts[i].result, "whether a fraction is exact");
+        check(seconds == (texts[i].result == IXDTF_OK ? texts[i].seconds : 77) && nanoseconds == (texts[i].result == IXDTF_OK ? texts[i].nanoseconds : 78),
+            "the fraction of the last unit, or nothing");
+    }
+    row_shown = "";
+    it.time_form = IXDTF_LAST_SECONDS;
+    it.fraction = 10;
+    it.fraction_digits = 1;
+    check(ixdtf_duration_fraction(&it, &seconds, &nanoseconds) == IXDTF_NOT_EXACT, "a number with more digits than it says is no fraction");
+    it.time_form = IXDTF_NO_TIME;
+    check(ixdtf_duration_fraction(&it, &seconds, &nanoseconds) == IXDTF_OK && seconds == 0 && nanoseconds == 0, "without a time there is no fraction");
+    it.time_form = IXDTF_LAST_HOURS;
+    it.fraction_digits = 0;
+    check(ixdtf_duration_fraction(&it, &seconds, &nanoseconds) == IXDTF_OK && seconds == 0 && nanoseconds == 0, "no digits are no fraction");
+}
+
 /* A calendar that was kept is printed with the record, and a place for one that was not has none. */
 static void test_kept_calendar(void) {
     static const char *text = "2024-03-02T08:48[!u-ca=hebrew][a=b]";
@@ -856,6 +893,7 @@ int main(int count, char **arguments) {
     test_by_hand();
     test_zeros();
     test_durations();
+    test_last_fractions();
     test_met();
     printf("%lu checks, %lu failed\n", checks, failures);
     return failures == 0 ? 0 : 1;

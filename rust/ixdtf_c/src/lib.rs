@@ -11,6 +11,7 @@ mod exports;
 mod fields;
 mod forms;
 mod instants;
+mod last_fractions;
 mod names;
 pub mod narrow;
 mod narrow_annotations;

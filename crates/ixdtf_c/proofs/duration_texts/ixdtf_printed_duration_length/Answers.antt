@@ -1,5 +1,5 @@
 use Rattle.ixdtf_c.proofs.duration_texts.ixdtf_printed_duration_length.Goals as goal
-use Rattle.std.proofs.Common.{◌≤◌, ◌^◌, ◌-◌, length, arith}
+use Rattle.std.proofs.Common.{◌≤◌, length, arith}
 use Rattle.ixdtf_print.specs.Durations.{duration_text, IsPrintableDuration}
 use Rattle.ixdtf_print.proofs.theorems.ShortDurations.{duration_short}
 
