@@ -3,7 +3,9 @@ pub mod DisplayedDurations
 pub mod DisplayedText
 pub mod OneTexts
 pub mod PrintableDurations
+pub mod PrintableOffsets
 pub mod PrintableRecords
+pub mod PrintableZones
 pub mod ReadBack
 pub mod ShortCores
 pub mod ShortDurations

@@ -1,6 +1,7 @@
 pub mod Canonical
 pub mod Durations
 pub mod Laws
+pub mod Offsets
 pub mod Printable
 pub mod PrintErrors
 pub mod Printed
@@ -9,3 +10,4 @@ pub mod Prints
 pub mod Shown
 pub mod Spelled
 pub mod SpelledDurations
+pub mod Zones

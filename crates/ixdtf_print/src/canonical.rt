@@ -125,7 +125,7 @@ fn write_bracket<W: fmt::Write>(
 }
 
 /// Writes the zone.
-fn write_zone<W: fmt::Write>(
+pub fn write_zone<W: fmt::Write>(
     f: &mut fmt::Formatter<W>,
     zone: &TimeZoneRecord<'_, Utf8>,
 ) -> fmt::Result

@@ -47,7 +47,7 @@ fn is_minute_clock(offset: MinutePrecisionOffset) -> bool
 }
 
 /// Returns whether the offset has a text. `Z` has one.
-fn is_shift(offset: UtcOffsetRecordOrZ) -> bool
+pub fn is_shift(offset: UtcOffsetRecordOrZ) -> bool
     ensures { IsTrue result ↔ IsShift offset }
 {
     match offset {
@@ -100,7 +100,7 @@ fn is_name(name: &[u8]) -> bool
 }
 
 /// Returns whether the zone has a text.
-fn is_zone(zone: &TimeZoneRecord<'_, Utf8>) -> bool
+pub fn is_zone(zone: &TimeZoneRecord<'_, Utf8>) -> bool
     ensures { IsTrue result ↔ IsZoneText (zone_of (λ byte. byte) zone.now) }
 {
     match zone {

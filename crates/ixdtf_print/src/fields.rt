@@ -178,7 +178,7 @@ pub fn put_minute_offset(out: &mut [u8], at: usize, offset: MinutePrecisionOffse
 }
 
 /// Writes the offset at index `at`, if there is one. Returns the index after it.
-fn put_offset(out: &mut [u8], at: usize, offset: Option<UtcOffsetRecordOrZ>) -> usize
+pub fn put_offset(out: &mut [u8], at: usize, offset: Option<UtcOffsetRecordOrZ>) -> usize
     requires { HasRoom out.old at (offset_text offset) }
     ensures { Prints out.old out.new at result (offset_text offset) }
 {
@@ -227,7 +227,7 @@ fn put_opening(out: &mut [u8], at: usize, critical: bool) -> usize
 }
 
 /// Writes the zone at index `at`. Returns the index after it.
-fn put_zone(out: &mut [u8], at: usize, zone: &TimeZoneRecord<'_, Utf8>) -> usize
+pub fn put_zone(out: &mut [u8], at: usize, zone: &TimeZoneRecord<'_, Utf8>) -> usize
     requires { HasRoom out.old at (zone_text (zone_of (λ byte. byte) zone.now)) }
     ensures { Prints out.old out.new at result (zone_text (zone_of (λ byte. byte) zone.now)) }
 {

@@ -1,6 +1,8 @@
 //! What holds of canonical texts, for callers to cite.
 ghost use Rattle.ixdtf_print.specs.Durations.{DurationFits, DurationIsReadBack};
 ghost use Rattle.ixdtf_print.specs.Laws.{CanonicalFits, CanonicalIsReadBack};
+ghost use Rattle.ixdtf_print.specs.Offsets.{OffsetFits, OffsetIsReadBack};
+ghost use Rattle.ixdtf_print.specs.Zones.{ZoneFits, ZoneIsReadBack};
 
 /// States that a canonical text has at most 14 bytes more than the text that was parsed.
 ///
@@ -30,4 +32,39 @@ pub fn duration_fits()
 /// one canonical text.
 pub fn duration_is_read_back()
     ensures { DurationIsReadBack }
+{}
+
+/// States that the canonical text of an offset has at most 3 bytes more than the text that was parsed.
+///
+/// The law is about the offsets that [`TimeZoneParser::parse_offset`](ixdtf::parsers::TimeZoneParser::parse_offset)
+/// returns. To use it, call the function, which does nothing.
+pub fn offset_fits()
+    ensures { OffsetFits }
+{}
+
+/// States that the canonical text of an offset is parsed as this offset.
+///
+/// Suppose that [`TimeZoneParser::parse_offset`](ixdtf::parsers::TimeZoneParser::parse_offset) returns an offset for some
+/// text. Then it also returns this offset for the canonical text of the offset, and no other such offset has this
+/// canonical text.
+pub fn offset_is_read_back()
+    ensures { OffsetIsReadBack }
+{}
+
+/// States that the canonical text of a zone has at most 3 bytes more than the text that was parsed.
+///
+/// The law is about the zones that
+/// [`TimeZoneParser::parse_identifier`](ixdtf::parsers::TimeZoneParser::parse_identifier) returns. To use it, call the
+/// function, which does nothing.
+pub fn zone_fits()
+    ensures { ZoneFits }
+{}
+
+/// States that the canonical text of a zone is parsed as this zone.
+///
+/// Suppose that [`TimeZoneParser::parse_identifier`](ixdtf::parsers::TimeZoneParser::parse_identifier) returns a zone for
+/// some text. Then it also returns this zone for the canonical text of the zone, and no other such zone has this canonical
+/// text.
+pub fn zone_is_read_back()
+    ensures { ZoneIsReadBack }
 {}

@@ -95,7 +95,7 @@ fn write_bracket(
 }
 
 /// Writes the zone.
-fn write_zone(
+pub fn write_zone(
     f: &mut fmt::Formatter<'_>,
     zone: &TimeZoneRecord<'_, Utf8>,
 ) -> fmt::Result {

@@ -33,7 +33,7 @@ fn is_minute_clock(offset: MinutePrecisionOffset) -> bool {
 }
 
 /// Returns whether the offset has a text. `Z` has one.
-fn is_shift(offset: UtcOffsetRecordOrZ) -> bool {
+pub fn is_shift(offset: UtcOffsetRecordOrZ) -> bool {
     match offset {
         UtcOffsetRecordOrZ::Z => true,
         UtcOffsetRecordOrZ::Offset(UtcOffsetRecord::MinutePrecision(offset)) => {
@@ -79,7 +79,7 @@ fn is_name(name: &[u8]) -> bool {
 }
 
 /// Returns whether the zone has a text.
-fn is_zone(zone: &TimeZoneRecord<'_, Utf8>) -> bool {
+pub fn is_zone(zone: &TimeZoneRecord<'_, Utf8>) -> bool {
     match zone {
         TimeZoneRecord::Name(name) => is_name(name),
         TimeZoneRecord::Offset(offset) => is_minute_clock(*offset),

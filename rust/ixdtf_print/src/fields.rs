@@ -138,7 +138,7 @@ pub fn put_minute_offset(out: &mut [u8], at: usize, offset: MinutePrecisionOffse
 }
 
 /// Writes the offset at index `at`, if there is one. Returns the index after it.
-fn put_offset(out: &mut [u8], at: usize, offset: Option<UtcOffsetRecordOrZ>) -> usize {
+pub fn put_offset(out: &mut [u8], at: usize, offset: Option<UtcOffsetRecordOrZ>) -> usize {
     match offset {
         None => at,
         Some(UtcOffsetRecordOrZ::Z) => put_byte(out, at, b'Z'),
@@ -180,7 +180,7 @@ fn put_opening(out: &mut [u8], at: usize, critical: bool) -> usize {
 }
 
 /// Writes the zone at index `at`. Returns the index after it.
-fn put_zone(out: &mut [u8], at: usize, zone: &TimeZoneRecord<'_, Utf8>) -> usize {
+pub fn put_zone(out: &mut [u8], at: usize, zone: &TimeZoneRecord<'_, Utf8>) -> usize {
     match zone {
         TimeZoneRecord::Name(name) => put_each(out, at, name),
         TimeZoneRecord::Offset(offset) => put_minute_offset(out, at, *offset),

@@ -13,8 +13,10 @@ mod fields;
 mod length;
 mod message;
 mod numbers;
+mod offsets;
 mod printed;
 mod put;
+mod zones;
 
 pub use canonical::Canonical;
 use check::is_printable;
@@ -34,9 +36,11 @@ pub use length::printed_length;
 // For crates of this repository, and no part of the interface.
 #[doc(hidden)]
 pub use message::error_parts;
+pub use offsets::{CanonicalOffset, offset_length, print_offset};
 // For crates of this repository, and no part of the interface.
 #[doc(hidden)]
 pub use printed::PrintedText;
+pub use zones::{CanonicalZone, print_zone, zone_length};
 
 /// Writes the canonical text of the record to the beginning of the slice, such as `2024-03-02T08:48:00Z[u-ca=hebrew]`.
 ///

@@ -6,13 +6,14 @@ use Rattle.std.proofs.Common.{take, replicate, codes, Option, Some, None, refl, 
 use Rattle.std.proofs.{Common.subst, lemmas.{Bool.{leb-true, Decides.nat_tests}, List.{take_all, length-append, length-replicate}}}
 use Rattle.std.proofs.Math.Seq.{take-append_seam}
 use Rattle.ixdtf_grammar.specs.declared.records.{DateRecord.DateRecord, MinutePrecisionOffset.MinutePrecisionOffset, Sign.Sign}
-use Rattle.ixdtf_grammar.specs.declared.records.{Sign.TheVariants.{Positive, Negative}, TimeRecord.TimeRecord, UtcOffsetRecordOrZ.UtcOffsetRecordOrZ}
+use Rattle.ixdtf_grammar.specs.declared.records.{Sign.TheVariants.{Positive, Negative}, TimeRecord.TimeRecord}
+use Rattle.ixdtf_grammar.specs.declared.records.{UtcOffsetRecord.UtcOffsetRecord, UtcOffsetRecordOrZ.UtcOffsetRecordOrZ}
 use Rattle.ixdtf_grammar.proofs.PaddedDigits.{decimal-whole, length-padded}
 use Rattle.ixdtf.specs.language.{Letters.{Text, sign, hyphen, Letter.Plain}, Digits.{decimal, padded_digits}, Shapes.digits}
 use Rattle.ixdtf.specs.language.{Dates.{Year, IsDate, signed as year_of, month_length}, Fractions.{FractionParts, IsFraction, places_of}}
 use Rattle.ixdtf.specs.language.Times.{Clock, TimeShape, SecondText, ClockOf, IsTime, has_seconds, greatest_second, writes_seconds, Clock as clocks}
 use Rattle.ixdtf.specs.language.Times.TimeShape.{colon_minutes, seconds, fractions}
-use Rattle.ixdtf.specs.language.Offsets.{IsSigned, IsOffsetOrZ, IsMinuteOffset, sign_of as sign_at, minutes_of as minutes_at}
+use Rattle.ixdtf.specs.language.Offsets.{IsSigned, IsOffset, IsOffsetOrZ, IsMinuteOffset, sign_of as sign_at, minutes_of as minutes_at}
 use Rattle.ixdtf_reading.proofs.theorems.Replies.{NoneRefused-nothing, NoneRefused-more}
 use Rattle.ixdtf.specs.language.ZoneNames.{Zone, IsZone, Zone.{Name, Offset}}
 use Rattle.ixdtf.specs.language.Brackets.{ZoneNote, Opens, OptionalBracket, Pair, Key, Value, IsPair, ArePairs}
@@ -180,20 +181,23 @@ minute_signed clock record_of offset value at is = signed offset.sign colon_minu
 pub is_minute_offset : (offset : MinutePrecisionOffset) → IsMinuteClock offset → IsMinuteOffset (minute_offset_text offset) offset
 is_minute_offset offset at = minute_signed clocks.MinuteOffset _ offset offset at (same_minutes offset 0 None)
 
-pub is_offset : (offset : UtcOffsetRecordOrZ) → IsShift offset → IsOffsetOrZ (offset_text (Some offset)) offset
-is_offset stands.Z at = inr ((90, refl, refl), refl)
-is_offset (stands.Offset (offsets.MinutePrecision offset)) at =
-    inl (_, minute_signed clocks.Offset _ offset _ at (ap offsets.MinutePrecision (same_minutes offset 0 None)), refl)
-is_offset (stands.Offset (offsets.FullPrecisionOffset offset)) at =
+pub is_utc_offset : (offset : UtcOffsetRecord) → IsShift (stands.Offset offset) → IsOffset (offset_text (Some (stands.Offset offset))) offset
+is_utc_offset (offsets.MinutePrecision offset) at =
+    minute_signed clocks.Offset _ offset _ at (ap offsets.MinutePrecision (same_minutes offset 0 None))
+is_utc_offset (offsets.FullPrecisionOffset offset) at =
     let minutes = offset.minute_precision_offset in
     let c = clock_of clocks.Offset refl (omega arith) minutes.hour minutes.minute offset.second offset.fraction at offset.fraction at.fraction in
     let time = time_of minutes.hour minutes.minute offset.second offset.fraction in
     let same = ap (λ m. offsets.FullPrecisionOffset (record offset { minute_precision_offset = m })) (same_minutes minutes offset.second offset.fraction) in
-    inl (_, signed minutes.sign c.0 time c.2 (same ∙ rw c.1 refl), refl)
+    signed minutes.sign c.0 time c.2 (same ∙ rw c.1 refl)
+
+is_offset : (offset : UtcOffsetRecordOrZ) → IsShift offset → IsOffsetOrZ (offset_text (Some offset)) offset
+is_offset stands.Z at = inr ((90, refl, refl), refl)
+is_offset (stands.Offset offset) at = inl (offset, is_utc_offset offset at, refl)
 
 -- ---- brackets
 
-is_zone : (zone : Zone) → IsZoneText zone → IsZone (zone_text zone) zone
+pub is_zone : (zone : Zone) → IsZoneText zone → IsZone (zone_text zone) zone
 is_zone (Name name) h = inl (name, (h, refl), refl)
 is_zone (Offset offset) h = inr (offset, is_minute_offset offset h, refl)
 
@@ -201,7 +205,7 @@ opens : (critical : Bool) → Opens (opening_text critical) critical
 opens true = (Plain 91 ∷ [], Plain 33 ∷ [], refl, (91, refl, refl), (33, refl, refl))
 opens false = (91, refl, refl)
 
-is_bracket : (note : Option ZoneNote) → HasZone note → OptionalBracket (bracket_text note) note
+pub is_bracket : (note : Option ZoneNote) → HasZone note → OptionalBracket (bracket_text note) note
 is_bracket None h = refl
 is_bracket (Some note) h = record {
   start = opening_text note.critical;
