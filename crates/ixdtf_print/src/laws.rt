@@ -1,7 +1,10 @@
 //! What holds of canonical texts, for callers to cite.
 ghost use Rattle.ixdtf_print.specs.Durations.{DurationFits, DurationIsReadBack};
 ghost use Rattle.ixdtf_print.specs.Laws.{CanonicalFits, CanonicalIsReadBack};
+ghost use Rattle.ixdtf_print.specs.MonthDays.{MonthDayFits, MonthDayIsReadBack};
 ghost use Rattle.ixdtf_print.specs.Offsets.{OffsetFits, OffsetIsReadBack};
+ghost use Rattle.ixdtf_print.specs.Times.{TimeFits, TimeIsReadBack};
+ghost use Rattle.ixdtf_print.specs.YearMonths.{YearMonthFits, YearMonthIsReadBack};
 ghost use Rattle.ixdtf_print.specs.Zones.{ZoneFits, ZoneIsReadBack};
 
 /// States that a canonical text has at most 14 bytes more than the text that was parsed.
@@ -67,4 +70,57 @@ pub fn zone_fits()
 /// text.
 pub fn zone_is_read_back()
     ensures { ZoneIsReadBack }
+{}
+
+/// States that the canonical text of a time has at most 12 bytes more than the text that was parsed.
+///
+/// The law is about the records that [`IxdtfParser::parse_time`](ixdtf::parsers::IxdtfParser::parse_time) returns, under
+/// either profile. To use it, call the function, which does nothing.
+pub fn time_fits()
+    ensures { TimeFits }
+{}
+
+/// States that the canonical text of a time is parsed as the record that was printed.
+///
+/// Suppose that [`IxdtfParser::parse_time`](ixdtf::parsers::IxdtfParser::parse_time) returns a record for some text, under
+/// some profile. Then it also returns this record for the canonical text of the record, under either profile, and no other
+/// such record has this canonical text.
+pub fn time_is_read_back()
+    ensures { TimeIsReadBack }
+{}
+
+/// States that the canonical text of a year and a month has at most 4 bytes more than the text that was parsed.
+///
+/// The law is about the records that
+/// [`IxdtfParser::parse_year_month`](ixdtf::parsers::IxdtfParser::parse_year_month) returns. To use it, call the function,
+/// which does nothing.
+pub fn year_month_fits()
+    ensures { YearMonthFits }
+{}
+
+/// States that the canonical text of a year and a month is parsed as the record that was printed.
+///
+/// Suppose that [`IxdtfParser::parse_year_month`](ixdtf::parsers::IxdtfParser::parse_year_month) returns a record for some
+/// text. Then it also returns this record for the canonical text of the record, and no other such record has this canonical
+/// text.
+pub fn year_month_is_read_back()
+    ensures { YearMonthIsReadBack }
+{}
+
+/// States that the canonical text of a month and a day has at most 4 bytes more than the text that was parsed.
+///
+/// The law is about the records that
+/// [`IxdtfParser::parse_month_day`](ixdtf::parsers::IxdtfParser::parse_month_day) returns, under either profile. To use it,
+/// call the function, which does nothing.
+pub fn month_day_fits()
+    ensures { MonthDayFits }
+{}
+
+/// States that the canonical text of a month and a day is parsed as the record that was printed.
+///
+/// Suppose that [`IxdtfParser::parse_month_day`](ixdtf::parsers::IxdtfParser::parse_month_day) returns a record for some
+/// text, under a profile. Then it also returns this record for the canonical text of the record, under this profile, and no
+/// other such record has this canonical text.
+pub fn month_day_is_read_back()
+    ensures { MonthDayIsReadBack }
 {}

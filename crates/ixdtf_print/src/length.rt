@@ -4,7 +4,7 @@
 ghost use Rattle.std.specs.Prelude.{◌≡◌, ◌↔◌, ◌+◌, ◌<◌, ◌≤◌, ◌^◌, IsTrue, length, map, option_map, IfSome, OnSome, None};
 ghost use Rattle.ixdtf.specs.Views.{note_of, zone_of};
 ghost use Rattle.ixdtf_print.specs.Printable.{IsPrintable, record_of};
-ghost use Rattle.ixdtf_print.specs.Canonical.{fraction_text, time_text, offset_text, zone_text, bracket_text, calendar_text};
+ghost use Rattle.ixdtf_print.specs.Canonical.{fraction_text, time_text, offset_text, zone_text, bracket_text, calendar_text, brackets_text};
 ghost use Rattle.ixdtf_print.specs.Canonical.{optional_date_text, core_text, canonical_text};
 
 use crate::check::is_printable;
@@ -112,6 +112,15 @@ fn calendar_length(calendar: Option<&[u8]>) -> u128
     }
 }
 
+/// Returns the number of bytes of the two brackets.
+#[inline(always)]
+pub fn brackets_length(parsed: &IxdtfParseRecord<'_, Utf8>) -> u128
+    ensures length { result ≡ length (brackets_text (record_of parsed.now)) }
+    ensures small { result < 2 ^ 66 }
+{
+    bracket_length(&parsed.tz) + calendar_length(parsed.calendar)
+}
+
 /// Returns the number of bytes of the date, the time and the offset.
 pub fn core_length(parsed: &IxdtfParseRecord<'_, Utf8>) -> u16
     ensures length { result ≡ length (core_text (record_of parsed.now)) }
@@ -124,7 +133,7 @@ pub fn core_length(parsed: &IxdtfParseRecord<'_, Utf8>) -> u16
 pub fn length_of(parsed: &IxdtfParseRecord<'_, Utf8>) -> u128
     ensures { result ≡ length (canonical_text (record_of parsed.now)) }
 {
-    u128::from(core_length(parsed)) + bracket_length(&parsed.tz) + calendar_length(parsed.calendar)
+    u128::from(core_length(parsed)) + brackets_length(parsed)
 }
 
 /// Tests quickly whether the canonical text of a record that has one fits into `room` bytes.

@@ -90,6 +90,13 @@ fn calendar_length(calendar: Option<&[u8]>) -> u128 {
     }
 }
 
+/// Returns the number of bytes of the two brackets.
+#[inline(always)]
+#[must_use]
+pub fn brackets_length(parsed: &IxdtfParseRecord<'_, Utf8>) -> u128 {
+    bracket_length(&parsed.tz) + calendar_length(parsed.calendar)
+}
+
 /// Returns the number of bytes of the date, the time and the offset.
 #[must_use]
 pub fn core_length(parsed: &IxdtfParseRecord<'_, Utf8>) -> u16 {
@@ -99,7 +106,7 @@ pub fn core_length(parsed: &IxdtfParseRecord<'_, Utf8>) -> u16 {
 /// Returns the number of bytes of the canonical text of the record.
 #[must_use]
 pub fn length_of(parsed: &IxdtfParseRecord<'_, Utf8>) -> u128 {
-    u128::from(core_length(parsed)) + bracket_length(&parsed.tz) + calendar_length(parsed.calendar)
+    u128::from(core_length(parsed)) + brackets_length(parsed)
 }
 
 /// Tests quickly whether the canonical text of a record that has one fits into `room` bytes.

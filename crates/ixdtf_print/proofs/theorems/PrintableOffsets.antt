@@ -1,6 +1,6 @@
 -- The offsets that have a text are those whose numbers are in their ranges, and the canonical text is one of these texts.
 use Rattle.ixdtf_grammar.specs.declared.records.UtcOffsetRecordOrZ.TheVariants as stands
-use Rattle.std.proofs.Common.{◌≡◌, ◌↔◌, Bool, IsTrue, Some, map, inl, refl, arith}
+use Rattle.std.proofs.Common.{◌≡◌, ◌↔◌, Bool, IsTrue, map, inl, refl}
 use Rattle.ixdtf_grammar.specs.declared.records.UtcOffsetRecord.{UtcOffsetRecord}
 use Rattle.ixdtf.specs.language.{Letters.{Text, Letter.Plain}, Offsets.IsOffset, Readers.Reader.parse_offset, Languages.{Derives.as_shifted, Found.shifted}}
 use Rattle.ixdtf.specs.Widths.{UnhandledOutcome.read_as}

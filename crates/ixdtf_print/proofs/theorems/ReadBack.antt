@@ -17,12 +17,12 @@ use Rattle.ixdtf.specs.language.Offsets.{IsSigned, IsOffset, IsOffsetOrZ, IsMinu
 use Rattle.ixdtf_reading.proofs.theorems.Replies.{NoneRefused-nothing, NoneRefused-more}
 use Rattle.ixdtf.specs.language.ZoneNames.{Zone, IsZone, Zone.{Name, Offset}}
 use Rattle.ixdtf.specs.language.Brackets.{ZoneNote, Opens, OptionalBracket, Pair, Key, Value, IsPair, ArePairs}
-use Rattle.ixdtf.specs.{language.{Cores.{core_of, OptionalOffset, IsDateTimeCore}, Languages.Parsed}, table.Faults.{Fault, Fault.UnrecognizedCritical}}
+use Rattle.ixdtf.specs.{language.{Cores.{core_of, OptionalOffset, IsDateTimeCore, IsCore}, Languages.Parsed, Readers.{CoreKind, CoreKind.date_time}}, table.Faults.{Fault, Fault.UnrecognizedCritical}}
 use Rattle.ixdtf.specs.Handlers.{RefusedBeside, NoneRefused, own_replies, calendar_key, calendar_value, first_calendar}
 use Rattle.ixdtf_print.specs.Canonical.{two_digits, year_text, date_text, minutes_text, seconds_text, fraction_digits, clock_text, time_text, mark_of}
-use Rattle.ixdtf_print.specs.Canonical.{minute_offset_text, offset_text, zone_text, opening_text, bracket_text, calendar_text, optional_date_text, core_text}
+use Rattle.ixdtf_print.specs.Canonical.{minute_offset_text, offset_text, zone_text, opening_text, bracket_text, calendar_text, brackets_text, optional_date_text, core_text}
 use Rattle.ixdtf_print.specs.{Canonical.canonical_text, Spelled.{IsDay, AreDigits, HasDigits, IsClock, IsDayTime, IsMinuteClock, IsShift, HasDay, HasTime}}
-use Rattle.ixdtf_print.specs.Spelled.{IsZoneText, HasZone, HasCalendar, IsSpelled}
+use Rattle.ixdtf_print.specs.Spelled.{IsZoneText, HasZone, HasCalendar, HasBrackets, IsSpelled}
 use Rattle.ixdtf_print.proofs.{parts.ParsedParts.HasParts, parts.PaddedDigits.{padded_are, two_are, up_to, digits-append, zeros_are}}
 
 -- ---- dates
@@ -41,7 +41,7 @@ extended_year c n signs small not_zero =
       value = rw same refl;
     })
 
-is_year : (year : ℤ) → nat_abs year ≤ 999999 → Year (year_text year) year
+pub is_year : (year : ℤ) → nat_abs year ≤ 999999 → Year (year_text year) year
 unfolding year_text
 is_year (pos n) small = by_test (nat_le n 9999) refl
   where
@@ -50,7 +50,7 @@ is_year (pos n) small = by_test (nat_le n 9999) refl
     by_test false h = extended_year 43 n refl small (λ minus. absurd cc)
 is_year (negsuc n) small = extended_year 45 (suc n) refl small (λ minus none. absurd cc)
 
-month_length_most : (year : ℤ) (month : ℕ) → month_length year month ≤ 31
+pub month_length_most : (year : ℤ) (month : ℕ) → month_length year month ≤ 31
 month_length_most year month = grind (arith, nat_tests)
 
 pub is_date : (date : DateRecord) → IsDay date → IsDate (date_text date) date
@@ -271,7 +271,7 @@ gives_calendar (Some value) = refl
 -- ---- cores
 
 -- the time, and the offset where there is one
-timed : (time : TimeRecord) (offset : Option UtcOffsetRecordOrZ) → HasTime (Some time) offset → IsDayTime time × OptionalOffset (offset_text offset) offset
+pub timed : (time : TimeRecord) (offset : Option UtcOffsetRecordOrZ) → HasTime (Some time) offset → IsDayTime time × OptionalOffset (offset_text offset) offset
 timed time None h = (h, refl)
 timed time (Some offset) h = (h.0, is_offset offset h.1)
 
@@ -298,20 +298,26 @@ is_core (Some date) (Some time) offset d h = inr (record {
 
 -- ---- records
 
--- the canonical text of a record whose fields have texts has the parts of the record
-pub canonical_reads_back : (found : Parsed) → IsSpelled found → HasParts (canonical_text found) found
-unfolding canonical_text core_text
-canonical_reads_back found s = record {
-  cores = core_text found;
+-- a core, and then the canonical brackets of a record, has the parts of the record
+pub brackets_read_back : (kind : CoreKind) (cores : Text) (found : Parsed) → IsCore kind cores (core_of found.date found.time found.offset) → HasBrackets found
+    → HasParts kind (cores ++ brackets_text found) found
+brackets_read_back kind cores found is_core h = record {
+  cores = cores;
   zones = bracket_text found.zone;
   pair_texts = calendar_text found.calendar;
   core = core_of found.date found.time found.offset;
   zone = found.zone;
   pairs = calendar_pairs found.calendar;
   is = refl;
-  is_core = is_core found.date found.time found.offset s.date s.time;
-  is_bracket = is_bracket found.zone s.zone;
-  are_pairs = are_pairs found.calendar s.calendar;
+  is_core = is_core;
+  is_bracket = is_bracket found.zone h.0;
+  are_pairs = are_pairs found.calendar h.1;
   accepted = none_refused found.calendar;
   has = λ i. record found { calendar = gives_calendar found.calendar i };
 }
+
+-- the canonical text of a record whose fields have texts has the parts of the record
+pub canonical_reads_back : (found : Parsed) → IsSpelled found → HasParts date_time (canonical_text found) found
+unfolding canonical_text core_text
+canonical_reads_back found s =
+    brackets_read_back date_time (core_text found) found (is_core found.date found.time found.offset s.date s.time) (s.zone, s.calendar)
