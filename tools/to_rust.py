@@ -67,7 +67,7 @@ FOR_C = ('#![cfg_attr(not(test), no_std)]\n', '\n#[cfg(not(test))]\nmod abort;\n
 
 # the layers of the library, and where their modules go in the crate that is made from all of them
 LAYERS = {
-    'ixdtf_instants': 'days instant'.split(),
+    'ixdtf_instants': 'civil days display instant'.split(),
     'ixdtf_grammar': 'encoding error instants located packed pointed records parsers/profile'.split(),
     'ixdtf_reading': 'cursor classes stop parsers/annotations parsers/letters'.split(),
     'ixdtf_times': 'parsers/date_times parsers/dates parsers/months parsers/offsets parsers/rfc3339 parsers/time'.split(),
@@ -170,7 +170,7 @@ STD_METHODS = set('get len split_at is_ascii_digit is_ascii_alphabetic is_ascii_
                   ' is_none to_le_bytes saturating_add saturating_sub min map copied checked_mul checked_add unsigned_abs'
                   ' is_ascii_alphanumeric as_slice iter position is_empty copy_from_slice read write flush digit_count leading_value'
                   ' chars len_utf8 is_control encode_utf8 last is_some unwrap_or starts_with parse checked_sub ok max as_ref copy_within is_ascii ilog10 split_once enumerate'
-                  ' hash into is_ascii_graphic'.split())
+                  ' hash into is_ascii_graphic wrapping_sub div_euclid rem_euclid'.split())
 # methods of the iterators over the characters of a text, and the heads of the types that they return
 ON_CHARACTERS = {('Chars', 'take'): 'Chars', ('Chars', 'skip'): 'Chars', ('Chars', 'count'): 'usize'}
 CALLED_ON_CHARACTERS = {method for _, method in ON_CHARACTERS}

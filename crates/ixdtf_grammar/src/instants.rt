@@ -39,6 +39,30 @@ impl<'a, T: EncodingType> IxdtfParseRecord<'a, T> {
         ensures some { IfSome result (λ instant. IsInstantOf self.now instant) }
         ensures none { IfNone result (¬ (HasInstant self.now)) }
     {
+        if let (Some(date), Some(time), Some(UtcOffsetRecordOrZ::Z)) = (
+            &self.date,
+            &self.time,
+            &self.offset,
+        ) {
+            // Most records are like this. Without calls, the instant takes half as many instructions.
+            if time.fraction.is_none() && time.second < 60 {
+                let days = day_number(date.year, date.month, date.day)?;
+                let seconds = seconds_in(time.hour, time.minute, time.second);
+                return Some(Instant {
+                    seconds: days * 86_400 + i64::from(seconds),
+                    nanoseconds: 0,
+                });
+            }
+        }
+        self.instant_of_parts()
+    }
+
+    // The same for every record, with more instructions.
+    #[inline(never)]
+    fn instant_of_parts(&self) -> Option<Instant>
+        ensures some { IfSome result (λ instant. IsInstantOf self.now instant) }
+        ensures none { IfNone result (¬ (HasInstant self.now)) }
+    {
         let date = self.date.as_ref()?;
         let time = self.time.as_ref()?;
         let offset = self.offset.as_ref()?;

@@ -7,9 +7,11 @@
 #[cfg(test)]
 extern crate self as ixdtf;
 
+mod civil;
 mod classes;
 mod cursor;
 mod days;
+mod display;
 pub mod encoding;
 mod error;
 mod instant;
