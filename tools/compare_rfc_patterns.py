@@ -3,7 +3,7 @@
 ABNF, and places.py.
 
 It makes COUNT texts (100000, if none is given) of 8-bit code units, and as many of 16-bit ones. Each is put together from parts that are
-right or nearly right, and most are changed in one to three places. The example `units` of `rust/ixdtf` reads them. A reader has to accept
+right or nearly right, and half of them are changed in one to three places. The example `units` of `rust/ixdtf` reads them. A reader has to accept
 the texts that fit the patterns, and no other. It has to refuse each other text with the error and at the position that places.py gives. The
 tool prints how many texts there were and how many were accepted, and ends with status 1 at the first difference."""
 import os
