@@ -1,12 +1,18 @@
 #!/usr/bin/env python3
 """test_examples.py: runs the examples of README.md and docs/PROGRAM.md, which cargo and a C compiler build, and compares what they print
-with what the documents show."""
+with what the documents show. It also has `ixdtf_check` read the texts of other programs in docs/GRAMMAR.md."""
 import os
 import re
 import shutil
 import subprocess
+import sys
 import tempfile
 import unittest
+from typing import Optional
+
+sys.path.insert(0, os.path.dirname(os.path.abspath(__file__)))
+from check_documents import Document, Tree
+from places import Error
 
 ROOT = os.path.dirname(os.path.dirname(os.path.abspath(__file__)))
 
@@ -25,6 +31,9 @@ WORDS = {
     'TimeZoneParser::parse_iana_identifier': 'iana',
     'IsoDurationParser::parse': 'duration',
 }
+
+# the kind of `ixdtf_check` for each column of the texts of other programs
+KINDS = {'`parse`': 'date-time', '`parse_rfc3339`': 'rfc3339'}
 
 
 def read(path: str) -> str:
@@ -107,6 +116,30 @@ class Examples(unittest.TestCase):
         answers = printed('ixdtf_lines', [], ''.join(it + '\n' for it in lines), ROOT).splitlines()
         self.assertEqual(len(answers), len(lines))
         self.assertEqual([line for line, answer in zip(lines, answers) if not answer.startswith('ok')], [])
+
+    def test_texts_of_other_programs(self):
+        """Each text in the table of docs/GRAMMAR.md is accepted, or refused with the error and at the position of its cell."""
+        rows = [row for _, row in Document(Tree(ROOT), 'docs/GRAMMAR.md').tables() if 'If it is refused' in row]
+        self.assertEqual([it for it in rows[0] if 'parse' in it], list(KINDS))
+        self.assertGreaterEqual(len(rows), 30)
+        for head, kind in KINDS.items():
+            found = refusals(kind, [row['Text'].strip('`') for row in rows])
+            for number, row in enumerate(rows, 1):
+                self.assertEqual(found.get(number), refusal_in(row[head]), (kind, row['Text']))
+
+
+def refusals(kind: str, texts: list[str]) -> dict[int, tuple[int, str]]:
+    """For the number of each line that `ixdtf_check` refuses, the position and the text of the error."""
+    shown = printed('ixdtf_check', ['--kind', kind], ''.join(it + '\n' for it in texts), ROOT)
+    return {int(line): (int(column) - 1, error) for line, column, error in re.findall(r'^-:(\d+):(\d+): (.*)$', shown, re.M)}
+
+
+def refusal_in(cell: str) -> Optional[tuple[int, str]]:
+    """The position and the text of the error that a cell names. None if the cell says that the text is accepted."""
+    if cell == 'yes':
+        return None
+    variant, location, place = re.fullmatch(r'`(\w+)`(?: of `([\w-]+)`)? at (\d+)', cell).groups()
+    return int(place), str(Error(variant, location))
 
 
 if __name__ == '__main__':

@@ -1,0 +1,63 @@
+//! Reads texts of any code units: each line has the name of a reader, the bits of a code unit, and the code units in hexadecimal. It writes
+//! `ok`, or `error`, the text of the error and its position. `tools/compare_rfc_patterns.py` runs it.
+//!
+//!     echo 'rfc3339 8 32 30 32 34' | cargo run --example units
+use ixdtf::encoding::{EncodingType, Utf8, Utf16};
+use ixdtf::parsers::IxdtfParser;
+use std::io::{BufRead, BufWriter, Write, stdin, stdout};
+
+/// What a reader says of a text.
+fn answer<T: EncodingType>(reader: &str, units: &[T::CodeUnit]) -> String {
+    let mut parser = IxdtfParser::<T>::new(units);
+    let found = match reader {
+        "rfc3339" => parser.parse_rfc3339_located(),
+        _ => return String::from("no such reader"),
+    };
+    found.map_or_else(|error| format!("error {error}"), |_| String::from("ok"))
+}
+
+/// The answer to a line, or none if it is not such a line.
+fn answer_line(line: &str) -> Option<String> {
+    let mut parts = line.split_ascii_whitespace();
+    let (reader, bits) = (parts.next()?, parts.next()?);
+    match bits {
+        "8" => Some(answer::<Utf8>(reader, &parts.map(|unit| u8::from_str_radix(unit, 16)).collect::<Result<Vec<u8>, _>>().ok()?)),
+        "16" => Some(answer::<Utf16>(reader, &parts.map(|unit| u16::from_str_radix(unit, 16)).collect::<Result<Vec<u16>, _>>().ok()?)),
+        _ => None,
+    }
+}
+
+fn main() -> std::io::Result<()> {
+    let mut out = BufWriter::new(stdout().lock());
+    for line in stdin().lock().lines() {
+        writeln!(out, "{}", answer_line(&line?).as_deref().unwrap_or("no such line"))?;
+    }
+    out.flush()
+}
+
+#[cfg(test)]
+/// The line of a text that has the same code units in both widths.
+fn line_of(reader: &str, bits: u32, text: &str) -> String {
+    let units: Vec<String> = text.bytes().map(|unit| format!("{unit:x}")).collect();
+    format!("{reader} {bits} {}", units.join(" "))
+}
+
+#[test]
+fn answers_in_both_widths() {
+    for bits in [8, 16] {
+        assert_eq!(answer_line(&line_of("rfc3339", bits, "2024-03-02T08:48:00Z")).unwrap(), "ok");
+        assert_eq!(
+            answer_line(&line_of("rfc3339", bits, "20240302")).unwrap(),
+            "error Invalid character while parsing date separator. at 4"
+        );
+    }
+    assert_eq!(answer_line("rfc3339 16 ff12").unwrap(), "error Code point was not ASCII at 0");
+}
+
+#[test]
+fn knows_other_lines() {
+    assert_eq!(answer_line("rfc3339"), None);
+    assert_eq!(answer_line("rfc3339 8 100"), None);
+    assert_eq!(answer_line("rfc3339 7 30"), None);
+    assert_eq!(answer_line("rfc 8 30").unwrap(), "no such reader");
+}

@@ -1,0 +1,190 @@
+#!/usr/bin/env python3
+"""compare_rfc_patterns.py [COUNT [SEED]]: compares the readers of exact standards with two models: rfc_patterns.py, the patterns of the
+ABNF, and places.py.
+
+It makes COUNT texts (100000, if none is given) of 8-bit code units, and as many of 16-bit ones. Each is put together from parts that are
+right or nearly right, and half of them are changed in one to three places. The example `units` of `rust/ixdtf` reads them. A reader has to accept
+the texts that fit the patterns, and no other. It has to refuse each other text with the error and at the position that places.py gives. The
+tool prints how many texts there were and how many were accepted, and ends with status 1 at the first difference."""
+import os
+import random
+import subprocess
+import sys
+import threading
+from typing import Callable, Iterator, NamedTuple
+
+TOOLS = os.path.dirname(os.path.abspath(__file__))
+sys.path.insert(0, TOOLS)
+import places
+import rfc_patterns
+
+# the readers, by the names that the example knows: the patterns of each, and its name in places.py
+READERS: dict[str, tuple[Callable[[str], bool], str]] = {
+    'rfc3339': (rfc_patterns.is_date_time, 'parse_rfc3339'),
+}
+
+
+# ---------------------------------------------------------------------------------------------------------------------------------
+# Making texts
+
+def choose(rng: random.Random, right: str, *wrong: str) -> str:
+    """The right part most of the time, else one of the others."""
+    return right if rng.random() < 0.96 else rng.choice(wrong)
+
+
+def two_digits(rng: random.Random, least: int, most: int) -> str:
+    """A number of two digits: any in the range, or one at or just outside of its ends, or one that has another number of digits."""
+    kind = rng.random()
+    if kind < 0.93:
+        return f'{rng.randint(least, most):02}'
+    if kind < 0.98:
+        return f'{max(rng.choice((least - 1, least, most, most, most + 1)), 0):02}'
+    return rng.choice((f'{rng.randint(0, 9)}', f'{rng.randint(0, 99):02}', f'{rng.randint(0, 999):03}'))
+
+
+def year(rng: random.Random) -> str:
+    """A year, often one whose February is worth a look."""
+    number = rng.choice((0, 4, 100, 400, 1900, 1996, 2000, 2023, 2024, 2100, 9999, rng.randint(0, 9999)))
+    return choose(rng, f'{number:04}', f'+{number:06}', f'-{number:06}', f'{number:05}', f'{number % 1000:03}')
+
+
+def date(rng: random.Random) -> str:
+    """A date, extended or nearly so."""
+    hyphen = choose(rng, '-', '', '--', '/')
+    second_hyphen = hyphen if rng.random() < 0.97 else '-'
+    month = rng.choice((2, 4, 12, rng.randint(1, 12)))
+    day = two_digits(rng, 1, rng.choice((28, 28, 28, 28, 29, 30, 31)))
+    return year(rng) + hyphen + (f'{month:02}' if rng.random() < 0.8 else two_digits(rng, 1, 12)) + second_hyphen + day
+
+
+def fraction(rng: random.Random) -> str:
+    """A fraction, a mark alone, or nothing."""
+    digits = ''.join(rng.choice('0123456789') for _ in range(rng.choice((1, 3, 6, 9, 18, 19, rng.randint(1, 300)))))
+    return '' if rng.random() < 0.6 else choose(rng, '.' + digits, ',' + digits, '.', digits)
+
+
+def time(rng: random.Random) -> str:
+    """A time, in columns or nearly so."""
+    colon = choose(rng, ':', '', '.')
+    minute, second = colon + two_digits(rng, 0, 59), colon + two_digits(rng, 0, 60)
+    return two_digits(rng, 0, 23) + choose(rng, minute + second + fraction(rng), minute, '')
+
+
+def offset(rng: random.Random) -> str:
+    """An offset, `Z`, or nothing."""
+    sign, hour, minute = choose(rng, rng.choice('+-'), '', '\u2212'), two_digits(rng, 0, 23), two_digits(rng, 0, 59)
+    number = sign + hour + choose(rng, ':' + minute, minute, '', f':{minute}:00', f':{minute}:00.5')
+    return choose(rng, rng.choice(('Z', 'Z', 'z', number, number, number)), '', ' ' + number, 'Z' + number, 'UTC')
+
+
+def suffix(rng: random.Random) -> str:
+    """Brackets: a zone and annotations, right or nearly so."""
+    parts = [rng.choice(('UTC', 'Europe/Paris', 'Etc/GMT+5', '_', '..', 'a/..', 'a/5', 'a//b', '+08:45', '+0845', '-08', '5', '')),
+             rng.choice(('u-ca=hebrew', 'u-ca=iso8601', 'x=y', 'x=y-z', '_a-=b', 'x=', '=y', 'X=y', 'x=-y', 'x=y=z', 'x'))]
+    chosen = rng.choice((parts[:1], parts[1:], parts, parts[::-1], parts[1:] * 3))
+    return ''.join(choose(rng, '[', '') + choose(rng, '', '!') + part + choose(rng, ']', '') for part in chosen)
+
+
+def made(rng: random.Random) -> str:
+    """A text that is put together from parts."""
+    return date(rng) + choose(rng, rng.choice('TTTt'), ' ', '', '_', '\u3000') + time(rng) + offset(rng) + (suffix(rng) if rng.random() < 0.15 else '')
+
+
+LETTERS = '0123456789' * 2 + '-:.+TZtz ,[]!=/_aPW\0\n\x7f'
+
+
+def letter(rng: random.Random, wide: bool) -> str:
+    """A code unit: one that texts have, or any. Some of 16 bits have in their low half one that texts have."""
+    if rng.random() < 0.85:
+        return rng.choice(LETTERS)
+    if not wide:
+        return chr(rng.randrange(256))
+    return chr(rng.choice((ord(rng.choice(LETTERS)) + 256 * rng.randrange(1, 256), rng.randrange(0xff10, 0xff1a), rng.randrange(0xd800, 0xe000),
+                           0x2212, rng.randrange(65536))))
+
+
+def changed(rng: random.Random, text: str, wide: bool) -> str:
+    """A text with one place of it changed."""
+    at = rng.randrange(len(text) + 1)
+    before, behind = text[:at], text[at:]
+    return rng.choice((lambda: before + letter(rng, wide) + behind, lambda: before + letter(rng, wide) + behind[1:], lambda: before + behind[1:],
+                       lambda: before + behind[1:2] + behind[:1] + behind[2:], lambda: before, lambda: behind))()
+
+
+def texts(count: int, seed: int, wide: bool) -> Iterator[str]:
+    """The texts of a width. Each character of a text is one code unit."""
+    rng = random.Random(f'{seed} {wide}')
+    for _ in range(count):
+        text = made(rng)
+        for _ in range(rng.choice((0, 0, 0, 0, 1, 1, 2, 3))):
+            text = changed(rng, text, wide)
+        yield text if wide else ''.join(chr(ord(it) % 256) for it in text)
+
+
+# ---------------------------------------------------------------------------------------------------------------------------------
+# Comparing
+
+class Difference(Exception):
+    """A text for which a reader and a model differ."""
+
+
+class Counts(NamedTuple):
+    """How many texts were compared, and how many were accepted."""
+    texts: int
+    accepted: int
+
+
+def wanted(reader: str, text: str, wide: bool) -> str:
+    """What the example has to write for a text. Raises Difference if the two models differ."""
+    fits, name = READERS[reader]
+    found = places.outcome(name, [ord(it) for it in text], wide)
+    if fits(text) != (found == places.OK):
+        raise Difference(f'{reader} of {ascii(text)}: the patterns say {fits(text)}, and places.py says {found}')
+    return places.OK if found == places.OK else f'error {found}'
+
+
+def compared(program: str, reader: str, wide: bool, count: int, seed: int) -> Counts:
+    """Compares a reader of a width with the models. Raises Difference at the first difference."""
+    ran = subprocess.Popen([program], stdin=subprocess.PIPE, stdout=subprocess.PIPE, text=True)
+
+    def send() -> None:
+        for text in texts(count, seed, wide):
+            ran.stdin.write(f'{reader} {16 if wide else 8} {" ".join(f"{ord(it):x}" for it in text)}\n')
+        ran.stdin.close()
+
+    threading.Thread(target=send, daemon=True).start()
+    accepted = 0
+    for text in texts(count, seed, wide):
+        found, right = ran.stdout.readline().rstrip('\n'), wanted(reader, text, wide)
+        if found != right:
+            ran.kill()
+            raise Difference(f'{reader} of {ascii(text)}: {found}, and not {right}')
+        accepted += found == places.OK
+    ran.wait()
+    return Counts(count, accepted)
+
+
+def built() -> str:
+    """The path of the example, once cargo has built it."""
+    crate = os.path.join(TOOLS, '..', 'rust', 'ixdtf')
+    subprocess.run(['cargo', 'build', '--quiet', '--offline', '--release', '--example', 'units'], cwd=crate, check=True)
+    return os.path.join(os.environ.get('CARGO_TARGET_DIR', os.path.join(crate, 'target')), 'release', 'examples', 'units')
+
+
+def main() -> int:
+    count = int(sys.argv[1]) if len(sys.argv) > 1 else 100000
+    seed = int(sys.argv[2]) if len(sys.argv) > 2 else 1
+    program = built()
+    try:
+        for reader in READERS:
+            for wide in (False, True):
+                counts = compared(program, reader, wide, count, seed)
+                print(f'{reader}, {16 if wide else 8}-bit: {counts.texts} texts, {counts.accepted} accepted, no difference')
+    except Difference as difference:
+        print(difference)
+        return 1
+    return 0
+
+
+if __name__ == '__main__':
+    sys.exit(main())
