@@ -26,6 +26,12 @@ What is read:\n\
 \x20 ixdtf_check --kind rfc3339 times.txt\n\
 \x20 ixdtf_check --kind=duration --strict durations.txt\n\
 \n\
+Which lines are read:\n\
+\x20 --header         not the first line of each file, which has the names of the fields\n\
+\x20 --skip-blank     not the lines that have only spaces and tabs, or no byte\n\
+\x20 --comment C      not the lines that begin with the byte C\n\
+\x20 ixdtf_check --skip-blank --comment '#' times.txt\n\
+\n\
 Which part of a line is read:\n\
 \x20 --field N        field N of each line, counted from 1, and not the complete line\n\
 \x20 --separator C    the byte between two fields; without this option, it is a tab\n\

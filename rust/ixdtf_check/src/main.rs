@@ -13,6 +13,7 @@ mod printed;
 mod reading;
 mod report;
 mod request;
+mod skipped;
 mod status;
 mod tally;
 mod verdict;
@@ -38,6 +39,12 @@ What is read:
                    and a duration does not repeat a unit
   ixdtf_check --kind rfc3339 times.txt
   ixdtf_check --kind=duration --strict durations.txt
+
+Which lines are read:
+  --header         not the first line of each file, which has the names of the fields
+  --skip-blank     not the lines that have only spaces and tabs, or no byte
+  --comment C      not the lines that begin with the byte C
+  ixdtf_check --skip-blank --comment '#' times.txt
 
 Which part of a line is read:
   --field N        field N of each line, counted from 1, and not the complete line
