@@ -31,6 +31,8 @@ OF_PLAIN = ('ixdtf', 'ixdtf_print', 'ixdtf_buffers')
 BENCHMARK = to_rust.Crate('crates/ixdtf_bench/src', '', root='main', tests=True, above=True)
 USES = {'use crate::runtime::{AllocError, Global, String};': 'use crate::runtime::{AllocError, Global, TryToVec, Vec};',
         'use std::env;': 'use crate::runtime::{HostRuntime, env};', '.to_vec(alloc)': '.try_to_vec(alloc)'}
+# The later fields of `Request` in the workloads, and their values. A checkout may be older than such a field.
+LATER_FIELDS = {'skips': 'None'}
 # A loop has a label if a proof names it. Rust needs no label there.
 HEAD = '#![forbid(unsafe_code)]\n#![allow(unused_imports, unused_labels)]\n\n#[macro_use]\nmod runtime;\n'
 
@@ -78,6 +80,15 @@ def workloads():
         yield f'{module}.rs', plain
 
 
+def without_later(plain, checkout):
+    """A file of the benchmark without the fields of `Request` that an older checkout does not have."""
+    fields = read(os.path.join(checkout, 'rust', 'ixdtf_check', 'src', 'request.rs'))
+    for field, value in LATER_FIELDS.items():
+        if f'pub {field}:' not in fields:
+            plain = plain.replace(f'    {field}: {value},\n', '')
+    return plain
+
+
 def build(checkout):
     """Makes the crates and builds them. Returns the path of the program."""
     checkout = os.path.abspath(checkout)
@@ -89,7 +100,7 @@ def build(checkout):
     write(os.path.join(folder, 'Cargo.toml'), manifest('ixdtf_bench', checkout, LIBRARIES))
     write(os.path.join(folder, 'src', 'runtime.rs'), read(os.path.join(BENCH, 'runtime.rs')))
     for name, plain in workloads():
-        write(os.path.join(folder, 'src', name), plain)
+        write(os.path.join(folder, 'src', name), without_later(plain, checkout))
     subprocess.run(['cargo', 'build', '--quiet', '--offline', '--release', '--jobs', '2'], cwd=folder, check=True)
     return os.path.join(folder, 'target', 'release', 'ixdtf_bench')
 

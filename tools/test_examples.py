@@ -1,6 +1,6 @@
 #!/usr/bin/env python3
-"""test_examples.py: runs the examples of README.md and docs/PROGRAM.md, which cargo and a C compiler build, and compares what they print
-with what the documents show. It also has `ixdtf_check` read the texts of other programs in docs/GRAMMAR.md."""
+"""test_examples.py: runs the examples of README.md, of docs/PROGRAM.md and of the READMEs of the two programs, which cargo and a C compiler
+build, and compares what they print with what the documents show. It also has `ixdtf_check` read the texts of other programs in docs/GRAMMAR.md."""
 import os
 import re
 import shutil
@@ -61,6 +61,16 @@ def printed(name: str, arguments: list[str], given: str, folder: str) -> str:
 
 
 class Examples(unittest.TestCase):
+    def test_front_pages_of_the_programs(self):
+        """Each command on the front page of a program prints what the page shows."""
+        for name in ('ixdtf_check', 'ixdtf_lines'):
+            shown = [it.removeprefix('$ ').split('\n', 1) for it in blocks(f'rust/{name}/README.md') if it.startswith('$ ')]
+            self.assertEqual(len(shown), 3, name)
+            path = os.pathsep.join([os.path.dirname(program(name)), os.environ['PATH']])
+            for command, wanted in shown:
+                ran = subprocess.run(['sh', '-c', command + ' 2>&1'], capture_output=True, text=True, env=os.environ | {'PATH': path})
+                self.assertEqual(ran.stdout, wanted, command)
+
     def test_answers(self):
         """Each line of the block has the answer that the document shows after it."""
         rows = next(it for it in blocks('docs/PROGRAM.md') if it.startswith('parse ')).splitlines()

@@ -15,6 +15,7 @@ pub const DATE_TIMES: Request<'static> = Request {
     task: Task::Check(Kind::DateTime),
     profile: Profile::Crate,
     field: None,
+    skips: None,
     is_quiet: false,
 };
 
@@ -24,6 +25,7 @@ pub const PRINTED: Request<'static> = Request {
     task: Task::Print,
     profile: Profile::Crate,
     field: None,
+    skips: None,
     is_quiet: false,
 };
 
@@ -36,6 +38,7 @@ const THIRD_FIELD: Request<'static> = Request {
         before: 2,
         separator: b',',
     }),
+    skips: None,
     is_quiet: false,
 };
 

@@ -26,6 +26,12 @@ What is read:\n\
 \x20 ixdtf_check --kind rfc3339 times.txt\n\
 \x20 ixdtf_check --kind=duration --strict durations.txt\n\
 \n\
+Which lines are read:\n\
+\x20 --header         not the first line of each file, which has the names of the fields\n\
+\x20 --skip-blank     not the lines that have only spaces and tabs, or no byte\n\
+\x20 --comment C      not the lines that begin with the byte C\n\
+\x20 ixdtf_check --skip-blank --comment '#' times.txt\n\
+\n\
 Which part of a line is read:\n\
 \x20 --field N        field N of each line, counted from 1, and not the complete line\n\
 \x20 --separator C    the byte between two fields; without this option, it is a tab\n\
@@ -54,6 +60,8 @@ struct Outcome {
     has_failed: bool,
     /// Whether standard output accepts no more bytes.
     is_closed: bool,
+    /// Whether standard output is a pipe that nobody reads. The program then writes nothing more, also to standard error.
+    is_quiet: bool,
 }
 
 fn main(rt: HostRuntime) -> ExitCode {
@@ -75,6 +83,7 @@ fn main(rt: HostRuntime) -> ExitCode {
         total: Tally::new(),
         has_failed: false,
         is_closed: false,
+        is_quiet: false,
     };
     if let Some(wrong) = options.wrong() {
         return refuse(&rt, wrong.message());
@@ -89,7 +98,9 @@ fn main(rt: HostRuntime) -> ExitCode {
         refused,
         bytes,
     } = outcome.total;
-    let _ = eprintln!(rt; "{lines} lines, {refused} refused, {bytes} bytes");
+    if !outcome.is_quiet {
+        let _ = eprintln!(rt; "{lines} lines, {refused} refused, {bytes} bytes");
+    }
     ExitCode::from(status_of(outcome.has_failed, refused))
 }
 
@@ -159,7 +170,9 @@ fn check_reader<R: Read>(
         return;
     };
     let mut watched = Watched::new(reader);
-    let checked = check_lines(&mut watched, &mut rt.stdout(), &request);
+    let mut output = rt.stdout();
+    let mut watched_output = Watched::new(&mut output);
+    let checked = check_lines(&mut watched, &mut watched_output, &request);
     outcome.total.add(checked.tally);
     match checked.end {
         Ok(()) => {}
@@ -169,7 +182,11 @@ fn check_reader<R: Read>(
         },
         Err(RunError::Write) => {
             outcome.is_closed = true;
-            complain(rt, "standard output", "cannot be written", outcome);
+            outcome.has_failed = true;
+            outcome.is_quiet = watched_output.is_closed_pipe();
+            if !outcome.is_quiet {
+                complain(rt, "standard output", "cannot be written", outcome);
+            }
         }
     }
 }

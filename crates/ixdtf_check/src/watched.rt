@@ -1,34 +1,61 @@
-//! A reader whose last error is kept.
+//! A reader or a writer whose last error is kept.
 
 use std::io;
-use std::io::Read;
+use std::io::{ErrorKind, Read, Write};
 
-/// A reader that keeps the error of a read that failed, for the message.
+/// A reader or a writer that keeps the error of a call that failed.
 #[derive(Drop)]
 pub struct Watched<'r, R> {
-    reader: &'r mut R,
+    inner: &'r mut R,
     error: Option<io::Error>,
 }
 
-impl<'r, R: Read> Watched<'r, R> {
-    /// The reader, of which no read has failed.
-    pub fn new(reader: &'r mut R) -> Watched<'r, R> {
-        Watched {
-            reader,
-            error: None,
-        }
+impl<'r, R> Watched<'r, R> {
+    /// Creates a value of which no call has failed.
+    pub fn new(inner: &'r mut R) -> Watched<'r, R> {
+        Watched { inner, error: None }
     }
 
-    /// The error of the last read that failed, where one did.
+    /// Returns the error of the last call that failed, if one did.
     pub fn error(&self) -> Option<io::Error> {
         self.error
+    }
+
+    /// Returns whether the last call that failed wrote to a pipe that nobody reads, as after `head` has ended.
+    pub fn is_closed_pipe(&self) -> bool {
+        match self.error {
+            Some(error) => error.kind() == ErrorKind::BrokenPipe,
+            None => false,
+        }
     }
 }
 
 impl<R: Read> Read for Watched<'_, R> {
     fn read(&mut self, buf: &mut [u8]) -> io::Result<usize> {
-        match self.reader.read(buf) {
+        match self.inner.read(buf) {
             Ok(count) => Ok(count),
+            Err(error) => {
+                self.error = Some(error);
+                Err(error)
+            }
+        }
+    }
+}
+
+impl<W: Write> Write for Watched<'_, W> {
+    fn write(&mut self, buf: &[u8]) -> io::Result<usize> {
+        match self.inner.write(buf) {
+            Ok(count) => Ok(count),
+            Err(error) => {
+                self.error = Some(error);
+                Err(error)
+            }
+        }
+    }
+
+    fn flush(&mut self) -> io::Result<()> {
+        match self.inner.flush() {
+            Ok(()) => Ok(()),
             Err(error) => {
                 self.error = Some(error);
                 Err(error)

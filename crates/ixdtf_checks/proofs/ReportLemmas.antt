@@ -1,19 +1,21 @@
 -- What a run over lines puts are their reports.
-use Rattle.std.proofs.Common.{◌≡◌, ℕ, ◌+◌, ◌≤◌, ◌<◌, ◌^◌, List, [], ◌∷◌, ◌++◌, length, Option, Result, Ok, Err, OnOk, ap, subst, ◌∙◌, arith}
+use Rattle.std.proofs.Common.{◌≡◌, ℕ, true, false, ◌+◌, ◌≤◌, ◌<◌, ◌^◌, List, [], ◌∷◌, ◌++◌, length, Option, Result, Ok, Err, OnOk, ap, subst, ◌∙◌, arith}
 use Rattle.std.specs.Io.KnownBytes.{Appends}
-use Rattle.std.proofs.Common.{length-append}
+use Rattle.std.proofs.{Common.{length-append}, lemmas.Bool.{eq-eqb, ne_eqb}}
+use Rattle.std.specs.Prelude.{◌==◌}
 use Rattle.ixdtf_buffers.specs.{declared.error.RunError.RunError, Lines.{ended_lines_of, last_line_of, unended_of}, Output.AppendsFront}
 use Rattle.ixdtf_buffers.specs.Tasks.{Steps, Does, DoesFront}
 use Rattle.ixdtf_buffers.proofs.LinesLemmas.{lines_most}
 use Rattle.ixdtf_checks.specs.{declared.{request.Request.Request, tally.Tally.Tally, checking.Checking.Checking}, Checks.{Counts, Reports, ReportsFront, ReportsLine}}
 use Rattle.ixdtf_checks.specs.Reports.{AreVerdicts, report_of, reports_of, refusal_count, refusals_of}
-use Rattle.ixdtf_checks.specs.Verdicts.{Verdict, Verdict.{accepted, printed, refused}}
+use Rattle.ixdtf_checks.specs.Verdicts.{Verdict, Verdict.{accepted, printed, skipped, refused}}
 
 -- at most this line is refused
 one_most : (verdict : Verdict) → refusal_count verdict ≤ 1
 one_most = elim [
   | accepted ↦ omega arith
   | printed canonical ↦ omega arith
+  | skipped ↦ omega arith
   | refused column message lines ↦ omega arith
 ]
 
@@ -24,7 +26,7 @@ Checks old line bytes new = (new.request ≡ old.request) × ReportsLine old.req
 -- the bytes are the reports of the lines from this number on, and so many more were counted
 record AllReported (request : Request) (old new : Tally) (lines : List (List ℕ)) (bytes : List ℕ) : Type 0 where
   verdicts : List Verdict
-  are : AreVerdicts request lines verdicts
+  are : AreVerdicts request (old.lines == 0) lines verdicts
   reports : bytes ≡ reports_of request (old.lines + 1) verdicts
   count : new.lines ≡ old.lines + length verdicts
   refusals : new.refused ≡ old.refused + refusals_of verdicts
@@ -32,6 +34,10 @@ record AllReported (request : Request) (old new : Tally) (lines : List (List ℕ
 -- so many more lines can be counted
 abbrev HasRoom : Tally → ℕ → Type 0
 HasRoom tally count = (tally.lines + count < 2 ^ 64) × (tally.refused + count < 2 ^ 64)
+
+-- a line behind another is not the first one
+behind_first : (next old : ℕ) → next ≡ old + 1 → (next == 0) ≡ false
+behind_first next old more = ne_eqb next 0 (λ none. omega (arith, more, none))
 
 -- one more line before the others
 one_more : {request asked : Request} {old next new : Tally} {line put : List ℕ} {lines : List (List ℕ)} {others bytes : List ℕ} → bytes ≡ put ++ others
@@ -42,7 +48,7 @@ one_more {request = request} {asked = asked} {old = old} {next = next} {put = pu
     let rest = more.verdicts in
     record {
       verdicts = first ∷ rest;
-      are = (one.is, subst (λ r. AreVerdicts r lines rest) same more.are);
+      are = (one.is, subst (λ b. AreVerdicts request b lines rest) (behind_first next.lines old.lines number) (subst (λ r. AreVerdicts r (next.lines == 0) lines rest) same more.are));
       reports = whole ∙ ap (λ t. put ++ t) more.reports ∙ ap (λ t. t ++ reports_of asked (next.lines + 1) rest) one.report
           ∙ ap (λ n. report_of request n first ++ reports_of asked (n + 1) rest) number
           ∙ ap (λ r. report_of request (old.lines + 1) first ++ reports_of r (old.lines + 1 + 1) rest) same;
@@ -65,12 +71,13 @@ module _ (old new : Checking) (request : Request) (tally : Tally) (lines : List 
     (refusals : tally.refused ≡ new.tally.refused) where
   -- all that was put of some of the lines
   some_reported : (first : List (List ℕ)) (bytes : List ℕ) → length first ≤ length lines → Steps Checks old first bytes new
-      → (verdicts : List Verdict) × AreVerdicts request first verdicts × (bytes ≡ reports_of request 1 verdicts) × Counts tally verdicts
+      → (verdicts : List Verdict) × AreVerdicts request true first verdicts × (bytes ≡ reports_of request 1 verdicts) × Counts tally verdicts
   some_reported first bytes fewer steps =
       let all = all_reported old new first bytes (omega (arith, none, few, fewer), omega (arith, zero, few, fewer)) steps in
       let one : old.tally.lines + 1 ≡ 1 = omega (arith, none) in (
         all.verdicts,
-        subst (λ r. AreVerdicts r first all.verdicts) asked all.are,
+        subst (λ b. AreVerdicts request b first all.verdicts) (eq-eqb old.tally.lines 0 none)
+            (subst (λ r. AreVerdicts r (old.tally.lines == 0) first all.verdicts) asked all.are),
         all.reports ∙ ap (λ k. reports_of old.request k all.verdicts) one ∙ ap (λ r. reports_of r 1 all.verdicts) asked,
         record { lines = omega (arith, count, all.count, none); refused = omega (arith, refusals, all.refusals, zero) },
       )

@@ -1,5 +1,5 @@
 -- What a reader returns for the text of a line.
-use Rattle.std.proofs.Common.{◌≡◌, ℕ, ◌+◌, ◌≤◌, Bool, true, false, if◌then◌else◌, List, [], ◌∷◌, ◌++◌, length, inl, inr, refl, sym, ap, ◌∙◌, true≢false, arith, length-append}
+use Rattle.std.proofs.Common.{◌≡◌, ℕ, ◌≤◌, Bool, true, false, if◌then◌else◌, List, [], ◌∷◌, ◌++◌, length, inl, inr, refl, sym, ap, ◌∙◌, true≢false, arith, length-append}
 use Rattle.std.proofs.lemmas.{List.{length-map}, Str.{IsUtf8-from_is_utf8, is_utf8-from_IsUtf8}}
 use Rattle.std.specs.Str.{is_utf8}
 use Rattle.ixdtf_grammar.specs.LocatedTexts.{pointed_text}
@@ -11,7 +11,7 @@ use Rattle.ixdtf_grammar.specs.language.Readers.Reader.{bracketed, parse_rfc3339
 use Rattle.ixdtf_grammar.specs.table.{ErrorTexts.message_of, Faults.Fault}
 use Rattle.ixdtf_print.proofs.theorems.ShortErrors.{message_short}
 use Rattle.ixdtf_checks.specs.{Seen.lines_at, Kinds.reader_of, Parts.{Text as Part}, Refusals.IsRefusal}
-use Rattle.ixdtf_checks.specs.{Verdicts.{Verdict, ShowsPlace, IsTextVerdict, Verdict.{accepted, printed, refused}}, declared.kind.Kind.Kind}
+use Rattle.ixdtf_checks.specs.{Verdicts.{Verdict, ShowsPlace, IsTextVerdict, Verdict.{accepted, printed, skipped, refused}}, declared.kind.Kind.Kind}
 use Rattle.ixdtf_checks.specs.declared.request.Task.TheVariants.{Check, Print}
 
 -- no fault stands past the end of the text
@@ -63,9 +63,11 @@ pub check_refused : (kind : Kind) (profile : Profile) (text : Part) (verdict : V
     → IsTextVerdict (Check kind) profile text verdict
 check_refused kind profile text accepted none = absurd none
 check_refused kind profile text (printed canonical) none = absurd none
+check_refused kind profile text skipped none = absurd none
 check_refused kind profile text (refused column message lines) is = is
 
 pub print_refused : (profile : Profile) (text : Part) (verdict : Verdict) → IsRefusal parse text verdict → IsTextVerdict Print profile text verdict
 print_refused profile text accepted none = absurd none
 print_refused profile text (printed canonical) none = absurd none
+print_refused profile text skipped none = absurd none
 print_refused profile text (refused column message lines) is = is

@@ -1,9 +1,11 @@
 pub mod Checks
+pub mod Kept
 pub mod Kinds
 pub mod Parts
 pub mod Pointed
 pub mod Refusals
 pub mod Reports
 pub mod Seen
+pub mod Skipped
 pub mod Statuses
 pub mod Verdicts

@@ -1,5 +1,5 @@
 -- The part of a line that is its text.
-use Rattle.std.specs.Prelude.{ℕ, zero, suc, ◌+◌, ◌-◌, ◌==◌, if◌then◌else◌, List, length, take, drop, Option, Some, None, position, option_map, slice_index_or}
+use Rattle.std.specs.Prelude.{ℕ, Bool, zero, suc, ◌+◌, ◌-◌, ◌==◌, ◌&&◌, if◌then◌else◌, List, length, take, drop, Option, Some, None, position, option_map, slice_index_or}
 use Rattle.std.specs.Option.{option_and_then, unwrap_or}
 use Rattle.ixdtf_buffers.specs.Lines.{is_byte}
 use Rattle.ixdtf_checks.specs.declared.{request.Field.Field, part.Part.Part}
@@ -7,6 +7,18 @@ use Rattle.ixdtf_checks.specs.declared.{request.Field.Field, part.Part.Part}
 -- the line without the carriage return at its end
 abbrev pub without_return : List ℕ → List ℕ
 without_return line = if slice_index_or line (length line - 1) 0 == 13 then take (length line - 1) line else line
+
+-- whether the bytes begin with a byte order mark: U+FEFF in UTF-8 (RFC 3629, section 6)
+abbrev pub has_mark : List ℕ → Bool
+has_mark bytes = (slice_index_or bytes 0 0 == 239) && ((slice_index_or bytes 1 0 == 187) && (slice_index_or bytes 2 0 == 191))
+
+abbrev pub without_mark : List ℕ → List ℕ
+without_mark bytes = if has_mark bytes then drop 3 bytes else bytes
+
+-- a line without the bytes that do not belong to it: a byte order mark at the front of the first line of a file, and a carriage
+-- return at the end of each line
+abbrev pub line_in : Bool → List ℕ → List ℕ
+line_in is_first bytes = without_return (if is_first then without_mark bytes else bytes)
 
 -- a part of a line, behind so many bytes
 pub record Text : Type 0 where

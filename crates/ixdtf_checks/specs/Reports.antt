@@ -1,7 +1,7 @@
 -- The reports of the lines of a file.
-use Rattle.std.specs.{Prelude.{ℕ, ◌+◌, if◌then◌else◌, List, [], ◌∷◌, ◌++◌, codes}, Fmt.decimal}
+use Rattle.std.specs.{Prelude.{ℕ, Bool, false, ◌+◌, if◌then◌else◌, List, [], ◌∷◌, ◌++◌, codes}, Fmt.decimal}
 use Rattle.ixdtf_buffers.specs.Lines.{newline}
-use Rattle.ixdtf_checks.specs.{declared.request.Request.Request, Verdicts.{Verdict, IsVerdict, Verdict.{accepted, printed, refused}}}
+use Rattle.ixdtf_checks.specs.{declared.request.Request.Request, Verdicts.{Verdict, IsVerdict, Verdict.{accepted, printed, skipped, refused}}}
 
 -- the number of a line, and a column
 abbrev pub line_and_column : ℕ → ℕ → List ℕ
@@ -15,6 +15,7 @@ refusal_of name number column message lines = name ++ (line_and_column number co
 abbrev pub report_of : Request → ℕ → Verdict → List ℕ
 report_of request number accepted = []
 report_of request number (printed canonical) = canonical ++ newline ∷ []
+report_of request number skipped = []
 report_of request number (refused column message lines) =
     if request.is_quiet then [] else refusal_of request.name.now number column message lines
 
@@ -27,6 +28,7 @@ reports_of request number (verdict ∷ verdicts) = report_of request number verd
 abbrev pub refusal_count : Verdict → ℕ
 refusal_count accepted = 0
 refusal_count (printed canonical) = 0
+refusal_count skipped = 0
 refusal_count (refused column message lines) = 1
 
 -- how many lines are refused
@@ -34,9 +36,9 @@ abbrev pub refusals_of : List Verdict → ℕ
 refusals_of [] = 0
 refusals_of (verdict ∷ verdicts) = refusal_count verdict + refusals_of verdicts
 
--- these are the verdicts on the lines, one for each
-abbrev pub AreVerdicts : Request → List (List ℕ) → List Verdict → Type 0
-AreVerdicts request [] [] = Unit {0}
-AreVerdicts request [] (verdict ∷ verdicts) = ⊥
-AreVerdicts request (line ∷ lines) [] = ⊥
-AreVerdicts request (line ∷ lines) (verdict ∷ verdicts) = IsVerdict request line verdict × AreVerdicts request lines verdicts
+-- these are the verdicts on the lines, one for each; the first of them may be the first line of a file
+abbrev pub AreVerdicts : Request → Bool → List (List ℕ) → List Verdict → Type 0
+AreVerdicts request is_first [] [] = Unit {0}
+AreVerdicts request is_first [] (verdict ∷ verdicts) = ⊥
+AreVerdicts request is_first (line ∷ lines) [] = ⊥
+AreVerdicts request is_first (line ∷ lines) (verdict ∷ verdicts) = IsVerdict request is_first line verdict × AreVerdicts request false lines verdicts

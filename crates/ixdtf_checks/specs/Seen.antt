@@ -2,8 +2,8 @@
 use Rattle.std.specs.{Prelude.{ℕ, if◌then◌else◌, List, [], ◌∷◌, ◌++◌, codes}, Str.is_utf8}
 use Rattle.ixdtf_grammar.specs.{LocatedTexts.pointed_text, table.{ErrorTexts.message_of, Faults.fault_of_located}}
 use Rattle.ixdtf_buffers.specs.Lines.{newline}
-use Rattle.ixdtf_checks.specs.declared.verdict.{Verdict.{Verdict as VerdictInCode, TheVariants.{Accepted, Printed, Refused}}, Reason.Reason}
-use Rattle.ixdtf_checks.specs.{declared.verdict.Reason.TheVariants.{TooLong, NoField, Unread}, Verdicts.{Verdict, Verdict.{accepted, printed, refused}}}
+use Rattle.ixdtf_checks.specs.declared.verdict.{Verdict.{Verdict as VerdictInCode, TheVariants.{Accepted, Printed, Skipped, Refused}}, Reason.Reason}
+use Rattle.ixdtf_checks.specs.{declared.verdict.Reason.TheVariants.{TooLong, NoField, Unread}, Verdicts.{Verdict, Verdict.{accepted, printed, skipped, refused}}}
 
 abbrev pub message_in : Reason → List ℕ
 message_in TooLong = codes "line too long"
@@ -23,4 +23,5 @@ lines_in (Unread unread) = lines_at unread.error.at unread.text.now
 abbrev pub seen : List ℕ → VerdictInCode → Verdict
 seen canonical Accepted = accepted
 seen canonical Printed = printed canonical
+seen canonical Skipped = skipped
 seen canonical (Refused refusal) = refused refusal.column (message_in refusal.reason) (lines_in refusal.reason)

@@ -1,18 +1,19 @@
 -- The verdict on a line.
-use Rattle.std.specs.{Prelude.{◌≡◌, ◌⊎◌, ℕ, ◌+◌, List, [], ◌∷◌, ◌++◌, map, length, nat_lt, codes, IsUtf8, MatchOption}, Bool.MatchBool}
+use Rattle.std.specs.{Prelude.{◌≡◌, ◌⊎◌, ℕ, Bool, ◌+◌, List, [], ◌∷◌, ◌++◌, map, length, nat_lt, codes, IsUtf8, MatchOption}, Bool.MatchBool}
 use Rattle.ixdtf_grammar.specs.{declared.profile.Profile.Profile, Handlers.UnhandledRecord, LocatedTexts.pointed_text, Places.HasUnhandledFaultAt}
 use Rattle.ixdtf_grammar.specs.{Widths.{HasUnhandledOutcome, byte_text, UnhandledOutcome.read_as}, language.{Languages.{Parsed, Found}, Letters.byte_letter}}
 use Rattle.ixdtf_grammar.specs.{language.Readers.{Reader, parse}, table.{ErrorTexts.message_of, Faults.Fault}}
 use Rattle.ixdtf_print.specs.Canonical.{canonical_text}
 use Rattle.ixdtf_buffers.specs.Lines.{newline}
 use Rattle.ixdtf_checks.specs.{declared.request.{Request.Request, Task.{Task, TheVariants.{Check, Print}}}, Kinds.reader_of}
-use Rattle.ixdtf_checks.specs.Parts.{Text, part_of, without_return}
+use Rattle.ixdtf_checks.specs.{Parts.{Text, part_of, line_in}, Skipped.is_skipped}
 
--- its text is read; or it is read, and this is its canonical text; or the line is refused at this column, counted by bytes from 1,
--- with this message and these lines under it
+-- its text is read; or it is read, and this is its canonical text; or the line is skipped; or it is refused at this column, counted by
+-- bytes from 1, with this message and these lines under it
 pub data Verdict : Type 0 where
   accepted : Verdict
   printed : List ℕ → Verdict
+  skipped : Verdict
   refused : ℕ → List ℕ → List ℕ → Verdict
 
 -- the longest line that is read
@@ -41,19 +42,24 @@ IsRefused reader text column message lines =
 abbrev pub IsTextVerdict : Task → Profile → Text → Verdict → Type 0
 IsTextVerdict (Check kind) profile text accepted = IsRead (reader_of kind profile) text.bytes
 IsTextVerdict (Check kind) profile text (printed canonical) = ⊥
+IsTextVerdict (Check kind) profile text skipped = ⊥
 IsTextVerdict (Check kind) profile text (refused column message lines) = IsRefused (reader_of kind profile) text column message lines
 IsTextVerdict Print profile text accepted = ⊥
 IsTextVerdict Print profile text (printed canonical) = IsCanonical text.bytes canonical
+IsTextVerdict Print profile text skipped = ⊥
 IsTextVerdict Print profile text (refused column message lines) = IsRefused parse text column message lines
 
--- the verdict on a line without its carriage return
+-- the verdict on a line that is not too long, without the bytes that do not belong to it
 abbrev pub IsLineVerdict : Request → List ℕ → Verdict → Type 0
 IsLineVerdict request line verdict = MatchOption (part_of request.field line)
     (verdict ≡ refused (length line + 1) (codes "no such field") [])
     (λ text. IsTextVerdict request.task request.profile text verdict)
 
--- the verdict on a line
-abbrev pub IsVerdict : Request → List ℕ → Verdict → Type 0
-IsVerdict request line verdict = MatchBool (nat_lt line_limit (length line))
+abbrev pub IsShortVerdict : Request → Bool → List ℕ → Verdict → Type 0
+IsShortVerdict request is_first line verdict = MatchBool (is_skipped request.skips is_first line) (verdict ≡ skipped) (IsLineVerdict request line verdict)
+
+-- the verdict on a line, which may be the first one of a file
+abbrev pub IsVerdict : Request → Bool → List ℕ → Verdict → Type 0
+IsVerdict request is_first line verdict = MatchBool (nat_lt line_limit (length line))
     (verdict ≡ refused (line_limit + 1) (codes "line too long") [])
-    (IsLineVerdict request (without_return line) verdict)
+    (IsShortVerdict request is_first (line_in is_first line) verdict)

@@ -2,11 +2,18 @@
 
 use crate::kind::Kind;
 use crate::nearest::{KINDS, OPTIONS, nearest_of};
-use crate::request::{Field, Request, Task};
+use crate::request::{Field, Request, Skips, Task};
 use ixdtf::parsers::Profile;
 
 /// The separator of fields if no other one is given.
 const TAB: u8 = b'\t';
+
+/// The lines that are skipped if no option names any.
+const NOTHING_SKIPPED: Skips = Skips {
+    header: false,
+    blank: false,
+    comment: None,
+};
 
 /// What a word is.
 #[derive(Clone, Copy, Debug, PartialEq)]
@@ -38,6 +45,8 @@ pub enum Wrong {
     InvalidField,
     /// The value of `--separator` is not one byte.
     InvalidSeparator,
+    /// The value of `--comment` is not one byte.
+    InvalidComment,
     /// There is a separator, but no field.
     SeparatorWithoutField,
     /// There is another kind than `date-time`, and `--canonical`.
@@ -56,6 +65,7 @@ impl Wrong {
             }
             Wrong::InvalidField => "expected the number of a field, which is 1 or more",
             Wrong::InvalidSeparator => "expected a separator of one byte",
+            Wrong::InvalidComment => "expected the one byte with which comments begin",
             Wrong::SeparatorWithoutField => "--separator needs --field",
             Wrong::CanonicalKind => "--canonical is only for the kind date-time",
         }
@@ -75,6 +85,7 @@ pub fn meant_by(word: &str, wrong: Wrong) -> Option<&'static str> {
         | Wrong::MissingValue
         | Wrong::InvalidField
         | Wrong::InvalidSeparator
+        | Wrong::InvalidComment
         | Wrong::SeparatorWithoutField
         | Wrong::CanonicalKind => None,
     }
@@ -87,6 +98,7 @@ enum Awaited {
     Kind,
     Field,
     Separator,
+    Comment,
     File,
 }
 
@@ -99,6 +111,7 @@ pub struct Options {
     /// The number of fields before the one that is read.
     before: Option<usize>,
     separator: Option<u8>,
+    skips: Skips,
     is_canonical: bool,
     is_quiet: bool,
 }
@@ -112,6 +125,7 @@ impl Options {
             is_strict: false,
             before: None,
             separator: None,
+            skips: NOTHING_SKIPPED,
             is_canonical: false,
             is_quiet: false,
         }
@@ -121,7 +135,9 @@ impl Options {
     pub fn take(&mut self, word: &str) -> Word {
         match self.awaited {
             Awaited::Anything => self.take_any(word),
-            Awaited::Kind | Awaited::Field | Awaited::Separator => self.take_value(word),
+            Awaited::Kind | Awaited::Field | Awaited::Separator | Awaited::Comment => {
+                self.take_value(word)
+            }
             Awaited::File => Word::File,
         }
     }
@@ -132,6 +148,7 @@ impl Options {
             Awaited::Kind => self.take_kind(value),
             Awaited::Field => self.take_field(value),
             Awaited::Separator => self.take_separator(value),
+            Awaited::Comment => self.take_comment(value),
             Awaited::Anything | Awaited::File => Word::Wrong(Wrong::UnexpectedValue),
         }
     }
@@ -157,6 +174,10 @@ impl Options {
         }
         if option == "--strict" {
             self.is_strict = true;
+        } else if option == "--header" {
+            self.skips.header = true;
+        } else if option == "--skip-blank" {
+            self.skips.blank = true;
         } else if option == "--canonical" {
             self.is_canonical = true;
         } else if option == "--quiet" {
@@ -177,6 +198,8 @@ impl Options {
             self.awaited = Awaited::Field;
         } else if option == "--separator" {
             self.awaited = Awaited::Separator;
+        } else if option == "--comment" {
+            self.awaited = Awaited::Comment;
         } else {
             return false;
         }
@@ -229,11 +252,25 @@ impl Options {
         }
     }
 
+    /// Takes the byte with which comments begin.
+    fn take_comment(&mut self, word: &str) -> Word {
+        self.awaited = Awaited::Anything;
+        match word.as_bytes() {
+            [byte] => {
+                self.skips.comment = Some(*byte);
+                Word::Option
+            }
+            _ => Word::Wrong(Wrong::InvalidComment),
+        }
+    }
+
     /// Returns why the words do not go together. Returns `None` if they do.
     pub fn wrong(&self) -> Option<Wrong> {
         let kind = self.kind.unwrap_or(Kind::DateTime);
         match self.awaited {
-            Awaited::Kind | Awaited::Field | Awaited::Separator => Some(Wrong::MissingValue),
+            Awaited::Kind | Awaited::Field | Awaited::Separator | Awaited::Comment => {
+                Some(Wrong::MissingValue)
+            }
             Awaited::Anything | Awaited::File => {
                 if self.separator.is_some() && self.before.is_none() {
                     Some(Wrong::SeparatorWithoutField)
@@ -261,8 +298,18 @@ impl Options {
                 Profile::Crate
             },
             field: self.before.map(|before| Field { before, separator }),
+            skips: self.skips(),
             is_quiet: self.is_quiet,
         })
+    }
+
+    /// Returns which lines are skipped, if any are.
+    fn skips(&self) -> Option<Skips> {
+        if self.skips == NOTHING_SKIPPED {
+            None
+        } else {
+            Some(self.skips)
+        }
     }
 
     /// Returns what is to be done with each text.

@@ -49,7 +49,7 @@ impl LineTask<LINE_LIMIT> for Checking<'_> {
     ghost step = { λ old line bytes new. (new.request ≡ old.request)
         × ReportsLine old.request old.tally new.tally line bytes };
 
-    /// Puts the report of the line, and counts it.
+    /// Puts the report of the line and counts it.
     #[inline(always)]
     fn take_line<K: Sink>(
         &mut self,
@@ -57,7 +57,14 @@ impl LineTask<LINE_LIMIT> for Checking<'_> {
         line: Option<&[u8]>,
     ) -> Result<(), RunError> {
         let mut verdict = Verdict::Accepted;
-        judge(&self.request, line, &mut self.printed, &mut verdict);
+        let is_first = self.tally.lines == 0;
+        judge(
+            &self.request,
+            is_first,
+            line,
+            &mut self.printed,
+            &mut verdict,
+        );
         self.tally.add_line(verdict.is_refused());
         let number = self.tally.lines;
         put_report(

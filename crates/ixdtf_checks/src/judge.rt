@@ -6,30 +6,32 @@ ghost use Rattle.ixdtf_grammar.specs.language.Readers.{Reader};
 ghost use Rattle.ixdtf_grammar.specs.table.ErrorTexts.{message_of};
 ghost use Rattle.ixdtf_grammar.specs.table.Faults.{fault_of_located};
 ghost use Rattle.ixdtf_buffers.specs.Line.{IsLine};
-ghost use Rattle.ixdtf_checks.specs.Parts.{seen_part};
+ghost use Rattle.ixdtf_checks.specs.Parts.{line_in, seen_part};
 ghost use Rattle.ixdtf_checks.specs.Seen.{seen};
-ghost use Rattle.ixdtf_checks.specs.Verdicts.{IsVerdict, IsLineVerdict, IsTextVerdict};
+ghost use Rattle.ixdtf_checks.specs.Verdicts.{IsVerdict, IsShortVerdict, IsLineVerdict, IsTextVerdict};
 ghost use Rattle.ixdtf_checks.specs.Refusals.{IsRefusal};
 
-use crate::part::{Part, part_of, without_return};
+use crate::part::{Part, part_of};
 use crate::printed::PrintedText;
 use crate::reading::{read, read_to_print};
 use crate::request::{Request, Task};
+use crate::skipped::kept_line;
 use crate::verdict::{LINE_LIMIT, Reason, Refusal, Unread, Verdict};
 use ixdtf::LocatedError;
 
-/// Writes the verdict on the line, which is `None` where it is too long.
+/// Writes the verdict on the line, which is `None` where it is too long, and may be the first one of a file.
 ///
 /// A verdict is written in its place, and not returned: most lines are accepted, and of these one byte is written.
 pub fn judge<'a>(
     request: &Request<'_>,
+    is_first: bool,
     line: Option<&'a [u8]>,
     printed: &mut PrintedText,
     verdict: &mut Verdict<'a>,
 )
     requires { IfSome line (λ bytes. length bytes.now ≤ 65536) }
     ensures { (text : List ℕ) → IsLine 65536 line.entry text
-        → IsVerdict request.now text (seen printed.new verdict.new) }
+        → IsVerdict request.now is_first text (seen printed.new verdict.new) }
 {
     match line {
         None => {
@@ -38,11 +40,28 @@ pub fn judge<'a>(
                 reason: Reason::TooLong,
             });
         }
-        Some(bytes) => judge_line(request, without_return(bytes), printed, verdict),
+        Some(bytes) => judge_short(request, is_first, bytes, printed, verdict),
     }
 }
 
-/// Writes the verdict on a line that is not too long, without its carriage return.
+/// Writes the verdict on the bytes of a line that is not too long.
+fn judge_short<'a>(
+    request: &Request<'_>,
+    is_first: bool,
+    bytes: &'a [u8],
+    printed: &mut PrintedText,
+    verdict: &mut Verdict<'a>,
+)
+    requires { length bytes.now ≤ 65536 }
+    ensures { IsShortVerdict request.now is_first (line_in is_first bytes.now) (seen printed.new verdict.new) }
+{
+    match kept_line(&request.skips, is_first, bytes) {
+        None => *verdict = Verdict::Skipped,
+        Some(line) => judge_line(request, line, printed, verdict),
+    }
+}
+
+/// Writes the verdict on a line that is not skipped.
 fn judge_line<'a>(
     request: &Request<'_>,
     line: &'a [u8],

@@ -17,6 +17,7 @@ mod printed;
 mod reading;
 mod report;
 pub mod request;
+mod skipped;
 pub mod status;
 pub mod tally;
 mod verdict;

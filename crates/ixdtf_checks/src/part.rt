@@ -1,6 +1,6 @@
 //! The part of a line that is its text.
 ghost use Rattle.std.specs.Prelude.{◌≡◌, ◌+◌, ◌≤◌, length, Some, option_map, IfSome};
-ghost use Rattle.ixdtf_checks.specs.Parts.{without_return, field_start, front_field, part_of, seen_part};
+ghost use Rattle.ixdtf_checks.specs.Parts.{line_in, without_mark, without_return, field_start, front_field, part_of, seen_part};
 
 use crate::request::Field;
 use ixdtf_buffers::place::{pass_many, place_of};
@@ -17,6 +17,27 @@ pub struct Part<'a> {
     pub text: &'a [u8],
 }
 
+/// The bytes of a line without those that do not belong to it: in the first line of a file a byte order mark at the front, and in
+/// each line a carriage return at the end.
+pub fn line_in(is_first: bool, bytes: &[u8]) -> &[u8]
+    ensures text { result.now ≡ line_in is_first bytes.now }
+    ensures shorter { length result.now ≤ length bytes.now }
+{
+    without_return(if is_first { without_mark(bytes) } else { bytes })
+}
+
+/// The bytes without the byte order mark at their front, if they have one.
+fn without_mark(bytes: &[u8]) -> &[u8]
+    ensures text { result.now ≡ without_mark bytes.now }
+    ensures shorter { length result.now ≤ length bytes.now }
+{
+    if bytes.len() >= 3 && bytes[0] == 0xEF && bytes[1] == 0xBB && bytes[2] == 0xBF {
+        &bytes[3..]
+    } else {
+        bytes
+    }
+}
+
 /// The line without the carriage return at its end, where it has one.
 pub fn without_return(line: &[u8]) -> &[u8]
     ensures text { result.now ≡ without_return line.now }
@@ -29,6 +50,7 @@ pub fn without_return(line: &[u8]) -> &[u8]
 }
 
 /// The part that is asked for, where the line has it.
+#[inline(always)]
 pub fn part_of(field: Option<Field>, line: &[u8]) -> Option<Part<'_>>
     ensures part { option_map seen_part result ≡ part_of field line.now }
     ensures within { IfSome result (λ part. part.start + length part.text.now ≤ length line.now) }
@@ -43,6 +65,7 @@ pub fn part_of(field: Option<Field>, line: &[u8]) -> Option<Part<'_>>
 }
 
 /// The field, where the line has it.
+#[inline(never)]
 fn field_of(field: Field, line: &[u8]) -> Option<Part<'_>>
     ensures part { option_map seen_part result ≡ part_of (Some field) line.now }
     ensures within { IfSome result (λ part. part.start + length part.text.now ≤ length line.now) }

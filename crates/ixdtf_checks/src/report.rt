@@ -35,7 +35,7 @@ pub fn put_report<K: Sink>(
         (report_of request.now number (seen printed.now verdict.now)) }
 {
     match verdict {
-        Verdict::Accepted => Ok(()),
+        Verdict::Accepted | Verdict::Skipped => Ok(()),
         Verdict::Printed => put_printed(output, printed.as_line()),
         Verdict::Refused(refusal) => {
             if request.is_quiet {

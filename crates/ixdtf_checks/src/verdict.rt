@@ -15,6 +15,8 @@ pub enum Verdict<'a> {
     Accepted,
     /// Its text is read, and its canonical text is printed.
     Printed,
+    /// It has no text, and is skipped.
+    Skipped,
     /// It is refused.
     Refused(Refusal<'a>),
 }

@@ -2,6 +2,7 @@
 
 mod arguments;
 mod faults;
+mod skips;
 mod worked;
 
 use ixdtf::parsers::Profile;
@@ -18,6 +19,7 @@ const DATE_TIMES: Request<'static> = Request {
     task: Task::Check(Kind::DateTime),
     profile: Profile::Crate,
     field: None,
+    skips: None,
     is_quiet: false,
 };
 

@@ -2,18 +2,20 @@
 
 //! Which verdict a line gets.
 
-use crate::part::{Part, part_of, without_return};
+use crate::part::{Part, part_of};
 use crate::printed::PrintedText;
 use crate::reading::{read, read_to_print};
 use crate::request::{Request, Task};
+use crate::skipped::kept_line;
 use crate::verdict::{LINE_LIMIT, Reason, Refusal, Unread, Verdict};
 use ixdtf::LocatedError;
 
-/// Writes the verdict on the line, which is `None` where it is too long.
+/// Writes the verdict on the line, which is `None` where it is too long, and may be the first one of a file.
 ///
 /// A verdict is written in its place, and not returned: most lines are accepted, and of these one byte is written.
 pub fn judge<'a>(
     request: &Request<'_>,
+    is_first: bool,
     line: Option<&'a [u8]>,
     printed: &mut PrintedText,
     verdict: &mut Verdict<'a>,
@@ -25,11 +27,25 @@ pub fn judge<'a>(
                 reason: Reason::TooLong,
             });
         }
-        Some(bytes) => judge_line(request, without_return(bytes), printed, verdict),
+        Some(bytes) => judge_short(request, is_first, bytes, printed, verdict),
     }
 }
 
-/// Writes the verdict on a line that is not too long, without its carriage return.
+/// Writes the verdict on the bytes of a line that is not too long.
+fn judge_short<'a>(
+    request: &Request<'_>,
+    is_first: bool,
+    bytes: &'a [u8],
+    printed: &mut PrintedText,
+    verdict: &mut Verdict<'a>,
+) {
+    match kept_line(&request.skips, is_first, bytes) {
+        None => *verdict = Verdict::Skipped,
+        Some(line) => judge_line(request, line, printed, verdict),
+    }
+}
+
+/// Writes the verdict on a line that is not skipped.
 fn judge_line<'a>(
     request: &Request<'_>,
     line: &'a [u8],

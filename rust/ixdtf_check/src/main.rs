@@ -13,6 +13,7 @@ mod printed;
 mod reading;
 mod report;
 mod request;
+mod skipped;
 mod status;
 mod tally;
 mod verdict;
@@ -23,7 +24,7 @@ use ixdtf_buffers::error::RunError;
 use status::status_of;
 use std::fmt::Display;
 use std::fs::File;
-use std::io::{self, Read, Write, stdin, stdout};
+use std::io::{self, ErrorKind, Read, Write, stdin, stdout};
 use std::process::ExitCode;
 use tally::Tally;
 
@@ -38,6 +39,12 @@ What is read:
                    and a duration does not repeat a unit
   ixdtf_check --kind rfc3339 times.txt
   ixdtf_check --kind=duration --strict durations.txt
+
+Which lines are read:
+  --header         not the first line of each file, which has the names of the fields
+  --skip-blank     not the lines that have only spaces and tabs, or no byte
+  --comment C      not the lines that begin with the byte C
+  ixdtf_check --skip-blank --comment '#' times.txt
 
 Which part of a line is read:
   --field N        field N of each line, counted from 1, and not the complete line
@@ -66,6 +73,8 @@ struct Outcome {
     has_failed: bool,
     /// Whether standard output takes nothing more.
     is_closed: bool,
+    /// Whether standard output is a pipe that nobody reads. The program then writes nothing more, also to standard error.
+    is_quiet: bool,
 }
 
 fn main() -> ExitCode {
@@ -94,14 +103,16 @@ fn main() -> ExitCode {
         files.push("-");
     }
     let mut output = standard_output();
-    let mut outcome = Outcome { total: Tally::new(), has_failed: false, is_closed: false };
+    let mut outcome = Outcome { total: Tally::new(), has_failed: false, is_closed: false, is_quiet: false };
     for name in files {
         if !outcome.is_closed {
             check_file(&options, name, &mut output, &mut outcome);
         }
     }
     let Tally { lines, refused, bytes } = outcome.total;
-    eprintln!("{lines} lines, {refused} refused, {bytes} bytes");
+    if !outcome.is_quiet {
+        eprintln!("{lines} lines, {refused} refused, {bytes} bytes");
+    }
     ExitCode::from(status_of(outcome.has_failed, refused))
 }
 
@@ -162,8 +173,9 @@ fn check_reader<R: Read, W: Write>(reader: &mut R, options: &Options, name: &str
     let Some(request) = options.request(name) else {
         return;
     };
-    let mut watched = Watched { reader, error: None };
-    let checked = check(&mut watched, output, &request);
+    let mut watched = Watched { inner: reader, error: None };
+    let mut watched_output = Watched { inner: output, error: None };
+    let checked = check(&mut watched, &mut watched_output, &request);
     outcome.total.add(checked.tally);
     match checked.end {
         Ok(()) => {}
@@ -173,7 +185,11 @@ fn check_reader<R: Read, W: Write>(reader: &mut R, options: &Options, name: &str
         },
         Err(RunError::Write) => {
             outcome.is_closed = true;
-            complain("standard output", "cannot be written", outcome);
+            outcome.has_failed = true;
+            outcome.is_quiet = watched_output.error.is_some_and(|error| error.kind() == ErrorKind::BrokenPipe);
+            if !outcome.is_quiet {
+                complain("standard output", "cannot be written", outcome);
+            }
         }
     }
 }
@@ -184,18 +200,38 @@ fn complain<D: Display>(name: &str, why: D, outcome: &mut Outcome) {
     eprintln!("ixdtf_check: {name}: {why}");
 }
 
-/// A reader that keeps the error of a read that failed, for the message.
+/// A reader or a writer that keeps the error of a call that failed.
 struct Watched<'r, R> {
-    reader: &'r mut R,
-    error: Option<String>,
+    inner: &'r mut R,
+    error: Option<io::Error>,
+}
+
+impl<R> Watched<'_, R> {
+    /// Keeps the error of a call, if the call failed. What the caller gets has the same kind.
+    fn keep<T>(&mut self, result: io::Result<T>) -> io::Result<T> {
+        result.map_err(|error| {
+            let kind = error.kind();
+            self.error = Some(error);
+            io::Error::from(kind)
+        })
+    }
 }
 
 impl<R: Read> Read for Watched<'_, R> {
     fn read(&mut self, buf: &mut [u8]) -> io::Result<usize> {
-        let count = self.reader.read(buf);
-        if let Err(error) = &count {
-            self.error = Some(error.to_string());
-        }
-        count
+        let count = self.inner.read(buf);
+        self.keep(count)
+    }
+}
+
+impl<W: Write> Write for Watched<'_, W> {
+    fn write(&mut self, buf: &[u8]) -> io::Result<usize> {
+        let count = self.inner.write(buf);
+        self.keep(count)
+    }
+
+    fn flush(&mut self) -> io::Result<()> {
+        let flushed = self.inner.flush();
+        self.keep(flushed)
     }
 }

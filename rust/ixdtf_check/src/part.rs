@@ -17,6 +17,21 @@ pub struct Part<'a> {
     pub text: &'a [u8],
 }
 
+/// The bytes of a line without those that do not belong to it: in the first line of a file a byte order mark at the front, and in
+/// each line a carriage return at the end.
+pub fn line_in(is_first: bool, bytes: &[u8]) -> &[u8] {
+    without_return(if is_first { without_mark(bytes) } else { bytes })
+}
+
+/// The bytes without the byte order mark at their front, if they have one.
+fn without_mark(bytes: &[u8]) -> &[u8] {
+    if bytes.len() >= 3 && bytes[0] == 0xEF && bytes[1] == 0xBB && bytes[2] == 0xBF {
+        &bytes[3..]
+    } else {
+        bytes
+    }
+}
+
 /// The line without the carriage return at its end, where it has one.
 pub fn without_return(line: &[u8]) -> &[u8] {
     match line.last() {
@@ -26,6 +41,7 @@ pub fn without_return(line: &[u8]) -> &[u8] {
 }
 
 /// The part that is asked for, where the line has it.
+#[inline(always)]
 pub fn part_of(field: Option<Field>, line: &[u8]) -> Option<Part<'_>> {
     match field {
         None => Some(Part {
@@ -37,6 +53,7 @@ pub fn part_of(field: Option<Field>, line: &[u8]) -> Option<Part<'_>> {
 }
 
 /// The field, where the line has it.
+#[inline(never)]
 fn field_of(field: Field, line: &[u8]) -> Option<Part<'_>> {
     match field_start(field.separator, field.before, line) {
         None => None,

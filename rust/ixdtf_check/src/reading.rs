@@ -9,6 +9,9 @@ use ixdtf::encoding::Utf8;
 use ixdtf::parsers::{IsoDurationParser, IxdtfParser, Profile, TimeZoneParser};
 
 /// Reads the text as one of the kind, or returns the error with its place.
+///
+/// It is inlined into its one caller, which most lines pass.
+#[inline(always)]
 pub fn read(kind: Kind, profile: Profile, text: &[u8]) -> Result<(), LocatedError> {
     match kind {
         Kind::DateTime => match IxdtfParser::from_utf8(text).parse_located() {
@@ -67,6 +70,7 @@ fn duration_parser(profile: Profile, text: &[u8]) -> IsoDurationParser<'_, Utf8>
 }
 
 /// Reads the text as a date-time and prints its canonical text, or returns the error with its place.
+#[inline(always)]
 pub fn read_to_print(text: &[u8], printed: &mut PrintedText) -> Result<(), LocatedError> {
     match IxdtfParser::from_utf8(text).parse_located() {
         Ok(parts) => {

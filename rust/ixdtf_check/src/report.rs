@@ -28,7 +28,7 @@ pub fn put_report<K: Sink>(
     verdict: &Verdict<'_>,
 ) -> Result<(), RunError> {
     match verdict {
-        Verdict::Accepted => Ok(()),
+        Verdict::Accepted | Verdict::Skipped => Ok(()),
         Verdict::Printed => put_printed(output, printed.as_line()),
         Verdict::Refused(refusal) => {
             if request.is_quiet {

@@ -23,6 +23,17 @@ pub struct Field {
     pub separator: u8,
 }
 
+/// Which lines have no text. They are skipped: nothing is written about them.
+#[derive(Clone, Copy, Debug, PartialEq)]
+pub struct Skips {
+    /// Whether the first line is skipped, because it has the names of the fields.
+    pub header: bool,
+    /// Whether the lines are skipped that have only spaces and tabs, or no byte.
+    pub blank: bool,
+    /// The byte with which the lines begin that are comments; `None` if there are no comments.
+    pub comment: Option<u8>,
+}
+
 /// What is asked of the check of one file.
 #[derive(Clone, Copy)]
 pub struct Request<'n> {
@@ -34,6 +45,8 @@ pub struct Request<'n> {
     pub profile: Profile,
     /// Which field of a line is its text; `None` for the whole line.
     pub field: Option<Field>,
+    /// Which lines are skipped; `None` if no line is.
+    pub skips: Option<Skips>,
     /// Whether nothing is written of a line that is refused.
     pub is_quiet: bool,
 }

@@ -3,6 +3,7 @@
 #![cfg(target_os = "linux")]
 
 use std::fs::{self, File};
+use std::io::Write;
 use std::os::fd::OwnedFd;
 use std::os::unix::net::UnixDatagram;
 use std::process::{Command, Stdio};
@@ -45,4 +46,22 @@ fn no_write_is_cut_in_two() {
     assert_eq!(bytes, 40_000 * 30);
     // one write for each 4,096 bytes that waited, and one for what waits before each read of 65,536 bytes
     assert!(found.len() <= bytes / 4_096 + bytes / 65_536 + 2, "{} writes of {bytes} bytes", found.len());
+}
+
+#[test]
+fn ends_quietly_if_nobody_reads() {
+    let mut program = Command::new(env!("CARGO_BIN_EXE_ixdtf_check"))
+        .stdin(Stdio::piped())
+        .stdout(Stdio::piped())
+        .stderr(Stdio::piped())
+        .spawn()
+        .unwrap();
+    drop(program.stdout.take());
+    let mut input = program.stdin.take().unwrap();
+    // The program may end before it has read all of this.
+    let _ = input.write_all("2020-13-01\n".repeat(20_000).as_bytes());
+    drop(input);
+    let done = program.wait_with_output().unwrap();
+    assert_eq!(done.status.code(), Some(2));
+    assert_eq!(String::from_utf8(done.stderr).unwrap(), "");
 }

@@ -3,7 +3,7 @@
 use ixdtf::parsers::Profile;
 use ixdtf_checks::arguments::{Options, Word, Wrong, meant_by};
 use ixdtf_checks::kind::Kind;
-use ixdtf_checks::request::{Field, Task};
+use ixdtf_checks::request::{Field, Skips, Task};
 use ixdtf_checks::status::status_of;
 use ixdtf_checks::tally::Tally;
 use std::process::Abort;
@@ -26,6 +26,8 @@ fn takes_options(rt: HostRuntime) {
         "3",
         "--separator",
         ";",
+        "--header",
+        "--comment=#",
         "--quiet",
     ];
     let options = options_of(&rt, &words);
@@ -42,6 +44,14 @@ fn takes_options(rt: HostRuntime) {
             separator: b';'
         })
     );
+    assert_eq!(rt;
+        request.skips,
+        Some(Skips {
+            header: true,
+            blank: false,
+            comment: Some(b'#')
+        })
+    );
     assert!(rt; request.is_quiet);
 }
 
@@ -53,6 +63,7 @@ fn asks_for_date_times_where_nothing_is_said(rt: HostRuntime) {
     assert_eq!(rt; request.task, Task::Check(Kind::DateTime));
     assert_eq!(rt; request.profile, Profile::Crate);
     assert_eq!(rt; request.field, None);
+    assert_eq!(rt; request.skips, None);
     assert!(rt; !request.is_quiet);
 }
 
@@ -61,6 +72,8 @@ const TOGETHER: &[(&[&str], Option<Wrong>)] = &[
     (&[], None),
     (&["--separator", ";"], Some(Wrong::SeparatorWithoutField)),
     (&["--kind"], Some(Wrong::MissingValue)),
+    (&["--comment"], Some(Wrong::MissingValue)),
+    (&["--skip-blank"], None),
     (&["--kind=time", "--canonical"], Some(Wrong::CanonicalKind)),
     (&["--kind", "date-time", "--canonical"], None),
 ];
@@ -94,6 +107,7 @@ const WITHOUT_VALUES: &[(&str, &str, Wrong)] = &[
     ("--field", "two", Wrong::InvalidField),
     ("--kind", "date", Wrong::UnknownKind),
     ("--separator", ",,", Wrong::InvalidSeparator),
+    ("--comment", "//", Wrong::InvalidComment),
 ];
 
 /// Words that are refused, each with the word that was probably meant.

@@ -1,0 +1,105 @@
+//! Lines that have no text, and bytes that do not belong to a line.
+
+use super::{DATE_TIMES, check_written};
+use ixdtf_checks::request::{Field, Skips};
+use std::test::Fail;
+
+/// No line is skipped.
+const NOTHING: Skips = Skips {
+    header: false,
+    blank: false,
+    comment: None,
+};
+
+/// Lines of which some are blank, and some begin with `#`.
+const LINES: &[u8] = b"when\n# a comment\n\n \t \r\n2020-01-01\n2020-13-01\n #\n";
+
+/// The lines that are skipped, what is written about the others, and the number of lines that are refused.
+#[rattlefmt::skip]
+const SKIPPED: &[(Skips, &str, u64)] = &[
+    (Skips { header: true, blank: true, comment: Some(b'#') },
+        "f:6:8: Parsed month value not in a valid range.\n2020-13-01\n       ^\n\
+f:7:1: Invalid chracter while parsing year value.\n #\n^\n", 2),
+    (Skips { header: true, blank: true, comment: Some(b' ') },
+        "f:2:1: Invalid chracter while parsing year value.\n# a comment\n^\n\
+f:6:8: Parsed month value not in a valid range.\n2020-13-01\n       ^\n", 2),
+    (Skips { header: false, blank: true, comment: Some(b'#') },
+        "f:1:1: Invalid chracter while parsing year value.\nwhen\n^\n\
+f:6:8: Parsed month value not in a valid range.\n2020-13-01\n       ^\n\
+f:7:1: Invalid chracter while parsing year value.\n #\n^\n", 3),
+    (Skips { header: true, blank: false, comment: Some(b'#') },
+        "f:3:1: Parsing ended abruptly while parsing digit\n\n^\n\
+f:4:1: Invalid chracter while parsing year value.\n . \n^\n\
+f:6:8: Parsed month value not in a valid range.\n2020-13-01\n       ^\n\
+f:7:1: Invalid chracter while parsing year value.\n #\n^\n", 4),
+];
+
+#[test]
+fn skips_lines_without_a_text(rt: HostRuntime) -> Result<(), Fail> {
+    for (skips, reports, refused) in SKIPPED {
+        let mut request = DATE_TIMES;
+        request.skips = Some(*skips);
+        let bytes = reports.as_bytes();
+        check_written(&rt, rt.alloc(), &request, LINES, bytes, (7, *refused))?;
+    }
+    Ok(())
+}
+
+#[test]
+fn skips_no_other_line(rt: HostRuntime) -> Result<(), Fail> {
+    let mut request = DATE_TIMES;
+    request.skips = Some(NOTHING);
+    let written = b"f:2:1: Parsing ended abruptly while parsing digit\n\n^\n";
+    check_written(
+        &rt,
+        rt.alloc(),
+        &request,
+        b"2020-01-01\n\n",
+        written,
+        (2, 1),
+    )
+}
+
+/// Files with a byte order mark, and what is written about them.
+const MARKED: &[(&[u8], &str)] = &[
+    (b"\xEF\xBB\xBF2020-01-01\r\n2020-01-02\r\n", ""),
+    (
+        b"\xEF\xBB\xBF2020-13-01\n2020-01-02\n",
+        "f:1:8: Parsed month value not in a valid range.\n2020-13-01\n       ^\n",
+    ),
+    (
+        b"2020-01-01\n\xEF\xBB\xBF2020-01-02\n",
+        "f:2:1: Invalid chracter while parsing year value.\n\u{feff}2020-01-02\n^\n",
+    ),
+    (
+        b"2020-01-01\n\xEF\xBB2020-01-02\n",
+        "f:2:1: Invalid chracter while parsing year value.\n",
+    ),
+];
+
+#[test]
+fn drops_a_byte_order_mark(rt: HostRuntime) -> Result<(), Fail> {
+    for (input, written) in MARKED {
+        let refused = u64::from(!written.is_empty());
+        let bytes = written.as_bytes();
+        check_written(&rt, rt.alloc(), &DATE_TIMES, input, bytes, (2, refused))?;
+    }
+    Ok(())
+}
+
+#[test]
+fn counts_columns_after_a_byte_order_mark(rt: HostRuntime) -> Result<(), Fail> {
+    let mut request = DATE_TIMES;
+    request.field = Some(Field {
+        before: 1,
+        separator: b',',
+    });
+    check_written(
+        &rt,
+        rt.alloc(),
+        &request,
+        b"\xEF\xBB\xBFa\na\n",
+        b"f:1:2: no such field\nf:2:2: no such field\n",
+        (2, 2),
+    )
+}

@@ -1,0 +1,60 @@
+// Made by tools/to_rust.py of crates/ixdtf_checks/src/skipped.rt. Do not edit.
+
+//! Which lines have no text, and are skipped.
+
+use crate::part::{line_in, without_return};
+use crate::request::Skips;
+
+/// The line without the bytes that do not belong to it, if it is not skipped.
+///
+/// Most lines are not the first one, and no line is to be skipped. For them, this is a test and no call.
+#[inline(always)]
+pub fn kept_line<'a>(skips: &Option<Skips>, is_first: bool, bytes: &'a [u8]) -> Option<&'a [u8]> {
+    if is_first || skips.is_some() {
+        kept_with_care(skips, is_first, bytes)
+    } else {
+        Some(without_return(bytes))
+    }
+}
+
+/// The same for any line.
+#[inline(never)]
+fn kept_with_care<'a>(skips: &Option<Skips>, is_first: bool, bytes: &'a [u8]) -> Option<&'a [u8]> {
+    let line = line_in(is_first, bytes);
+    if is_skipped(skips, is_first, line) {
+        None
+    } else {
+        Some(line)
+    }
+}
+
+/// Whether the line is skipped.
+fn is_skipped(skips: &Option<Skips>, is_first: bool, line: &[u8]) -> bool {
+    match skips {
+        None => false,
+        Some(skips) => is_skipped_by(skips, is_first, line),
+    }
+}
+
+/// Whether the line has the names of the fields, or is blank, or is a comment.
+fn is_skipped_by(skips: &Skips, is_first: bool, line: &[u8]) -> bool {
+    (skips.header && is_first) || (skips.blank && is_blank(line)) || is_comment(skips.comment, line)
+}
+
+/// Whether the line has only spaces and tabs, or no byte.
+fn is_blank(line: &[u8]) -> bool {
+    for byte in line {
+        if *byte != b' ' && *byte != b'\t' {
+            return false;
+        }
+    }
+    true
+}
+
+/// Whether the line begins with the byte of comments.
+fn is_comment(comment: Option<u8>, line: &[u8]) -> bool {
+    match (comment, line) {
+        (Some(byte), [first, ..]) => *first == byte,
+        _ => false,
+    }
+}
