@@ -1,7 +1,9 @@
-//! The instant of each day, beside a walk that counts day after day.
+//! The instant of each day and its text, beside a walk that counts day after day.
 
+use ixdtf::Instant;
 use ixdtf::encoding::Utf8;
 use ixdtf::records::{DateRecord, IxdtfParseRecord, TimeRecord, UtcOffsetRecordOrZ};
+use std::fmt::Write;
 
 const DAY: i64 = 86_400;
 
@@ -25,14 +27,29 @@ fn midnight(year: i32, month: u8, day: u8) -> i64 {
     record.instant().unwrap().seconds
 }
 
+/// Writes midnight of a date as `Display` of an instant has to write it.
+fn write_midnight(text: &mut String, year: i32, month: u8, day: u8) {
+    let written = match year {
+        0..=9999 => write!(text, "{year:04}-{month:02}-{day:02}T00:00:00Z"),
+        _ => write!(text, "{year:+07}-{month:02}-{day:02}T00:00:00Z"),
+    };
+    written.unwrap();
+}
+
 /// Walks from 1 January of a year to 31 December of another one. `seconds` is that of the first day. Returns the seconds after the
 /// last day, and how many days there were.
 fn walk(first: i32, last: i32, mut seconds: i64) -> (i64, u32) {
     let mut days = 0;
+    let (mut found, mut wanted) = (String::new(), String::new());
     for year in first..=last {
         for month in 1..=12 {
             for day in 1..=month_length(year, month) {
                 assert_eq!(midnight(year, month, day), seconds, "{year} {month} {day}");
+                found.clear();
+                wanted.clear();
+                write!(found, "{}", Instant { seconds, nanoseconds: 0 }).unwrap();
+                write_midnight(&mut wanted, year, month, day);
+                assert_eq!(found, wanted);
                 seconds += DAY;
                 days += 1;
             }
@@ -57,7 +74,7 @@ fn days_before_1970() {
     assert_eq!(walk(-2000, 1969, first_of(-2000)).0, 0);
 }
 
-/// 730 million days: `cargo test --release --test each_day -- --ignored`.
+/// 730 million days, in minutes: `cargo test --release --test each_day -- --ignored`.
 #[test]
 #[ignore]
 fn each_day_that_a_reader_returns() {
