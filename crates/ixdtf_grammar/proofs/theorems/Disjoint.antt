@@ -3,7 +3,7 @@ use Rattle.std.proofs.Common.{◌≡◌, List, [], ◌∷◌, ◌++◌, refl, sy
 use Rattle.ixdtf_grammar.specs.{declared.{profile.Profile.Profile, records.DateRecord.DateRecord}, language.Letters.{Text, Letter.Plain}}
 use Rattle.ixdtf_grammar.specs.language.{Shapes.{Shape, some}, Dates.DateText, Months.{IsYearMonth, IsMonthDay}, Brackets.Pair}
 use Rattle.ixdtf_grammar.specs.language.{Cores.{Core, IsDateTimeCore, BeginsWith, IsCore}, Durations.IsDuration, Readers.{Reader, CoreKind}}
-use Rattle.ixdtf_grammar.specs.language.Readers.CoreKind.{date_time, year_month, month_day, time_of_day}
+use Rattle.ixdtf_grammar.specs.language.Readers.CoreKind.{date_time, internet_date_time, year_month, month_day, time_of_day}
 use Rattle.ixdtf_grammar.specs.language.Readers.Reader.{bracketed, parse_rfc3339, parse_offset, parse_identifier, parse_iana_identifier, parse_duration}
 use Rattle.ixdtf_grammar.specs.language.Languages.{Parsed, IsBracketed, Derives.{as_parsed, as_lasting}}
 use Rattle.ixdtf_grammar.specs.Laws.{IsKindUnder, IsTextReader, InLanguage, LanguagesDisjoint, InNoOther}
@@ -91,18 +91,23 @@ month_day_or_time profile first second is too text h k =
 same_kind : (profile : Profile) (first second : CoreKind) → IsKindUnder profile first → IsKindUnder profile second → (text : Text) → Whole first text
     → Whole second text → first ≡ second
 same_kind profile date_time date_time is too text h k = refl
+same_kind profile date_time internet_date_time is too text h k = absurd too
 same_kind profile date_time year_month is too text h k = absurd (date_times_and_year_months text h k)
 same_kind profile date_time (month_day second) is too text h k = absurd (date_times_and_month_days second text h k)
 same_kind profile date_time (time_of_day second) is too text h k = absurd (date_times_and_times second text h k)
+same_kind profile internet_date_time second is too text h k = absurd is
 same_kind profile year_month date_time is too text h k = absurd (date_times_and_year_months text k h)
+same_kind profile year_month internet_date_time is too text h k = absurd too
 same_kind profile year_month year_month is too text h k = refl
 same_kind profile year_month (month_day second) is too text h k = absurd (year_months_and_month_days second text h k)
 same_kind profile year_month (time_of_day second) is too text h k = absurd (year_months_and_times second text h k)
 same_kind profile (month_day first) date_time is too text h k = absurd (date_times_and_month_days first text k h)
+same_kind profile (month_day first) internet_date_time is too text h k = absurd too
 same_kind profile (month_day first) year_month is too text h k = absurd (year_months_and_month_days first text k h)
 same_kind profile (month_day first) (month_day second) is too text h k = ap month_day (is ∙ sym too)
 same_kind profile (month_day first) (time_of_day second) is too text h k = absurd (month_day_or_time profile first second is too text h k)
 same_kind profile (time_of_day first) date_time is too text h k = absurd (date_times_and_times first text k h)
+same_kind profile (time_of_day first) internet_date_time is too text h k = absurd too
 same_kind profile (time_of_day first) year_month is too text h k = absurd (year_months_and_times first text k h)
 same_kind profile (time_of_day first) (month_day second) is too text h k = absurd (month_day_or_time profile second first too is text k h)
 same_kind profile (time_of_day first) (time_of_day second) is too text h k = ap time_of_day (is ∙ sym too)

@@ -3,7 +3,7 @@ use Rattle.std.specs.Prelude.{◌≡◌, ℕ, List, [], ◌++◌, Option, None}
 use Rattle.ixdtf_grammar.specs.declared.records.{DateRecord.DateRecord, TimeRecord.TimeRecord, UtcOffsetRecord.UtcOffsetRecord}
 use Rattle.ixdtf_grammar.specs.declared.{records.{UtcOffsetRecordOrZ.UtcOffsetRecordOrZ, DurationParseRecord.DurationParseRecord}, profile.Profile.Profile}
 use Rattle.ixdtf_grammar.specs.language.{Letters.Text, Offsets.IsOffset, ZoneNames.{Zone, IsZoneName, IsZone}, Brackets.{ZoneNote, Pair, IsTail}}
-use Rattle.ixdtf_grammar.specs.language.{Cores.{Core, IsCore}, DateTimes.IsDateTime, Durations.IsDuration, Readers.{Reader, CoreKind}}
+use Rattle.ixdtf_grammar.specs.language.{Cores.{Core, IsCore, IsDateTime}, Durations.IsDuration, Readers.{Reader, CoreKind}}
 use Rattle.ixdtf_grammar.specs.language.Readers.Reader.{bracketed, parse_rfc3339, parse_offset, parse_identifier, parse_iana_identifier, parse_duration}
 
 -- what is derived from a text with brackets, with names by the numbers of their code units
