@@ -5,14 +5,14 @@ use Rattle.ixdtf_grammar.specs.language.{Times.Clock, Letters.{Text, Letter.Plai
 use Rattle.ixdtf_grammar.specs.language.{Cores.IsCore, Readers.{Reader, CoreKind, Reader.{bracketed, parse_rfc3339, parse_offset, parse_identifier, parse_iana_identifier}}}
 use Rattle.ixdtf_grammar.specs.language.{Readers.Reader.parse_duration, Languages.{Parsed, parsed_with, IsBracketed, Found, Derives, Derives.as_parsed}}
 use Rattle.ixdtf_grammar.specs.{language.Languages.Derives.{as_dated, as_shifted, as_identified, as_named, as_lasting}, table.{Faults.Fault, LineNames.LineName}}
-use Rattle.ixdtf_grammar.specs.table.LineNames.{LineName.{of_core, of_clock, of_offset, of_zone, of_bracket, of_pair}, OffsetLine.{offset_start, after_zulu}}
+use Rattle.ixdtf_grammar.specs.table.LineNames.{LineName.{of_core, of_clock, of_offset, of_date_time, of_zone, of_bracket, of_pair}, OffsetLine.{offset_start, after_zulu}}
 use Rattle.ixdtf_grammar.specs.table.LineNames.{ZoneLine.{in_zone_name, after_zone_slash}, BracketLine.{first_bracket_start, first_critical_start}}
 use Rattle.ixdtf_grammar.specs.table.{LineNames.{BracketLine.{first_bracket_scan, after_bracket}, PairLine.{key_start, critical_key_start}}, Lines.line_of}
 use Rattle.ixdtf_grammar.specs.table.{Before.{BeforeBracketed, Bracketed}, Rows.{Row, Place, Stops, Fits, front_of}}
 use Rattle.ixdtf_reading.specs.reading.{Looks.{Read, ◌>>=◌, row_of}, Pairs.pairs_at, Brackets.{Bracket, zoned, paired, zone_in, pairs_in}, Cores.core_at}
 use Rattle.ixdtf_reading.specs.reading.{Wholes.{bracketed_at, annotated_at, bracketed_text_at, read_at}, Chains.AfterBrackets}
 use Rattle.ixdtf_reading.proofs.to_reading.DateTimes.{rfc_3339_takes, rfc_3339_rows}
-use Rattle.ixdtf_reading.proofs.to_reading.{Cores.{core_takes, core_line_rows, core_time_rows, core_offset_rows, core_zulu_row}, FirstBracket.bracket_takes}
+use Rattle.ixdtf_reading.proofs.to_reading.{Cores.{core_takes, core_line_rows, core_time_rows, core_offset_rows, core_zulu_row, core_date_time_rows}, FirstBracket.bracket_takes}
 use Rattle.ixdtf_reading.proofs.to_reading.{FirstBracket.bracket_rows, MorePairs.{over_pairs, pairs_end, pairs_row}, Durations.{duration_takes, duration_rows}}
 use Rattle.ixdtf_reading.proofs.{to_grammar.FirstBracket.{InBracket, IsBracket}, to_reading.ZonesAlone.{offset_takes, offset_rows as offset_reader_rows}}
 use Rattle.ixdtf_reading.proofs.{to_reading.ZonesAlone.{identifier_takes, identifier_rows, iana_identifier_takes, iana_identifier_rows}, parts.Looks.RowsWhere}
@@ -145,6 +145,8 @@ module _ {E : Type 0} (fault : List Pair → Row → E) (kind : CoreKind) where
   whole_row (of_offset offset_start) pairs place e prior front rest b f at = absurd b.0
   whole_row (of_offset after_zulu) pairs place e prior front rest b f at =
       in_core _ _ pairs b.1 (core_zulu_row (fault []) kind prior b.0 place e front rest f at)
+  whole_row (of_date_time l) pairs place e prior front rest b f at =
+      in_core _ _ pairs b.1 (core_date_time_rows (fault []) kind l prior b.0 place e front rest f at)
   whole_row (of_zone in_zone_name) pairs place e prior front rest (b, none) f at =
       opened_row (of_zone in_zone_name) place e pairs b.0.0 b.0.1 front rest prior none b.0.2 b.0.3 (b.0.4, b.1) f at
   whole_row (of_zone after_zone_slash) pairs place e prior front rest (b, none) f at =

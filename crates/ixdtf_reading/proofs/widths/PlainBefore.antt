@@ -4,10 +4,10 @@
 use Rattle.std.proofs.Common.{◌≡◌, ◌⊎◌, List, ◌++◌, inl, inr, sym, ap, ◌∙◌, subst, append_assoc}
 use Rattle.ixdtf_grammar.specs.{declared.profile.Profile.Profile, language.{Letters.Text, Shapes.some, Times.Clock.{Time, Offset, MinuteOffset}}}
 use Rattle.ixdtf_grammar.specs.language.{Months.IsMonthDay, Brackets.{Pair, ReadsAsName, ReadsAsPair}, Cores.{BeginsWith, IsCore}}
-use Rattle.ixdtf_grammar.specs.language.Readers.{Reader, CoreKind, has_brackets, CoreKind.{date_time, year_month, month_day, time_of_day}}
+use Rattle.ixdtf_grammar.specs.language.Readers.{Reader, CoreKind, has_brackets, CoreKind.{date_time, internet_date_time, year_month, month_day, time_of_day}}
 use Rattle.ixdtf_grammar.specs.language.Readers.Reader.{bracketed, parse_rfc3339, parse_offset, parse_identifier, parse_iana_identifier, parse_duration}
 use Rattle.ixdtf_grammar.specs.table.Before.{DateAndSeparator, BeforeDate, BeforeYearMonth, BeforeMonthDay, AtCoreEnd, ReadsAsTime, InTimeAlone}
-use Rattle.ixdtf_grammar.specs.table.Before.{BeforeTimeAlone, BeforeCore, InMonthDay, BeforeTime, BeforeOffset, BeforeOffsetLine, Opened, Bracketed}
+use Rattle.ixdtf_grammar.specs.table.Before.{BeforeTimeAlone, BeforeCore, InMonthDay, BeforeTime, BeforeOffset, BeforeOffsetLine, BeforeInternetDateTime, Opened, Bracketed}
 use Rattle.ixdtf_grammar.specs.table.Before.{BeforeKey, BeforeBracketed, InRfc3339, InOffset, InIdentifier, InIanaIdentifier, InDuration, Before}
 use Rattle.ixdtf_grammar.specs.table.LineNames.{DateLine, MonthDayLine, TimeLine, CoreLine, ClockLine, OffsetLine, LineName}
 use Rattle.ixdtf_grammar.specs.table.LineNames.DateLine.{year_start, year_digits, extended_year_digits, minus_zero_year, month_digits, month_range}
@@ -107,6 +107,10 @@ before_offset_line : (kind : CoreKind) (line : OffsetLine) → PlainShape (Befor
 before_offset_line kind offset_start = plain_nowhere
 before_offset_line kind after_zulu = before_offset kind
 
+before_internet_date_time : (kind : CoreKind) → PlainShape (BeforeInternetDateTime kind)
+before_internet_date_time internet_date_time = plain_nothing
+before_internet_date_time kind = plain_nowhere
+
 -- ---- lines of brackets
 
 plain_core : (kind : CoreKind) → PlainShape (some (IsCore kind))
@@ -133,7 +137,7 @@ before_bracketed kind (of_clock Time line) pairs = besides (alone (before_time k
 before_bracketed kind (of_clock Offset line) pairs = besides (alone (before_offset kind and_then plain_one))
 before_bracketed kind (of_clock MinuteOffset line) pairs = besides (alone (plain_opened kind and_then plain_one))
 before_bracketed kind (of_offset line) pairs = besides (alone (before_offset_line kind line))
-before_bracketed kind (of_date_time line) pairs = never
+before_bracketed kind (of_date_time line) pairs = besides (alone (before_internet_date_time kind))
 before_bracketed kind (of_zone identifier_start) pairs = never
 before_bracketed kind (of_zone zone_name_start) pairs = never
 before_bracketed kind (of_zone line) pairs = besides (ahead (plain_opened kind) moves_name)
