@@ -71,9 +71,10 @@ abbrev pub LanguagesDisjoint : Type 0
 LanguagesDisjoint = (profile : Profile) (text : Text) (first second : Reader) → IsTextReader profile first → IsTextReader profile second →
     InLanguage first text → InLanguage second text → first ≡ second
 
--- under the profile, the text is in the language of none of these readers but this one
+-- where this is one of these readers under the profile, the text is in the language of none but this one
 abbrev pub InNoOther : Profile → Reader → Text → Type 0
-InNoOther profile reader text = (other : Reader) → IsTextReader profile other → reader ≢ other → ¬ (InLanguage other text)
+InNoOther profile reader text =
+    IsTextReader profile reader → (other : Reader) → IsTextReader profile other → reader ≢ other → ¬ (InLanguage other text)
 
 -- ---- replies
 

@@ -143,5 +143,5 @@ languages_disjoint profile text parse_iana_identifier second is too h k = absurd
 languages_disjoint profile text first second is too h k = absurd too
 
 -- what is in the language of one of the readers is in no other
-pub in_no_other : (profile : Profile) (reader : Reader) (text : Text) → IsTextReader profile reader → InLanguage reader text → InNoOther profile reader text
-in_no_other profile reader text is h other too differ k = differ (languages_disjoint profile text reader other is too h k)
+pub in_no_other : (profile : Profile) (reader : Reader) (text : Text) → InLanguage reader text → InNoOther profile reader text
+in_no_other profile reader text h is other too differ k = differ (languages_disjoint profile text reader other is too h k)
