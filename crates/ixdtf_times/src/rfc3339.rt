@@ -1,4 +1,6 @@
 //! Reading date-times of RFC 3339: at their fixed places, and number by number where these do not fit, which is an error.
+//!
+//! What may follow a date-time depends on the reader. So only [`parse_rfc3339_text`] reads the end.
 
 #![tactic(auto, unfolding(ixdtf_reading::specs::reading::DateTimes::date_time_line_readings, ixdtf_reading::specs::reading::Looks::number_by))]
 
@@ -11,11 +13,12 @@ ghost use Rattle.ixdtf_grammar.specs.table.Faults.Fault.{DateYear};
 ghost use Rattle.ixdtf_grammar.specs.table.DateTimeFronts.Field.{month_field, day_field};
 ghost use Rattle.ixdtf_grammar.specs.table.LineNames.LineName.{of_date_time};
 ghost use Rattle.ixdtf_grammar.specs.table.LineNames.DateTimeLine.{after_secfrac};
-ghost use Rattle.ixdtf_reading.specs.reading.Clauses.{Reads, Spends, SpendsOr, fault_of_stop};
+ghost use Rattle.ixdtf_reading.specs.reading.Clauses.{Reads, Spends, SpendsOr, KeepsBrackets, core_in, fault_of_stop};
 ghost use Rattle.ixdtf_reading.specs.reading.Looks.{error_of, as_number, digit_look, digits_by, look_for, next_by, letter_at};
 ghost use Rattle.ixdtf_reading.specs.reading.DateTimes.{field_at, is_month, is_day, secfrac_digits_at, time_offset_at, secfrac_at, after_whole_second_at};
 ghost use Rattle.ixdtf_reading.specs.reading.DateTimes.{full_time_at, full_day_at, full_month_at};
-ghost use Rattle.ixdtf_reading.specs.reading.DateTimes.{date_time_ends, rfc_3339_at};
+ghost use Rattle.ixdtf_reading.specs.reading.DateTimes.{open_end, date_time_by, rfc_3339_at};
+ghost use Rattle.ixdtf_times.specs.TimeTypes.{core_read};
 
 use crate::date_times::take_fixed_date_time;
 use crate::dates::{check_month, has_day};
@@ -32,6 +35,27 @@ use ixdtf_reading::classes::{
 };
 use ixdtf_reading::cursor::Cursor;
 use ixdtf_reading::stop::Stop;
+
+/// A date-time: its date, its time and its offset.
+#[derive(Clone, Copy)]
+pub struct DateTime {
+    pub date: DateRecord,
+    pub time: TimeRecord,
+    pub offset: UtcOffsetRecordOrZ,
+}
+
+impl DateTime {
+    /// Writes the parts into a record.
+    #[inline(always)]
+    pub fn place<'a, T: EncodingType>(self, found: &mut IxdtfParseRecord<'a, T>)
+        ensures core { core_in found.new ≡ core_read self }
+        ensures kept { KeepsBrackets found.old found.new }
+    {
+        found.date = Some(self.date);
+        found.time = Some(self.time);
+        found.offset = Some(self.offset);
+    }
+}
 
 /// Takes a colon off. The end and any other code unit are this stop.
 #[inline(always)]
@@ -133,39 +157,29 @@ fn parse_day<'a, T: EncodingType>(
     Ok(day)
 }
 
-/// Reads a time offset after its first code unit, and wants the end. The date, the time and the offset enter the record.
+/// Reads a time offset after its first code unit.
 #[inline(always)]
 fn parse_time_offset<'a, T: EncodingType>(
     cursor: &mut Cursor<'a, T>,
     date: DateRecord,
     time: TimeRecord,
     lead: u8,
-    found: &mut IxdtfParseRecord<'a, T>,
-) -> Result<(), Stop>
-    requires no_zone { found.old.tz ≡ None }
-    requires no_calendar { found.old.calendar ≡ None }
-    ensures offset { Reads T.letter (λ _. parsed_of T.number found.new) cursor.old result cursor.new
-        (time_offset_at error_of (date_time_ends error_of) date time lead) }
+) -> Result<DateTime, Stop>
+    ensures offset { Reads T.letter core_read cursor.old result cursor.new
+        (time_offset_at error_of open_end date time lead) }
     ensures looks { Spends 3 cursor.old cursor.new }
 {
-    found.date = Some(date);
-    found.time = Some(time);
     if is_utc_designator(lead) {
-        cursor.close()?;
-        found.offset = Some(UtcOffsetRecordOrZ::Z);
-        return Ok(());
+        let offset = UtcOffsetRecordOrZ::Z;
+        return Ok(DateTime { date, time, offset });
     }
-    let offset_hour = next_number(cursor, 23, Stop::TimeHour)?;
+    let hour = next_number(cursor, 23, Stop::TimeHour)?;
     take_colon(cursor, Stop::UtcTimeSeparator)?;
-    let offset_minute = next_number(cursor, 59, Stop::TimeMinuteSecond)?;
-    cursor.close()?;
-    let offset = MinutePrecisionOffset {
-        sign: sign_from(lead),
-        hour: offset_hour,
-        minute: offset_minute,
-    };
-    found.offset = Some(UtcOffsetRecordOrZ::Offset(UtcOffsetRecord::MinutePrecision(offset)));
-    Ok(())
+    let minute = next_number(cursor, 59, Stop::TimeMinuteSecond)?;
+    let sign = sign_from(lead);
+    let minutes = MinutePrecisionOffset { sign, hour, minute };
+    let offset = UtcOffsetRecordOrZ::Offset(UtcOffsetRecord::MinutePrecision(minutes));
+    Ok(DateTime { date, time, offset })
 }
 
 /// Takes what a time offset begins with off, after the digits of a fraction.
@@ -195,50 +209,44 @@ fn parse_secfrac<'a, T: EncodingType>(cursor: &mut Cursor<'a, T>) -> Result<Frac
     parse_fraction(cursor)
 }
 
-/// Reads a fraction after its point and an offset after it, and wants the end.
+/// Reads a fraction after its point and an offset after it.
 #[inline(always)]
 fn parse_fractional<'a, T: EncodingType>(
     cursor: &mut Cursor<'a, T>,
     date: DateRecord,
     whole: WholeTime,
-    found: &mut IxdtfParseRecord<'a, T>,
-) -> Result<(), Stop>
-    requires no_zone { found.old.tz ≡ None }
-    requires no_calendar { found.old.calendar ≡ None }
-    ensures rest { Reads T.letter (λ _. parsed_of T.number found.new) cursor.old result cursor.new
-        (secfrac_at error_of (date_time_ends error_of) date whole.hour whole.minute whole.second) }
+) -> Result<DateTime, Stop>
+    ensures rest { Reads T.letter core_read cursor.old result cursor.new
+        (secfrac_at error_of open_end date whole.hour whole.minute whole.second) }
     ensures looks { Spends 6 cursor.old cursor.new }
 {
     let fraction = parse_secfrac(cursor)?;
     let lead = take_lead(cursor)?;
     let time = whole.with_fraction(Some(fraction));
-    parse_time_offset(cursor, date, time, lead, found)
+    parse_time_offset(cursor, date, time, lead)
 }
 
-/// Reads what follows the seconds, and wants the end: a fraction where there is one, and an offset.
+/// Reads what follows the seconds: a fraction where there is one, and an offset.
 #[inline(always)]
 fn parse_after_seconds<'a, T: EncodingType>(
     cursor: &mut Cursor<'a, T>,
     date: DateRecord,
     whole: WholeTime,
-    found: &mut IxdtfParseRecord<'a, T>,
-) -> Result<(), Stop>
-    requires no_zone { found.old.tz ≡ None }
-    requires no_calendar { found.old.calendar ≡ None }
-    ensures rest { Reads T.letter (λ _. parsed_of T.number found.new) cursor.old result cursor.new
-        (after_whole_second_at error_of (date_time_ends error_of) date whole.hour whole.minute whole.second) }
+) -> Result<DateTime, Stop>
+    ensures rest { Reads T.letter core_read cursor.old result cursor.new
+        (after_whole_second_at error_of open_end date whole.hour whole.minute whole.second) }
     ensures looks { Spends 7 cursor.old cursor.new }
 {
     match cursor.look()? {
         None => Err(Stop::AbruptOffset),
         Some(byte) if byte == b'.' => {
             cursor.advance();
-            parse_fractional(cursor, date, whole, found)
+            parse_fractional(cursor, date, whole)
         }
         Some(byte) if is_ascii_sign(byte) || is_utc_designator(byte) => {
             cursor.advance();
             let time = whole.with_fraction(None);
-            parse_time_offset(cursor, date, time, byte, found)
+            parse_time_offset(cursor, date, time, byte)
         }
         Some(byte) if is_decimal_separator(byte) => Err(Stop::FractionPart),
         Some(_) => Err(Stop::OffsetNeedsSign),
@@ -251,8 +259,8 @@ fn parse_after_seconds<'a, T: EncodingType>(
 fn take_fixed_rfc3339<'a, T: EncodingType>(
     cursor: &mut Cursor<'a, T>,
 ) -> Option<(DateRecord, WholeTime)>
-    ensures read { IfSome result (λ found. rfc_3339_at error_of (map T.letter cursor.old.rest) ≡
-        after_whole_second_at error_of (date_time_ends error_of) found.0 found.1.hour found.1.minute found.1.second (map T.letter cursor.new.rest)) }
+    ensures read { IfSome result (λ found. date_time_by error_of open_end (map T.letter cursor.old.rest) ≡
+        after_whole_second_at error_of open_end found.0 found.1.hour found.1.minute found.1.second (map T.letter cursor.new.rest)) }
     ensures rest { result ≡ None → cursor.new.rest ≡ cursor.old.rest }
     ensures few { cursor.new.looks ≤ cursor.old.looks + 20 }
     ensures looks { Spends (length cursor.old.rest + 1) cursor.old cursor.new }
@@ -265,17 +273,14 @@ fn take_fixed_rfc3339<'a, T: EncodingType>(
 
 // ==== Number by number ====
 
-/// Reads the time after a date and its letter, and wants the end.
+/// Reads the time after a date and its letter.
 #[inline(always)]
 fn parse_time_by_numbers<'a, T: EncodingType>(
     cursor: &mut Cursor<'a, T>,
     date: DateRecord,
-    found: &mut IxdtfParseRecord<'a, T>,
-) -> Result<(), Stop>
-    requires no_zone { found.old.tz ≡ None }
-    requires no_calendar { found.old.calendar ≡ None }
-    ensures time { Reads T.letter (λ _. parsed_of T.number found.new) cursor.old result cursor.new
-        (full_time_at error_of (date_time_ends error_of) date) }
+) -> Result<DateTime, Stop>
+    ensures time { Reads T.letter core_read cursor.old result cursor.new
+        (full_time_at error_of open_end date) }
     ensures looks { Spends 9 cursor.old cursor.new }
 {
     let hour = next_number(cursor, 23, Stop::TimeHour)?;
@@ -288,21 +293,18 @@ fn parse_time_by_numbers<'a, T: EncodingType>(
         minute,
         second,
     };
-    parse_after_seconds(cursor, date, whole, found)
+    parse_after_seconds(cursor, date, whole)
 }
 
-/// Reads the day after a month and its hyphen, and what follows, and wants the end.
+/// Reads the day after a month and its hyphen, and what follows.
 #[inline(always)]
 fn parse_day_by_numbers<'a, T: EncodingType>(
     cursor: &mut Cursor<'a, T>,
     year: u16,
     month: u8,
-    found: &mut IxdtfParseRecord<'a, T>,
-) -> Result<(), Stop>
-    requires no_zone { found.old.tz ≡ None }
-    requires no_calendar { found.old.calendar ≡ None }
-    ensures day { Reads T.letter (λ _. parsed_of T.number found.new) cursor.old result cursor.new
-        (full_day_at error_of (date_time_ends error_of) (pos year) month) }
+) -> Result<DateTime, Stop>
+    ensures day { Reads T.letter core_read cursor.old result cursor.new
+        (full_day_at error_of open_end (pos year) month) }
     ensures looks { Spends 10 cursor.old cursor.new }
 {
     let day = parse_day(cursor, year, month)?;
@@ -312,47 +314,55 @@ fn parse_day_by_numbers<'a, T: EncodingType>(
         month,
         day,
     };
-    parse_time_by_numbers(cursor, date, found)
+    parse_time_by_numbers(cursor, date)
 }
 
-/// Reads the month after a year and its hyphen, and what follows, and wants the end.
+/// Reads the month after a year and its hyphen, and what follows.
 #[inline(always)]
 fn parse_month_by_numbers<'a, T: EncodingType>(
     cursor: &mut Cursor<'a, T>,
     year: u16,
-    found: &mut IxdtfParseRecord<'a, T>,
-) -> Result<(), Stop>
-    requires no_zone { found.old.tz ≡ None }
-    requires no_calendar { found.old.calendar ≡ None }
-    ensures month { Reads T.letter (λ _. parsed_of T.number found.new) cursor.old result cursor.new
-        (full_month_at error_of (date_time_ends error_of) (pos year)) }
+) -> Result<DateTime, Stop>
+    ensures month { Reads T.letter core_read cursor.old result cursor.new
+        (full_month_at error_of open_end (pos year)) }
     ensures looks { Spends 11 cursor.old cursor.new }
 {
     let month = parse_month(cursor)?;
     take_date_hyphen(cursor, Stop::DateSeparator)?;
-    parse_day_by_numbers(cursor, year, month, found)
+    parse_day_by_numbers(cursor, year, month)
 }
 
-/// Reads a date-time number by number, and wants the end. It is not inlined: no text is read so that has no error.
+/// Reads a date-time number by number. It is not inlined: no text is read so that has no error.
 #[inline(never)]
 #[tactic(auto, using(ixdtf_reading::proofs::code::FixedDateTimes::year_then), unfolding(ixdtf_reading::specs::reading::Looks::look_readings))]
-fn parse_by_numbers<'a, T: EncodingType>(
-    cursor: &mut Cursor<'a, T>,
-    found: &mut IxdtfParseRecord<'a, T>,
-) -> Result<(), Stop>
-    requires no_zone { found.old.tz ≡ None }
-    requires no_calendar { found.old.calendar ≡ None }
-    ensures date_time { Reads T.letter (λ _. parsed_of T.number found.new) cursor.old result cursor.new
-        (rfc_3339_at error_of) }
+fn parse_by_numbers<'a, T: EncodingType>(cursor: &mut Cursor<'a, T>) -> Result<DateTime, Stop>
+    ensures date_time { Reads T.letter core_read cursor.old result cursor.new
+        (date_time_by error_of open_end) }
     ensures looks { Spends 12 cursor.old cursor.new }
 {
     let year = parse_year(cursor)?;
     take_date_hyphen(cursor, Stop::AbruptDate)?;
-    parse_month_by_numbers(cursor, year, found)
+    parse_month_by_numbers(cursor, year)
+}
+
+/// Reads a date-time of RFC 3339.
+#[inline(always)]
+pub fn parse_internet_date_time<'a, T: EncodingType>(
+    cursor: &mut Cursor<'a, T>,
+) -> Result<DateTime, Stop>
+    ensures date_time { Reads T.letter core_read cursor.old result cursor.new
+        (date_time_by error_of open_end) }
+    ensures looks { Spends (length cursor.old.rest + 13) cursor.old cursor.new }
+{
+    match take_fixed_rfc3339(cursor) {
+        Some((date, whole)) => parse_after_seconds(cursor, date, whole),
+        None => parse_by_numbers(cursor),
+    }
 }
 
 /// Reads a date-time of RFC 3339 into an empty record, and wants the end.
 #[inline(always)]
+#[tactic(auto, using(ixdtf_reading::proofs::code::OpenDateTimes::rfc_3339_open))]
 pub fn parse_rfc3339_text<'a, T: EncodingType>(
     cursor: &mut Cursor<'a, T>,
     found: &mut IxdtfParseRecord<'a, T>,
@@ -360,10 +370,10 @@ pub fn parse_rfc3339_text<'a, T: EncodingType>(
     requires empty { IsEmptyRecord found.old }
     ensures date_time { Reads T.letter (λ _. parsed_of T.number found.new) cursor.old result cursor.new
         (rfc_3339_at error_of) }
-    ensures looks { Spends (length cursor.old.rest + 13) cursor.old cursor.new }
+    ensures looks { Spends (length cursor.old.rest + 14) cursor.old cursor.new }
 {
-    match take_fixed_rfc3339(cursor) {
-        Some((date, whole)) => parse_after_seconds(cursor, date, whole, found),
-        None => parse_by_numbers(cursor, found),
-    }
+    let read = parse_internet_date_time(cursor)?;
+    cursor.close()?;
+    read.place(found);
+    Ok(())
 }
