@@ -173,11 +173,14 @@ fn parse_time_offset<'a, T: EncodingType>(
         let offset = UtcOffsetRecordOrZ::Z;
         return Ok(DateTime { date, time, offset });
     }
-    let hour = next_number(cursor, 23, Stop::TimeHour)?;
+    let offset_hour = next_number(cursor, 23, Stop::TimeHour)?;
     take_colon(cursor, Stop::UtcTimeSeparator)?;
-    let minute = next_number(cursor, 59, Stop::TimeMinuteSecond)?;
-    let sign = sign_from(lead);
-    let minutes = MinutePrecisionOffset { sign, hour, minute };
+    let offset_minute = next_number(cursor, 59, Stop::TimeMinuteSecond)?;
+    let minutes = MinutePrecisionOffset {
+        sign: sign_from(lead),
+        hour: offset_hour,
+        minute: offset_minute,
+    };
     let offset = UtcOffsetRecordOrZ::Offset(UtcOffsetRecord::MinutePrecision(minutes));
     Ok(DateTime { date, time, offset })
 }

@@ -1,7 +1,6 @@
 //! Functions that read a core into a record. A core is the part of a text before its first `[`.
 
 ghost use Rattle.std.specs.Prelude.{◌≡◌, ◌+◌, map, length, Ok, OnOk, Some, None, refl};
-ghost use Rattle.ixdtf_grammar.specs.Laws.{IsKindUnder};
 ghost use Rattle.ixdtf_grammar.specs.declared.profile.Profile.{Profile};
 ghost use Rattle.ixdtf_grammar.specs.declared.records.TimeRecord.{TimeRecord};
 ghost use Rattle.ixdtf_grammar.specs.language.Letters.{Text};
@@ -31,6 +30,7 @@ use ixdtf_times::months::{
     parse_month_day_date, parse_month_day_parts, parse_year_month_date, parse_year_month_parts,
 };
 use ixdtf_times::offsets::{AfterCore, offset_from, take_fixed_offset};
+use ixdtf_times::rfc3339::parse_internet_date_time;
 use ixdtf_times::time::{Clock, TimeShape, WholeTime, parse_after_second, parse_clock};
 
 /// A type that reads cores of one kind.
@@ -53,9 +53,6 @@ pub trait CoreReader {
             cursor.new (core_at error_of (kind profile)) }
         ensures kept { KeepsBrackets found.old found.new }
         ensures looks { Spends (length cursor.old.rest + 37) cursor.old cursor.new };
-
-    /// The kind belongs to the profile.
-    ghost is_under: { (profile : Profile) → IsKindUnder profile (kind profile) };
 }
 
 /// The reader of a date, with a time and an offset if the text has them.
@@ -65,8 +62,6 @@ impl CoreReader for DateTimes {
     ghost use Rattle.ixdtf_grammar.specs.language.Readers.CoreKind.{date_time};
 
     ghost kind = { λ profile. date_time };
-
-    ghost is_under = { λ profile. tt };
 
     #[inline(always)]
     fn parse_core<'a, T: EncodingType>(
@@ -78,6 +73,27 @@ impl CoreReader for DateTimes {
     }
 }
 
+/// The reader of a date-time of RFC 3339: a date, a time and an offset.
+pub struct InternetDateTimes;
+
+impl CoreReader for InternetDateTimes {
+    ghost use Rattle.ixdtf_grammar.specs.language.Readers.CoreKind.{internet_date_time};
+
+    ghost kind = { λ profile. internet_date_time };
+
+    #[inline(always)]
+    #[tactic(auto, using(ixdtf_reading::proofs::code::OpenDateTimes::internet_date_time_open))]
+    fn parse_core<'a, T: EncodingType>(
+        cursor: &mut Cursor<'a, T>,
+        _profile: Profile,
+        found: &mut IxdtfParseRecord<'a, T>,
+    ) -> Result<AfterCore, Stop> {
+        let read = parse_internet_date_time(cursor)?;
+        read.place(found);
+        close_core(cursor)
+    }
+}
+
 /// The reader of a year and a month. The record has the first day of the month.
 pub struct YearMonths;
 
@@ -85,8 +101,6 @@ impl CoreReader for YearMonths {
     ghost use Rattle.ixdtf_grammar.specs.language.Readers.CoreKind.{year_month};
 
     ghost kind = { λ profile. year_month };
-
-    ghost is_under = { λ profile. tt };
 
     #[inline(always)]
     fn parse_core<'a, T: EncodingType>(
@@ -108,8 +122,6 @@ impl CoreReader for MonthDays {
 
     ghost kind = { λ profile. month_day profile };
 
-    ghost is_under = { λ profile. refl };
-
     #[inline(always)]
     fn parse_core<'a, T: EncodingType>(
         cursor: &mut Cursor<'a, T>,
@@ -129,8 +141,6 @@ impl CoreReader for Times {
     ghost use Rattle.ixdtf_grammar.specs.language.Readers.CoreKind.{time_of_day};
 
     ghost kind = { λ profile. time_of_day profile };
-
-    ghost is_under = { λ profile. refl };
 
     #[inline(always)]
     fn parse_core<'a, T: EncodingType>(
