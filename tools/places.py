@@ -757,29 +757,31 @@ def separator_line(field: str, through: str, goes_on: str, error: str) -> Line:
     return line(f'after_field {field}', through, goes_on, error, error)
 
 
-DATE_TIME_LINES = [
-    line('four_digits', digits(0, 3), DIGIT, abrupt('digit'), 'DateYear'),
-    line('after_four_digits', digits(4), HYPHEN, abrupt('Date'), 'DateSeparator'),
-    *number_lines('month_field', UNTIL_MONTH, MONTH, 'DateMonth', 'InvalidMonthRange'),
-    separator_line('month_field', UNTIL_MONTH + MONTH, HYPHEN, 'DateSeparator'),
-    line('field_digits day_field', UNTIL_DAY + digits(0, 1), DIGIT, abrupt('digit'), 'DateDay'),
-    whole('field_range day_field', but_not(FULL_DATE, FULL_DATE_SHAPE), 'InvalidDayRange'),
-    separator_line('day_field', FULL_DATE, TIME_LETTER, 'TimeSeparator'),
-    *number_lines('hour_field', UNTIL_HOUR, HOUR, 'TimeHour', 'TimeHour'),
-    separator_line('hour_field', UNTIL_HOUR + HOUR, COLON, 'TimeSeparator'),
-    *number_lines('minute_field', UNTIL_MINUTE, MINUTE, 'TimeMinuteSecond', 'TimeMinuteSecond'),
-    separator_line('minute_field', UNTIL_MINUTE + MINUTE, COLON, 'TimeSeparator'),
-    *number_lines('second_field', UNTIL_SECOND, two_digits(0, 60), 'TimeSecond', 'TimeSecond'),
-    line('after_field second_field', THROUGH_SECOND, '.' + SIGN + ZULU, abrupt('time-numoffset'),
-         At(',', 'FractionPart', 'OffsetNeedsSign')),
-    line('after_point', THROUGH_SECOND + r'\.', DIGIT, 'FractionPart', 'FractionPart'),
-    line('after_secfrac', THROUGH_SECOND + SECFRAC, DIGIT + SIGN + ZULU, abrupt('time-numoffset'), 'OffsetNeedsSign'),
-    *number_lines('offset_hour_field', UNTIL_OFFSET_HOUR, HOUR, 'TimeHour', 'TimeHour'),
-    separator_line('offset_hour_field', UNTIL_OFFSET_HOUR + HOUR, COLON, 'UtcTimeSeparator'),
-    *number_lines('offset_minute_field', UNTIL_OFFSET_MINUTE, MINUTE, 'TimeMinuteSecond', 'TimeMinuteSecond'),
-    line('after_field offset_minute_field', UNTIL_OFFSET_MINUTE + MINUTE, NOTHING, OK, 'InvalidEnd'),
-    line('after_utc', THROUGH_TIME + one(ZULU), NOTHING, OK, 'InvalidEnd'),
-]
+def date_time_lines(follows: str) -> list[Line]:
+    """The lines of date-times, before the end or these letters."""
+    return [
+        line('four_digits', digits(0, 3), DIGIT, abrupt('digit'), 'DateYear'),
+        line('after_four_digits', digits(4), HYPHEN, abrupt('Date'), 'DateSeparator'),
+        *number_lines('month_field', UNTIL_MONTH, MONTH, 'DateMonth', 'InvalidMonthRange'),
+        separator_line('month_field', UNTIL_MONTH + MONTH, HYPHEN, 'DateSeparator'),
+        line('field_digits day_field', UNTIL_DAY + digits(0, 1), DIGIT, abrupt('digit'), 'DateDay'),
+        whole('field_range day_field', but_not(FULL_DATE, FULL_DATE_SHAPE), 'InvalidDayRange'),
+        separator_line('day_field', FULL_DATE, TIME_LETTER, 'TimeSeparator'),
+        *number_lines('hour_field', UNTIL_HOUR, HOUR, 'TimeHour', 'TimeHour'),
+        separator_line('hour_field', UNTIL_HOUR + HOUR, COLON, 'TimeSeparator'),
+        *number_lines('minute_field', UNTIL_MINUTE, MINUTE, 'TimeMinuteSecond', 'TimeMinuteSecond'),
+        separator_line('minute_field', UNTIL_MINUTE + MINUTE, COLON, 'TimeSeparator'),
+        *number_lines('second_field', UNTIL_SECOND, two_digits(0, 60), 'TimeSecond', 'TimeSecond'),
+        line('after_field second_field', THROUGH_SECOND, '.' + SIGN + ZULU, abrupt('time-numoffset'),
+             At(',', 'FractionPart', 'OffsetNeedsSign')),
+        line('after_point', THROUGH_SECOND + r'\.', DIGIT, 'FractionPart', 'FractionPart'),
+        line('after_secfrac', THROUGH_SECOND + SECFRAC, DIGIT + SIGN + ZULU, abrupt('time-numoffset'), 'OffsetNeedsSign'),
+        *number_lines('offset_hour_field', UNTIL_OFFSET_HOUR, HOUR, 'TimeHour', 'TimeHour'),
+        separator_line('offset_hour_field', UNTIL_OFFSET_HOUR + HOUR, COLON, 'UtcTimeSeparator'),
+        *number_lines('offset_minute_field', UNTIL_OFFSET_MINUTE, MINUTE, 'TimeMinuteSecond', 'TimeMinuteSecond'),
+        line('after_field offset_minute_field', UNTIL_OFFSET_MINUTE + MINUTE, follows, OK, 'InvalidEnd'),
+        line('after_utc', THROUGH_TIME + one(ZULU), follows, OK, 'InvalidEnd'),
+    ]
 
 
 def readers(strict: bool) -> dict[str, Reader]:
@@ -791,7 +793,8 @@ def readers(strict: bool) -> dict[str, Reader]:
         'parse_year_month': bracketed_reader(YEAR_MONTH, YEAR_LINES + MONTH_LINES + YEAR_MONTH_LINES),
         'parse_month_day': bracketed_reader(month_day(strict), month_day_lines(strict)),
         'parse_time': time_reader(strict),
-        'parse_rfc3339': Reader(DATE_TIME, DATE_TIME_LINES),
+        'parse_rfc3339': Reader(DATE_TIME, date_time_lines(NOTHING)),
+        'parse_rfc9557': bracketed_reader(DATE_TIME, date_time_lines(OPENING)),
         'parse_offset': Reader(OFFSET, OFFSET_START_LINES + after_sign),
         'parse_identifier': Reader(ZONE, IDENTIFIER_LINES + NAME_ALONE_LINES + AFTER_SLASH_LINES + minute_after_sign),
         'parse_iana_identifier': Reader(NAME, IANA_LINES + NAME_ALONE_LINES + AFTER_SLASH_LINES),

@@ -17,6 +17,7 @@ use crate::parsers::months::{
     parse_month_day_date, parse_month_day_parts, parse_year_month_date, parse_year_month_parts,
 };
 use crate::parsers::offsets::{AfterCore, offset_from, take_fixed_offset};
+use crate::parsers::rfc3339::parse_internet_date_time;
 use crate::parsers::time::{Clock, TimeShape, WholeTime, parse_after_second, parse_clock};
 
 /// A type that reads cores of one kind.
@@ -42,6 +43,22 @@ impl CoreReader for DateTimes {
         found: &mut IxdtfParseRecord<'a, T>,
     ) -> Result<AfterCore, Stop> {
         parse_date_time(cursor, found)
+    }
+}
+
+/// The reader of a date-time of RFC 3339: a date, a time and an offset.
+pub struct InternetDateTimes;
+
+impl CoreReader for InternetDateTimes {
+    #[inline(always)]
+    fn parse_core<'a, T: EncodingType>(
+        cursor: &mut Cursor<'a, T>,
+        _profile: Profile,
+        found: &mut IxdtfParseRecord<'a, T>,
+    ) -> Result<AfterCore, Stop> {
+        let read = parse_internet_date_time(cursor)?;
+        read.place(found);
+        close_core(cursor)
     }
 }
 

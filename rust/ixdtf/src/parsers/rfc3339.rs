@@ -1,6 +1,8 @@
 // Made by tools/to_rust.py of crates/ixdtf_times/src/rfc3339.rt. Do not edit.
 
 //! Reading date-times of RFC 3339: at their fixed places, and number by number where these do not fit, which is an error.
+//!
+//! What may follow a date-time depends on the reader. So only [`parse_rfc3339_text`] reads the end.
 
 use crate::parsers::date_times::take_fixed_date_time;
 use crate::parsers::dates::{check_month, has_day};
@@ -17,6 +19,24 @@ use crate::classes::{
 };
 use crate::cursor::Cursor;
 use crate::stop::Stop;
+
+/// A date-time: its date, its time and its offset.
+#[derive(Clone, Copy)]
+pub struct DateTime {
+    pub date: DateRecord,
+    pub time: TimeRecord,
+    pub offset: UtcOffsetRecordOrZ,
+}
+
+impl DateTime {
+    /// Writes the parts into a record.
+    #[inline(always)]
+    pub fn place<'a, T: EncodingType>(self, found: &mut IxdtfParseRecord<'a, T>) {
+        found.date = Some(self.date);
+        found.time = Some(self.time);
+        found.offset = Some(self.offset);
+    }
+}
 
 /// Takes a colon off. The end and any other code unit are this stop.
 #[inline(always)]
@@ -94,33 +114,28 @@ fn parse_day<'a, T: EncodingType>(
     Ok(day)
 }
 
-/// Reads a time offset after its first code unit, and wants the end. The date, the time and the offset enter the record.
+/// Reads a time offset after its first code unit.
 #[inline(always)]
 fn parse_time_offset<'a, T: EncodingType>(
     cursor: &mut Cursor<'a, T>,
     date: DateRecord,
     time: TimeRecord,
     lead: u8,
-    found: &mut IxdtfParseRecord<'a, T>,
-) -> Result<(), Stop> {
-    found.date = Some(date);
-    found.time = Some(time);
+) -> Result<DateTime, Stop> {
     if is_utc_designator(lead) {
-        cursor.close()?;
-        found.offset = Some(UtcOffsetRecordOrZ::Z);
-        return Ok(());
+        let offset = UtcOffsetRecordOrZ::Z;
+        return Ok(DateTime { date, time, offset });
     }
     let offset_hour = next_number(cursor, 23, Stop::TimeHour)?;
     take_colon(cursor, Stop::UtcTimeSeparator)?;
     let offset_minute = next_number(cursor, 59, Stop::TimeMinuteSecond)?;
-    cursor.close()?;
-    let offset = MinutePrecisionOffset {
+    let minutes = MinutePrecisionOffset {
         sign: sign_from(lead),
         hour: offset_hour,
         minute: offset_minute,
     };
-    found.offset = Some(UtcOffsetRecordOrZ::Offset(UtcOffsetRecord::MinutePrecision(offset)));
-    Ok(())
+    let offset = UtcOffsetRecordOrZ::Offset(UtcOffsetRecord::MinutePrecision(minutes));
+    Ok(DateTime { date, time, offset })
 }
 
 /// Takes what a time offset begins with off, after the digits of a fraction.
@@ -142,38 +157,36 @@ fn parse_secfrac<'a, T: EncodingType>(cursor: &mut Cursor<'a, T>) -> Result<Frac
     parse_fraction(cursor)
 }
 
-/// Reads a fraction after its point and an offset after it, and wants the end.
+/// Reads a fraction after its point and an offset after it.
 #[inline(always)]
 fn parse_fractional<'a, T: EncodingType>(
     cursor: &mut Cursor<'a, T>,
     date: DateRecord,
     whole: WholeTime,
-    found: &mut IxdtfParseRecord<'a, T>,
-) -> Result<(), Stop> {
+) -> Result<DateTime, Stop> {
     let fraction = parse_secfrac(cursor)?;
     let lead = take_lead(cursor)?;
     let time = whole.with_fraction(Some(fraction));
-    parse_time_offset(cursor, date, time, lead, found)
+    parse_time_offset(cursor, date, time, lead)
 }
 
-/// Reads what follows the seconds, and wants the end: a fraction where there is one, and an offset.
+/// Reads what follows the seconds: a fraction where there is one, and an offset.
 #[inline(always)]
 fn parse_after_seconds<'a, T: EncodingType>(
     cursor: &mut Cursor<'a, T>,
     date: DateRecord,
     whole: WholeTime,
-    found: &mut IxdtfParseRecord<'a, T>,
-) -> Result<(), Stop> {
+) -> Result<DateTime, Stop> {
     match cursor.look()? {
         None => Err(Stop::AbruptOffset),
         Some(byte) if byte == b'.' => {
             cursor.advance();
-            parse_fractional(cursor, date, whole, found)
+            parse_fractional(cursor, date, whole)
         }
         Some(byte) if is_ascii_sign(byte) || is_utc_designator(byte) => {
             cursor.advance();
             let time = whole.with_fraction(None);
-            parse_time_offset(cursor, date, time, byte, found)
+            parse_time_offset(cursor, date, time, byte)
         }
         Some(byte) if is_decimal_separator(byte) => Err(Stop::FractionPart),
         Some(_) => Err(Stop::OffsetNeedsSign),
@@ -194,13 +207,12 @@ fn take_fixed_rfc3339<'a, T: EncodingType>(
 
 // ==== Number by number ====
 
-/// Reads the time after a date and its letter, and wants the end.
+/// Reads the time after a date and its letter.
 #[inline(always)]
 fn parse_time_by_numbers<'a, T: EncodingType>(
     cursor: &mut Cursor<'a, T>,
     date: DateRecord,
-    found: &mut IxdtfParseRecord<'a, T>,
-) -> Result<(), Stop> {
+) -> Result<DateTime, Stop> {
     let hour = next_number(cursor, 23, Stop::TimeHour)?;
     take_colon(cursor, Stop::TimeSeparator)?;
     let minute = next_number(cursor, 59, Stop::TimeMinuteSecond)?;
@@ -211,17 +223,16 @@ fn parse_time_by_numbers<'a, T: EncodingType>(
         minute,
         second,
     };
-    parse_after_seconds(cursor, date, whole, found)
+    parse_after_seconds(cursor, date, whole)
 }
 
-/// Reads the day after a month and its hyphen, and what follows, and wants the end.
+/// Reads the day after a month and its hyphen, and what follows.
 #[inline(always)]
 fn parse_day_by_numbers<'a, T: EncodingType>(
     cursor: &mut Cursor<'a, T>,
     year: u16,
     month: u8,
-    found: &mut IxdtfParseRecord<'a, T>,
-) -> Result<(), Stop> {
+) -> Result<DateTime, Stop> {
     let day = parse_day(cursor, year, month)?;
     take_time_letter(cursor)?;
     let date = DateRecord {
@@ -229,30 +240,37 @@ fn parse_day_by_numbers<'a, T: EncodingType>(
         month,
         day,
     };
-    parse_time_by_numbers(cursor, date, found)
+    parse_time_by_numbers(cursor, date)
 }
 
-/// Reads the month after a year and its hyphen, and what follows, and wants the end.
+/// Reads the month after a year and its hyphen, and what follows.
 #[inline(always)]
 fn parse_month_by_numbers<'a, T: EncodingType>(
     cursor: &mut Cursor<'a, T>,
     year: u16,
-    found: &mut IxdtfParseRecord<'a, T>,
-) -> Result<(), Stop> {
+) -> Result<DateTime, Stop> {
     let month = parse_month(cursor)?;
     take_date_hyphen(cursor, Stop::DateSeparator)?;
-    parse_day_by_numbers(cursor, year, month, found)
+    parse_day_by_numbers(cursor, year, month)
 }
 
-/// Reads a date-time number by number, and wants the end. It is not inlined: no text is read so that has no error.
+/// Reads a date-time number by number. It is not inlined: no text is read so that has no error.
 #[inline(never)]
-fn parse_by_numbers<'a, T: EncodingType>(
-    cursor: &mut Cursor<'a, T>,
-    found: &mut IxdtfParseRecord<'a, T>,
-) -> Result<(), Stop> {
+fn parse_by_numbers<'a, T: EncodingType>(cursor: &mut Cursor<'a, T>) -> Result<DateTime, Stop> {
     let year = parse_year(cursor)?;
     take_date_hyphen(cursor, Stop::AbruptDate)?;
-    parse_month_by_numbers(cursor, year, found)
+    parse_month_by_numbers(cursor, year)
+}
+
+/// Reads a date-time of RFC 3339.
+#[inline(always)]
+pub fn parse_internet_date_time<'a, T: EncodingType>(
+    cursor: &mut Cursor<'a, T>,
+) -> Result<DateTime, Stop> {
+    match take_fixed_rfc3339(cursor) {
+        Some((date, whole)) => parse_after_seconds(cursor, date, whole),
+        None => parse_by_numbers(cursor),
+    }
 }
 
 /// Reads a date-time of RFC 3339 into an empty record, and wants the end.
@@ -261,8 +279,8 @@ pub fn parse_rfc3339_text<'a, T: EncodingType>(
     cursor: &mut Cursor<'a, T>,
     found: &mut IxdtfParseRecord<'a, T>,
 ) -> Result<(), Stop> {
-    match take_fixed_rfc3339(cursor) {
-        Some((date, whole)) => parse_after_seconds(cursor, date, whole, found),
-        None => parse_by_numbers(cursor, found),
-    }
+    let read = parse_internet_date_time(cursor)?;
+    cursor.close()?;
+    read.place(found);
+    Ok(())
 }
