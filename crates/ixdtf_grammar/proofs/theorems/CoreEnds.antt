@@ -20,10 +20,10 @@ opens_end : (start more : Text) (critical : Bool) → Opens start critical → C
 opens_end start more true h = let same : h.3.0 ≡ 91 = opening_is h.3.0 h.3.2 in inr (h.1 ++ more, rw (h.2, h.3.1, same) refl)
 opens_end start more false h = let same : h.0 ≡ 91 = opening_is h.0 h.2 in inr (more, rw (h.1, same) refl)
 
-pub tail_ends : (text : Text) (zone : Option ZoneNote) (pairs : List Pair) → IsTail text zone pairs → CoreEnds text
-tail_ends text None [] h = inl (h.2 ∙ rw (h.3, h.4) refl)
-tail_ends text None (pair ∷ pairs) h = let p = h.4.3 in rw (h.2, h.3, h.4.2, p.is, append_assoc) (opens_end p.start _ pair.critical p.opens)
-tail_ends text (Some note) pairs h = let z = h.3 in rw (h.2, z.is, append_assoc) (opens_end z.start _ note.critical z.opens)
+pub tail_ends : (exact : Bool) (text : Text) (zone : Option ZoneNote) (pairs : List Pair) → IsTail exact text zone pairs → CoreEnds text
+tail_ends exact text None [] h = inl (h.2 ∙ rw (h.3, h.4) refl)
+tail_ends exact text None (pair ∷ pairs) h = let p = h.4.3 in rw (h.2, h.3, h.4.2, p.is, append_assoc) (opens_end p.start _ pair.critical p.opens)
+tail_ends exact text (Some note) pairs h = let z = h.3.0 in rw (h.2, z.is, append_assoc) (opens_end z.start _ note.critical z.opens)
 
 -- ---- the parts of cores
 

@@ -54,9 +54,9 @@ Apart first second = (text : Text) → Whole first text → Whole second text �
 cores_apart : (first second : CoreKind) → ((cores : Text) (core other : Core) → IsCore first cores core → IsCore second cores other → ⊥) → Apart first second
 cores_apart first second clash text (found, pairs, h) (others, marks, k) =
     let inside = core_inside first h.cores h.core h.is_core in
-    let ends = tail_ends h.brackets h.zone pairs h.is_tail in
+    let ends = tail_ends _ h.brackets h.zone pairs h.is_tail in
     let inside_too = core_inside second k.cores k.core k.is_core in
-    let ends_too = tail_ends k.brackets k.zone marks k.is_tail in
+    let ends_too = tail_ends _ k.brackets k.zone marks k.is_tail in
     let same : h.cores ≡ k.cores = same_core h.cores k.cores h.brackets k.brackets inside inside_too ends ends_too (sym h.is ∙ k.is) in
     clash h.cores h.core k.core h.is_core (rw same k.is_core)
 
@@ -117,7 +117,7 @@ same_kind profile (time_of_day first) (time_of_day second) is too text h k = ap 
 -- a core before the end or a bracket does not begin as a duration
 whole_no_duration : (profile : Profile) (kind : CoreKind) (text : Text) → Whole kind text → some (IsDuration profile) text → ⊥
 whole_no_duration profile kind text (found, pairs, h) (duration, d) =
-    let ends = tail_ends h.brackets h.zone pairs h.is_tail in
+    let ends = tail_ends _ h.brackets h.zone pairs h.is_tail in
     no_duration h.cores h.brackets d.start _ d.sign (core_inside kind h.cores h.core h.is_core) ends d.is_start (sym h.is ∙ d.is)
 
 -- ---- all of the readers

@@ -8,6 +8,14 @@ pub data CoreKind : Type 0 where
   date_time internet_date_time year_month : CoreKind
   month_day time_of_day : Profile → CoreKind
 
+-- whether a zone behind a core of the kind is exactly one of RFC 9557 section 4.1
+abbrev pub has_exact_zones : CoreKind → Bool
+has_exact_zones date_time = false
+has_exact_zones internet_date_time = true
+has_exact_zones year_month = false
+has_exact_zones (month_day profile) = false
+has_exact_zones (time_of_day profile) = false
+
 -- the readers: of a core and the brackets after it, of a date-time of RFC 3339, of an offset, of a time zone, of the name of
 -- one, and of a duration under a profile
 pub data Reader : Type 0 where

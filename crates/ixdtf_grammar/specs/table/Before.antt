@@ -1,9 +1,9 @@
 -- Where a line is looked at: what stands before its front in a reader, and what the text has from the front on.
-use Rattle.std.specs.Prelude.{◌≡◌, ◌≢◌, ◌⊎◌, List, [], ◌++◌, Option}
+use Rattle.std.specs.Prelude.{◌≡◌, ◌≢◌, ◌⊎◌, IsTrue, List, [], ◌++◌, Option}
 use Rattle.ixdtf_grammar.specs.{declared.profile.Profile.Profile, language.Letters.{Text, sign, date_time_separator, time_letter, opening}}
 use Rattle.ixdtf_grammar.specs.language.{Shapes.{Shape, nothing, one, ◌then◌, ◌either◌, some, anything}, Dates.IsDate, Months.IsMonthDay, Times.IsTime}
 use Rattle.ixdtf_grammar.specs.language.{Times.Clock.{Time, Offset, MinuteOffset}, Brackets.{ZoneNote, Opens, ReadsAsName, ReadsAsPair, Pair, IsTail}}
-use Rattle.ixdtf_grammar.specs.language.{Cores.{TimeMark, MarkedTime, BeginsWith, IsCore}, Readers.{Reader, CoreKind}}
+use Rattle.ixdtf_grammar.specs.language.{Cores.{TimeMark, MarkedTime, BeginsWith, IsCore}, Readers.{Reader, CoreKind, has_exact_zones}}
 use Rattle.ixdtf_grammar.specs.language.Readers.CoreKind.{date_time, internet_date_time, year_month, month_day, time_of_day}
 use Rattle.ixdtf_grammar.specs.language.Readers.Reader.{bracketed, parse_rfc3339, parse_offset, parse_identifier, parse_iana_identifier, parse_duration}
 use Rattle.ixdtf_grammar.specs.table.LineNames.{DateLine, MonthDayLine, TimeLine, CoreLine, ClockLine, OffsetLine, LineName, DateLine.year_start}
@@ -16,7 +16,7 @@ use Rattle.ixdtf_grammar.specs.table.LineNames.{CoreLine.{dates, year_months, mo
 use Rattle.ixdtf_grammar.specs.table.LineNames.ClockLine.{minute_digits, minute_range, after_basic_minute, after_colon_minute, second_digits, second_range}
 use Rattle.ixdtf_grammar.specs.table.LineNames.{ClockLine.{after_second, fraction_start, after_fraction}, OffsetLine.{offset_start, after_zulu}}
 use Rattle.ixdtf_grammar.specs.table.LineNames.ZoneLine.{identifier_start, zone_name_start, in_zone_name, after_zone_slash}
-use Rattle.ixdtf_grammar.specs.table.LineNames.BracketLine.{first_bracket_start, first_critical_start, first_bracket_scan, after_bracket}
+use Rattle.ixdtf_grammar.specs.table.LineNames.BracketLine.{first_bracket_start, first_critical_start, first_bracket_scan, first_name_form, first_offset_form, after_bracket}
 use Rattle.ixdtf_grammar.specs.table.LineNames.PairLine.{key_start, critical_key_start, in_key, value_start, in_value, after_value_hyphen}
 use Rattle.ixdtf_grammar.specs.table.LineNames.LineName.{of_core, of_clock, of_offset, of_date_time, of_zone, of_bracket, of_pair, of_duration}
 
@@ -163,7 +163,7 @@ Opened kind = some (IsCore kind) then some Opens
 abbrev pub Bracketed : CoreKind → List Pair → Text → Type 0
 Bracketed kind pairs before =
     (cores brackets : Text) × (before ≡ cores ++ brackets) × some (IsCore kind) cores
-    × (zone : Option ZoneNote) × IsTail brackets zone pairs × (brackets ≢ [])
+    × (zone : Option ZoneNote) × IsTail (has_exact_zones kind) brackets zone pairs × (brackets ≢ [])
 
 -- what stands before a key: a first bracket's opening, where what begins is a key, or that of another bracket
 abbrev pub BeforeKey : CoreKind → List Pair → Text → Text → Type 0
@@ -184,6 +184,8 @@ BeforeBracketed kind (of_zone after_zone_slash) pairs before rest = (Opened kind
 BeforeBracketed kind (of_bracket first_bracket_start) pairs before rest = some (IsCore kind) before × (pairs ≡ [])
 BeforeBracketed kind (of_bracket first_critical_start) pairs before rest = some (IsCore kind) before × (pairs ≡ [])
 BeforeBracketed kind (of_bracket first_bracket_scan) pairs before rest = Opened kind before × (pairs ≡ [])
+BeforeBracketed kind (of_bracket first_name_form) pairs before rest = (some (IsCore kind) before × IsTrue (has_exact_zones kind)) × (pairs ≡ [])
+BeforeBracketed kind (of_bracket first_offset_form) pairs before rest = (some (IsCore kind) before × IsTrue (has_exact_zones kind)) × (pairs ≡ [])
 BeforeBracketed kind (of_bracket after_bracket) pairs before rest = Bracketed kind pairs before
 BeforeBracketed kind (of_pair key_start) pairs before rest = Bracketed kind pairs before
 BeforeBracketed kind (of_pair critical_key_start) pairs before rest = Bracketed kind pairs before
