@@ -7,4 +7,5 @@
 #![tactic(auto)]
 
 pub mod brackets;
+pub mod exact;
 pub mod zone;

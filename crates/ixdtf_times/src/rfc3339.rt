@@ -265,8 +265,7 @@ fn take_fixed_rfc3339<'a, T: EncodingType>(
     ensures read { IfSome result (λ found. date_time_by error_of open_end (map T.letter cursor.old.rest) ≡
         after_whole_second_at error_of open_end found.0 found.1.hour found.1.minute found.1.second (map T.letter cursor.new.rest)) }
     ensures rest { result ≡ None → cursor.new.rest ≡ cursor.old.rest }
-    ensures few { cursor.new.looks ≤ cursor.old.looks + 20 }
-    ensures looks { Spends (length cursor.old.rest + 1) cursor.old cursor.new }
+    ensures looks { Spends 20 cursor.old cursor.new }
 {
     if !is_time_designator(cursor.byte_at(10)) {
         return None;
@@ -355,7 +354,7 @@ pub fn parse_internet_date_time<'a, T: EncodingType>(
 ) -> Result<DateTime, Stop>
     ensures date_time { Reads T.letter core_read cursor.old result cursor.new
         (date_time_by error_of open_end) }
-    ensures looks { Spends (length cursor.old.rest + 13) cursor.old cursor.new }
+    ensures looks { Spends 32 cursor.old cursor.new }
 {
     match take_fixed_rfc3339(cursor) {
         Some((date, whole)) => parse_after_seconds(cursor, date, whole),
@@ -373,7 +372,7 @@ pub fn parse_rfc3339_text<'a, T: EncodingType>(
     requires empty { IsEmptyRecord found.old }
     ensures date_time { Reads T.letter (λ _. parsed_of T.number found.new) cursor.old result cursor.new
         (rfc_3339_at error_of) }
-    ensures looks { Spends (length cursor.old.rest + 14) cursor.old cursor.new }
+    ensures looks { Spends 33 cursor.old cursor.new }
 {
     let read = parse_internet_date_time(cursor)?;
     cursor.close()?;

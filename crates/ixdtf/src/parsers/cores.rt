@@ -6,7 +6,8 @@ ghost use Rattle.ixdtf_grammar.specs.declared.records.TimeRecord.{TimeRecord};
 ghost use Rattle.ixdtf_grammar.specs.language.Letters.{Text};
 ghost use Rattle.ixdtf_grammar.specs.language.Times.Clock.{Time as of_day};
 ghost use Rattle.ixdtf_grammar.specs.language.Cores.{Core};
-ghost use Rattle.ixdtf_grammar.specs.language.Readers.{CoreKind};
+ghost use Rattle.ixdtf_grammar.specs.language.Readers.{CoreKind, has_exact_zones as exact_zones};
+ghost use Rattle.ixdtf.specs.Readings.{core_looks};
 ghost use Rattle.ixdtf_grammar.specs.language.Readers.CoreKind.{date_time};
 ghost use Rattle.ixdtf_grammar.specs.table.LineNames.{LineName};
 ghost use Rattle.ixdtf_reading.specs.reading.Clauses.{Reads, Spends, SpendsOr, YieldsAt, core_in, KeepsBrackets, timed_core_at};
@@ -52,7 +53,11 @@ pub trait CoreReader {
         ensures core { Reads T.letter (λ after. (core_in found.new, opens_bracket after)) cursor.old result
             cursor.new (core_at error_of (kind profile)) }
         ensures kept { KeepsBrackets found.old found.new }
-        ensures looks { Spends (length cursor.old.rest + 37) cursor.old cursor.new };
+        ensures looks { Spends (core_looks (exact_zones (kind profile)) (length cursor.old.rest)) cursor.old cursor.new };
+
+    /// Returns whether a zone behind the core has to be exactly one of RFC 9557.
+    fn has_exact_zones() -> bool
+        ensures { (profile : Profile) → result ≡ exact_zones (kind profile) };
 }
 
 /// The reader of a date, with a time and an offset if the text has them.
@@ -70,6 +75,11 @@ impl CoreReader for DateTimes {
         found: &mut IxdtfParseRecord<'a, T>,
     ) -> Result<AfterCore, Stop> {
         parse_date_time(cursor, found)
+    }
+
+    #[inline(always)]
+    fn has_exact_zones() -> bool {
+        false
     }
 }
 
@@ -92,6 +102,11 @@ impl CoreReader for InternetDateTimes {
         read.place(found);
         close_core(cursor)
     }
+
+    #[inline(always)]
+    fn has_exact_zones() -> bool {
+        true
+    }
 }
 
 /// The reader of a year and a month. The record has the first day of the month.
@@ -112,6 +127,11 @@ impl CoreReader for YearMonths {
         found.date = Some(date);
         close_core(cursor)
     }
+
+    #[inline(always)]
+    fn has_exact_zones() -> bool {
+        false
+    }
 }
 
 /// The reader of a month and a day. The record has the year 0.
@@ -131,6 +151,11 @@ impl CoreReader for MonthDays {
         let date = parse_month_day_date(cursor, profile)?;
         found.date = Some(date);
         close_core(cursor)
+    }
+
+    #[inline(always)]
+    fn has_exact_zones() -> bool {
+        false
     }
 }
 
@@ -160,6 +185,11 @@ impl CoreReader for Times {
                 Ok(after)
             }
         }
+    }
+
+    #[inline(always)]
+    fn has_exact_zones() -> bool {
+        false
     }
 }
 
