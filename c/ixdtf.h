@@ -73,7 +73,7 @@ extern "C" {
 /* The version of the interface that this header describes. */
 #define IXDTF_INTERFACE_VERSION 2
 /* How many times functions or numbers were added within this version. */
-#define IXDTF_INTERFACE_REVISION 1
+#define IXDTF_INTERFACE_REVISION 2
 
 /* The caller must test the result of a call: if it is an error, there is no new record. */
 #if defined(__cplusplus) && __cplusplus >= 201703L
@@ -139,10 +139,13 @@ enum {
     IXDTF_INVALID_MONTH_DAY = 46
 };
 
-/* The numbers that ixdtf_print returns besides IXDTF_OK. They are not errors of a text. */
+/* The numbers that printers, ixdtf_instant and ixdtf_duration_fraction return besides IXDTF_OK. They
+ * are not errors of a text. */
 enum {
-    IXDTF_NOT_PRINTABLE = 101, /* ixdtf_parse gives this record for no text */
-    IXDTF_TOO_SHORT = 102      /* `room` is less than the length of the text, which is in `count` */
+    IXDTF_NOT_PRINTABLE = 101, /* the reader of such texts gives this record for no text */
+    IXDTF_TOO_SHORT = 102,     /* `room` is less than the length of the text, which is in `count` */
+    IXDTF_NO_INSTANT = 103,    /* the record has no date, no time, or no offset */
+    IXDTF_NOT_EXACT = 104      /* the fraction is no whole number of nanoseconds, or is not known */
 };
 
 /* A slice of bytes that are valid as long as the program runs. They need not end in a zero. */
@@ -293,6 +296,10 @@ IXDTF_CHECKED_ uint32_t ixdtf_parse_month_day(const uint8_t *text, size_t length
     ixdtf_record *out);
 /* Reads a time, such as T12:30. */
 IXDTF_CHECKED_ uint32_t ixdtf_parse_time(const uint8_t *text, size_t length, ixdtf_record *out);
+/* Reads a date-time of RFC 3339, section 5.6, such as 2024-03-02T08:48:00.25-05:00, and accepts no
+ * other text. ixdtf_parse accepts each of these texts too, and writes the same record. After 0, the
+ * date, the time and the offset are present, and no other part is. */
+IXDTF_CHECKED_ uint32_t ixdtf_parse_rfc3339(const uint8_t *text, size_t length, ixdtf_record *out);
 /* Reads an offset, such as +05:30, into `offset`. After 0, its form is IXDTF_MINUTES or
  * IXDTF_SECONDS, and no other part is present. */
 IXDTF_CHECKED_ uint32_t ixdtf_parse_offset(const uint8_t *text, size_t length, ixdtf_record *out);
@@ -371,7 +378,20 @@ IXDTF_CHECKED_ uint32_t ixdtf_reply(ixdtf_calendar *calendar, const ixdtf_annota
 IXDTF_CHECKED_ uint32_t ixdtf_print(const ixdtf_record *record, uint8_t *out, size_t room,
     size_t *count);
 
-/* The same functions for 16-bit text. There is no such function for ixdtf_print. A code unit outside
+/* Prints a duration as its one canonical text, such as -P1Y2DT3H0.5M, in ASCII. What the function
+ * returns and writes is what ixdtf_print returns and writes. ixdtf_parse_duration reads this text as
+ * the same duration, and no other duration has this canonical text. The text begins with - if the
+ * duration is negative. It has each unit that is not 0, and 0D if all numbers of the date are 0. The
+ * last unit of the time is always written: PT0H and PT0S are two durations.
+ * If ixdtf_parse_duration wrote the duration for a text of n bytes, it is always printed if `room` is
+ * at least n. A canonical text of a duration has at most 406 bytes.
+ * You can also write the fields of a duration yourself. IXDTF_NOT_PRINTABLE says that it has neither
+ * a date nor a time, or a `time_form` that is not named above, or a fraction whose number has more
+ * digits than `fraction_digits` says. */
+IXDTF_CHECKED_ uint32_t ixdtf_print_duration(const ixdtf_duration *duration, uint8_t *out,
+    size_t room, size_t *count);
+
+/* The same functions for 16-bit text. There is no such function for a printer. A code unit outside
  * 1 to 126 stands for no character. If a reader needs a character and comes to such a code unit, the
  * error is IXDTF_NON_ASCII_CODE_POINT. */
 IXDTF_CHECKED_ uint32_t ixdtf16_parse(const uint16_t *text, size_t length, ixdtf16_record *out);
@@ -380,6 +400,8 @@ IXDTF_CHECKED_ uint32_t ixdtf16_parse_year_month(const uint16_t *text, size_t le
 IXDTF_CHECKED_ uint32_t ixdtf16_parse_month_day(const uint16_t *text, size_t length,
     ixdtf16_record *out);
 IXDTF_CHECKED_ uint32_t ixdtf16_parse_time(const uint16_t *text, size_t length,
+    ixdtf16_record *out);
+IXDTF_CHECKED_ uint32_t ixdtf16_parse_rfc3339(const uint16_t *text, size_t length,
     ixdtf16_record *out);
 IXDTF_CHECKED_ uint32_t ixdtf16_parse_offset(const uint16_t *text, size_t length,
     ixdtf16_record *out);
@@ -432,6 +454,33 @@ IXDTF_CHECKED_ uint32_t ixdtf_nanoseconds(uint64_t fraction, uint8_t digits);
  * is 0 for Z and if there is no offset. */
 IXDTF_CHECKED_ int32_t ixdtf_offset_seconds(const ixdtf_offset *offset);
 
+/* Writes the instant of a record: how many seconds it is after 1970-01-01T00:00:00Z, rounded down,
+ * and how many nanoseconds after that, from 0 to 999999999. Before 1970, the seconds are below 0.
+ * Leap seconds are not counted: each day has 86400 seconds. The function returns one of these:
+ * - IXDTF_OK: the instant was written.
+ * - IXDTF_NO_INSTANT: the record has no date, no time, or neither an offset nor Z. Then nothing is
+ *   written.
+ * The instant is the local time minus the offset. The time zone in brackets and the calendar do not
+ * matter. Digits of a fraction after the ninth are dropped. The second 60 is the same instant as
+ * the second 59, with the same fraction.
+ * If you write the fields of the record yourself, a day, an hour, a minute or an offset that is out
+ * of range is counted on, and a second above 59 is 59. The result is IXDTF_NO_INSTANT if the month
+ * is not 1 to 12, or if a fraction or a `form` is one that no reader writes. */
+IXDTF_CHECKED_ uint32_t ixdtf_instant(const ixdtf_record *record, int64_t *seconds,
+    uint32_t *nanoseconds);
+IXDTF_CHECKED_ uint32_t ixdtf16_instant(const ixdtf16_record *record, int64_t *seconds,
+    uint32_t *nanoseconds);
+
+/* Writes what the fraction of a duration is in whole seconds, and in nanoseconds after them, from 0
+ * to 999999999. The fraction is a part of the last duration unit: 0.5 of PT1.5H is 1800 seconds. Both
+ * numbers are 0 if the duration has no fraction. The sign of the duration does not matter. The
+ * function returns one of these:
+ * - IXDTF_OK: the two numbers are exactly the fraction.
+ * - IXDTF_NOT_EXACT: the fraction is no whole number of nanoseconds, as in PT0.0000000001S, or it has
+ *   more than 18 digits, of which the record has only the first 18. Then nothing is written. */
+IXDTF_CHECKED_ uint32_t ixdtf_duration_fraction(const ixdtf_duration *duration, uint32_t *seconds,
+    uint32_t *nanoseconds);
+
 /* Writes the calendar that ixdtf_reply kept into a record, or writes that there is none. */
 void ixdtf_keep_calendar(ixdtf_record *record, const ixdtf_calendar *calendar);
 void ixdtf16_keep_calendar(ixdtf16_record *record, const ixdtf16_calendar *calendar);
@@ -439,6 +488,10 @@ void ixdtf16_keep_calendar(ixdtf16_record *record, const ixdtf16_calendar *calen
 /* Returns how many bytes ixdtf_print writes for the record if there is enough room. The result is 0
  * if the record is not printable, or if its text is longer than SIZE_MAX. */
 IXDTF_CHECKED_ size_t ixdtf_printed_length(const ixdtf_record *record);
+
+/* Returns how many bytes ixdtf_print_duration writes for the duration if there is enough room. The
+ * result is 0 if the duration is not printable. */
+IXDTF_CHECKED_ size_t ixdtf_printed_duration_length(const ixdtf_duration *duration);
 
 /* Returns the version of the interface that the library has. */
 IXDTF_CHECKED_ uint32_t ixdtf_interface_version(void);
@@ -457,6 +510,7 @@ IXDTF_CHECKED_ uint32_t ixdtf_interface_version(void);
     one(ixdtf_parse_year_month, ixdtf_record) \
     one(ixdtf_parse_month_day, ixdtf_record) \
     one(ixdtf_parse_time, ixdtf_record) \
+    one(ixdtf_parse_rfc3339, ixdtf_record) \
     one(ixdtf_parse_offset, ixdtf_record) \
     one(ixdtf_parse_identifier, ixdtf_record) \
     one(ixdtf_parse_iana_identifier, ixdtf_record) \
@@ -493,8 +547,8 @@ static inline const char *ixdtf_error_name(uint32_t error) {
 }
 
 /* Returns the text of an error, such as "Invalid character while parsing month value.". For the
- * errors of texts, it is the text that ixdtf_error_text writes. The errors of ixdtf_print have a
- * text too. For any other number, the result is "". */
+ * errors of texts, it is the text that ixdtf_error_text writes. The numbers that other
+ * functions return have a text too. For any other number, the result is "". */
 static inline const char *ixdtf_error_message(uint32_t error) {
     switch (error) {
     case IXDTF_IMPL_ASSERT:
@@ -593,6 +647,10 @@ static inline const char *ixdtf_error_message(uint32_t error) {
         return "No text stands for the record.";
     case IXDTF_TOO_SHORT:
         return "There is less room than the text takes.";
+    case IXDTF_NO_INSTANT:
+        return "The record has no instant.";
+    case IXDTF_NOT_EXACT:
+        return "The fraction is not known as a whole number of nanoseconds.";
     default:
         return "";
     }

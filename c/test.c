@@ -232,7 +232,7 @@ static char *cell(char **line) {
 static const char *reader_word(const char *name) {
     static const char *words[][2] = {
         { "parse_year_month", "year-month" }, { "parse_month_day", "month-day" }, { "parse_time", "time" }, { "parse_offset", "offset" },
-        { "parse_identifier", "zone" }, { "parse_iana_identifier", "iana" },
+        { "parse_identifier", "zone" }, { "parse_iana_identifier", "iana" }, { "parse_rfc3339", "rfc3339" },
     };
     size_t i;
     for (i = 0; i < COUNT(words); i++) {
@@ -257,6 +257,25 @@ static struct place_row place_row(char *line) {
     return row;
 }
 
+/* Texts with their instants. The seconds are those of `date -u +%s` of GNU, and of the limits of ECMAScript's Date. */
+static const struct { const char *text; uint32_t result; int64_t seconds; uint32_t nanoseconds; } instant_rows[] = {
+    { "1970-01-01T00:00:00Z", IXDTF_OK, 0, 0 },
+    { "2024-03-02T08:48:00.25Z", IXDTF_OK, 1709369280, 250000000 },
+    { "2024-03-02T08:48:00.25-05:00[America/New_York][u-ca=hebrew]", IXDTF_OK, 1709387280, 250000000 },
+    { "1969-12-31T23:59:59.5Z", IXDTF_OK, -1, 500000000 },
+    { "2016-12-31T23:59:60.75Z", IXDTF_OK, 1483228799, 750000000 },
+    { "1900-03-01T00:00Z", IXDTF_OK, -2203891200, 0 },
+    { "2000-02-29T12:30:15+05:30", IXDTF_OK, 951807615, 0 },
+    { "0001-01-01T00:00:00Z", IXDTF_OK, -62135596800, 0 },
+    { "9999-12-31T23:59:59.999999999999Z", IXDTF_OK, 253402300799, 999999999 },
+    { "-271821-04-20T00:00Z", IXDTF_OK, -8640000000000, 0 },
+    { "+275760-09-13T00:00Z", IXDTF_OK, 8640000000000, 0 },
+    { "1970-01-01T00:00:00.1-00:00:00.9", IXDTF_OK, 1, 0 },
+    { "1970-01-01T00:00:00.1+00:00:00.2", IXDTF_OK, -1, 900000000 },
+    { "2024-03-02", IXDTF_NO_INSTANT, 0, 0 },
+    { "2024-03-02T08:48[UTC]", IXDTF_NO_INSTANT, 0, 0 },
+};
+
 #define UNIT uint8_t
 #define CALL(name) ixdtf_##name
 #define OWN(name) narrow_##name
@@ -274,7 +293,7 @@ static struct place_row place_row(char *line) {
 #include "test_width.h"
 
 static void test_errors(void) {
-    static const uint32_t others[] = { 0, 47, 100, 101, 102, 103, 0x80000000u, 0xffffffffu };
+    static const uint32_t others[] = { 0, 47, 100, 101, 102, 103, 104, 105, 0x80000000u, 0xffffffffu };
     size_t i;
     check(COUNT(error_rows) == 46, "there are 46 errors");
     for (i = 0; i < COUNT(error_rows); i++) {
@@ -292,9 +311,10 @@ static void test_errors(void) {
         text.length = 4;
         ixdtf_error_text(others[i], &text);
         check(text.length == 0 && text.at != NULL, "another number has the empty text");
-        check((ixdtf_error_message(others[i])[0] != 0) == (others[i] == 101 || others[i] == 102), "what printing returns has a message, and no other number");
+        check((ixdtf_error_message(others[i])[0] != 0) == (others[i] >= 101 && others[i] <= 104), "what calls return has a message, and no other number");
         check(!strcmp(ixdtf_error_name(others[i]), others[i] == 0 ? "IXDTF_OK" : others[i] == 101 ? "IXDTF_NOT_PRINTABLE"
-                      : others[i] == 102 ? "IXDTF_TOO_SHORT" : ""), "another number has no name, but for those that are named");
+                      : others[i] == 102 ? "IXDTF_TOO_SHORT" : others[i] == 103 ? "IXDTF_NO_INSTANT"
+                      : others[i] == 104 ? "IXDTF_NOT_EXACT" : ""), "another number has no name, but for those that are named");
     }
 }
 
@@ -306,7 +326,7 @@ static void test_names(void) {
         ixdtf_error_constant(number, &name);
         check(name.at != NULL && name.at[name.length] == 0 && name.length == strlen(name.at), "a zero stands behind a name");
         check(!strcmp(name.at, ixdtf_error_name(number)), "the name of the library is that of the header");
-        check((name.length != 0) == (number <= 46 || number == 101 || number == 102), "what a call returns has a name, and no other number");
+        check((name.length != 0) == (number <= 46 || (number >= 101 && number <= 104)), "what a call returns has a name, and no other number");
     }
 }
 
@@ -382,6 +402,7 @@ static void test_texts(void) {
     static const char *const texts[] = {
         "", "2024-03-02T08:48:00-05:00[Europe/Paris][u-ca=hebrew][a=b]", "2024-03-02[!a=b]", "2024-11[u-ca=iso8601]", "11-00[a=b]", "--11-07[a=b][c=d]",
         "T12:30:45.25+01[x=y]", "1200", "+05:30", "-05:00:30.5", "Europe/Berlin", "P1Y2Y", "-P1DT2H0.5M", "2024-", "2024-03-0x",
+        "2024-03-02T08:48:00.25-05:00",
     };
     size_t i;
     uint32_t error;
@@ -391,6 +412,7 @@ static void test_texts(void) {
         READ_RECORD_ALIKE(ixdtf_parse_year_month);
         READ_RECORD_ALIKE(ixdtf_parse_month_day);
         READ_RECORD_ALIKE(ixdtf_parse_time);
+        READ_RECORD_ALIKE(ixdtf_parse_rfc3339);
         READ_RECORD_ALIKE(ixdtf_parse_offset);
         READ_RECORD_ALIKE(ixdtf_parse_identifier);
         READ_RECORD_ALIKE(ixdtf_parse_iana_identifier);
@@ -432,9 +454,6 @@ static void test_places(const char *path) {
     while (fgets(line, sizeof line, lines) != NULL) {
         struct place_row row = place_row(line);
         row_shown = row.text;
-        if (strcmp(row.reader, "parse_rfc3339") == 0) {
-            continue; /* no function of this library reads RFC 3339 alone */
-        }
         if (row.width == 1) {
             narrow_test_place(&row);
         }
@@ -548,6 +567,121 @@ static void test_printed(const ixdtf_record *record, uint32_t wanted, const char
     }
     check(ixdtf_printed_length(record) == length, "the length of what is printed, and 0 where nothing is");
     check(narrow_same_but_error(&before, record) && same_text(before.location, record->location) && before.place == record->place, "a record that is printed stays");
+}
+
+/* What ixdtf_print_duration gives of a duration, for every room up to one more than the text takes. */
+static void test_printed_duration(const ixdtf_duration *duration, uint32_t wanted, const char *canonical) {
+    size_t length = strlen(canonical), places, i;
+    for (places = 0; places <= length + 1; places++) {
+        uint8_t *out = room + ROOM - places;
+        size_t count = 7;
+        uint32_t error, found = wanted == IXDTF_OK && places < length ? (uint32_t)IXDTF_TOO_SHORT : wanted;
+        memset(room, 0xa5, ROOM);
+        error = ixdtf_print_duration(duration, out, places, &count);
+        check(error == found, "what printing a duration returns");
+        check(count == (wanted == IXDTF_OK ? length : 7), "the count of what is printed");
+        check(error != IXDTF_OK || !memcmp(out, canonical, length), "the canonical text of a duration");
+        for (i = error == IXDTF_OK ? length : 0; i < places; i++) {
+            check(out[i] == 0xa5, "the other bytes stay");
+        }
+        check(places == ROOM || out[-1] == 0xa5, "nothing before the bytes is written");
+    }
+    check(ixdtf_printed_duration_length(duration) == length, "the length of what is printed, and 0 where nothing is");
+}
+
+/* Texts of durations and their canonical texts, written out by the rules of docs/GRAMMAR.md; and durations that are filled in by hand. */
+static void test_durations(void) {
+    static const struct { const char *text, *canonical; } texts[] = {
+        { "+p1y0m03dt04,50m", "P1Y3DT4.50M" }, { "-P0Y", "-P0D" }, { "P0WT0H0S", "P0DT0S" }, { "PT0H", "PT0H" }, { "PT0H0M", "PT0M" },
+        { "P1Y2Y", "P2Y" }, { "-P1Y2M3W4DT5H6M7.890S", "-P1Y2M3W4DT5H6M7.890S" }, { "PT0.000000000000000001H", "PT0.000000000000000001H" },
+        { "P00018446744073709551615D", "P18446744073709551615D" }, { "pt18446744073709551615h0m0,0s", "PT18446744073709551615H0.0S" },
+        { "P4294967295Y4294967295M4294967295W", "P4294967295Y4294967295M4294967295W" }, { "PT1.1234567890123456789S", "PT1.1234567890123456780S" },
+    };
+    ixdtf_duration full = IXDTF_DURATION, it;
+    size_t i;
+    for (i = 0; i < COUNT(texts); i++) {
+        ixdtf_duration duration = used_duration();
+        row_shown = texts[i].text;
+        check(ixdtf_parse_duration_text(texts[i].text, &duration) == IXDTF_OK, "a duration that is printed");
+        test_printed_duration(&duration, IXDTF_OK, texts[i].canonical);
+    }
+    test_printed_duration(&full, IXDTF_NOT_PRINTABLE, "");
+    memset(&it, 0, sizeof it);
+    test_printed_duration(&it, IXDTF_NOT_PRINTABLE, "");
+    check(ixdtf_parse_duration_text("P1DT2H3M4.5S", &full) == IXDTF_OK, "a duration with a date and a time");
+#define CHANGED(change, wanted, text) \
+    it = full; \
+    change; \
+    row_shown = #change; \
+    test_printed_duration(&it, wanted, text)
+    CHANGED(it.has_date = false, IXDTF_OK, "PT2H3M4.5S");
+    CHANGED(it.time_form = IXDTF_NO_TIME, IXDTF_OK, "P1D");
+    CHANGED((it.time_form = IXDTF_NO_TIME, it.fraction = UINT64_MAX), IXDTF_OK, "P1D");
+    CHANGED((it.has_date = false, it.time_form = IXDTF_NO_TIME), IXDTF_NOT_PRINTABLE, "");
+    CHANGED(it.time_form = IXDTF_LAST_HOURS, IXDTF_OK, "P1DT2.5H");
+    CHANGED(it.time_form = IXDTF_LAST_MINUTES, IXDTF_OK, "P1DT2H3.5M");
+    CHANGED(it.time_form = 4, IXDTF_NOT_PRINTABLE, "");
+    CHANGED(it.time_form = 255, IXDTF_NOT_PRINTABLE, "");
+    CHANGED(it.fraction = 10, IXDTF_NOT_PRINTABLE, "");
+    CHANGED((it.fraction = 10, it.fraction_digits = 0), IXDTF_OK, "P1DT2H3M4S");
+    CHANGED(it.fraction_digits = 3, IXDTF_OK, "P1DT2H3M4.005S");
+    CHANGED(it.is_negative = true, IXDTF_OK, "-P1DT2H3M4.5S");
+    CHANGED((it.location.at = behind, it.location.length = 4, it.place = 99), IXDTF_OK, "P1DT2H3M4.5S");
+#undef CHANGED
+    row_shown = "";
+    for (i = 0; i < COUNT(rows); i++) {
+        ixdtf_duration duration = IXDTF_DURATION, again = IXDTF_DURATION;
+        ixdtf_record none = IXDTF_RECORD;
+        struct line line;
+        uint8_t out[1024];
+        size_t count = 0;
+        row_shown = rows[i].text;
+        if (strcmp(rows[i].reader, "duration") || rows[i].length > sizeof out
+            || ixdtf_parse_duration((const uint8_t *)rows[i].text, rows[i].length, &duration) != IXDTF_OK) {
+            continue;
+        }
+        check(ixdtf_print_duration(&duration, out, rows[i].length, &count) == IXDTF_OK && count <= rows[i].length, "a duration that was read is printed");
+        check(ixdtf_parse_duration(out, count, &again) == IXDTF_OK, "what is printed is read");
+        narrow_show_outcome(&line, "duration", 0, &none, &again);
+        is(line.text, rows[i].answer, "what is printed", rows[i].text);
+    }
+    row_shown = "";
+}
+
+/* Durations, and their fractions in seconds and nanoseconds, which were reckoned by hand. */
+static void test_last_fractions(void) {
+    static const struct { const char *text; uint32_t result, seconds, nanoseconds; } texts[] = {
+        { "P1D", IXDTF_OK, 0, 0 }, { "PT5H", IXDTF_OK, 0, 0 }, { "PT1.5H", IXDTF_OK, 1800, 0 }, { "-PT1,5M", IXDTF_OK, 30, 0 }, { "PT0.5S", IXDTF_OK, 0, 500000000 },
+        { "PT1.000000001S", IXDTF_OK, 0, 1 }, { "PT1.0000000001S", IXDTF_NOT_EXACT, 0, 0 }, { "PT1.0000000010S", IXDTF_OK, 0, 1 },
+        { "PT0.999999999H", IXDTF_OK, 3599, 999996400 }, { "PT0.0000000001H", IXDTF_OK, 0, 360 }, { "PT0.0000000000001H", IXDTF_NOT_EXACT, 0, 0 },
+        { "PT0.0000000025H", IXDTF_OK, 0, 9000 }, { "PT0.00000000025H", IXDTF_OK, 0, 900 }, { "PT0.0000000000025H", IXDTF_OK, 0, 9 },
+        { "PT0.333333333333333333H", IXDTF_NOT_EXACT, 0, 0 }, { "PT0.999999999999999999S", IXDTF_NOT_EXACT, 0, 0 },
+        { "PT0.123456789000000000S", IXDTF_OK, 0, 123456789 }, { "PT0.500000000000000000M", IXDTF_OK, 30, 0 }, { "PT0.5000000000000000000M", IXDTF_NOT_EXACT, 0, 0 },
+        { "PT0.000000000000000000H", IXDTF_OK, 0, 0 }, { "PT18446744073709551615.75H", IXDTF_OK, 2700, 0 },
+    };
+    ixdtf_duration it = IXDTF_DURATION;
+    size_t i;
+    uint32_t seconds, nanoseconds;
+    for (i = 0; i < COUNT(texts); i++) {
+        ixdtf_duration duration = used_duration();
+        row_shown = texts[i].text;
+        seconds = 77;
+        nanoseconds = 78;
+        check(ixdtf_parse_duration_text(texts[i].text, &duration) == IXDTF_OK, "a duration with a fraction");
+        check(ixdtf_duration_fraction(&duration, &seconds, &nanoseconds) == texts[i].result, "whether a fraction is exact");
+        check(seconds == (texts[i].result == IXDTF_OK ? texts[i].seconds : 77) && nanoseconds == (texts[i].result == IXDTF_OK ? texts[i].nanoseconds : 78),
+            "the fraction of the last unit, or nothing");
+    }
+    row_shown = "";
+    it.time_form = IXDTF_LAST_SECONDS;
+    it.fraction = 10;
+    it.fraction_digits = 1;
+    check(ixdtf_duration_fraction(&it, &seconds, &nanoseconds) == IXDTF_NOT_EXACT, "a number with more digits than it says is no fraction");
+    it.time_form = IXDTF_NO_TIME;
+    check(ixdtf_duration_fraction(&it, &seconds, &nanoseconds) == IXDTF_OK && seconds == 0 && nanoseconds == 0, "without a time there is no fraction");
+    it.time_form = IXDTF_LAST_HOURS;
+    it.fraction_digits = 0;
+    check(ixdtf_duration_fraction(&it, &seconds, &nanoseconds) == IXDTF_OK && seconds == 0 && nanoseconds == 0, "no digits are no fraction");
 }
 
 /* A calendar that was kept is printed with the record, and a place for one that was not has none. */
@@ -758,6 +892,8 @@ int main(int count, char **arguments) {
     test_read_back();
     test_by_hand();
     test_zeros();
+    test_durations();
+    test_last_fractions();
     test_met();
     printf("%lu checks, %lu failed\n", checks, failures);
     return failures == 0 ? 0 : 1;

@@ -1,6 +1,7 @@
 /* Rows for test.c: texts, and what the Rust crate ixdtf 0.6.7 answers to them; the texts of the errors are those that were published
- * with the table of faults. The place of an error, behind `at`, is that of tools/places.py, a model of the readers. None is this
- * library's own output. An answer shows a record part by part: a fraction as .fDIGITS:VALUE, an error by its variant, and AE with the
+ * with the table of faults. That crate has no reader of RFC 3339 alone: the answers of those rows were written by hand from section 5.6 of
+ * RFC 3339, whose examples of section 5.8 are among them. The place of an error, behind `at`, is that of tools/places.py, a model of the
+ * readers. None is this library's own output. An answer shows a record part by part: a fraction as .fDIGITS:VALUE, an error by its variant, and AE with the
  * location of AbruptEnd. */
 static const struct error_row error_rows[] = {
     { 1, "ImplAssert", "Implementation error: this error must not throw." },
@@ -400,6 +401,24 @@ static const struct row rows[] = {
     { "duration", TEXT("p1y1m1dt1h1m1s"), "ok sign=+ date=1,1,0,1 time=1,1,1" },
     { "duration", TEXT("-P12M12Dt5h5m1S"), "ok sign=- date=0,12,0,12 time=5,5,1" },
     { "duration", TEXT("-PT1,283793136989S"), "ok sign=- time=0,0,1.f12:283793136989" },
+    { "rfc3339", TEXT("2024-03-02T08:48:00Z"), "ok date=2024,3,2 time=8,48,0 offset=Z" },
+    { "rfc3339", TEXT("0000-02-29t23:59:60.0z"), "ok date=0,2,29 time=23,59,60.f1:0 offset=Z" },
+    { "rfc3339", TEXT("9999-12-31T00:00:00-00:00"), "ok date=9999,12,31 time=0,0,0 offset=-0,0" },
+    { "rfc3339", TEXT("1985-04-12T23:20:50.52Z"), "ok date=1985,4,12 time=23,20,50.f2:52 offset=Z" },
+    { "rfc3339", TEXT("1996-12-19T16:39:57-08:00"), "ok date=1996,12,19 time=16,39,57 offset=-8,0" },
+    { "rfc3339", TEXT("1990-12-31T23:59:60Z"), "ok date=1990,12,31 time=23,59,60 offset=Z" },
+    { "rfc3339", TEXT("1990-12-31T15:59:60-08:00"), "ok date=1990,12,31 time=15,59,60 offset=-8,0" },
+    { "rfc3339", TEXT("1937-01-01T12:00:27.87+00:20"), "ok date=1937,1,1 time=12,0,27.f2:87 offset=+0,20" },
+    { "rfc3339", TEXT("2024-03-02T08:48:00.1234567890123456789+23:59"), "ok date=2024,3,2 time=8,48,0.f19:123456789012345678 offset=+23,59" },
+    { "rfc3339", TEXT(""), "error AE digit at 0" },
+    { "rfc3339", TEXT("2024-03-02"), "error TimeSeparator at 10" },
+    { "rfc3339", TEXT("2024-03-02 08:48:00Z"), "error TimeSeparator at 10" },
+    { "rfc3339", TEXT("20240302T084800Z"), "error DateSeparator at 4" },
+    { "rfc3339", TEXT("+002024-03-02T08:48:00Z"), "error DateYear at 0" },
+    { "rfc3339", TEXT("2024-03-02T08:48:00,5Z"), "error FractionPart at 19" },
+    { "rfc3339", TEXT("2024-03-02T08:48:00+05"), "error UtcTimeSeparator at 22" },
+    { "rfc3339", TEXT("2024-03-02T08:48:00Z[UTC]"), "error InvalidEnd at 20" },
+    { "rfc3339", TEXT("2024-03-02T08:48:00-05:00:00"), "error InvalidEnd at 25" },
 };
 
 static const struct row strict_rows[] = {
@@ -540,6 +559,8 @@ static const struct row wide_rows[] = {
     { "parse", TEXT("\\u0132020-01-01"), "error NonAsciiCodePoint at 0" },
     { "parse", TEXT("1130-02-1\\u2037"), "error NonAsciiCodePoint at 9" },
     { "parse", TEXT("10\\u000000-05\\u012d19"), "error NonAsciiCodePoint at 2" },
+    { "rfc3339", TEXT("2024-03-02\\u301408:48:00Z"), "error NonAsciiCodePoint at 10" },
+    { "rfc3339", TEXT("2024-03-02T08:48:00\\u0000"), "error NonAsciiCodePoint at 19" },
 };
 
 static const struct handler_row handler_rows[] = {

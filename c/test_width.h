@@ -77,6 +77,8 @@ static uint32_t OWN(read)(const char *reader, int strict, const UNIT *text, size
         return strict ? CALL(parse_month_day_strict)(text, length, out) : CALL(parse_month_day)(text, length, out);
     } else if (!strcmp(reader, "time")) {
         return strict ? CALL(parse_time_strict)(text, length, out) : CALL(parse_time)(text, length, out);
+    } else if (!strcmp(reader, "rfc3339")) {
+        return CALL(parse_rfc3339)(text, length, out);
     } else if (!strcmp(reader, "offset")) {
         return CALL(parse_offset)(text, length, out);
     } else if (!strcmp(reader, "zone")) {
@@ -418,7 +420,7 @@ static void OWN(test_texts)(void) {
 
 /* NULL with length 0 is the text without units, and the list without room. */
 static void OWN(test_null)(void) {
-    static const char *readers[] = { "parse", "year-month", "month-day", "time", "offset", "zone", "iana", "duration" };
+    static const char *readers[] = { "parse", "year-month", "month-day", "time", "rfc3339", "offset", "zone", "iana", "duration" };
     static const UNIT nothing[1] = { 0 };
     static const UNIT listed[] = { '2', '0', '2', '4', '-', '0', '3', '-', '0', '2', '[', 'a', '=', 'b', ']', '[', 'c', '=', 'd', ']' };
     size_t i, count;
@@ -475,9 +477,60 @@ static void OWN(test_zero_replies)(void) {
     check(CALL(reply)(&calendar, &reply) == IXDTF_OK && calendar.value.length == 0 && calendar.is_there, "another calendar");
 }
 
+/* The instant of a record that was read, and of one in which a field was changed by hand. */
+static void OWN(test_instants)(void) {
+    size_t i, length;
+    int64_t seconds = 77;
+    uint32_t nanoseconds = 78;
+    CALL(record) full = NEW_RECORD, it;
+    for (i = 0; i < COUNT(instant_rows); i++) {
+        const UNIT *text = OWN(placed)(instant_rows[i].text, strlen(instant_rows[i].text), 1, &length);
+        CALL(record) record = OWN(used_record)();
+        row_shown = instant_rows[i].text;
+        seconds = 77;
+        nanoseconds = 78;
+        check(CALL(parse)(text, length, &record) == IXDTF_OK, "a text of an instant is read");
+        check(CALL(instant)(&record, &seconds, &nanoseconds) == instant_rows[i].result, "whether there is an instant");
+        check(seconds == (instant_rows[i].result == IXDTF_OK ? instant_rows[i].seconds : 77)
+                && nanoseconds == (instant_rows[i].result == IXDTF_OK ? instant_rows[i].nanoseconds : 78),
+            "the instant, or nothing");
+    }
+    {
+        const UNIT *text = OWN(placed)("1970-01-01T00:00:00.5+00:00:00.25[UTC]", 38, 1, &length);
+        check(CALL(parse)(text, length, &full) == IXDTF_OK, "a text with two fractions");
+    }
+#define CHANGED(change, wanted, wanted_seconds, wanted_nanoseconds) \
+    it = full; \
+    change; \
+    row_shown = #change; \
+    seconds = 77; \
+    nanoseconds = 78; \
+    check(CALL(instant)(&it, &seconds, &nanoseconds) == wanted && seconds == wanted_seconds && nanoseconds == wanted_nanoseconds, "a changed record")
+    CHANGED(it.zone.form = 7, IXDTF_OK, 0, 250000000);
+    CHANGED(it.date.is_there = false, IXDTF_NO_INSTANT, 77, 78);
+    CHANGED(it.time.is_there = false, IXDTF_NO_INSTANT, 77, 78);
+    CHANGED(it.offset.form = IXDTF_NO_OFFSET, IXDTF_NO_INSTANT, 77, 78);
+    CHANGED(it.offset.form = 4, IXDTF_NO_INSTANT, 77, 78);
+    CHANGED(it.offset.form = IXDTF_UTC, IXDTF_OK, 0, 500000000);
+    CHANGED(it.offset.is_negative = true, IXDTF_OK, 0, 750000000);
+    CHANGED(it.offset.fraction_digits = 1, IXDTF_NO_INSTANT, 77, 78);
+    CHANGED((it.offset.fraction_digits = 1, it.offset.form = IXDTF_MINUTES), IXDTF_OK, 0, 500000000);
+    CHANGED(it.time.fraction = 10, IXDTF_NO_INSTANT, 77, 78);
+    CHANGED(it.time.fraction_digits = 0, IXDTF_OK, -1, 750000000);
+    CHANGED(it.date.month = 0, IXDTF_NO_INSTANT, 77, 78);
+    CHANGED(it.date.month = 13, IXDTF_NO_INSTANT, 77, 78);
+    CHANGED(it.date.day = 0, IXDTF_OK, -86400, 250000000);
+    CHANGED(it.date.day = 32, IXDTF_OK, 31 * 86400, 250000000);
+    CHANGED(it.time.hour = 24, IXDTF_OK, 86400, 250000000);
+    CHANGED(it.time.second = 61, IXDTF_OK, 59, 250000000);
+#undef CHANGED
+    row_shown = "";
+}
+
 static void OWN(test_all)(void) {
     size_t i;
     OWN(test_texts)();
+    OWN(test_instants)();
     OWN(test_null)();
     OWN(test_zero_replies)();
     for (i = 0; i < COUNT(rows); i++) {

@@ -55,7 +55,7 @@ def declarations(header):
         if not statement.startswith(('static inline ', 'IXDTF_')):
             lines.append(statement)
     for line in lines:
-        if not re.match(r'enum \{ IXDTF|typedef struct ixdtf|(?:uint32_t|int32_t|size_t|void) ixdtf(?:16)?_[a-z_]+\(', line):
+        if not re.match(r'enum \{ IXDTF|typedef struct ixdtf|(?:uint32_t|int32_t|size_t|void) ixdtf(?:16)?_[a-z_0-9]+\(', line):
             raise SystemExit(f'declarations.py: no declaration that it knows: {line}')
     numbers = [re.search(rf'^#define IXDTF_INTERFACE_{name} ([0-9]+)$', header, re.M)[1] for name in ('VERSION', 'REVISION')]
     return FIRST.format(*numbers) + '\n'.join(lines) + '\n'

@@ -123,7 +123,7 @@ CHANGED = [(phrase(a), phrase(b)) for a, b in [
     ('<W: fmt::Write>(', '('), ('fmt::Formatter<W>', "fmt::Formatter<'_>"),
     ('#[derive_where(', '#[derive('), ('Drop,', ''), (', Drop', ''), ('const _: () = prove!(', 'const _: () = assert!('),
     ('(rt: HostRuntime)', '()'), ('.clone()', '.try_clone()'), ('use std::process::Abort;', 'use crate::runtime::Abort;'),
-    ('use std::test::Fail;', 'use crate::runtime::Fail;'), ('match str::from_utf8(', 'match std::str::from_utf8('), ('str::from_utf8(bytes).is_ok()', 'std::str::from_utf8(bytes).is_ok()'),
+    ('use std::test::Fail;', 'use crate::runtime::Fail;'), ('match str::from_utf8(', 'match std::str::from_utf8('), ('str::from_utf8(bytes).is_ok()', 'std::str::from_utf8(bytes).is_ok()'), ('str::from_utf8(units).ok()', 'core::str::from_utf8(units).ok()'),
     ('use std::alloc::{AllocError, Global};', 'use crate::runtime::{AllocError, Global, String};'),
     ('use std::alloc::Global;', 'use crate::runtime::Global;')]]
 ADDED = [phrase(t) for t in [
@@ -316,7 +316,7 @@ class Copied(unittest.TestCase):
 BAD_BODIES = [
     'unsafe { self.rest }', 'self.rest.iter().rev().count();', 'std::process::exit(1);', 'println!("x");', 'self.rest.take();', 'panic!("x");',
     'let all = self.rest; all.skip(1);', 'self.looks.count();', 'Other::take(self);', 'async { 1 };', 'r"raw";', 'static mut X: u8 = 1;', 'size_of::<u8>();',
-    '/* a comment */', 'dyn_call(1);', 'u8::try_from(1);', 'self.rest.iter().take(1);', 'self.rest.chars().rev();',
+    '/* a comment */', 'dyn_call(1);', 'u16::try_from(1);', 'self.rest.iter().take(1);', 'self.rest.chars().rev();',
     'let all = self.rest.chars(); all.skip(1);', 'self.rest.chars().count().take();', 'eprint!("x");',
 ]
 

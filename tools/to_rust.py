@@ -34,7 +34,8 @@ These rules, and no others, replace or add something:
                  length, as C passes them: `x: *const T, x_length: usize`. The first line of the body makes the slice from them
                  (src/slices.rs). A person wrote the type of a slice in a struct: a pointer, which may be null if the length is 0, and
                  the length.
-  11 str         `str::from_utf8` becomes `std::str::from_utf8`, which older compilers have too.
+  11 str         `str::from_utf8` becomes `std::str::from_utf8`, or `core::str::from_utf8` in a crate without the standard library.
+                 Older compilers have these too.
   14 links       If a doc comment links to a name of FARTHER, which its module does not import, the link goes through the module above.
 
 Tests (TESTS) have two more rules:
@@ -58,7 +59,7 @@ MADE = '// Made by tools/to_rust.py of {0}. Do not edit.\n\n'
 # the head of each root file, and its end
 README = '#![doc = include_str!("../README.md")]\n'
 LIBRARY = (README + '#![cfg_attr(not(test), no_std)]\n#![forbid(unsafe_code)]\n\n#[cfg(test)]\nextern crate self as ixdtf;\n',
-           '\n#[cfg(test)]\n#[macro_use]\nmod runtime;\n#[cfg(test)]\nmod callers;\n#[cfg(test)]\nmod tests;\n')
+           '\nmod from_text;\n\n#[cfg(test)]\n#[macro_use]\nmod runtime;\n#[cfg(test)]\nmod callers;\n#[cfg(test)]\nmod tests;\n')
 PRINTER = (README + '#![no_std]\n#![forbid(unsafe_code)]\n', '')
 PROGRAM = ('#![forbid(unsafe_code)]\n', '')
 FOR_C = ('#![cfg_attr(not(test), no_std)]\n', '\n#[cfg(not(test))]\nmod abort;\n')
@@ -66,11 +67,11 @@ FOR_C = ('#![cfg_attr(not(test), no_std)]\n', '\n#[cfg(not(test))]\nmod abort;\n
 
 # the layers of the library, and where their modules go in the crate that is made from all of them
 LAYERS = {
-    'ixdtf_instants': 'days instant'.split(),
+    'ixdtf_instants': 'civil days display instant'.split(),
     'ixdtf_grammar': 'encoding error instants located packed pointed records parsers/profile'.split(),
     'ixdtf_reading': 'cursor classes stop parsers/annotations parsers/letters'.split(),
     'ixdtf_times': 'parsers/date_times parsers/dates parsers/months parsers/offsets parsers/rfc3339 parsers/time'.split(),
-    'ixdtf_brackets': 'parsers/brackets parsers/zone'.split(),
+    'ixdtf_brackets': 'parsers/brackets parsers/exact_zones parsers/zone'.split(),
     'ixdtf_durations': 'parsers/date_groups parsers/duration parsers/group_numbers parsers/time_groups'.split(),
 }
 PLACES = {(layer, place.rpartition('/')[2]): place for layer, places in LAYERS.items() for place in places}
@@ -118,7 +119,7 @@ CRATES = [
     Crate('crates/ixdtf_checks/src', 'rust/ixdtf_check/src', ['laws', 'lib'], ends=PROGRAM, above=True),
     Crate('crates/ixdtf_c/src', 'rust/ixdtf_c/src', ['laws', 'turns', 'tests', 'slices'], ends=FOR_C, above=True, exports=True),
 ]
-WRITTEN_BY_HAND = {'rust/ixdtf/src/runtime.rs', 'rust/ixdtf/src/tests/printing.rs', 'rust/ixdtf_lines/src/main.rs', 'rust/ixdtf_check/src/main.rs',
+WRITTEN_BY_HAND = {'rust/ixdtf/src/from_text.rs', 'rust/ixdtf/src/runtime.rs', 'rust/ixdtf/src/tests/printing.rs', 'rust/ixdtf_lines/src/main.rs', 'rust/ixdtf_check/src/main.rs',
                    'rust/ixdtf_c/src/abort.rs', 'rust/ixdtf_c/src/slices.rs', 'rust/ixdtf_buffers/src/place.rs'}
 # files that are copied, because a package cannot have a file from outside of its folder
 COPIES = {'rust/ixdtf/tests/places.tsv': 'tools/places.tsv'}
@@ -164,11 +165,12 @@ KEYWORDS = set('pub if match while for in return let else'.split())
 # the handler of a reader, and the functions in src/slices.rs of the library for C and in src/place.rs of the buffers
 CALLED = {'handler', 'to_c', 'from_c', 'place_of', 'pass_many'}
 STD_PATHS = {'std::str::from_utf8', 'std::fmt', 'std::error::Error', 'std::marker::PhantomData', 'std::mem::replace', 'std::fmt::Debug', 'std::io::{Read,Write}',
-             'std::io::Write', 'std::io::Read', 'std::fmt::Write', 'std::str'}
+             'std::io::Write', 'std::io::Read', 'std::fmt::Write', 'std::str', 'std::hash::Hash', 'std::hash::{Hash,Hasher}'}
 STD_METHODS = set('get len split_at is_ascii_digit is_ascii_alphabetic is_ascii_lowercase write_str as_bytes then_some pow is_ok'
                   ' is_none to_le_bytes saturating_add saturating_sub min map copied checked_mul checked_add unsigned_abs'
                   ' is_ascii_alphanumeric as_slice iter position is_empty copy_from_slice read write flush digit_count leading_value'
-                  ' chars len_utf8 is_control encode_utf8 last is_some unwrap_or starts_with parse checked_sub ok max as_ref copy_within is_ascii ilog10'.split())
+                  ' chars len_utf8 is_control encode_utf8 last is_some unwrap_or starts_with parse checked_sub ok max as_ref copy_within is_ascii ilog10 split_once enumerate'
+                  ' hash into is_ascii_graphic wrapping_sub div_euclid rem_euclid'.split())
 # methods of the iterators over the characters of a text, and the heads of the types that they return
 ON_CHARACTERS = {('Chars', 'take'): 'Chars', ('Chars', 'skip'): 'Chars', ('Chars', 'count'): 'usize'}
 CALLED_ON_CHARACTERS = {method for _, method in ON_CHARACTERS}
@@ -176,7 +178,7 @@ OWN_PATHS = {'self', 'crate', 'Self', 'T', 'C', 'E', 'L'}
 HIDDEN = '# [ doc ( hidden ) ] pub fn'.split()
 # hidden functions that crates above the library call too
 CALLED_FROM_ABOVE = {'of_parts'}
-STD_CALLS = {'u8::from', 'u64::from', 'u64::from_le_bytes', 'u32::from', 'u16::from', 'usize::from', 'u128::from', 'i32::from', 'i64::from', 'char::from', 'u32::try_from', 'usize::try_from', 'fmt::Debug::fmt', 'str::from_utf8'}
+STD_CALLS = {'u8::from', 'u64::from', 'u64::from_le_bytes', 'u32::from', 'u16::from', 'usize::from', 'u128::from', 'i32::from', 'i64::from', 'char::from', 'u8::try_from', 'u32::try_from', 'usize::try_from', 'fmt::Debug::fmt', 'str::from_utf8'}
 # the names of the methods of `core`, from its documentation for Rust 1.95 (`id="method.NAME"` and `id="tymethod.NAME"`)
 with open(os.path.join(os.path.dirname(os.path.abspath(__file__)), 'core_methods.txt'), encoding='ascii') as names:
     CORE_METHODS = set(names.read().split())
@@ -399,7 +401,7 @@ def rewrite(tokens, module, crate):
         elif crate.tests and is_here(tokens, places, 0, TEST_CLONE):
             put(tokens, places[1], places[1], 'try_clone')
         elif is_here(tokens, places, 0, CORE_TEXT) and tokens[at - 1].text != '::':
-            put(tokens, at, at, 'std::str')
+            put(tokens, at, at, 'core::str' if crate.on_core else 'std::str')
         elif token.text == 'fn' and is_here(tokens, places, 2, WRITER):
             put(tokens, places[2], places[len(WRITER) + 1], '')
         elif is_here(tokens, places, 0, FORMATTER):

@@ -6,13 +6,14 @@ import doctest
 import gc
 import pathlib
 import pickle
+import random
 import sys
 import threading
 import unittest
 import zoneinfo
 
 import ixdtf
-from ixdtf import Annotation, Date, Duration, Fraction, IxdtfError, Offset, Record, Time, Z, Zone
+from ixdtf import Annotation, Date, Duration, Fraction, Instant, IxdtfError, Offset, Record, Time, Z, Zone
 
 TOP = pathlib.Path(__file__).resolve().parents[2]
 READERS = {
@@ -20,6 +21,7 @@ READERS = {
     "parse_year_month": ixdtf.parse_year_month,
     "parse_month_day": ixdtf.parse_month_day,
     "parse_time": ixdtf.parse_time,
+    "parse_rfc3339": ixdtf.parse_rfc3339,
     "parse_offset": ixdtf.parse_offset,
     "parse_identifier": ixdtf.parse_zone,
     "parse_iana_identifier": ixdtf.parse_zone_name,
@@ -30,6 +32,7 @@ KINDS = {
     "parse_year_month": "year-month",
     "parse_month_day": "month-day",
     "parse_time": "time",
+    "parse_rfc3339": "rfc3339",
     "parse_offset": "offset",
     "parse_identifier": "zone",
     "parse_iana_identifier": "zone-name",
@@ -55,8 +58,7 @@ class Rows(unittest.TestCase):
         seen = 0
         with open(TOP / "tools" / "places.tsv", encoding="utf-8", newline="") as file:
             for row in csv.DictReader(file, delimiter="\t", quoting=csv.QUOTE_NONE):
-                # the package has no reader of RFC 3339 alone
-                if row["bits"] != "8" or row["reader"] == "parse_rfc3339":
+                if row["bits"] != "8":
                     continue
                 text = row["text"].encode("utf-8").decode("unicode_escape").encode("latin-1")
                 keywords = {"strict": True} if row["profile"] == "strict" and row["reader"] in WITH_PROFILES else {}
@@ -67,7 +69,7 @@ class Rows(unittest.TestCase):
                     self.assertEqual((error.position, error.within), (int(row["place"]), within))
                     self.assertFalse(ixdtf.is_valid(text, KINDS[row["reader"]], **keywords))
                 seen += 1
-        self.assertGreater(seen, 200)
+        self.assertGreater(seen, 250)
 
 
 class Texts(unittest.TestCase):
@@ -187,6 +189,39 @@ class Records(unittest.TestCase):
             self.assertEqual(ixdtf.canonical(ixdtf.parse(printed)), printed)
 
 
+class Instants(unittest.TestCase):
+    """The instants of records, beside those of datetime."""
+
+    def test_known(self):
+        for text, seconds, nanoseconds in (("1970-01-01T00:00Z", 0, 0), ("1969-12-31T23:59:59.5Z", -1, 500_000_000),
+                                           ("2016-12-31T23:59:60Z", 1483228799, 0), ("-271821-04-20T00:00Z", -8640000000000, 0),
+                                           ("1970-01-01T00:00:00.1+00:00:00.2", -1, 900_000_000), ("2024-03-02T00:00-05:00[Europe/Paris]", 1709355600, 0)):
+            self.assertEqual(ixdtf.instant(ixdtf.parse(text)), Instant(seconds, nanoseconds))
+        found = ixdtf.instant(ixdtf.parse("2024-03-02T00:00Z"))
+        self.assertEqual((pickle.loads(pickle.dumps(found)), repr(found)), (found, "Instant(seconds=1709337600, nanoseconds=0)"))
+
+    def test_beside_datetime(self):
+        generator = random.Random(1)
+        texts = []
+        for _ in range(3000):
+            delta = datetime.timedelta(days=generator.randrange(3652059), microseconds=generator.randrange(86_400_000_000))
+            zone = datetime.timezone(datetime.timedelta(seconds=generator.randrange(-86399, 86400)))
+            texts.append((datetime.datetime.min + delta).replace(tzinfo=zone).isoformat())
+        epoch = datetime.datetime(1970, 1, 1, tzinfo=UTC)
+        for text in texts:
+            microseconds = (datetime.datetime.fromisoformat(text) - epoch) // datetime.timedelta(microseconds=1)
+            found = ixdtf.instant(ixdtf.parse(text))
+            self.assertEqual((found.seconds, found.nanoseconds), (microseconds // 10**6, microseconds % 10**6 * 1000), text)
+
+    def test_none(self):
+        for record, part in ((ixdtf.parse("2024-03-02"), "time"), (ixdtf.parse("2024-03-02T08:48[UTC]"), "offset"), (ixdtf.parse_time("T12Z"), "date"),
+                             (Record(Date(2024, 3, 2), Time(8, 48, 0, Fraction(1, 25)), Z), "fraction")):
+            with self.assertRaisesRegex(ValueError, part):
+                ixdtf.instant(record)
+        with self.assertRaises(TypeError):
+            ixdtf.instant("2024-03-02T08:48Z")
+
+
 class Durations(unittest.TestCase):
     def test_parts(self):
         self.assertEqual(ixdtf.parse_duration("-P1Y2M3W4DT5H6M7.5S"), Duration(-1, 1, 2, 3, 4, 5, 6, 7, Fraction(1, 5)))
@@ -199,6 +234,21 @@ class Durations(unittest.TestCase):
         self.assertTrue(ixdtf.is_valid("P1Y2Y", "duration"))
         self.assertFalse(ixdtf.is_valid("P1Y2Y", "duration", strict=True))
         refusal(ixdtf.parse_duration, "P1Y2Y", strict=True)
+
+    def test_canonical(self):
+        for text, printed in (("+p1y0m03dt04,50m", "P1Y3DT4.50M"), ("-P0Y", "-P0D"), ("P0WT0H0S", "P0DT0S"), ("PT0H", "PT0H"), ("P1Y2Y", "P2Y"),
+                              ("P4294967295Y18446744073709551615D", "P4294967295Y18446744073709551615D"),
+                              ("PT18446744073709551615H00." + "1" * 300 + "M", "PT18446744073709551615H0." + "1" * 18 + "0" * 237 + "M")):
+            duration = ixdtf.parse_duration(text)
+            self.assertEqual(ixdtf.canonical(duration), printed)
+            self.assertEqual(ixdtf.parse_duration(printed), duration)
+        for wrong in (Duration(), Duration(0, 0, 0, 0, 0), Duration(1, 1), Duration(1, minutes=5), Duration(1, fraction=Fraction(1, 5)),
+                      Duration(1, 1 << 32, 0, 0, 0), Duration(1, hours=1 << 64), Duration(1, hours=-1), Duration(1, hours=1, fraction=Fraction(1, 10))):
+            with self.assertRaises(ValueError):
+                ixdtf.canonical(wrong)
+        for wrong in (Duration(1, hours="5"), "P1D", None):
+            with self.assertRaises(TypeError):
+                ixdtf.canonical(wrong)
 
     def test_timedelta(self):
         for text, seconds in (("P1W", 604800), ("-P1DT1H", -90000), ("PT1.5H", 5400), ("PT1.5M", 90), ("PT0.000001S", 1e-6), ("PT0.0000010S", 1e-6)):
@@ -356,7 +406,7 @@ def changes_of(zone):
 
 class Calls(unittest.TestCase):
     def test_kinds(self):
-        for kind, text in (("date-time", "2024-03-02"), ("year-month", "2020-11"), ("month-day", "11-07"), ("time", "T12"), ("offset", "+05:30"), ("zone", "+05:30"),
+        for kind, text in (("date-time", "2024-03-02"), ("year-month", "2020-11"), ("month-day", "11-07"), ("time", "T12"), ("rfc3339", "2024-03-02T08:48:00Z"), ("offset", "+05:30"), ("zone", "+05:30"),
                            ("zone-name", "Europe/Paris"), ("duration", "P1D")):
             self.assertTrue(ixdtf.is_valid(text, kind))
             self.assertTrue(ixdtf.is_valid(text, kind=kind))
@@ -370,6 +420,16 @@ class Calls(unittest.TestCase):
         self.assertFalse(ixdtf.is_valid("1200", "time"))
         self.assertFalse(ixdtf.is_valid("11-00", "month-day", strict=True))
         self.assertEqual(ixdtf.parse_month_day("11-00").date, Date(0, 11, 0))
+
+    def test_rfc3339(self):
+        for text in ("1985-04-12T23:20:50.52Z", "1996-12-19t16:39:57-08:00", "1990-12-31T23:59:60z"):
+            self.assertEqual(ixdtf.parse_rfc3339(text), ixdtf.parse(text))
+        for text in ("2024-03-02", "20240302T084800Z", "2024-03-02 08:48:00Z", "2024-03-02T08:48Z", "2024-03-02T08:48:00Z[UTC]"):
+            self.assertTrue(ixdtf.is_valid(text))
+            self.assertFalse(ixdtf.is_valid(text, "rfc3339"))
+            refusal(ixdtf.parse_rfc3339, text)
+        with self.assertRaises(TypeError):
+            ixdtf.parse_rfc3339("1985-04-12T23:20:50.52Z", handler=None)
 
     def test_parts(self):
         self.assertEqual(ixdtf.parse_offset("-05:00:30.5"), Offset(-1, 5, 0, 30, Fraction(1, 5)))
@@ -394,11 +454,13 @@ class Runs(unittest.TestCase):
             record.date, record.time, record.offset, record.zone, record.calendar, hash(record), repr(record), record == record
             record.to_datetime()
             ixdtf.canonical(record)
+            ixdtf.instant(record)
             pickle.loads(pickle.dumps(record))
             ixdtf.parse("2024-03-02[u-ca=a][b=c]", handler=lambda it: it)
             for text in ("2024-13-01", "2024\u20ac", b"\xff"):
                 refusal(ixdtf.parse, text)
             refusal(ixdtf.parse, "2024-03-02[!b=c]", handler=lambda it: it)
+            ixdtf.canonical(ixdtf.parse_duration("P1DT1.5H"))
             ixdtf.parse_duration("P1DT1.5H").to_timedelta()
             ixdtf.is_valid("P1D", "duration")
 

@@ -8,7 +8,7 @@ use Rattle.ixdtf_reading.specs.{declared.stop.StopAt.StopAt, reading.{Chains.{Co
 
 -- how many looks a core may cost that its code units do not pay for, by whether the zone behind it has to be exact
 abbrev pub core_looks : Bool → ℕ → ℕ
-core_looks true count = 37
+core_looks true count = 38
 core_looks false count = count + 37
 
 -- into a record, which is `found` after `Ok`, with a handler that is left in the state `last`; its replies may cost `spent` accesses beyond those of a reader without one

@@ -4,7 +4,7 @@ use Rattle.ixdtf.specs.{table.{ErrorTexts.message_of, Faults.Fault}, Widths.{Has
 use Rattle.ixdtf.specs.language.{Languages.Found, Letters.{Text, byte_letter}, Readers.Reader}
 use Rattle.ixdtf_answers.specs.{Fields.{fields_of, canonical_field_of}, Word.{name_of, reader_of, IsNoWord}, declared.word.Word.{Word, TheVariants.Parse}}
 use Rattle.ixdtf_answers.specs.declared.word.Word.TheVariants.{YearMonth, MonthDay, Time, Offset, Zone, Iana, Duration, StrictMonthDay, StrictTime}
-use Rattle.ixdtf_answers.specs.declared.word.Word.TheVariants.{StrictDuration, Canonical}
+use Rattle.ixdtf_answers.specs.declared.word.Word.TheVariants.{StrictDuration, Canonical, Rfc3339, ZoneName}
 
 -- the longest line that is read
 abbrev pub line_limit : ℕ
@@ -37,6 +37,8 @@ shown_of StrictMonthDay found = fields_of found
 shown_of StrictTime found = fields_of found
 shown_of StrictDuration found = fields_of found
 shown_of Canonical found = canonical_field_of found
+shown_of Rfc3339 found = fields_of found
+shown_of ZoneName found = fields_of found
 
 -- the answer to a text that is read
 abbrev pub ok_answer_of : Word → Found → List ℕ

@@ -2,9 +2,9 @@
 use Rattle.std.specs.Prelude.{◌≡◌, ◌≢◌, ℕ, List, Option, Some, None, codes}
 use Rattle.ixdtf_grammar.specs.declared.profile.Profile.TheVariants.{Crate, Strict}
 use Rattle.ixdtf.specs.language.Readers.{Reader, parse, parse_year_month, parse_month_day, parse_time}
-use Rattle.ixdtf.specs.language.Readers.Reader.{parse_offset, parse_identifier, parse_iana_identifier, parse_duration}
+use Rattle.ixdtf.specs.language.Readers.Reader.{parse_rfc3339, parse_offset, parse_identifier, parse_iana_identifier, parse_duration}
 use Rattle.ixdtf_answers.specs.declared.word.Word.{Word, TheVariants.{Parse, YearMonth, MonthDay, Time, Offset, Zone, Iana, Duration, StrictMonthDay}}
-use Rattle.ixdtf_answers.specs.declared.word.Word.TheVariants.{StrictTime, StrictDuration, Canonical}
+use Rattle.ixdtf_answers.specs.declared.word.Word.TheVariants.{StrictTime, StrictDuration, Canonical, Rfc3339, ZoneName}
 
 abbrev pub name_of : Word → List ℕ
 name_of Parse = codes "parse"
@@ -19,6 +19,8 @@ name_of StrictMonthDay = codes "strict-month-day"
 name_of StrictTime = codes "strict-time"
 name_of StrictDuration = codes "strict-duration"
 name_of Canonical = codes "canonical"
+name_of Rfc3339 = codes "rfc3339"
+name_of ZoneName = codes "zone-name"
 
 abbrev pub reader_of : Word → Reader
 reader_of Parse = parse
@@ -33,6 +35,8 @@ reader_of StrictMonthDay = parse_month_day Strict
 reader_of StrictTime = parse_time Strict
 reader_of StrictDuration = parse_duration Strict
 reader_of Canonical = parse
+reader_of Rfc3339 = parse_rfc3339
+reader_of ZoneName = parse_iana_identifier
 
 -- no word has the name
 abbrev pub IsNoWord : List ℕ → Type 0

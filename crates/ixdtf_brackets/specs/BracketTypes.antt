@@ -4,8 +4,8 @@ use Rattle.ixdtf_brackets.specs.declared.{brackets.Bracket.{Bracket as CodeBrack
 use Rattle.ixdtf_grammar.specs.{Views.{Unread, note_of}, Handlers.pair_of, language.{Letters.{Letter, Text, zone_char}, Brackets.skipped}}
 use Rattle.ixdtf_reading.specs.reading.{Brackets.{Bracket, zoned, paired}, Clauses.fault_of_stop, Looks.{Read, Placed}, Runs.{Taken, within}, Zones.name_step}
 use Rattle.ixdtf_reading.specs.declared.stop.Stop.{Stop}
-use Rattle.ixdtf_brackets.specs.declared.exact.PartForm.TheVariants as forms
-use Rattle.ixdtf_brackets.specs.declared.exact.PartForm.{PartForm as CodePartForm}
+use Rattle.ixdtf_brackets.specs.declared.exact_zones.PartForm.TheVariants as forms
+use Rattle.ixdtf_brackets.specs.declared.exact_zones.PartForm.{PartForm as CodePartForm}
 use Rattle.ixdtf_reading.specs.reading.ExactZones.{PartForm, PartForm.{part_start, one_dot, two_dots, in_part}}
 use Rattle.std.specs.Prelude.{◌≡◌, ℕ, Bool, true, false, ◌+◌, List, ◌++◌, map, Option, Result, Ok, Err, option_map}
 
@@ -39,5 +39,5 @@ part_form_of forms.Whole = in_part
 
 -- how many more looks a zone may cost that has to be exact
 abbrev pub exact_looks : Bool → ℕ → ℕ
-exact_looks true count = count + 2
+exact_looks true count = count + 1
 exact_looks false count = 0

@@ -1,4 +1,4 @@
--- Numbers that are added to a text.
+-- Numbers that are written into an array.
 use Rattle.std.proofs.Common.{◌≡◌, ℕ, ◌+◌, ◌/◌, ◌%◌, ◌<◌, ◌≤◌, ◌^◌, Bool, true, false, nat_lt, List, [], ◌∷◌, ◌++◌, length, take, refl, sym, ap, ◌∙◌, arith, append_assoc}
 use Rattle.std.proofs.{Math.{ListN.set, Seq.take-append-add}, lemmas.{Bool.{ltb-true, ltb-false}, Fmt.{decimal_digit, decimal_step}, Grind.take-set_at, List.{length-set, length-take-le, take-take, take-set-le}}}
 use Rattle.std.specs.Fmt.{decimal}

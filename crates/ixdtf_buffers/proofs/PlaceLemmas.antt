@@ -1,4 +1,4 @@
--- The first place of a byte, after looks in order.
+-- The index of the first byte that passes a test, after comparisons in order.
 use Rattle.std.proofs.Common.{◌≡◌, ℕ, ◌+◌, ◌*◌, ◌<◌, ◌≤◌, Bool, false, true, not, List, [], ◌∷◌, ◌++◌, length, map, take, get_or, Some, None, cond, sym, refl, ap, ◌∙◌, arith, ⊎_elim}
 use Rattle.std.proofs.lemmas.{Bool.{cases_lt, lt-ltb, le-ltb}, List.Sums.position_or_len_is}
 use Rattle.std.proofs.lemmas.List.{Sums.sum_by-append, take-take, drop-take, take-append-drop}
@@ -7,26 +7,26 @@ use Rattle.std.specs.List.{count_by, position, prefix_len}
 use Rattle.std.specs.Simd.Lanes.{chunk, mask_l}
 use lib.Count.{count_trailing_zeros, ones}
 
--- none before, and one there
+-- No byte before the index passes the test, and the byte at the index passes it.
 pub first_there : (test : ℕ → Bool) (bytes : List ℕ) (place : ℕ) → place < length bytes → ((k : ℕ) → k < place → test (get_or bytes k 0) ≡ false)
     → test (get_or bytes place 0) ≡ true → Some place ≡ position test bytes
 first_there test bytes place within before there =
     let is = position_or_len_is test bytes place 0 (omega arith) before (λ _. there) in
     rw (is, lt-ltb place (length bytes) within) refl
 
--- none at all
+-- No byte passes the test.
 pub found_nowhere : (test : ℕ → Bool) (bytes : List ℕ) → ((k : ℕ) → k < length bytes → test (get_or bytes k 0) ≡ false) → None ≡ position test bytes
 found_nowhere test bytes before =
     let is = position_or_len_is test bytes (length bytes) 0 (omega arith) before (λ (h : length bytes < length bytes). absurd (omega arith)) in
     rw (is, le-ltb (length bytes) (length bytes) (omega arith)) refl
 
--- none before one place, and none from there on up to another
+-- No byte before one index passes the test, and no byte from there up to another index passes it.
 pub none_so_far : (test : ℕ → Bool) (bytes : List ℕ) (start from end : ℕ) → from ≤ start → ((k : ℕ) → k < start → test (get_or bytes k 0) ≡ false)
     → ((k : ℕ) → from ≤ k → k < end → test (get_or bytes k 0) ≡ false) → (k : ℕ) → k < end → test (get_or bytes k 0) ≡ false
 none_so_far test bytes start from end met before here k below =
     ⊎_elim (λ early. before k early) (λ late. here k (omega (arith, late, met)) below) (cases_lt k start)
 
--- where a lane is marked, some lane is the first
+-- If a lane is marked, there is a first marked lane.
 marked_below : (test : ℕ → Bool) (lanes : List ℕ) → 0 < mask_l (map test lanes) → prefix_len (λ x. not (test x)) lanes < length lanes
 marked_below test [] some = absurd (omega (arith, some))
 marked_below test (x ∷ lanes) some = step (test x) some (marked_below test lanes)
@@ -37,7 +37,7 @@ marked_below test (x ∷ lanes) some = step (test x) some (marked_below test lan
     step true some next = omega arith
     step false some next = omega (arith, next (omega (arith, some)))
 
--- the first byte that is marked in a look at sixteen: it passes, and none before it in this look
+-- The first marked byte of sixteen: it passes the test, and no byte of the sixteen before it passes.
 pub record FirstMarked (test : ℕ → Bool) (bytes : List ℕ) (start count : ℕ) : Type 0 where
   pub below : count < 16
   pub before : (k : ℕ) → start ≤ k → k < start + count → test (get_or bytes k 0) ≡ false
@@ -58,16 +58,16 @@ first_marked test bytes start marks room same some =
       there = run_in_chunk_stops test bytes start 16 (count_trailing_zeros 64 marks) 0 room counted below;
     }
 
--- where none is marked, none of the sixteen passes
+-- If no byte is marked, none of the sixteen bytes passes the test.
 pub none_marked : (test : ℕ → Bool) (bytes : List ℕ) (start marks : ℕ) → start + 16 ≤ length bytes → marks ≡ mask_l (map test (chunk start 16 bytes))
     → marks ≡ 0 → (k : ℕ) → start ≤ k → k < start + 16 → test (get_or bytes k 0) ≡ false
 none_marked test bytes start marks room same none = none_from_empty_mask test bytes start 16 0 room (sym same ∙ none)
 
--- as many are marked as pass
+-- The number of marks is the number of bytes that pass the test.
 pub marks_counted : (test : ℕ → Bool) (lanes : List ℕ) (marks : ℕ) → marks ≡ mask_l (map test lanes) → ones marks ≡ count_by test lanes
 marks_counted test lanes marks same = ap ones same ∙ ones-mask_l test lanes
 
--- those up to a place, and those of the next bytes
+-- The bytes that pass up to an index, and those among the next n bytes.
 pub counted_on : (test : ℕ → Bool) (bytes : List ℕ) (place n : ℕ)
     → count_by test (take (place + n) bytes) ≡ count_by test (take place bytes) + count_by test (chunk place n bytes)
 counted_on test bytes place n =

@@ -1,4 +1,4 @@
--- A run over lines goes on.
+-- How far a run over lines is after one more step.
 use Rattle.std.proofs.Common.{◌≡◌, ℕ, ◌+◌, List, [], ◌∷◌, ◌++◌, length, take, Option, Some, None, position, Result, Ok, Err, OnOk, MatchResult, IsErrAnd}
 use Rattle.std.proofs.{Common.{refl, sym, subst, append_assoc}, lemmas.List.append-nil, KnownBytes.{Appends-nil, Consumes-trans}}
 use Rattle.std.specs.Io.KnownBytes.{Consumes, IsAtEnd}
@@ -9,7 +9,7 @@ use Rattle.ixdtf_buffers.proofs.LinesLemmas.{split_of-line, split_of-rest, ended
 use Rattle.ixdtf_buffers.proofs.OutputLemmas.{Sent-trans, Sent-front, Sent-all, Sent-written}
 
 module _ {T : Type 0} (step : T → List ℕ → List ℕ → T → Type 0) where
-  -- one more line was taken
+  -- One more line was handled.
   Steps-more : (old before new : T) (lines : List (List ℕ)) (bytes line put : List ℕ) → Steps step old lines bytes before → step before line put new
       → Steps step old (lines ++ line ∷ []) (bytes ++ put) new
   Steps-more old before new [] bytes line put (none, same) one =
@@ -18,7 +18,7 @@ module _ {T : Type 0} (step : T → List ℕ → List ℕ → T → Type 0) wher
       (taken, others ++ put, next, rw (whole, append_assoc) refl, is, Steps-more next before new lines others line put rest one)
 
 module _ {T : Type 0} {step : T → List ℕ → List ℕ → T → Type 0} {start now : Option (List ℕ)} {old new : T} where
-  -- what holds of the first lines holds of more lines
+  -- What is true for the first lines is true for more lines.
   DoesFront-more : {lines : List (List ℕ)} (more : List (List ℕ)) → DoesFront step start now old new lines → DoesFront step start now old new (lines ++ more)
   DoesFront-more more p = record {
     first = p.first;
@@ -29,7 +29,7 @@ module _ {T : Type 0} {step : T → List ℕ → List ℕ → T → Type 0} {sta
     front = p.front;
   }
 
-  -- a write failed, after a prefix of what was put of all these lines
+  -- A write failed, after a prefix of what the task wrote for all these lines.
   Fails-all : {failed : Type 0} {e : RunError} (lines : List (List ℕ)) (bytes : List ℕ) → Steps step old lines bytes new → e ≡ Write → failed
       → AppendsFront start now bytes → Fails step failed start now old new lines e
   Fails-all lines bytes steps is holds front = record {
@@ -38,7 +38,7 @@ module _ {T : Type 0} {step : T → List ℕ → List ℕ → T → Type 0} {sta
     front = record { first = lines; others = []; whole = sym (append-nil lines); bytes = bytes; steps = steps; front = front };
   }
 
-  -- a write failed at a line of which the newline was read behind more bytes
+  -- A write failed at a line whose newline was read after more bytes.
   pub Fails-line : {failed : Type 0} {e : RunError} (read more : List ℕ) (place : ℕ) → Some place ≡ position (is_byte newline) more
       → Fails step failed start now old new (ended_lines_of read ++ (unended_of read ++ take place more) ∷ []) e
       → Fails step failed start now old new (ended_lines_of (read ++ more)) e
@@ -48,7 +48,7 @@ module _ {T : Type 0} {step : T → List ℕ → List ℕ → T → Type 0} {sta
 
 module _ {T K : Type 0} {step : T → List ℕ → List ℕ → T → Type 0} {contents : K → Option (List ℕ)} {failed : K → Type 0} {start : Option (List ℕ)} {old new : T}
     {x y : Output K} where
-  -- one more line was taken, or a write failed
+  -- One more line was handled, or a write failed.
   pub took : {r : Result (Unit {0}) RunError} {before : T} {lines : List (List ℕ)} {line : List ℕ}
       → Taken step start (written contents x) x.waiting old before lines → Takes step contents failed before new x y r line
       → MatchResult r (λ _. Taken step start (written contents y) y.waiting old new (lines ++ line ∷ []))
@@ -62,7 +62,7 @@ module _ {T K : Type 0} {step : T → List ℕ → List ℕ → T → Type 0} {c
       let steps = Steps-more step old before new lines p.bytes line one.bytes p.steps one.steps in
       Fails-all _ _ steps one.puts.err.0 one.puts.err.1 (Sent-front one.bytes p.sent one.puts.err.2)
 
-  -- what waits was written, or a write failed
+  -- The buffer was written to the sink, or a write failed.
   handed_on : {r : Result (Unit {0}) RunError} {lines : List (List ℕ)} → Taken step start (written contents x) x.waiting old new lines
       → Puts contents failed x y r []
       → MatchResult r (λ _. Taken step start (written contents y) y.waiting old new lines)
@@ -70,7 +70,7 @@ module _ {T K : Type 0} {step : T → List ℕ → List ℕ → T → Type 0} {c
   handed_on {r = Ok t} p puts = record { bytes = p.bytes; steps = p.steps; sent = rw append-nil at (Sent-trans [] p.sent puts.ok) }
   handed_on {r = Err e} p puts = Fails-all _ _ p.steps puts.err.0 puts.err.1 (rw append-nil at (Sent-front [] p.sent puts.err.2))
 
-  -- at the end: what waits was written, and the sink flushed, or a write failed
+  -- At the end, the buffer was written to the sink and the sink was flushed, or a write failed.
   pub finished : (flushed : Type 0) {r : Result (Unit {0}) RunError} {lines : List (List ℕ)} → Taken step start (written contents x) x.waiting old new lines
       → OnOk r (y.waiting ≡ []) → OnOk r flushed → Puts contents failed x y r []
       → MatchResult r (λ _. flushed × Does step start (written contents y) old new lines)
@@ -79,7 +79,7 @@ module _ {T K : Type 0} {step : T → List ℕ → List ℕ → T → Type 0} {c
       let all = handed_on p puts in (is, record { bytes = all.bytes; steps = all.steps; appended = Sent-all all.sent none })
   finished flushed {r = Err e} p none is puts = handed_on p puts
 
-  -- the same of a run that stands
+  -- The same for a run between two reads.
   pub Stands-handed : {r : Result (Unit {0}) RunError} {limit : ℕ} {line : Line limit} {read : List ℕ} → Stands step contents start old new x line read
       → Puts contents failed x y r []
       → MatchResult r (λ _. Stands step contents start old new y line read)
@@ -89,7 +89,7 @@ module _ {T K : Type 0} {step : T → List ℕ → List ℕ → T → Type 0} {c
 
 module _ {T K : Type 0} {step : T → List ℕ → List ℕ → T → Type 0} {contents : K → Option (List ℕ)} {start : Option (List ℕ)} {old new : T} {limit : ℕ}
     {x : Output K} {after : Line limit} where
-  -- a newline was read behind more bytes of its line, and the line was taken
+  -- A newline was read after more bytes of its line, and the line was handled.
   pub Stands-line : (read more : List ℕ) (place : ℕ) → Some place ≡ position (is_byte newline) more
       → Taken step start (written contents x) x.waiting old new (ended_lines_of read ++ (unended_of read ++ take place more) ∷ []) → Holds after []
       → Stands step contents start old new x after (read ++ take (place + 1) more)
@@ -98,7 +98,7 @@ module _ {T K : Type 0} {step : T → List ℕ → List ℕ → T → Type 0} {c
     taken = subst (λ s. Taken step start (written contents x) x.waiting old new s.ended) (sym (split_of-line read more place is)) taken;
   }
 
-  -- bytes without a newline were read, and went onto the line
+  -- Bytes without a newline were read, and were appended to the line.
   pub Stands-rest : {before : Line limit} {read : List ℕ} (more : List ℕ) → None ≡ position (is_byte newline) more
       → Stands step contents start old new x before read → Holds after (unended_of read ++ more)
       → Stands step contents start old new x after (read ++ more)
@@ -107,7 +107,7 @@ module _ {T K : Type 0} {step : T → List ℕ → List ℕ → T → Type 0} {c
     taken = subst (λ s. Taken step start (written contents x) x.waiting old new s.ended) (sym (split_of-rest read more none)) stands.taken;
   }
 
--- nothing was read
+-- Nothing was read.
 pub Stands-nil : {T K : Type 0} (step : T → List ℕ → List ℕ → T → Type 0) (contents : K → Option (List ℕ)) {limit : ℕ} (task : T) {x : Output K}
     {line : Line limit} → x.waiting ≡ [] → Holds line [] → Stands step contents (written contents x) task task x line []
 unfolding split_of
@@ -116,14 +116,14 @@ Stands-nil step contents task {x = x} none empty = record {
   taken = record { bytes = []; steps = (refl, refl); sent = rw none (Sent-written (Appends-nil (written contents x))) };
 }
 
--- the last read returned no byte
+-- The last read returned no bytes.
 pub Consumes-last : (a b c : Option (List ℕ)) (xs ys : List ℕ) (count : ℕ) → count ≡ 0 → Consumes a b xs → Consumes b c (take count ys) → Consumes a c xs
 Consumes-last a b c xs ys count none p q =
     rw append-nil at (Consumes-trans a b c xs [] p (rw none at q))
 
 module _ {T : Type 0} {step : T → List ℕ → List ℕ → T → Type 0} {flushed stopped failed : Type 0} {a b s n : Option (List ℕ)} {old new : T} {count : ℕ}
     (read : List ℕ) where
-  -- all was read, and the last line was taken, or a write failed
+  -- All bytes were read, and the last line was handled, or a write failed.
   pub Runs-end : {r : Result (Unit {0}) RunError} → Consumes a b read → count ≡ length read → IsAtEnd b
       → MatchResult r (λ _. flushed × Does step s n old new (lines_of read)) (Fails step failed s n old new (lines_of read))
       → Runs step flushed stopped failed a b s n old new count r
@@ -135,7 +135,7 @@ module _ {T : Type 0} {step : T → List ℕ → List ℕ → T → Type 0} {flu
     write = λ same. (p.holds, (read, consumed, counted, p.front));
   }
 
-  -- a write failed
+  -- A write failed.
   pub Runs-failed : {r : Result (Unit {0}) RunError} {e : RunError} → Consumes a b read → count ≡ length read → IsErrAnd r (λ y. y ≡ e)
       → Fails step failed s n old new (ended_lines_of read) e → Runs step flushed stopped failed a b s n old new count r
   Runs-failed {r = Ok u} consumed counted same p = absurd same

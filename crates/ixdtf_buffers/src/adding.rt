@@ -1,18 +1,19 @@
-//! Bytes and numbers that are added to a short text, at a place of an array.
+//! Functions that append bytes and numbers to a short text in an array.
 //!
-//! The text of an answer or of a report is made there, and put at once. A place goes from call to call in a register, where a count in
-//! memory would be read and written for each byte.
+//! The programs make the text of an answer or of a report in such an array, and write the complete text with one call.
+//! Each function takes the index at which it begins to write, and returns the index after the last byte that it wrote.
+//! The index is passed from call to call in a register. A count in memory would be read and written for each byte.
 ghost use Rattle.std.specs.Prelude.{◌≡◌, ◌+◌, ◌<◌, ◌≤◌, ◌^◌, [], ◌∷◌, length, drop};
 ghost use Rattle.std.specs.Fmt.{decimal, signed_decimal};
 ghost use Rattle.ixdtf_buffers.specs.Adding.{Adds, pair_of};
 
-/// How many bytes the array of an answer has: at least as many as an answer without names.
+/// The size in bytes of the array of an answer. An answer without names always fits.
 pub const ROOM: usize = 192;
 
-/// The most digits of a `u64`.
+/// The number of digits of the greatest `u64`.
 const MOST_DIGITS: usize = 20;
 
-/// Adds the byte at the place, and returns the place behind it.
+/// Writes the byte at the index, and returns the index after it.
 #[inline(always)]
 pub fn add_byte<const SIZE: usize>(room: &mut [u8; SIZE], at: usize, byte: u8) -> usize
     requires { at < SIZE }
@@ -23,7 +24,7 @@ pub fn add_byte<const SIZE: usize>(room: &mut [u8; SIZE], at: usize, byte: u8) -
     at + 1
 }
 
-/// Adds the bytes at the place, and returns the place behind them.
+/// Writes the bytes from the index on, and returns the index after them.
 #[inline(always)]
 pub fn add_bytes<const SIZE: usize>(room: &mut [u8; SIZE], at: usize, bytes: &[u8]) -> usize
     requires { at + length bytes.now ≤ SIZE }
@@ -36,7 +37,7 @@ pub fn add_bytes<const SIZE: usize>(room: &mut [u8; SIZE], at: usize, bytes: &[u
     end
 }
 
-/// Adds a number below 256 at the place, and returns the place behind it.
+/// Writes a number below 256 in decimal digits from the index on, and returns the index after it.
 #[inline(always)]
 pub fn add_small<const SIZE: usize>(room: &mut [u8; SIZE], at: usize, number: u8) -> usize
     requires { at + 3 ≤ SIZE }
@@ -50,7 +51,7 @@ pub fn add_small<const SIZE: usize>(room: &mut [u8; SIZE], at: usize, number: u8
     }
 }
 
-/// Adds the number at the place, and returns the place behind it.
+/// Writes the number in decimal digits from the index on, and returns the index after it.
 #[inline(always)]
 pub fn add_number<const SIZE: usize>(room: &mut [u8; SIZE], at: usize, number: u64) -> usize
     requires { at + 20 ≤ SIZE }
@@ -66,7 +67,7 @@ pub fn add_number<const SIZE: usize>(room: &mut [u8; SIZE], at: usize, number: u
     }
 }
 
-/// Adds a number below 100,000,000 at the place, and returns the place behind it.
+/// Writes a number below 100,000,000 from the index on, and returns the index after it.
 #[inline(never)]
 fn add_below_100_000_000<const SIZE: usize>(room: &mut [u8; SIZE], at: usize, number: u32) -> usize
     requires small { number < 100000000 }
@@ -82,7 +83,7 @@ fn add_below_100_000_000<const SIZE: usize>(room: &mut [u8; SIZE], at: usize, nu
     add_two_digits(room, last, (number % 100) as u8)
 }
 
-/// Adds a number below 10,000 at the place, and returns the place behind it.
+/// Writes a number below 10,000 from the index on, and returns the index after it.
 #[inline(always)]
 fn add_below_10_000<const SIZE: usize>(room: &mut [u8; SIZE], at: usize, number: u32) -> usize
     requires small { number < 10000 }
@@ -97,7 +98,7 @@ fn add_below_10_000<const SIZE: usize>(room: &mut [u8; SIZE], at: usize, number:
     add_two_digits(room, last, (number % 100) as u8)
 }
 
-/// Adds two digits at the place, and returns the place behind them.
+/// Writes a number below 100 as two digits from the index on, and returns the index after them.
 #[inline(always)]
 fn add_two_digits<const SIZE: usize>(room: &mut [u8; SIZE], at: usize, number: u8) -> usize
     requires small { number < 100 }
@@ -110,7 +111,9 @@ fn add_two_digits<const SIZE: usize>(room: &mut [u8; SIZE], at: usize, number: u
     at + 2
 }
 
-/// Adds a signed number, as a year, at the place, and returns the place behind it. Nearly all years have four digits.
+/// Writes a signed number, such as a year, from the index on, and returns the index after it.
+///
+/// A number of four digits is tested first, because nearly all years have four digits.
 #[inline(always)]
 pub fn add_signed<const SIZE: usize>(room: &mut [u8; SIZE], at: usize, number: i32) -> usize
     requires { at + 11 ≤ SIZE }
@@ -124,7 +127,7 @@ pub fn add_signed<const SIZE: usize>(room: &mut [u8; SIZE], at: usize, number: i
     }
 }
 
-/// Adds a number that has not four digits.
+/// Writes a number that has a sign, or not exactly four digits. It returns the index after the number.
 #[cold]
 #[inline(never)]
 fn add_other_signed<const SIZE: usize>(room: &mut [u8; SIZE], at: usize, number: i32) -> usize
@@ -140,10 +143,10 @@ fn add_other_signed<const SIZE: usize>(room: &mut [u8; SIZE], at: usize, number:
     }
 }
 
-/// Adds a number below 100 at the place, and returns the place behind it.
+/// Writes a number below 100 from the index on, and returns the index after it.
 ///
-/// The digit of the tens is written in any case, and that of the ones over it where the number is below 10: no branch hangs
-/// on the number.
+/// The function always writes the tens digit first. If the number is below 10, the ones digit overwrites it. So the code
+/// does not branch on the number.
 #[inline(always)]
 fn add_below_100<const SIZE: usize>(room: &mut [u8; SIZE], at: usize, number: u8) -> usize
     requires small { number < 100 }
@@ -157,7 +160,7 @@ fn add_below_100<const SIZE: usize>(room: &mut [u8; SIZE], at: usize, number: u8
     last + 1
 }
 
-/// The place of the last digit of a number below 100.
+/// Returns the index of the last digit of a number below 100 that is written from `at` on.
 #[inline(always)]
 fn last_place(at: usize, number: u8) -> usize
     requires { at + 1 < 2 ^ 64 }
@@ -167,7 +170,7 @@ fn last_place(at: usize, number: u8) -> usize
     if number < 10 { at } else { at + 1 }
 }
 
-/// Adds a number of four digits at the place, and returns the place behind it.
+/// Writes a number of four digits from the index on, and returns the index after it.
 #[inline(always)]
 fn add_four_digits<const SIZE: usize>(room: &mut [u8; SIZE], at: usize, number: u16) -> usize
     requires four { (1000 ≤ number) × (number < 10000) }
@@ -184,7 +187,7 @@ fn add_four_digits<const SIZE: usize>(room: &mut [u8; SIZE], at: usize, number: 
     at + 4
 }
 
-/// Adds any number at the place, and returns the place behind it.
+/// Writes a number of any length from the index on, and returns the index after it.
 #[cold]
 #[inline(never)]
 fn add_long<const SIZE: usize>(room: &mut [u8; SIZE], at: usize, number: u64) -> usize
@@ -197,7 +200,7 @@ fn add_long<const SIZE: usize>(room: &mut [u8; SIZE], at: usize, number: u64) ->
     add_bytes(room, at, &digits[start..])
 }
 
-/// Writes the digits at the end of the array, and returns where they start.
+/// Writes the digits of the number into the end of the array, and returns the index of the first digit.
 fn put_decimal(number: u64, digits: &mut [u8; MOST_DIGITS]) -> usize
     ensures start { result < 20 }
     ensures digits { drop result digits.new ≡ decimal number }

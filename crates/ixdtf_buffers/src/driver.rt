@@ -1,4 +1,4 @@
-//! The run over lines, whatever is done with each of them.
+//! The loop that reads a source line by line, and passes each line to a task.
 ghost use Rattle.std.specs.Prelude.{◌≡◌, ◌⊎◌, ◌+◌, ◌<◌, ◌≤◌, ◌^◌, ℕ, List, [], ◌++◌, length, Option, Err, IfSome, OnOk, MatchResult};
 ghost use Rattle.std.specs.Io.KnownBytes.{IsAtEnd};
 ghost use Rattle.ixdtf_buffers.specs.Line.{Holds, IsLine};
@@ -14,13 +14,14 @@ use crate::place::place_of;
 use crate::sink::Sink;
 use crate::source::Source;
 
-/// What a program does with a line of at most `LIMIT` bytes, and with one that is longer.
+/// A task that handles lines of at most `LIMIT` bytes. It is also told about each longer line.
 pub trait LineTask<const LIMIT: usize> {
-    // What it puts of a line, and what it is behind it.
+    // A relation of the task before a line, the line, the bytes that the task writes for it, and the task after it.
     ghost step: { Self → List ℕ → List ℕ → Self → Type 0 };
 
-    /// Puts what it has to say of the line into the output. It is `None` for a line of more than `LIMIT` bytes.
-    /// It fails with `RunError::Write`, where a write failed.
+    /// Handles one line, and writes its result to the output. `line` is `None` if the line has more than `LIMIT` bytes.
+    ///
+    /// Returns `RunError::Write` if a write fails.
     fn take_line<K: Sink>(
         &mut self,
         output: &mut Output<'_, K>,
@@ -32,20 +33,20 @@ pub trait LineTask<const LIMIT: usize> {
             → Takes step K.contents K.failed self.old self.new output.old output.new result text };
 }
 
-/// How a run over lines ended.
+/// How a run over the lines of a source ended.
 #[derive(Clone, Copy, Debug, PartialEq)]
 pub struct Driven {
-    /// How many bytes were read.
+    /// The number of bytes that were read.
     pub bytes: u64,
-    /// Whether all was read and written.
+    /// `Ok` if all bytes were read and all results were written. Otherwise the error that ended the run.
     pub end: Result<(), RunError>,
 }
 
-/// Reads the source to its end, and hands each of its lines to the task, which puts what it has to say of it into the sink.
+/// Reads the source to its end, and passes each of its lines to the task. The task writes its results to the sink.
 ///
-/// A newline ends a line. What stands after the last one is a line too, unless it is empty. What was put is written before each read
-/// and at the end, when the sink is flushed too. A read asks for `LIMIT` bytes. Where they would be more than a `u64` counts, nothing
-/// more is read, and that is `RunError::Read`.
+/// A newline ends a line. The bytes after the last newline are a line too, unless there are none. Before each read and at the
+/// end, all results are written to the sink. At the end, the sink is also flushed. A read asks for `LIMIT` bytes. If the number of
+/// bytes could exceed a `u64`, the function does not read further, and returns `RunError::Read`.
 pub fn drive<S: Source, K: Sink, T: LineTask<LIMIT>, const LIMIT: usize>(
     source: &mut S,
     sink: &mut K,
@@ -53,18 +54,18 @@ pub fn drive<S: Source, K: Sink, T: LineTask<LIMIT>, const LIMIT: usize>(
 ) -> Driven
     requires { (0 < LIMIT) × (LIMIT < 2 ^ 32) }
 
-    // All was read, the task took each line, and the sink was flushed.
+    // All bytes were read, the task handled each line, and the sink was flushed.
     ensures ok { OnOk result.end (K.flushed sink.new × IsAtEnd (S.remaining source.new)
         × Reads (S.remaining source.old) (S.remaining source.new) result.bytes (λ bytes.
         Does T.step (K.contents sink.old) (K.contents sink.new) task.old task.new (lines_of bytes))) }
 
-    // A read failed, or there were too many bytes, and the task took the lines that ended with a newline before.
+    // A read failed, or there were too many bytes. The task handled the lines that were read up to their newline.
     ensures read { result.end ≡ Err RunError.Read
         → (S.failed source.new ⊎ (2 ^ 64 ≤ result.bytes + LIMIT))
         × Reads (S.remaining source.old) (S.remaining source.new) result.bytes (λ bytes.
         Does T.step (K.contents sink.old) (K.contents sink.new) task.old task.new (ended_lines_of bytes)) }
 
-    // A write failed, the task took the first of the lines, and a prefix of what it put of them was written.
+    // A write failed. The task handled the first lines, and a prefix of what it wrote for them is in the sink.
     ensures write { result.end ≡ Err RunError.Write → K.failed sink.new
         × Reads (S.remaining source.old) (S.remaining source.new) result.bytes (λ bytes.
         DoesFront T.step (K.contents sink.old) (K.contents sink.new) task.old task.new (lines_of bytes)) }
@@ -75,7 +76,7 @@ pub fn drive<S: Source, K: Sink, T: LineTask<LIMIT>, const LIMIT: usize>(
     Driven { bytes, end }
 }
 
-/// The run over an output where no byte waits. It counts the bytes that are read.
+/// Does the work of `drive` with an output whose buffer is empty. Adds the number of bytes that it reads to `bytes`.
 fn drive_all<S: Source, K: Sink, T: LineTask<LIMIT>, const LIMIT: usize>(
     source: &mut S,
     output: &mut Output<'_, K>,
@@ -93,7 +94,7 @@ fn drive_all<S: Source, K: Sink, T: LineTask<LIMIT>, const LIMIT: usize>(
 {
     let mut line = Line::new();
     let mut input = [0; LIMIT];
-    // No byte waits at any of the reads.
+    // The buffer of the output is empty before each read.
     'reads: while *bytes <= u64::MAX - LIMIT as u64 {
         let count = source.read_some(&mut input)?;
         if count == 0 {
@@ -105,7 +106,7 @@ fn drive_all<S: Source, K: Sink, T: LineTask<LIMIT>, const LIMIT: usize>(
     Err(RunError::Read)
 }
 
-/// Takes the bytes of a read, hands each line that ends in them to the task, and writes what it put.
+/// Passes each line that ends in the bytes of one read to the task, and writes the results to the sink.
 fn take_bytes<K: Sink, T: LineTask<LIMIT>, const LIMIT: usize>(
     output: &mut Output<'_, K>,
     task: &mut T,
@@ -131,9 +132,9 @@ fn take_bytes<K: Sink, T: LineTask<LIMIT>, const LIMIT: usize>(
     output.hand_on()
 }
 
-/// Hands a line to the task of which these are the last bytes, and begins the next one.
+/// Passes a line to the task, and begins the next line. `bytes` are the last bytes of the line.
 ///
-/// A line that lies whole in what was read is taken where it lies.
+/// If no earlier bytes of the line are kept, `bytes` is the complete line, and is not copied.
 #[inline(always)]
 fn end_line<K: Sink, T: LineTask<LIMIT>, const LIMIT: usize>(
     output: &mut Output<'_, K>,
@@ -154,9 +155,9 @@ fn end_line<K: Sink, T: LineTask<LIMIT>, const LIMIT: usize>(
     end_kept_line(output, task, line, bytes)
 }
 
-/// The same of a line of which a part is kept, or that is too long.
+/// Does the work of `end_line` for a line whose first bytes are kept, or that is too long.
 ///
-/// It is not inlined, since there is at most one in most reads.
+/// The function is not inlined, because most reads contain at most one such line.
 #[inline(never)]
 fn end_kept_line<K: Sink, T: LineTask<LIMIT>, const LIMIT: usize>(
     output: &mut Output<'_, K>,
@@ -176,7 +177,8 @@ fn end_kept_line<K: Sink, T: LineTask<LIMIT>, const LIMIT: usize>(
     result
 }
 
-/// Hands what stands after the last newline to the task, writes what it put, and flushes the sink.
+/// Passes the bytes after the last newline to the task as the last line, unless there are none. Then writes the results to the
+/// sink, and flushes the sink.
 fn finish<K: Sink, T: LineTask<LIMIT>, const LIMIT: usize>(
     output: &mut Output<'_, K>,
     task: &mut T,

@@ -1,4 +1,4 @@
-//! A source and a sink in memory, whose calls fail only where the sink is full.
+//! A source and a sink in memory. Their calls fail only if the sink is full.
 ghost use Rattle.std.specs.Prelude.{◌≡◌, ◌≤◌, ℕ, List, [], length, take};
 
 use crate::error::RunError;
@@ -6,10 +6,10 @@ use crate::sink::Sink;
 use crate::source::Source;
 use std::marker::Model;
 
-/// Bytes in memory, from which a run reads. A read never fails.
+/// A source that reads bytes from memory. A read never fails.
 #[derive(Drop)]
 pub struct MemorySource<'a> {
-    /// The bytes that are left.
+    /// The bytes that were not read yet.
     pub rest: &'a [u8],
 }
 
@@ -29,7 +29,7 @@ impl Source for MemorySource<'_> {
     }
 }
 
-/// An array in memory, to which a run writes. A write fails only where it is full.
+/// A sink that writes into an array. A write fails only if the array is full.
 #[derive(Drop)]
 pub struct MemorySink<const SIZE: usize> {
     bytes: [u8; SIZE],
@@ -45,7 +45,7 @@ impl<const SIZE: usize> Model for MemorySink<SIZE> {
 }
 
 impl<const SIZE: usize> MemorySink<SIZE> {
-    /// No byte was written.
+    /// Creates a sink to which nothing was written.
     pub fn new() -> MemorySink<SIZE>
         ensures { result ≡ [] }
     {
@@ -55,7 +55,7 @@ impl<const SIZE: usize> MemorySink<SIZE> {
         }
     }
 
-    /// The bytes that were written.
+    /// Returns the bytes that were written.
     pub fn as_slice(&self) -> &[u8]
         ensures { result.now ≡ self.now }
     {

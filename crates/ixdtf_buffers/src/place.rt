@@ -1,4 +1,4 @@
-//! Looking for a byte.
+//! The search for a byte.
 ghost use Rattle.std.specs.Prelude.{◌≡◌, ◌+◌, ◌<◌, ◌≤◌, length, map, take, position, IfSome};
 ghost use Rattle.std.specs.List.{count_by};
 ghost use Rattle.std.specs.Simd.Lanes.{chunk, mask_l};
@@ -6,13 +6,13 @@ ghost use Rattle.ixdtf_buffers.specs.Lines.{is_byte};
 
 use std::simd::prelude::*;
 
-/// How many bytes are looked at at once.
+/// The number of bytes that are compared at once.
 const LANES: usize = 16;
 
-/// The index of the first byte that is this one.
+/// Returns the index of the first byte that is equal to `wanted`.
 ///
-/// A byte at the front is looked at first: where many fields or lines are empty, the look at many bytes at once would wait
-/// each time for what the look before it found.
+/// The first byte is compared separately. If many fields or lines are empty, each comparison of many bytes would otherwise have
+/// to wait for the result of the comparison before it.
 pub fn place_of(wanted: u8, bytes: &[u8]) -> Option<usize>
     ensures place { result ≡ position (is_byte wanted) bytes.now }
     ensures within { IfSome result (λ place. place < length bytes.now) }
@@ -25,7 +25,7 @@ pub fn place_of(wanted: u8, bytes: &[u8]) -> Option<usize>
     }
 }
 
-/// The same of fewer bytes than are looked at at once.
+/// Does the work of `place_of` for fewer than `LANES` bytes.
 fn place_in_few(wanted: u8, bytes: &[u8]) -> Option<usize>
     ensures place { result ≡ position (is_byte wanted) bytes.now }
     ensures within { IfSome result (λ place. place < length bytes.now) }
@@ -33,10 +33,10 @@ fn place_in_few(wanted: u8, bytes: &[u8]) -> Option<usize>
     bytes.iter().position(|byte| *byte == wanted)
 }
 
-/// The same of at least as many.
+/// Does the work of `place_of` for at least `LANES` bytes.
 ///
-/// The last look goes up to the end, over bytes that may have been looked at before. A search of bytes one by one costs five
-/// instructions a byte, which was a third of the work on a line that is read.
+/// The last comparison takes the last `LANES` bytes, some of which can have been compared before. A search byte by byte takes
+/// five instructions for each byte, which was a third of the work on a line.
 #[inline(always)]
 fn place_in_many(wanted: u8, bytes: &[u8]) -> Option<usize>
     requires { 16 ≤ length bytes.now }
@@ -60,7 +60,7 @@ fn place_in_many(wanted: u8, bytes: &[u8]) -> Option<usize>
     }
 }
 
-/// Which of the bytes from there on, as many as are looked at at once, are this one: a bit for each, the lowest for the first.
+/// Compares `LANES` bytes from the index `start` on with `wanted`. Returns one bit for each byte, the lowest bit for the first byte.
 #[inline(always)]
 fn marks_from(wanted: u8, bytes: &[u8], start: usize) -> u64
     requires { start + 16 ≤ length bytes.now }
@@ -70,16 +70,18 @@ fn marks_from(wanted: u8, bytes: &[u8], start: usize) -> u64
     here.simd_eq(u8x16::splat(wanted)).to_bitmask()
 }
 
-/// Where so many bytes that are this one were passed over, but for some that are left.
+/// How far `pass_many` went.
 #[derive(Clone, Copy)]
 pub struct Passed {
-    /// How many bytes were passed over.
+    /// The number of bytes that were skipped.
     pub place: usize,
-    /// How many of those that are this one are left.
+    /// The number of bytes equal to `wanted` that still have to be skipped.
     pub left: usize,
 }
 
-/// Passes over bytes, as many at once as are looked at at once, as long as fewer of them are this one than are left.
+/// Skips bytes up to the byte number `count` that is equal to `wanted`, as far as this is possible in steps of `LANES` bytes.
+///
+/// It stops before a step that contains this byte, and if fewer than `LANES` bytes are left.
 pub fn pass_many(wanted: u8, count: usize, bytes: &[u8]) -> Passed
     ensures within { result.place ≤ length bytes.now }
     ensures passed { result.left + count_by (is_byte wanted) (take result.place bytes.now) ≡ count }

@@ -1,22 +1,24 @@
-//! What a run writes to.
+//! The sinks to which a run writes.
 ghost use Rattle.std.specs.Prelude.{◌≡◌, ◌<◌, ◌≤◌, ℕ, List, Option, length, take, IfOk, IfErr, OnOk};
 ghost use Rattle.std.specs.Io.KnownBytes.{Appends, Keeps};
 
 use crate::error::RunError;
 use std::io::Write;
 
-/// What a run writes to: any writer, or a sink in memory.
+/// A sink to which a run writes: any `Write`, or a sink in memory.
 pub trait Sink {
-    // The bytes that it holds, where they are known.
+    // The bytes in the sink, if they are known.
     ghost contents: { Self → Option (List ℕ) };
 
-    // What holds where a write or a flush failed.
+    // What is known after a write or a flush failed.
     ghost failed: { Self → Type 0 };
 
-    // What holds behind a flush.
+    // What is known after a flush.
     ghost flushed: { Self → Type 0 };
 
-    /// Writes some of the bytes, at least one of any, and returns how many. It fails with `RunError::Write`.
+    /// Writes a prefix of the bytes, and returns its length. The prefix is empty only if there are no bytes.
+    ///
+    /// Returns `RunError::Write` if the write fails.
     fn write_some(&mut self, bytes: &[u8]) -> Result<usize, RunError>
         ensures some { IfOk result (λ count. 0 < length bytes.now → 0 < count) }
         ensures bound { IfOk result (λ count. count ≤ length bytes.now) }
@@ -25,7 +27,7 @@ pub trait Sink {
         ensures err { IfErr result (λ error. (error ≡ RunError.Write) × failed self.new
             × Keeps (contents self.old) (contents self.new)) };
 
-    /// Flushes what was written. It fails with `RunError::Write`.
+    /// Flushes what was written. Returns `RunError::Write` if this fails.
     fn flush_all(&mut self) -> Result<(), RunError>
         ensures ok { OnOk result (flushed self.new) }
         ensures keeps { Keeps (contents self.old) (contents self.new) }
@@ -37,7 +39,7 @@ impl<W: Write> Sink for W {
 
     ghost contents = { W.contents };
 
-    // A call of a writer may fail at any time.
+    // A call of a `Write` can fail at any time.
     ghost failed = { λ _. ⊤ };
 
     ghost flushed = { λ _. ⊤ };

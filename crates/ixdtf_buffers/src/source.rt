@@ -1,20 +1,21 @@
-//! What a run reads from.
+//! The sources from which a run reads.
 ghost use Rattle.std.specs.Prelude.{◌≡◌, ◌<◌, ◌≤◌, ℕ, List, Option, length, take, IfOk, IfErr};
 ghost use Rattle.std.specs.Io.KnownBytes.{Consumes, Keeps, IsAtEnd};
 
 use crate::error::RunError;
 use std::io::Read;
 
-/// What a run reads from: any reader, or bytes in memory.
+/// A source from which a run reads: any `Read`, or bytes in memory.
 pub trait Source {
-    // The bytes that reads will give from here on, where they are known.
+    // The bytes that were not read yet, if they are known.
     ghost remaining: { Self → Option (List ℕ) };
 
-    // What holds where a read failed.
+    // What is known after a read failed.
     ghost failed: { Self → Type 0 };
 
-    /// Reads some bytes into the front of `input`, and returns how many: 0 at the end, or where `input` has no room.
-    /// It fails with `RunError::Read`.
+    /// Reads bytes into the beginning of `input`, and returns how many. Returns 0 at the end, or if `input` is empty.
+    ///
+    /// Returns `RunError::Read` if the read fails.
     fn read_some(&mut self, input: &mut [u8]) -> Result<usize, RunError>
         ensures bound { IfOk result (λ count. count ≤ length input.new) }
         ensures ok { IfOk result (λ count.
@@ -30,7 +31,7 @@ impl<R: Read> Source for R {
 
     ghost remaining = { R.remaining };
 
-    // A read of a reader may fail at any time.
+    // A call of a `Read` can fail at any time.
     ghost failed = { λ _. ⊤ };
 
     fn read_some(&mut self, input: &mut [u8]) -> Result<usize, RunError> {

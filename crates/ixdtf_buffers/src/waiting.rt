@@ -1,12 +1,12 @@
-//! Bytes that wait to be written.
+//! A buffer for bytes that are not written yet.
 ghost use Rattle.std.specs.Prelude.{◌≡◌, ◌≤◌, ◌++◌, ◌+◌, length, ℕ, List, [], take, drop};
 
 use std::marker::Model;
 
-/// How many bytes wait at most.
+/// The size of the buffer in bytes.
 pub const WAITING_LIMIT: usize = 4096;
 
-/// Bytes that wait to be written.
+/// A buffer for bytes that are not written yet.
 #[derive(Drop)]
 pub struct Waiting {
     bytes: [u8; WAITING_LIMIT],
@@ -22,7 +22,7 @@ impl Model for Waiting {
 }
 
 impl Waiting {
-    /// No byte waits.
+    /// Creates an empty buffer.
     pub fn new() -> Waiting
         ensures { result ≡ [] }
     {
@@ -32,14 +32,14 @@ impl Waiting {
         }
     }
 
-    /// How many more bytes can wait.
+    /// Returns how many more bytes fit into the buffer.
     pub fn room(&self) -> usize
         ensures { result + length self.now ≡ 4096 }
     {
         WAITING_LIMIT - self.count
     }
 
-    /// Puts bytes that fit behind those that wait.
+    /// Appends bytes that fit to the buffer.
     pub fn push_all(&mut self, bytes: &[u8])
         requires { length self.old + length bytes.now ≤ 4096 }
         ensures { self.new ≡ self.old ++ bytes.now }
@@ -49,14 +49,14 @@ impl Waiting {
         self.count = end;
     }
 
-    /// The bytes that wait.
+    /// Returns the bytes in the buffer.
     pub fn as_slice(&self) -> &[u8]
         ensures { result.now ≡ self.now }
     {
         &self.bytes[..self.count]
     }
 
-    /// The first of the bytes wait no longer, as many as these.
+    /// Removes the first `count` bytes from the buffer.
     pub fn drop_front(&mut self, count: usize)
         requires { count ≤ length self.old }
         ensures { self.new ≡ drop count self.old }

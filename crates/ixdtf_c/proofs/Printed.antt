@@ -2,17 +2,20 @@
 use Rattle.ixdtf_grammar.specs.declared.records.UtcOffsetRecord.TheVariants as offsets
 use Rattle.ixdtf_grammar.specs.declared.records.UtcOffsetRecordOrZ.TheVariants as shifts
 use Rattle.std.proofs.Common.{refl, sym, ◌∙◌, ◌≡◌, ◌≢◌, ◌≤◌, ◌+◌, ℕ, Bool, not, inl, inr, ap, if◌then◌else◌, List, length, Option, Some, None, IfSome}
-use Rattle.std.proofs.{Common.{IsSomeAnd, Ok, Err, arith}, lemmas.Bool.Decides.eqb_tells}
-use Rattle.ixdtf_grammar.specs.declared.{profile.Profile.Profile, records.{DateRecord.DateRecord, MinutePrecisionOffset.MinutePrecisionOffset, Sign.Sign}}
-use Rattle.ixdtf_grammar.specs.declared.records.{Sign.TheVariants.{Positive, Negative}, TimeRecord.TimeRecord, UtcOffsetRecordOrZ.UtcOffsetRecordOrZ}
+use Rattle.std.proofs.{Common.{IsSomeAnd, Result, Ok, Err, OnOk, arith}, lemmas.Bool.Decides.eqb_tells}
+use Rattle.ixdtf_grammar.specs.declared.records.DurationParseRecord.{DurationParseRecord}
+use Rattle.ixdtf_grammar.specs.declared.{profile.Profile.{Profile, TheVariants.Crate}, records.{DateRecord.DateRecord, MinutePrecisionOffset.MinutePrecisionOffset, Sign.Sign}}
+use Rattle.ixdtf_grammar.specs.declared.records.{Sign.TheVariants.{Positive, Negative}, TimeDurationRecord.TimeDurationRecord, TimeRecord.TimeRecord}
+use Rattle.ixdtf_grammar.specs.declared.records.UtcOffsetRecordOrZ.{UtcOffsetRecordOrZ}
 use Rattle.ixdtf.specs.language.{Brackets.ZoneNote, Fractions.FractionParts, Languages.Parsed, Letters.Text, OffsetRecords.sign_for, Readers.parse}
 use Rattle.ixdtf.specs.{language.ZoneNames.{Zone as SomeZone, Zone.{Name, Offset as ByOffset}}, Handlers.UnhandledRecord}
-use Rattle.ixdtf_c.specs.Crossing.{Contents, digits_for, value_for, is_negative, date_for, time_for, offset_for, area_for, zone_for, units_for, is_there}
-use Rattle.ixdtf_c.specs.{Crossing.record_for, Outcomes.GivesRecord}
-use Rattle.ixdtf_c.specs.Standing.{where_there, fraction_by, date_by, time_by, minutes_by, offset_by, zone_by, parsed_by, record_by}
+use Rattle.ixdtf_c.specs.Crossing.{Contents, DurationContents, digits_for, value_for, is_negative, date_for, time_for, offset_for, area_for, zone_for, units_for, is_there}
+use Rattle.ixdtf_c.specs.{Crossing.record_for, Instants.shift_fraction, Outcomes.GivesRecord}
+use Rattle.ixdtf_c.specs.Standing.{where_there, fraction_by, date_by, time_by, minutes_by, offset_by, zone_by, parsed_by, record_by, lasting_by}
 use Rattle.ixdtf_c.proofs.Numbers.{number_some}
-use Rattle.ixdtf_print.specs.{Canonical.canonical_text, Printable.IsPrintable, Spelled.{HasTime, HasDigits, IsDayTime, IsShift}}
-use Rattle.ixdtf_print.proofs.{parts.ParsedParts.to_parts, theorems.PrintableRecords.{printable_iff, of_record}}
+use Rattle.ixdtf_print.specs.{Canonical.canonical_text, Durations.{duration_text, IsPrintableDuration, IsDurationReadBack}, Printable.IsPrintable, Spelled.{HasTime, HasDigits, IsDayTime, IsShift}}
+use Rattle.ixdtf_print.specs.SpelledDurations.{HasTimeUnits}
+use Rattle.ixdtf_print.proofs.{parts.ParsedParts.to_parts, theorems.{PrintableDurations.printable_duration, PrintableRecords.{printable_iff, of_record}}}
 
 time_of_both : (time : Option TimeRecord) (offset : Option UtcOffsetRecordOrZ) → HasTime time offset → IfSome time IsDayTime
 time_of_both None offset has = tt
@@ -25,20 +28,34 @@ offset_of_both None (Some offset) has = absurd has
 offset_of_both (Some time) None has = tt
 offset_of_both (Some time) (Some offset) has = has.1
 
+-- the fractions of a time of day and of an offset are such
+digits_of_time : (time : Option TimeRecord) → IfSome time IsDayTime → IfSome time (λ it. HasDigits it.fraction)
+digits_of_time None is = tt
+digits_of_time (Some time) is = is.fraction
+
+digits_of_offset : (offset : Option UtcOffsetRecordOrZ) → IfSome offset IsShift → IfSome offset (λ shift. HasDigits (shift_fraction shift))
+digits_of_offset None is = tt
+digits_of_offset (Some shifts.Z) is = tt
+digits_of_offset (Some (shifts.Offset (offsets.MinutePrecision it))) is = tt
+digits_of_offset (Some (shifts.Offset (offsets.FullPrecisionOffset it))) is = is.fraction
+
 -- what the numbers of a record stand for that is printed
 module _ (r : Contents) where
   printed_parts : (offset : Option (Option UtcOffsetRecordOrZ)) (zone : Option (Option ZoneNote)) → IsSomeAnd (parsed_by r offset zone) IsPrintable
-      → IfSome (time_by r.time) IsDayTime × IsSomeAnd offset (λ it. IfSome it IsShift) × (zone ≢ None)
+      → IfSome (time_by r.time) (λ it. HasDigits it.fraction) × IsSomeAnd offset (λ it. IfSome it (λ shift. HasDigits (shift_fraction shift))) × (zone ≢ None)
   printed_parts (Some offset) (Some it) is =
-      let has = ((printable_iff _).0 is).time in
-      (time_of_both (time_by r.time) offset has, offset_of_both (time_by r.time) offset has, λ none. cc)
+      let has = ((printable_iff _).0 is).time in (
+        digits_of_time (time_by r.time) (time_of_both (time_by r.time) offset has),
+        digits_of_offset offset (offset_of_both (time_by r.time) offset has),
+        λ none. cc,
+      )
   printed_parts (Some _) None is = absurd is
   printed_parts None _ is = absurd is
 
-  pub printed_time : IsSomeAnd (record_by r) IsPrintable → IfSome (time_by r.time) IsDayTime
+  pub printed_time : IsSomeAnd (record_by r) IsPrintable → IfSome (time_by r.time) (λ it. HasDigits it.fraction)
   printed_time is = (printed_parts (offset_by r.offset) (zone_by r.zone) is).0
 
-  pub printed_offset : IsSomeAnd (record_by r) IsPrintable → IsSomeAnd (offset_by r.offset) (λ it. IfSome it IsShift)
+  pub printed_offset : IsSomeAnd (record_by r) IsPrintable → IsSomeAnd (offset_by r.offset) (λ it. IfSome it (λ shift. HasDigits (shift_fraction shift)))
   printed_offset is = (printed_parts (offset_by r.offset) (zone_by r.zone) is).1
 
   pub printed_zone : IsSomeAnd (record_by r) IsPrintable → zone_by r.zone ≢ None
@@ -130,3 +147,15 @@ pub read_fits : (profile : Profile) (text : Text) (number : ℕ) (old new : Cont
 read_fits profile text number old new read zeroed =
     let (found, gives, is) = read_back profile text number old new read zeroed in
     rw is (of_record text found (to_parts text found gives)).1
+
+-- a duration that is printable has a time that is, where it has one
+pub printed_units : (d : DurationContents) (time : Option (Option TimeDurationRecord)) → IsSomeAnd (lasting_by d time) IsPrintableDuration
+    → IsSomeAnd time HasTimeUnits
+printed_units d (Some time) is = ((printable_duration _).0 is).time
+printed_units d None is = absurd is
+
+-- a duration that is read back from its canonical text has a text
+pub read_is_duration : {E : Type 0} (duration : DurationParseRecord) (result : Result ℕ E)
+    → OnOk result (IsDurationReadBack duration) → OnOk result (IsPrintableDuration duration)
+read_is_duration duration (Ok n) back = (duration_text duration, (back Crate).same)
+read_is_duration duration (Err e) back = tt

@@ -1,6 +1,7 @@
 pub mod Computed
 pub mod Crossing
 pub mod Fielded
+pub mod Instants
 pub mod Lasting
 pub mod Listing
 pub mod Located
@@ -8,6 +9,7 @@ pub mod Names
 pub mod Narrow
 pub mod Numbers
 pub mod Outcomes
+pub mod Printing
 pub mod Replying
 pub mod Standing
 pub mod Turns

@@ -59,4 +59,6 @@ name_of number =
     if nat_le number 46 then get_or names number []
     else (if nat_eq number 101 then codes "IXDTF_NOT_PRINTABLE"
     else (if nat_eq number 102 then codes "IXDTF_TOO_SHORT"
-    else []))
+    else (if nat_eq number 103 then codes "IXDTF_NO_INSTANT"
+    else (if nat_eq number 104 then codes "IXDTF_NOT_EXACT"
+    else []))))

@@ -1,12 +1,14 @@
 -- What the numbers of a record stand for that is printed, where they stand for something: the fields of a part that is not there are not looked at.
+use Rattle.ixdtf_grammar.specs.declared.records.TimeDurationRecord.TheVariants as times
 use Rattle.ixdtf_grammar.specs.declared.records.UtcOffsetRecord.TheVariants as offsets
 use Rattle.ixdtf_grammar.specs.declared.records.UtcOffsetRecordOrZ.TheVariants as shifts
 use Rattle.std.specs.Prelude.{ℕ, Bool, true, false, not, nat_eq, if◌then◌else◌, List, [], Option, Some, None}
 use Rattle.ixdtf_grammar.specs.declared.records.{DateRecord.DateRecord, TimeRecord.TimeRecord, MinutePrecisionOffset.MinutePrecisionOffset}
-use Rattle.ixdtf_grammar.specs.declared.records.UtcOffsetRecordOrZ.{UtcOffsetRecordOrZ}
+use Rattle.ixdtf_grammar.specs.declared.records.{DateDurationRecord.DateDurationRecord, DurationParseRecord.DurationParseRecord}
+use Rattle.ixdtf_grammar.specs.declared.records.{TimeDurationRecord.TimeDurationRecord, UtcOffsetRecordOrZ.UtcOffsetRecordOrZ}
 use Rattle.ixdtf.specs.language.{Brackets.ZoneNote, Fractions.FractionParts, Languages.Parsed, OffsetRecords.sign_for}
 use Rattle.ixdtf.specs.language.ZoneNames.Zone.{Name, Offset as ByOffset}
-use Rattle.ixdtf_c.specs.{declared.forms.{Date.Date, Time.Time, Offset.Offset}, Crossing.{Contents, ZoneContents}}
+use Rattle.ixdtf_c.specs.{declared.forms.{Date.Date, Time.Time, Offset.Offset}, Crossing.{Contents, ZoneContents, DurationContents}}
 
 -- a value, where it is there
 abbrev pub where_there : {A : Type 0} → Bool → A → Option A
@@ -67,3 +69,24 @@ record_by r = parsed_by r (offset_by r.offset) (zone_by r.zone)
 abbrev pub units_where : Bool → List ℕ → List ℕ
 units_where true units = units
 units_where false units = []
+
+-- the years, months, weeks and days of a duration
+abbrev pub date_units_by : DurationContents → Option DateDurationRecord
+date_units_by d = where_there d.has_date (record { years = d.years; months = d.months; weeks = d.weeks; days = d.days })
+
+-- 0: no time. 1, 2 and 3: the last unit is hours, minutes, seconds. Another number stands for nothing.
+abbrev pub time_units_by : DurationContents → Option (Option TimeDurationRecord)
+time_units_by d =
+    if nat_eq d.time_form 0 then Some None
+    else (if nat_eq d.time_form 1 then Some (Some (times.Hours d.hours (fraction_by d.fraction_digits d.fraction)))
+    else (if nat_eq d.time_form 2 then Some (Some (times.Minutes d.hours d.minutes (fraction_by d.fraction_digits d.fraction)))
+    else (if nat_eq d.time_form 3 then Some (Some (times.Seconds d.hours d.minutes d.seconds (fraction_by d.fraction_digits d.fraction)))
+    else None)))
+
+-- a duration, where its time stands for something
+abbrev pub lasting_by : DurationContents → Option (Option TimeDurationRecord) → Option DurationParseRecord
+lasting_by d (Some time) = Some (record { sign = sign_for (not d.is_negative); date = date_units_by d; time = time })
+lasting_by d None = None
+
+abbrev pub duration_by : DurationContents → Option DurationParseRecord
+duration_by d = lasting_by d (time_units_by d)

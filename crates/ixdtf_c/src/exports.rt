@@ -8,10 +8,10 @@
 //! - `unchanged`: after a refusal what `out` refers to is as it was, its slices too, but for the location and the place.
 
 ghost use Rattle.std.specs.Prelude.{◌≡◌, ◌≢◌, ◌+◌, ◌*◌, ◌≤◌, length, map, IsSomeAnd};
-ghost use Rattle.ixdtf.specs.language.Languages.Found.{shifted, identified, named};
+ghost use Rattle.ixdtf.specs.language.Languages.Found.{dated, shifted, identified, named};
 ghost use Rattle.ixdtf.specs.language.Letters.{byte_letter, wide_letter};
 ghost use Rattle.ixdtf.specs.language.Readers.{parse, parse_year_month, parse_month_day, parse_time};
-ghost use Rattle.ixdtf.specs.language.Readers.Reader.{parse_offset, parse_identifier, parse_iana_identifier};
+ghost use Rattle.ixdtf.specs.language.Readers.Reader.{parse_rfc3339, parse_offset, parse_identifier, parse_iana_identifier};
 ghost use Rattle.ixdtf_c.specs.Crossing.{offset_alone, zone_alone, name_alone};
 ghost use Rattle.ixdtf_c.specs.Lasting.{contents as lasting_contents, SameButError as SameLastingButError};
 ghost use Rattle.ixdtf_c.specs.Listing.{ListsRecord};
@@ -26,7 +26,7 @@ ghost use Rattle.ixdtf_print.specs.Printable.{IsPrintable};
 
 use crate::durations::{Duration, duration_into};
 use crate::narrow::{Annotation, Calendar, Record};
-use crate::readers::{name_into, offset_into, read_into, take_reply, zone_into};
+use crate::readers::{name_into, offset_into, read_into, rfc3339_into, take_reply, zone_into};
 use crate::{narrow_annotations, wide, wide_annotations};
 use ixdtf::encoding::{Utf8, Utf16};
 use ixdtf::parsers::{DateTimes, MonthDays, Profile, Times, YearMonths};
@@ -87,6 +87,15 @@ pub extern "C" fn ixdtf_parse_time_strict<'a>(text: &'a [u8], out: &mut Record<'
     ensures unchanged { result ≢ 0 → SameButError out.old out.new }
 {
     read_into::<Utf8, Times, _>(text, Profile::Strict, out)
+}
+
+/// Reads a date-time of RFC 3339, section 5.6.
+#[unsafe(no_mangle)]
+pub extern "C" fn ixdtf_parse_rfc3339<'a>(text: &'a [u8], out: &mut Record<'a>) -> u32
+    ensures read { GivesPart parse_rfc3339 dated (λ found. found) (map byte_letter text.now) result (contents out.old) (contents out.new) }
+    ensures unchanged { result ≢ 0 → SameButError out.old out.new }
+{
+    rfc3339_into::<Utf8, _>(text, out)
 }
 
 /// Reads an offset.
@@ -298,6 +307,15 @@ pub extern "C" fn ixdtf16_parse_time_strict<'a>(text: &'a [u16], out: &mut wide:
     ensures unchanged { result ≢ 0 → SameWideButError out.old out.new }
 {
     read_into::<Utf16, Times, _>(text, Profile::Strict, out)
+}
+
+/// Reads a date-time of RFC 3339, section 5.6.
+#[unsafe(no_mangle)]
+pub extern "C" fn ixdtf16_parse_rfc3339<'a>(text: &'a [u16], out: &mut wide::Record<'a>) -> u32
+    ensures read { GivesPart parse_rfc3339 dated (λ found. found) (map wide_letter text.now) result (wide_contents out.old) (wide_contents out.new) }
+    ensures unchanged { result ≢ 0 → SameWideButError out.old out.new }
+{
+    rfc3339_into::<Utf16, _>(text, out)
 }
 
 /// Reads an offset.

@@ -70,6 +70,12 @@ fn name_and_zero(number: u32) -> &'static [u8]
     if number == 102 {
         return b"IXDTF_TOO_SHORT\0";
     }
+    if number == 103 {
+        return b"IXDTF_NO_INSTANT\0";
+    }
+    if number == 104 {
+        return b"IXDTF_NOT_EXACT\0";
+    }
     b"\0"
 }
 

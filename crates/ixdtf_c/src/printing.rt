@@ -1,14 +1,15 @@
 //! Printing records that C hands in.
 
 ghost use Rattle.std.specs.Prelude.{◌≡◌, ◌≢◌, ◌↔◌, ◌<◌, ◌≤◌, Some, None, length, map, min, take, drop};
-ghost use Rattle.std.specs.Prelude.{option_map, IfSome, IfNone, IsSomeAnd};
+ghost use Rattle.std.specs.Prelude.{option_map, IfSome, IfNone, OnSome, IsSomeAnd};
 ghost use Rattle.ixdtf.specs.language.Letters.{byte_letter};
 ghost use Rattle.ixdtf.specs.Views.{parsed_of, note_of};
+ghost use Rattle.ixdtf_c.specs.Instants.{shift_fraction};
 ghost use Rattle.ixdtf_c.specs.Narrow.{contents, zone_contents};
 ghost use Rattle.ixdtf_c.specs.Standing.{fraction_by, date_by, time_by, minutes_by, offset_by, zone_by, record_by};
 ghost use Rattle.ixdtf_print.specs.Canonical.{canonical_text};
 ghost use Rattle.ixdtf_print.specs.Printable.{IsPrintable, IsReadBack};
-ghost use Rattle.ixdtf_print.specs.Spelled.{HasDigits, IsDayTime, IsShift};
+ghost use Rattle.ixdtf_print.specs.Spelled.{HasDigits};
 
 use crate::forms::{Date, Offset, Time};
 use crate::narrow::{Record, Zone};
@@ -21,8 +22,9 @@ use ixdtf::records::{
 use ixdtf_print::{PrintError, length_of, print};
 
 /// The fraction of so many digits and this value, where there is one of them.
-fn fraction_of(digits: u8, value: u64) -> Option<Option<Fraction>>
+pub fn fraction_of(digits: u8, value: u64) -> Option<Option<Fraction>>
     ensures found { IfSome result (λ fraction. fraction ≡ fraction_by digits value) }
+    ensures digits { OnSome result (HasDigits (fraction_by digits value)) }
     ensures none { IfNone result (¬ (HasDigits (fraction_by digits value))) }
 {
     if digits == 0 {
@@ -35,7 +37,7 @@ fn fraction_of(digits: u8, value: u64) -> Option<Option<Fraction>>
 }
 
 /// The date.
-fn date_of(date: &Date) -> Option<DateRecord>
+pub fn date_of(date: &Date) -> Option<DateRecord>
     ensures { result ≡ date_by date.now }
 {
     if !date.is_there {
@@ -49,9 +51,10 @@ fn date_of(date: &Date) -> Option<DateRecord>
 }
 
 /// The time, where its fraction is one.
-fn time_of(time: &Time) -> Option<Option<TimeRecord>>
+pub fn time_of(time: &Time) -> Option<Option<TimeRecord>>
     ensures found { IfSome result (λ found. found ≡ time_by time.now) }
-    ensures none { IfNone result (¬ (IfSome (time_by time.now) IsDayTime)) }
+    ensures digits { OnSome result (IfSome (time_by time.now) (λ it. HasDigits it.fraction)) }
+    ensures none { IfNone result (¬ (IfSome (time_by time.now) (λ it. HasDigits it.fraction))) }
 {
     if !time.is_there {
         return Some(None);
@@ -79,9 +82,12 @@ fn minutes_of(is_negative: bool, hour: u8, minute: u8) -> MinutePrecisionOffset
 }
 
 /// The offset, where its form has a name and its fraction is one.
-fn offset_of(offset: &Offset) -> Option<Option<UtcOffsetRecordOrZ>>
+pub fn offset_of(offset: &Offset) -> Option<Option<UtcOffsetRecordOrZ>>
     ensures found { IfSome result (λ found. offset_by offset.now ≡ Some found) }
-    ensures none { IfNone result (¬ (IsSomeAnd (offset_by offset.now) (λ it. IfSome it IsShift))) }
+    ensures digits { OnSome result
+        (IsSomeAnd (offset_by offset.now) (λ it. IfSome it (λ shift. HasDigits (shift_fraction shift)))) }
+    ensures none { IfNone result
+        (¬ (IsSomeAnd (offset_by offset.now) (λ it. IfSome it (λ shift. HasDigits (shift_fraction shift))))) }
 {
     if offset.form == 0 {
         return Some(None);

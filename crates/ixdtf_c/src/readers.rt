@@ -2,9 +2,9 @@
 
 ghost use Rattle.std.specs.Prelude.{◌≡◌, ◌≢◌, Result, map, option_map};
 ghost use Rattle.ixdtf.specs.Views.{parsed_of, note_of};
-ghost use Rattle.ixdtf.specs.language.Readers.Reader.{bracketed, parse_offset, parse_identifier, parse_iana_identifier};
+ghost use Rattle.ixdtf.specs.language.Readers.Reader.{bracketed, parse_rfc3339, parse_offset, parse_identifier, parse_iana_identifier};
 ghost use Rattle.ixdtf.specs.language.Languages.{Parsed};
-ghost use Rattle.ixdtf.specs.language.Languages.Found.{shifted, identified, named};
+ghost use Rattle.ixdtf.specs.language.Languages.Found.{dated, shifted, identified, named};
 ghost use Rattle.ixdtf_c.specs.Crossing.{nothing, offset_alone, zone_alone, name_alone};
 ghost use Rattle.ixdtf_c.specs.Located.{FaultAt, HasOutcome};
 ghost use Rattle.ixdtf_c.specs.Outcomes.{ReadsRecord, GivesRecord, GivesPart};
@@ -72,6 +72,25 @@ where
     ensures unchanged { result ≢ 0 → R.same_but_error out.old out.new }
 {
     match read_as::<LocatedError, T, C>(text, profile) {
+        Ok(found) => {
+            out.write(&found);
+            0
+        }
+        Err(located) => out.refuse(located),
+    }
+}
+
+/// Reads a date-time of RFC 3339, and writes it.
+#[inline(always)]
+pub fn rfc3339_into<'a, T: EncodingType, R: RecordOf<'a, T>>(
+    text: &'a [T::CodeUnit],
+    out: &mut R,
+) -> u32
+    ensures read { GivesPart parse_rfc3339 dated (λ found. found)
+        (map (λ unit. T.letter (T.number unit)) text.now) result (R.contents out.old) (R.contents out.new) }
+    ensures unchanged { result ≢ 0 → R.same_but_error out.old out.new }
+{
+    match IxdtfParser::<T>::new(text).parse_rfc3339_located() {
         Ok(found) => {
             out.write(&found);
             0

@@ -4,7 +4,7 @@
 mod watched;
 
 use ixdtf_buffers::error::RunError;
-use ixdtf_checks::arguments::{Options, Word};
+use ixdtf_checks::arguments::{Options, Word, Wrong, meant_by};
 use ixdtf_checks::checker::check_lines;
 use ixdtf_checks::status::status_of;
 use ixdtf_checks::tally::Tally;
@@ -16,15 +16,36 @@ use watched::Watched;
 
 const USAGE: &str = "\
 usage: ixdtf_check [OPTION..] [FILE..]\n\
-Reads each line of the files, or of standard input, and says which are wrong, where, and why.\n\
-  --kind KIND    date-time (the default), year-month, month-day, time, offset, zone, zone-name, duration\n\
-  --strict       without the day 00, and without a unit of a duration that stands twice\n\
-  --field N      the N-th field of each line, from 1, in place of the whole line\n\
-  --separator C  the byte between two fields; a tab where it is not said\n\
-  --canonical    writes the canonical text of each date-time that is read\n\
-  --quiet        writes nothing of a line that is refused\n\
-  --help         this usage. -- ends the options, and the FILE - is standard input\n\
-Status: 0 all were read; 1 some were refused; 2 wrong arguments, or a file or the output failed";
+Reports the lines of the files, or of standard input, that are no valid dates and times.\n\
+\n\
+What is read:\n\
+\x20 --kind KIND      the kind of the texts: date-time (the default), year-month, month-day,\n\
+\x20                  time, offset, zone, zone-name or iana, duration, rfc3339\n\
+\x20 --strict         stricter rules: a month-day does not have the day 00,\n\
+\x20                  and a duration does not repeat a unit\n\
+\x20 ixdtf_check --kind rfc3339 times.txt\n\
+\x20 ixdtf_check --kind=duration --strict durations.txt\n\
+\n\
+Which part of a line is read:\n\
+\x20 --field N        field N of each line, counted from 1, and not the complete line\n\
+\x20 --separator C    the byte between two fields; without this option, it is a tab\n\
+\x20 ixdtf_check --field 3 --separator , table.csv\n\
+\n\
+What is written:\n\
+\x20 --canonical      the canonical text of each date-time that is accepted\n\
+\x20 --quiet          nothing about lines that are refused\n\
+\x20 ixdtf_check --canonical --quiet dates.txt\n\
+\n\
+Other:\n\
+\x20 --help, -h       this text\n\
+\x20 --version, -V    the version of the program\n\
+\x20 --               every word after it is the name of a file\n\
+\x20 The file - is standard input.\n\
+\n\
+Exit status: 0 if every line was accepted, 1 if a line was refused, and 2 if an\n\
+argument is wrong, or if a file or standard output failed.";
+
+const VERSION: &str = "ixdtf_check 0.6.7+rattle";
 
 /// The result of the checks of all files.
 #[derive(Drop)]
@@ -37,7 +58,7 @@ struct Outcome {
 
 fn main(rt: HostRuntime) -> ExitCode {
     let Ok(words) = env::args(&rt) else {
-        return refuse(&rt);
+        return refuse(&rt, "an argument is not UTF-8");
     };
     let mut options = Options::new();
     let mut has_files = false;
@@ -45,8 +66,9 @@ fn main(rt: HostRuntime) -> ExitCode {
         match options.take(word.as_str()) {
             Word::Option => {}
             Word::File => has_files = true,
-            Word::Help => return help(&rt),
-            Word::Unknown => return refuse(&rt),
+            Word::Help => return show(&rt, USAGE),
+            Word::Version => return show(&rt, VERSION),
+            Word::Wrong(wrong) => return refuse_word(&rt, word.as_str(), wrong),
         }
     }
     let mut outcome = Outcome {
@@ -54,8 +76,8 @@ fn main(rt: HostRuntime) -> ExitCode {
         has_failed: false,
         is_closed: false,
     };
-    if options.request("-").is_none() {
-        return refuse(&rt);
+    if let Some(wrong) = options.wrong() {
+        return refuse(&rt, wrong.message());
     }
     if has_files {
         check_files(&rt, &options, &mut outcome);
@@ -71,17 +93,32 @@ fn main(rt: HostRuntime) -> ExitCode {
     ExitCode::from(status_of(outcome.has_failed, refused))
 }
 
-/// Shows the usage on request.
-fn help(rt: &HostRuntime) -> ExitCode {
-    match println!(rt; "{USAGE}") {
+/// Shows a text that was asked for.
+fn show(rt: &HostRuntime, text: &str) -> ExitCode {
+    match println!(rt; "{text}") {
         Ok(()) => ExitCode::SUCCESS,
         Err(_) => ExitCode::from(2),
     }
 }
 
-/// Shows the usage after wrong arguments.
-fn refuse(rt: &impl Eprint) -> ExitCode {
-    let _ = eprintln!(rt; "{USAGE}");
+/// Says what is wrong with a word, and which word was probably meant.
+fn refuse_word(rt: &impl Eprint, word: &str, wrong: Wrong) -> ExitCode {
+    let _ = eprintln!(rt; "ixdtf_check: {word}: {}", wrong.message());
+    if let Some(meant) = meant_by(word, wrong) {
+        let _ = eprintln!(rt; "Did you mean {meant}?");
+    }
+    point_to_help(rt)
+}
+
+/// Says what is wrong with the arguments together.
+fn refuse(rt: &impl Eprint, message: &str) -> ExitCode {
+    let _ = eprintln!(rt; "ixdtf_check: {message}");
+    point_to_help(rt)
+}
+
+/// Says how to see the usage.
+fn point_to_help(rt: &impl Eprint) -> ExitCode {
+    let _ = eprintln!(rt; "ixdtf_check --help shows the options.");
     ExitCode::from(2)
 }
 

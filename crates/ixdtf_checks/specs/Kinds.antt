@@ -1,8 +1,8 @@
 -- The names of the kinds, and the readers of what is asked for.
 use Rattle.std.specs.Prelude.{◌≡◌, ◌≢◌, ℕ, List, Option, Some, None, codes}
 use Rattle.ixdtf_grammar.specs.{declared.profile.Profile.Profile, language.Readers.{Reader, parse, parse_year_month, parse_month_day, parse_time}}
-use Rattle.ixdtf_grammar.specs.language.Readers.Reader.{parse_offset, parse_identifier, parse_iana_identifier, parse_duration}
-use Rattle.ixdtf_checks.specs.declared.kind.Kind.{Kind, TheVariants.{DateTime, YearMonth, MonthDay, Time, Offset, Zone, ZoneName, Duration}}
+use Rattle.ixdtf_grammar.specs.language.Readers.Reader.{parse_rfc3339, parse_offset, parse_identifier, parse_iana_identifier, parse_duration}
+use Rattle.ixdtf_checks.specs.declared.kind.Kind.{Kind, TheVariants.{DateTime, YearMonth, MonthDay, Time, Offset, Zone, ZoneName, Duration, Rfc3339, Iana}}
 
 abbrev pub name_of : Kind → List ℕ
 name_of DateTime = codes "date-time"
@@ -13,6 +13,8 @@ name_of Offset = codes "offset"
 name_of Zone = codes "zone"
 name_of ZoneName = codes "zone-name"
 name_of Duration = codes "duration"
+name_of Rfc3339 = codes "rfc3339"
+name_of Iana = codes "iana"
 
 -- the kind that has the name, where there is one
 abbrev pub IsNamed : List ℕ → Option Kind → Type 0
@@ -29,3 +31,5 @@ reader_of Offset profile = parse_offset
 reader_of Zone profile = parse_identifier
 reader_of ZoneName profile = parse_iana_identifier
 reader_of Duration profile = parse_duration profile
+reader_of Rfc3339 profile = parse_rfc3339
+reader_of Iana profile = parse_iana_identifier

@@ -1,23 +1,83 @@
 //! The words after the program's name.
 
 use crate::kind::Kind;
+use crate::nearest::{KINDS, OPTIONS, nearest_of};
 use crate::request::{Field, Request, Task};
 use ixdtf::parsers::Profile;
 
-/// What stands between two fields where nothing else is said.
+/// The separator of fields if no other one is given.
 const TAB: u8 = b'\t';
 
 /// What a word is.
 #[derive(Clone, Copy, Debug, PartialEq)]
 pub enum Word {
-    /// An option, or what belongs to one.
+    /// An option, or the value of one.
     Option,
     /// The name of a file.
     File,
     /// A request for the usage.
     Help,
-    /// A word that the program does not know.
-    Unknown,
+    /// A request for the version.
+    Version,
+    /// A word that the program refuses.
+    Wrong(Wrong),
+}
+
+/// Why the program refuses a word, or all words together.
+#[derive(Clone, Copy, Debug, PartialEq)]
+pub enum Wrong {
+    /// There is no such option.
+    UnknownOption,
+    /// The option has no value, but the word gives it one, such as `--quiet=yes`.
+    UnexpectedValue,
+    /// The last word is an option that needs a value.
+    MissingValue,
+    /// There is no kind of this name.
+    UnknownKind,
+    /// The value of `--field` is not a number from 1 on.
+    InvalidField,
+    /// The value of `--separator` is not one byte.
+    InvalidSeparator,
+    /// There is a separator, but no field.
+    SeparatorWithoutField,
+    /// There is another kind than `date-time`, and `--canonical`.
+    CanonicalKind,
+}
+
+impl Wrong {
+    /// Returns what is wrong, and what was expected.
+    pub fn message(self) -> &'static str {
+        match self {
+            Wrong::UnknownOption => "there is no such option",
+            Wrong::UnexpectedValue => "this option has no value",
+            Wrong::MissingValue => "the last word is an option that needs a value",
+            Wrong::UnknownKind => {
+                "there is no such kind; the kinds are date-time, year-month, month-day, time, offset, zone, zone-name, iana, duration and rfc3339"
+            }
+            Wrong::InvalidField => "expected the number of a field, which is 1 or more",
+            Wrong::InvalidSeparator => "expected a separator of one byte",
+            Wrong::SeparatorWithoutField => "--separator needs --field",
+            Wrong::CanonicalKind => "--canonical is only for the kind date-time",
+        }
+    }
+}
+
+/// Returns the option or the kind that was probably meant by a word that is refused.
+pub fn meant_by(word: &str, wrong: Wrong) -> Option<&'static str> {
+    let (option, value) = match word.split_once('=') {
+        None => (word, word),
+        Some(parts) => parts,
+    };
+    match wrong {
+        Wrong::UnknownOption => nearest_of(option, &OPTIONS),
+        Wrong::UnknownKind => nearest_of(value, &KINDS),
+        Wrong::UnexpectedValue
+        | Wrong::MissingValue
+        | Wrong::InvalidField
+        | Wrong::InvalidSeparator
+        | Wrong::SeparatorWithoutField
+        | Wrong::CanonicalKind => None,
+    }
 }
 
 /// What the next word means.
@@ -36,7 +96,7 @@ pub struct Options {
     awaited: Awaited,
     kind: Option<Kind>,
     is_strict: bool,
-    /// How many fields stand before the one that is read.
+    /// The number of fields before the one that is read.
     before: Option<usize>,
     separator: Option<u8>,
     is_canonical: bool,
@@ -44,7 +104,7 @@ pub struct Options {
 }
 
 impl Options {
-    /// Nothing was asked for.
+    /// Creates options that ask for nothing.
     pub fn new() -> Options {
         Options {
             awaited: Awaited::Anything,
@@ -57,68 +117,107 @@ impl Options {
         }
     }
 
-    /// Takes one more word.
+    /// Takes one more word, and returns what it is.
     pub fn take(&mut self, word: &str) -> Word {
         match self.awaited {
             Awaited::Anything => self.take_any(word),
-            Awaited::Kind => self.take_kind(word),
-            Awaited::Field => self.take_field(word),
-            Awaited::Separator => self.take_separator(word),
+            Awaited::Kind | Awaited::Field | Awaited::Separator => self.take_value(word),
             Awaited::File => Word::File,
         }
     }
 
+    /// Takes the value of the option that awaits one.
+    fn take_value(&mut self, value: &str) -> Word {
+        match self.awaited {
+            Awaited::Kind => self.take_kind(value),
+            Awaited::Field => self.take_field(value),
+            Awaited::Separator => self.take_separator(value),
+            Awaited::Anything | Awaited::File => Word::Wrong(Wrong::UnexpectedValue),
+        }
+    }
+
+    /// Takes a word that is not the value of the word before it.
     fn take_any(&mut self, word: &str) -> Word {
-        if word == "--help" || word == "-h" {
+        if word == "-" || !word.starts_with('-') {
+            return Word::File;
+        }
+        match word.split_once('=') {
+            None => self.take_option(word),
+            Some((option, value)) => self.take_with_value(option, value),
+        }
+    }
+
+    /// Takes an option whose value, if it has one, is the next word.
+    fn take_option(&mut self, option: &str) -> Word {
+        if option == "--help" || option == "-h" {
             return Word::Help;
         }
-        if word == "--kind" {
-            self.awaited = Awaited::Kind;
-        } else if word == "--field" {
-            self.awaited = Awaited::Field;
-        } else if word == "--separator" {
-            self.awaited = Awaited::Separator;
-        } else if word == "--strict" {
+        if option == "--version" || option == "-V" {
+            return Word::Version;
+        }
+        if option == "--strict" {
             self.is_strict = true;
-        } else if word == "--canonical" {
+        } else if option == "--canonical" {
             self.is_canonical = true;
-        } else if word == "--quiet" {
+        } else if option == "--quiet" {
             self.is_quiet = true;
-        } else if word == "--" {
+        } else if option == "--" {
             self.awaited = Awaited::File;
-        } else if word == "-" || !word.starts_with('-') {
-            return Word::File;
-        } else {
-            return Word::Unknown;
+        } else if !self.awaits_value_of(option) {
+            return Word::Wrong(Wrong::UnknownOption);
         }
         Word::Option
     }
 
+    /// Begins an option that needs a value. Returns false if the option is not one of these.
+    fn awaits_value_of(&mut self, option: &str) -> bool {
+        if option == "--kind" {
+            self.awaited = Awaited::Kind;
+        } else if option == "--field" {
+            self.awaited = Awaited::Field;
+        } else if option == "--separator" {
+            self.awaited = Awaited::Separator;
+        } else {
+            return false;
+        }
+        true
+    }
+
+    /// Takes an option and its value, which were one word with a `=` between them.
+    fn take_with_value(&mut self, option: &str, value: &str) -> Word {
+        if self.awaits_value_of(option) {
+            return self.take_value(value);
+        }
+        if self.take_option(option) == Word::Wrong(Wrong::UnknownOption) {
+            return Word::Wrong(Wrong::UnknownOption);
+        }
+        Word::Wrong(Wrong::UnexpectedValue)
+    }
+
+    /// Takes the name of a kind.
     fn take_kind(&mut self, word: &str) -> Word {
         self.awaited = Awaited::Anything;
         self.kind = Kind::named(word.as_bytes());
         if self.kind.is_some() {
             Word::Option
         } else {
-            Word::Unknown
+            Word::Wrong(Wrong::UnknownKind)
         }
     }
 
+    /// Takes the number of a field.
     fn take_field(&mut self, word: &str) -> Word {
         self.awaited = Awaited::Anything;
         match word.parse::<usize>() {
-            Ok(number) => {
+            Ok(number) if number > 0 => {
                 self.before = number.checked_sub(1);
-                if number > 0 {
-                    Word::Option
-                } else {
-                    Word::Unknown
-                }
+                Word::Option
             }
-            Err(_) => Word::Unknown,
+            Ok(_) | Err(_) => Word::Wrong(Wrong::InvalidField),
         }
     }
 
+    /// Takes a separator.
     fn take_separator(&mut self, word: &str) -> Word {
         self.awaited = Awaited::Anything;
         match word.as_bytes() {
@@ -126,21 +225,36 @@ impl Options {
                 self.separator = Some(*byte);
                 Word::Option
             }
-            _ => Word::Unknown,
+            _ => Word::Wrong(Wrong::InvalidSeparator),
         }
     }
 
-    /// What is asked of the check of a file of this name; `None` where the words do not go together, or one more is awaited.
+    /// Returns why the words do not go together. Returns `None` if they do.
+    pub fn wrong(&self) -> Option<Wrong> {
+        let kind = self.kind.unwrap_or(Kind::DateTime);
+        match self.awaited {
+            Awaited::Kind | Awaited::Field | Awaited::Separator => Some(Wrong::MissingValue),
+            Awaited::Anything | Awaited::File => {
+                if self.separator.is_some() && self.before.is_none() {
+                    Some(Wrong::SeparatorWithoutField)
+                } else if self.is_canonical && kind != Kind::DateTime {
+                    Some(Wrong::CanonicalKind)
+                } else {
+                    None
+                }
+            }
+        }
+    }
+
+    /// Returns what is to be done with a file of this name. Returns `None` if the words do not go together.
     pub fn request<'n>(&self, name: &'n str) -> Option<Request<'n>> {
-        let awaits_more = self.awaited != Awaited::Anything && self.awaited != Awaited::File;
-        if awaits_more || (self.separator.is_some() && self.before.is_none()) {
+        if self.wrong().is_some() {
             return None;
         }
-        let task = self.task()?;
         let separator = self.separator.unwrap_or(TAB);
         Some(Request {
             name,
-            task,
+            task: self.task(),
             profile: if self.is_strict {
                 Profile::Strict
             } else {
@@ -151,15 +265,12 @@ impl Options {
         })
     }
 
-    /// What is done with each text. Only date-times have canonical texts.
-    fn task(&self) -> Option<Task> {
-        let kind = self.kind.unwrap_or(Kind::DateTime);
-        if !self.is_canonical {
-            Some(Task::Check(kind))
-        } else if kind == Kind::DateTime {
-            Some(Task::Print)
+    /// Returns what is to be done with each text.
+    fn task(&self) -> Task {
+        if self.is_canonical {
+            Task::Print
         } else {
-            None
+            Task::Check(self.kind.unwrap_or(Kind::DateTime))
         }
     }
 }

@@ -20,6 +20,10 @@ pub enum Kind {
     ZoneName,
     /// `duration`: a duration.
     Duration,
+    /// `rfc3339`: a date-time of RFC 3339, section 5.6.
+    Rfc3339,
+    /// `iana`: as `zone-name`.
+    Iana,
 }
 
 impl Kind {
@@ -43,6 +47,10 @@ impl Kind {
             Some(Kind::ZoneName)
         } else if name == b"duration".as_slice() {
             Some(Kind::Duration)
+        } else if name == b"rfc3339".as_slice() {
+            Some(Kind::Rfc3339)
+        } else if name == b"iana".as_slice() {
+            Some(Kind::Iana)
         } else {
             None
         }

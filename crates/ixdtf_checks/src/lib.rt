@@ -10,6 +10,7 @@ mod checking;
 mod judge;
 pub mod kind;
 pub mod laws;
+mod nearest;
 mod part;
 mod pointed;
 mod printed;

@@ -3,6 +3,7 @@ ghost use Rattle.std.specs.Prelude.{◌≡◌, ◌≤◌, length, IfErr, OnOk};
 ghost use Rattle.ixdtf_grammar.specs.Places.{HasUnhandledFaultAt};
 ghost use Rattle.ixdtf_grammar.specs.Widths.{byte_text};
 ghost use Rattle.ixdtf_grammar.specs.language.Readers.{parse};
+ghost use Rattle.ixdtf_grammar.specs.language.Readers.Reader.{parse_iana_identifier};
 ghost use Rattle.ixdtf_grammar.specs.table.Faults.{fault_of_located};
 ghost use Rattle.ixdtf_checks.specs.Kinds.{reader_of};
 ghost use Rattle.ixdtf_checks.specs.Verdicts.{IsRead, IsCanonical};
@@ -44,14 +45,28 @@ pub fn read(kind: Kind, profile: Profile, text: &[u8]) -> Result<(), LocatedErro
             Ok(_zone) => Ok(()),
             Err(error) => Err(error),
         },
-        Kind::ZoneName => match TimeZoneParser::from_utf8(text).parse_iana_identifier_located() {
-            Ok(_name) => Ok(()),
+        Kind::ZoneName => read_zone_name(text),
+        Kind::Iana => read_zone_name(text),
+        Kind::Rfc3339 => match IxdtfParser::from_utf8(text).parse_rfc3339_located() {
+            Ok(_record) => Ok(()),
             Err(error) => Err(error),
         },
         Kind::Duration => match duration_parser(profile, text).parse_located() {
             Ok(_duration) => Ok(()),
             Err(error) => Err(error),
         },
+    }
+}
+
+/// Reads the text as the name of a time zone, or returns the error with its position.
+fn read_zone_name(text: &[u8]) -> Result<(), LocatedError>
+    ensures ok { OnOk result (IsRead parse_iana_identifier text.now) }
+    ensures err { IfErr result (λ error. HasUnhandledFaultAt parse_iana_identifier
+        (byte_text text.now) (fault_of_located error) error.at) }
+{
+    match TimeZoneParser::from_utf8(text).parse_iana_identifier_located() {
+        Ok(_name) => Ok(()),
+        Err(error) => Err(error),
     }
 }
 

@@ -79,6 +79,25 @@ impl<'a> IsoDurationParser<'a, Utf8> {
 impl<'a> IsoDurationParser<'a, Utf16> {
     /// Creates a parser of 16-bit code units. They need not be UTF-16.
     ///
+    /// # Examples
+    ///
+    /// ```rust
+    /// use ixdtf::parsers::IsoDurationParser;
+    ///
+    /// let text: Vec<u16> = "P2W".encode_utf16().collect();
+    /// let duration = IsoDurationParser::from_utf16(&text).parse().unwrap();
+    /// assert_eq!(duration.date.unwrap().weeks, 2);
+    /// ```
+    pub fn from_utf16(value: &'a [u16]) -> Self
+        ensures rest { result.rest ≡ value.now }
+        ensures looks { result.looks ≡ 0 }
+        ensures profile { result.profile ≡ Profile.Crate }
+    {
+        Self::new(value)
+    }
+
+    /// Creates a parser of 16-bit code units, as [`from_utf16`](Self::from_utf16) does.
+    ///
     /// This function has the name that it has in `ixdtf` 0.6.7. So a caller must name the encoding:
     /// `IsoDurationParser::<Utf16>::from_utf8`.
     ///
@@ -97,7 +116,7 @@ impl<'a> IsoDurationParser<'a, Utf16> {
         ensures looks { result.looks ≡ 0 }
         ensures profile { result.profile ≡ Profile.Crate }
     {
-        Self::new(value)
+        Self::from_utf16(value)
     }
 }
 

@@ -34,6 +34,11 @@ abbrev pub signed_by : Sign → ℕ → ℤ
 signed_by Positive n = pos n
 signed_by Negative n = neg_ℤ (pos n)
 
+-- how many whole seconds local time is ahead of UTC; below zero where it is behind
+abbrev pub seconds_ahead : UtcOffsetRecord → ℤ
+seconds_ahead offset =
+    signed_by (minute_part_of offset).sign (((minute_part_of offset).hour * 60 + (minute_part_of offset).minute) * 60 + unwrap_or (second_of offset) 0)
+
 -- how far local time is ahead of UTC; below zero where it is behind
 abbrev pub offset_count : UtcOffsetRecordOrZ → ℤ
 offset_count (stands.Offset offset) = signed_by (minute_part_of offset).sign (distance_of offset)

@@ -54,6 +54,11 @@ abbrev pub zone_of : {T U : Type 0} → (U → ℕ) → TimeZoneRecord T U → Z
 zone_of number (zones.Name units) = Name (map number units.now)
 zone_of number (zones.Offset offset) = Offset offset
 
+-- the bytes of the name that a zone has; an offset has none
+abbrev pub name_of : {T : Type 0} → TimeZoneRecord T ℕ → Option (List ℕ)
+name_of (zones.Name units) = Some units.now
+name_of (zones.Offset offset) = None
+
 abbrev pub note_of : {T U : Type 0} → (U → ℕ) → TimeZoneAnnotation T U → ZoneNote
 note_of number annotation = record { critical = annotation.critical; zone = zone_of number annotation.tz }
 

@@ -9,6 +9,7 @@ ghost use Rattle.ixdtf_grammar.specs.language.Letters.{Letter, Plain, byte_lette
 ghost use Rattle.ixdtf_grammar.specs.Views.{Returns, ascii_at};
 
 use crate::{ParseError, ParserResult};
+use std::hash::Hash;
 
 mod private {
     /// Only the encodings of this crate can implement this trait.
@@ -31,7 +32,7 @@ mod private {
 /// ```
 pub trait EncodingType: private::Sealed {
     /// The type of a code unit: `u8` or `u16`.
-    type CodeUnit: PartialEq + std::fmt::Debug + Clone;
+    type CodeUnit: Eq + Hash + std::fmt::Debug + Copy + Into<u32>;
 
     /// The number of a code unit.
     ghost number: { Self.CodeUnit → ℕ };
@@ -81,7 +82,7 @@ pub trait EncodingType: private::Sealed {
 ///
 /// Each code unit stands for itself, also 0 and the code units of 128 or more. So `get_ascii` returns no error. It is
 /// not checked that the source is UTF-8.
-#[derive(Clone, Debug, Drop, PartialEq)]
+#[derive(Clone, Copy, Debug, PartialEq, Eq, Hash)]
 pub struct Utf8;
 
 impl private::Sealed for Utf8 {}
@@ -120,7 +121,7 @@ impl EncodingType for Utf8 {
 ///
 /// The code units from 1 to 126 stand for themselves. All others, including 0 and 127, stand for no character. It is
 /// not checked that the source is UTF-16.
-#[derive(Clone, Debug, Drop, PartialEq)]
+#[derive(Clone, Copy, Debug, PartialEq, Eq, Hash)]
 pub struct Utf16;
 
 impl private::Sealed for Utf16 {}

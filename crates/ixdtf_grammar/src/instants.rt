@@ -2,7 +2,7 @@
 
 ghost use Rattle.std.specs.Prelude.{◌≡◌, ◌+◌, ◌*◌, ◌<◌, ◌≤◌, ◌^◌, pos, neg_ℤ, ◌-ℤ◌, ◌≤ℤ◌, IfSome, IfNone};
 ghost use Rattle.ixdtf_instants.specs.{Calendar.IsMonth, Counts.count_of};
-ghost use Rattle.ixdtf_grammar.specs.Instants.{HasInstant, IsInstantOf, clock_count, fraction_nanoseconds, offset_count};
+ghost use Rattle.ixdtf_grammar.specs.Instants.{HasInstant, IsInstantOf, clock_count, fraction_nanoseconds, offset_count, seconds_ahead};
 ghost use Rattle.ixdtf_grammar.specs.declared.records.UtcOffsetRecordOrZ.TheVariants.{Offset};
 
 use crate::encoding::EncodingType;
@@ -39,6 +39,30 @@ impl<'a, T: EncodingType> IxdtfParseRecord<'a, T> {
         ensures some { IfSome result (λ instant. IsInstantOf self.now instant) }
         ensures none { IfNone result (¬ (HasInstant self.now)) }
     {
+        if let (Some(date), Some(time), Some(UtcOffsetRecordOrZ::Z)) = (
+            &self.date,
+            &self.time,
+            &self.offset,
+        ) {
+            // Most records are like this. Without calls, the instant takes half as many instructions.
+            if time.fraction.is_none() && time.second < 60 {
+                let days = day_number(date.year, date.month, date.day)?;
+                let seconds = seconds_in(time.hour, time.minute, time.second);
+                return Some(Instant {
+                    seconds: days * 86_400 + i64::from(seconds),
+                    nanoseconds: 0,
+                });
+            }
+        }
+        self.instant_of_parts()
+    }
+
+    // The same for every record, with more instructions.
+    #[inline(never)]
+    fn instant_of_parts(&self) -> Option<Instant>
+        ensures some { IfSome result (λ instant. IsInstantOf self.now instant) }
+        ensures none { IfNone result (¬ (HasInstant self.now)) }
+    {
         let date = self.date.as_ref()?;
         let time = self.time.as_ref()?;
         let offset = self.offset.as_ref()?;
@@ -46,6 +70,32 @@ impl<'a, T: EncodingType> IxdtfParseRecord<'a, T> {
         match *offset {
             UtcOffsetRecordOrZ::Z => Some(clock),
             UtcOffsetRecordOrZ::Offset(offset) => Some(in_utc(clock, offset)),
+        }
+    }
+}
+
+impl UtcOffsetRecord {
+    /// Returns how many seconds local time is ahead of UTC. The number is below zero if local time is behind UTC.
+    ///
+    /// A fraction of a second is dropped: it is that of [`fraction`](Self::fraction). The result is 0 for `+00:00` and for
+    /// `-00:00`. RFC 9557, section 2, gives these two a different meaning.
+    ///
+    /// # Examples
+    ///
+    /// ```rust
+    /// use ixdtf::parsers::TimeZoneParser;
+    ///
+    /// assert_eq!(TimeZoneParser::from_str("+05:30").parse_offset()?.to_seconds(), 19_800);
+    /// assert_eq!(TimeZoneParser::from_str("-05:00:30.5").parse_offset()?.to_seconds(), -18_030);
+    /// # Ok::<(), ixdtf::ParseError>(())
+    /// ```
+    pub fn to_seconds(&self) -> i32
+        ensures { result ≡ seconds_ahead self.now }
+    {
+        let seconds = seconds_in(self.hour(), self.minute(), self.second().unwrap_or(0)) as i32;
+        match self.sign() {
+            Sign::Positive => seconds,
+            Sign::Negative => -seconds,
         }
     }
 }

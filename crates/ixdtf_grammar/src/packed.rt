@@ -1,10 +1,12 @@
 //! Numbers that need no alignment.
 
 ghost use Rattle.std.specs.Prelude.{◌≡◌, ℕ, nat_eq};
-ghost use Rattle.std.specs.Cmp.Rules.{comparing};
+ghost use Rattle.std.specs.Cmp.Rules.{comparing, hashing};
+ghost use Rattle.std.specs.Hash as fed;
 ghost use Rattle.std.proofs.Common.{rules};
 
 use std::fmt;
+use std::hash::{Hash, Hasher};
 use std::marker::Model;
 
 /// A number below 2^64, stored as its eight bytes, the lowest byte first.
@@ -59,6 +61,21 @@ impl PartialEq for PackedNumber {
     #[inline(always)]
     fn eq(&self, other: &PackedNumber) -> bool {
         self.number() == other.number()
+    }
+}
+
+impl Eq for PackedNumber {
+    ghost laws = { Prim.search (comparing, rules) };
+}
+
+impl Hash for PackedNumber {
+    ghost hash_input = { fed.u64 };
+
+    ghost respects_eq = { Prim.search (hashing, rules) };
+
+    /// Hashes the number like a `u64`.
+    fn hash<H: Hasher>(&self, state: &mut H) {
+        self.number().hash(state);
     }
 }
 

@@ -1,2 +1,4 @@
 pub mod Calendar
+pub mod CivilDates
 pub mod Counts
+pub mod Texts

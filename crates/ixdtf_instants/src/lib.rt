@@ -5,7 +5,9 @@
 //! re-exports [`Instant`].
 #![tactic(auto)]
 
+pub mod civil;
 pub mod days;
+mod display;
 mod instant;
 
 pub use instant::Instant;

@@ -2,6 +2,7 @@
 pub mod CanonicalLengths
 pub mod DigitLoop
 pub mod DisplayedBytes
+pub mod LoneLengths
 pub mod PlainNumbers
 pub mod PutBytes
 pub mod ValueLoop

@@ -1,9 +1,15 @@
 -- What follows for every record.
+pub mod BracketedRecords
 pub mod DisplayedDurations
 pub mod DisplayedText
 pub mod OneTexts
 pub mod PrintableDurations
+pub mod PrintableMonthDays
+pub mod PrintableOffsets
 pub mod PrintableRecords
+pub mod PrintableTimes
+pub mod PrintableYearMonths
+pub mod PrintableZones
 pub mod ReadBack
 pub mod ShortCores
 pub mod ShortDurations

@@ -89,6 +89,10 @@ abbrev pub calendar_text : Option (List ℕ) → Text
 calendar_text None = []
 calendar_text (Some value) = map Plain (codes "[u-ca=") ++ (map Plain value ++ (Plain 93 ∷ []))
 
+-- the zone, and then the calendar
+abbrev pub brackets_text : Parsed → Text
+brackets_text found = bracket_text found.zone ++ calendar_text found.calendar
+
 -- the date, where there is one
 abbrev pub optional_date_text : Option DateRecord → Text
 optional_date_text None = []
@@ -100,4 +104,4 @@ core_text found = optional_date_text found.date ++ (time_text found.time ++ offs
 
 -- date, time and offset, and then the brackets
 unfoldable pub canonical_text : Parsed → Text
-canonical_text found = core_text found ++ (bracket_text found.zone ++ calendar_text found.calendar)
+canonical_text found = core_text found ++ brackets_text found

@@ -1,6 +1,8 @@
 pub mod Canonical
 pub mod Durations
 pub mod Laws
+pub mod MonthDays
+pub mod Offsets
 pub mod Printable
 pub mod PrintErrors
 pub mod Printed
@@ -8,4 +10,8 @@ pub mod Printing
 pub mod Prints
 pub mod Shown
 pub mod Spelled
+pub mod SpelledCores
 pub mod SpelledDurations
+pub mod Times
+pub mod YearMonths
+pub mod Zones

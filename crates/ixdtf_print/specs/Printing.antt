@@ -1,5 +1,5 @@
 -- What each printer does, whatever records it prints.
-use Rattle.std.specs.Prelude.{◌≡◌, ◌↔◌, ℕ, ◌≤◌, ◌<◌, List, map, take, drop, length, Result, Err, IfOk, OnErr}
+use Rattle.std.specs.Prelude.{◌≡◌, ◌↔◌, ℕ, ◌+◌, ◌≤◌, ◌<◌, List, map, take, drop, length, Result, Err, IfOk, OnErr}
 use Rattle.ixdtf.specs.language.Letters.{Text, Letter.Plain}
 use Rattle.ixdtf_print.specs.declared.error.PrintError.{PrintError, TheVariants.{NotPrintable, TooShort}}
 
@@ -12,6 +12,14 @@ pub record HasOneText {R : Type 0} (stands : Text → R → Type 0) (text_of : R
   pub same : stands (text_of found) found
   pub no_other_reading : (other : R) → stands (text_of found) other → other ≡ found
   pub no_other_record : (other : R) → HasText stands other → text_of other ≡ text_of found → other ≡ found
+
+-- each record that has a text is read back from its canonical text
+abbrev pub EachIsReadBack : {R : Type 0} → (Text → R → Type 0) → (R → Text) → Type 0
+EachIsReadBack {R} stands text_of = (found : R) → HasText stands found → HasOneText stands text_of found
+
+-- the canonical text of a record has at most so many code units more than each text that stands for the record
+abbrev pub FitsWithin : {R : Type 0} → ℕ → (Text → R → Type 0) → (R → Text) → Type 0
+FitsWithin {R} more stands text_of = (text : Text) (found : R) → stands text found → length (text_of found) ≤ length text + more
 
 -- A printer of a record with this canonical text writes it to the front of a slice, where the record is printable and the slice is
 -- long enough. Else the slice is as it was.

@@ -66,6 +66,10 @@ abbrev pub HasCalendar : Option (List ℕ) → Type 0
 HasCalendar None = Unit {0}
 HasCalendar (Some value) = Value (map Plain value)
 
+-- the zone and the calendar have texts
+abbrev pub HasBrackets : Parsed → Type 0
+HasBrackets found = HasZone found.zone × HasCalendar found.calendar
+
 -- each field has a text, and the date is there
 pub record IsSpelled (found : Parsed) : Type 0 where
   pub date : HasDay found.date

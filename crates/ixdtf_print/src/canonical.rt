@@ -5,7 +5,7 @@ ghost use Rattle.std.specs.Fmt.{WritesStyledOnOk};
 ghost use Rattle.std.specs.Str.{encode_utf8_all};
 ghost use Rattle.ixdtf.specs.Views.{note_of, zone_of};
 ghost use Rattle.ixdtf.specs.language.Letters.{byte_letter};
-ghost use Rattle.ixdtf_print.specs.Canonical.{zone_text, bracket_text, calendar_text, canonical_text, core_text, minute_offset_text};
+ghost use Rattle.ixdtf_print.specs.Canonical.{zone_text, bracket_text, calendar_text, brackets_text, canonical_text, core_text, minute_offset_text};
 ghost use Rattle.ixdtf_print.specs.Printable.{IsPrintable, IsReadBack, record_of};
 ghost use Rattle.ixdtf_print.specs.Shown.{bytes_of, shown_text};
 
@@ -74,9 +74,20 @@ impl<'a> fmt::Display for Canonical<'a> {
     fn fmt<W: fmt::Write>(&self, f: &mut fmt::Formatter<W>) -> fmt::Result {
         let parsed = self.parsed;
         write_core(f, parsed)?;
-        write_bracket(f, &parsed.tz)?;
-        write_calendar(f, parsed.calendar)
+        write_brackets(f, parsed)
     }
+}
+
+/// Writes the two brackets.
+pub fn write_brackets<W: fmt::Write>(
+    f: &mut fmt::Formatter<W>,
+    parsed: &IxdtfParseRecord<'_, Utf8>,
+) -> fmt::Result
+    ensures { WritesStyledOnOk W.write_str_gives f.old result
+        (bytes_of (brackets_text (record_of parsed.now))) f.new }
+{
+    write_bracket(f, &parsed.tz)?;
+    write_calendar(f, parsed.calendar)
 }
 
 /// Writes the date, the time and the offset.
@@ -125,7 +136,7 @@ fn write_bracket<W: fmt::Write>(
 }
 
 /// Writes the zone.
-fn write_zone<W: fmt::Write>(
+pub fn write_zone<W: fmt::Write>(
     f: &mut fmt::Formatter<W>,
     zone: &TimeZoneRecord<'_, Utf8>,
 ) -> fmt::Result

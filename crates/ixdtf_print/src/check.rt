@@ -6,7 +6,7 @@ ghost use Rattle.ixdtf.specs.language.Letters.{Plain};
 ghost use Rattle.ixdtf.specs.language.Brackets.{Value};
 ghost use Rattle.ixdtf.specs.language.ZoneNames.{ZoneName};
 ghost use Rattle.ixdtf_print.specs.Spelled.{IsDay, HasDay, IsClock, IsDayTime, IsMinuteClock, IsShift, HasTime};
-ghost use Rattle.ixdtf_print.specs.Spelled.{IsZoneText, HasZone, HasCalendar, IsSpelled};
+ghost use Rattle.ixdtf_print.specs.Spelled.{IsZoneText, HasZone, HasCalendar, HasBrackets, IsSpelled};
 
 use ixdtf::encoding::Utf8;
 use ixdtf::parsers::{TimeZoneParser, days_in_month, is_annotation_value_component};
@@ -47,7 +47,7 @@ fn is_minute_clock(offset: MinutePrecisionOffset) -> bool
 }
 
 /// Returns whether the offset has a text. `Z` has one.
-fn is_shift(offset: UtcOffsetRecordOrZ) -> bool
+pub fn is_shift(offset: UtcOffsetRecordOrZ) -> bool
     ensures { IsTrue result ↔ IsShift offset }
 {
     match offset {
@@ -79,7 +79,7 @@ fn has_day(date: Option<DateRecord>) -> bool
 }
 
 /// Returns whether the time and the offset have texts. An offset without a time has none.
-fn has_time(time: Option<TimeRecord>, offset: Option<UtcOffsetRecordOrZ>) -> bool
+pub fn has_time(time: Option<TimeRecord>, offset: Option<UtcOffsetRecordOrZ>) -> bool
     ensures { IsTrue result ↔ HasTime time offset }
 {
     match (time, offset) {
@@ -100,7 +100,7 @@ fn is_name(name: &[u8]) -> bool
 }
 
 /// Returns whether the zone has a text.
-fn is_zone(zone: &TimeZoneRecord<'_, Utf8>) -> bool
+pub fn is_zone(zone: &TimeZoneRecord<'_, Utf8>) -> bool
     ensures { IsTrue result ↔ IsZoneText (zone_of (λ byte. byte) zone.now) }
 {
     match zone {
@@ -147,6 +147,14 @@ fn has_calendar(calendar: Option<&[u8]>) -> bool
     }
 }
 
+/// Returns whether the zone and the calendar have texts.
+#[inline(always)]
+pub fn has_brackets(parsed: &IxdtfParseRecord<'_, Utf8>) -> bool
+    ensures { IsTrue result ↔ HasBrackets (record_of parsed.now) }
+{
+    has_zone(&parsed.tz) && has_calendar(parsed.calendar)
+}
+
 /// Returns whether `parse` returns this record for some text.
 #[inline(always)]
 pub fn is_printable(parsed: &IxdtfParseRecord<'_, Utf8>) -> bool
@@ -159,8 +167,5 @@ pub fn is_printable(parsed: &IxdtfParseRecord<'_, Utf8>) -> bool
 fn is_spelled(parsed: &IxdtfParseRecord<'_, Utf8>) -> bool
     ensures { IsTrue result ↔ IsSpelled (record_of parsed.now) }
 {
-    has_day(parsed.date)
-        && has_time(parsed.time, parsed.offset)
-        && has_zone(&parsed.tz)
-        && has_calendar(parsed.calendar)
+    has_day(parsed.date) && has_time(parsed.time, parsed.offset) && has_brackets(parsed)
 }

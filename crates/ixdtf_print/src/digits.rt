@@ -1,7 +1,7 @@
 //! Functions that write digits into a slice.
 ghost use Rattle.std.specs.Prelude.{◌≡◌, ◌+◌, ◌/◌, ◌%◌, ◌≤◌};
 ghost use Rattle.ixdtf.specs.language.Digits.{padded_digits};
-ghost use Rattle.ixdtf_print.specs.Canonical.{fraction_text};
+ghost use Rattle.ixdtf_print.specs.Canonical.{two_digits, fraction_text};
 ghost use Rattle.ixdtf_print.specs.Prints.{HasRoom, Prints};
 
 use crate::put::{put, put_byte, set_byte};
@@ -34,6 +34,14 @@ pub fn ones_digit(number: u8) -> u8
     ensures { result ≡ 48 + number % 10 }
 {
     WRITTEN_DIGITS.ones[number as usize]
+}
+
+/// Writes the last two digits of the number at index `at`. Returns the index after them.
+pub fn put_two(out: &mut [u8], at: usize, number: u8) -> usize
+    requires { HasRoom out.old at (two_digits number) }
+    ensures { Prints out.old out.new at result (two_digits number) }
+{
+    put(out, at, &[tens_digit(number), ones_digit(number)])
 }
 
 /// Writes a number with four digits at index `at`. Returns the index after them.

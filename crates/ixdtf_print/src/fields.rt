@@ -4,7 +4,7 @@ ghost use Rattle.ixdtf.specs.Views.{note_of, zone_of};
 ghost use Rattle.ixdtf_print.specs.Printable.{record_of};
 ghost use Rattle.ixdtf.specs.language.Letters.{Plain};
 ghost use Rattle.ixdtf_print.specs.Canonical.{two_digits, year_text, date_text, minutes_text, seconds_text, clock_text, time_text, minute_offset_text};
-ghost use Rattle.ixdtf_print.specs.Canonical.{offset_text, zone_text, opening_text, bracket_text, calendar_text};
+ghost use Rattle.ixdtf_print.specs.Canonical.{offset_text, zone_text, opening_text, bracket_text, calendar_text, brackets_text};
 ghost use Rattle.ixdtf_print.specs.Canonical.{optional_date_text, core_text, canonical_text, mark_of};
 ghost use Rattle.ixdtf_print.specs.Prints.{HasRoom, Prints};
 
@@ -25,7 +25,7 @@ fn distance_of(date: DateRecord) -> u64
 
 /// Writes the year at index `at`. Returns the index after it.
 #[tactic(auto, using(crate::proofs::code::PutBytes::putting, crate::proofs::code::YearSigns::years))]
-fn put_year(out: &mut [u8], at: usize, date: DateRecord) -> usize
+pub fn put_year(out: &mut [u8], at: usize, date: DateRecord) -> usize
     requires { HasRoom out.old at (year_text date.year) }
     ensures { Prints out.old out.new at result (year_text date.year) }
 {
@@ -83,7 +83,7 @@ fn put_optional_date(out: &mut [u8], at: usize, date: Option<DateRecord>) -> usi
 }
 
 /// Writes a separator, an hour and a minute at index `at`. Returns the index after them.
-fn put_minutes(out: &mut [u8], at: usize, mark: u8, hour: u8, minute: u8) -> usize
+pub fn put_minutes(out: &mut [u8], at: usize, mark: u8, hour: u8, minute: u8) -> usize
     requires { HasRoom out.old at (Plain mark ∷ minutes_text hour minute) }
     ensures { Prints out.old out.new at result (Plain mark ∷ minutes_text hour minute) }
 {
@@ -178,7 +178,7 @@ pub fn put_minute_offset(out: &mut [u8], at: usize, offset: MinutePrecisionOffse
 }
 
 /// Writes the offset at index `at`, if there is one. Returns the index after it.
-fn put_offset(out: &mut [u8], at: usize, offset: Option<UtcOffsetRecordOrZ>) -> usize
+pub fn put_offset(out: &mut [u8], at: usize, offset: Option<UtcOffsetRecordOrZ>) -> usize
     requires { HasRoom out.old at (offset_text offset) }
     ensures { Prints out.old out.new at result (offset_text offset) }
 {
@@ -227,7 +227,7 @@ fn put_opening(out: &mut [u8], at: usize, critical: bool) -> usize
 }
 
 /// Writes the zone at index `at`. Returns the index after it.
-fn put_zone(out: &mut [u8], at: usize, zone: &TimeZoneRecord<'_, Utf8>) -> usize
+pub fn put_zone(out: &mut [u8], at: usize, zone: &TimeZoneRecord<'_, Utf8>) -> usize
     requires { HasRoom out.old at (zone_text (zone_of (λ byte. byte) zone.now)) }
     ensures { Prints out.old out.new at result (zone_text (zone_of (λ byte. byte) zone.now)) }
 {
@@ -271,6 +271,17 @@ fn put_calendar(out: &mut [u8], at: usize, calendar: Option<&[u8]>) -> usize
     }
 }
 
+/// Writes the two brackets at index `at`. Returns the index after them.
+#[inline(always)]
+#[tactic(auto, using(crate::proofs::code::PutBytes::putting))]
+pub fn put_brackets(out: &mut [u8], at: usize, parsed: &IxdtfParseRecord<'_, Utf8>) -> usize
+    requires { HasRoom out.old at (brackets_text (record_of parsed.now)) }
+    ensures { Prints out.old out.new at result (brackets_text (record_of parsed.now)) }
+{
+    let after_bracket = put_bracket(out, at, &parsed.tz);
+    put_calendar(out, after_bracket, parsed.calendar)
+}
+
 /// Writes the date, the time and the offset at index `at`. Returns the index after them.
 #[tactic(auto, using(crate::proofs::code::PutBytes::putting), unfolding(crate::specs::Canonical::core_text))]
 pub fn put_core(out: &mut [u8], at: usize, parsed: &IxdtfParseRecord<'_, Utf8>) -> usize
@@ -290,6 +301,5 @@ pub fn put_record(out: &mut [u8], parsed: &IxdtfParseRecord<'_, Utf8>) -> usize
         (canonical_text (record_of parsed.now)) }
 {
     let after_core = put_core(out, 0, parsed);
-    let after_bracket = put_bracket(out, after_core, &parsed.tz);
-    put_calendar(out, after_bracket, parsed.calendar)
+    put_brackets(out, after_core, parsed)
 }

@@ -1,6 +1,11 @@
 //! What holds of canonical texts, for callers to cite.
 ghost use Rattle.ixdtf_print.specs.Durations.{DurationFits, DurationIsReadBack};
 ghost use Rattle.ixdtf_print.specs.Laws.{CanonicalFits, CanonicalIsReadBack};
+ghost use Rattle.ixdtf_print.specs.MonthDays.{MonthDayFits, MonthDayIsReadBack};
+ghost use Rattle.ixdtf_print.specs.Offsets.{OffsetFits, OffsetIsReadBack};
+ghost use Rattle.ixdtf_print.specs.Times.{TimeFits, TimeIsReadBack};
+ghost use Rattle.ixdtf_print.specs.YearMonths.{YearMonthFits, YearMonthIsReadBack};
+ghost use Rattle.ixdtf_print.specs.Zones.{ZoneFits, ZoneIsReadBack};
 
 /// States that a canonical text has at most 14 bytes more than the text that was parsed.
 ///
@@ -30,4 +35,92 @@ pub fn duration_fits()
 /// one canonical text.
 pub fn duration_is_read_back()
     ensures { DurationIsReadBack }
+{}
+
+/// States that the canonical text of an offset has at most 3 bytes more than the text that was parsed.
+///
+/// The law is about the offsets that [`TimeZoneParser::parse_offset`](ixdtf::parsers::TimeZoneParser::parse_offset)
+/// returns. To use it, call the function, which does nothing.
+pub fn offset_fits()
+    ensures { OffsetFits }
+{}
+
+/// States that the canonical text of an offset is parsed as this offset.
+///
+/// Suppose that [`TimeZoneParser::parse_offset`](ixdtf::parsers::TimeZoneParser::parse_offset) returns an offset for some
+/// text. Then it also returns this offset for the canonical text of the offset, and no other such offset has this
+/// canonical text.
+pub fn offset_is_read_back()
+    ensures { OffsetIsReadBack }
+{}
+
+/// States that the canonical text of a zone has at most 3 bytes more than the text that was parsed.
+///
+/// The law is about the zones that
+/// [`TimeZoneParser::parse_identifier`](ixdtf::parsers::TimeZoneParser::parse_identifier) returns. To use it, call the
+/// function, which does nothing.
+pub fn zone_fits()
+    ensures { ZoneFits }
+{}
+
+/// States that the canonical text of a zone is parsed as this zone.
+///
+/// Suppose that [`TimeZoneParser::parse_identifier`](ixdtf::parsers::TimeZoneParser::parse_identifier) returns a zone for
+/// some text. Then it also returns this zone for the canonical text of the zone, and no other such zone has this canonical
+/// text.
+pub fn zone_is_read_back()
+    ensures { ZoneIsReadBack }
+{}
+
+/// States that the canonical text of a time has at most 12 bytes more than the text that was parsed.
+///
+/// The law is about the records that [`IxdtfParser::parse_time`](ixdtf::parsers::IxdtfParser::parse_time) returns, under
+/// either profile. To use it, call the function, which does nothing.
+pub fn time_fits()
+    ensures { TimeFits }
+{}
+
+/// States that the canonical text of a time is parsed as the record that was printed.
+///
+/// Suppose that [`IxdtfParser::parse_time`](ixdtf::parsers::IxdtfParser::parse_time) returns a record for some text, under
+/// some profile. Then it also returns this record for the canonical text of the record, under either profile, and no other
+/// such record has this canonical text.
+pub fn time_is_read_back()
+    ensures { TimeIsReadBack }
+{}
+
+/// States that the canonical text of a year and a month has at most 4 bytes more than the text that was parsed.
+///
+/// The law is about the records that
+/// [`IxdtfParser::parse_year_month`](ixdtf::parsers::IxdtfParser::parse_year_month) returns. To use it, call the function,
+/// which does nothing.
+pub fn year_month_fits()
+    ensures { YearMonthFits }
+{}
+
+/// States that the canonical text of a year and a month is parsed as the record that was printed.
+///
+/// Suppose that [`IxdtfParser::parse_year_month`](ixdtf::parsers::IxdtfParser::parse_year_month) returns a record for some
+/// text. Then it also returns this record for the canonical text of the record, and no other such record has this canonical
+/// text.
+pub fn year_month_is_read_back()
+    ensures { YearMonthIsReadBack }
+{}
+
+/// States that the canonical text of a month and a day has at most 4 bytes more than the text that was parsed.
+///
+/// The law is about the records that
+/// [`IxdtfParser::parse_month_day`](ixdtf::parsers::IxdtfParser::parse_month_day) returns, under either profile. To use it,
+/// call the function, which does nothing.
+pub fn month_day_fits()
+    ensures { MonthDayFits }
+{}
+
+/// States that the canonical text of a month and a day is parsed as the record that was printed.
+///
+/// Suppose that [`IxdtfParser::parse_month_day`](ixdtf::parsers::IxdtfParser::parse_month_day) returns a record for some
+/// text, under a profile. Then it also returns this record for the canonical text of the record, under this profile, and no
+/// other such record has this canonical text.
+pub fn month_day_is_read_back()
+    ensures { MonthDayIsReadBack }
 {}

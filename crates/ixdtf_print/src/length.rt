@@ -4,7 +4,7 @@
 ghost use Rattle.std.specs.Prelude.{◌≡◌, ◌↔◌, ◌+◌, ◌<◌, ◌≤◌, ◌^◌, IsTrue, length, map, option_map, IfSome, OnSome, None};
 ghost use Rattle.ixdtf.specs.Views.{note_of, zone_of};
 ghost use Rattle.ixdtf_print.specs.Printable.{IsPrintable, record_of};
-ghost use Rattle.ixdtf_print.specs.Canonical.{fraction_text, time_text, offset_text, zone_text, bracket_text, calendar_text};
+ghost use Rattle.ixdtf_print.specs.Canonical.{fraction_text, time_text, offset_text, zone_text, bracket_text, calendar_text, brackets_text};
 ghost use Rattle.ixdtf_print.specs.Canonical.{optional_date_text, core_text, canonical_text};
 
 use crate::check::is_printable;
@@ -58,7 +58,7 @@ fn time_length(time: Option<TimeRecord>) -> u16
 }
 
 /// Returns the number of bytes of the offset.
-fn offset_length(offset: Option<UtcOffsetRecordOrZ>) -> u16
+pub fn shift_length(offset: Option<UtcOffsetRecordOrZ>) -> u16
     ensures length { result ≡ length (offset_text offset) }
     ensures small { result ≤ 265 }
 {
@@ -73,7 +73,7 @@ fn offset_length(offset: Option<UtcOffsetRecordOrZ>) -> u16
 }
 
 /// Returns the number of bytes of the zone, without its bracket.
-fn zone_length(zone: &TimeZoneRecord<'_, Utf8>) -> u128
+pub fn length_of_zone(zone: &TimeZoneRecord<'_, Utf8>) -> u128
     ensures length { result ≡ length (zone_text (zone_of (λ byte. byte) zone.now)) }
     ensures small { result < 2 ^ 64 }
 {
@@ -92,9 +92,9 @@ fn bracket_length(note: &Option<TimeZoneAnnotation<'_, Utf8>>) -> u128
         None => 0,
         Some(note) => {
             if note.critical {
-                3 + zone_length(&note.tz)
+                3 + length_of_zone(&note.tz)
             } else {
-                2 + zone_length(&note.tz)
+                2 + length_of_zone(&note.tz)
             }
         }
     }
@@ -112,19 +112,28 @@ fn calendar_length(calendar: Option<&[u8]>) -> u128
     }
 }
 
+/// Returns the number of bytes of the two brackets.
+#[inline(always)]
+pub fn brackets_length(parsed: &IxdtfParseRecord<'_, Utf8>) -> u128
+    ensures length { result ≡ length (brackets_text (record_of parsed.now)) }
+    ensures small { result < 2 ^ 66 }
+{
+    bracket_length(&parsed.tz) + calendar_length(parsed.calendar)
+}
+
 /// Returns the number of bytes of the date, the time and the offset.
 pub fn core_length(parsed: &IxdtfParseRecord<'_, Utf8>) -> u16
     ensures length { result ≡ length (core_text (record_of parsed.now)) }
     ensures small { result ≤ 543 }
 {
-    date_length(parsed.date) + time_length(parsed.time) + offset_length(parsed.offset)
+    date_length(parsed.date) + time_length(parsed.time) + shift_length(parsed.offset)
 }
 
 /// Returns the number of bytes of the canonical text of the record.
 pub fn length_of(parsed: &IxdtfParseRecord<'_, Utf8>) -> u128
     ensures { result ≡ length (canonical_text (record_of parsed.now)) }
 {
-    u128::from(core_length(parsed)) + bracket_length(&parsed.tz) + calendar_length(parsed.calendar)
+    u128::from(core_length(parsed)) + brackets_length(parsed)
 }
 
 /// Tests quickly whether the canonical text of a record that has one fits into `room` bytes.

@@ -7,7 +7,8 @@
 ghost use Rattle.std.specs.Prelude.{◌≡◌, ◌+◌, ◌<◌, ◌≤◌, map, length, Some, None, IfOk, IfSome, OnOk, IsTrue, pos};
 ghost use Rattle.ixdtf_grammar.specs.declared.records.DateRecord.{DateRecord};
 ghost use Rattle.ixdtf_grammar.specs.declared.records.TimeRecord.{TimeRecord};
-ghost use Rattle.ixdtf_grammar.specs.Views.{IsEmptyRecord, parsed_of};
+ghost use Rattle.ixdtf_grammar.specs.Views.{parsed_of};
+ghost use Rattle.ixdtf_grammar.specs.language.Languages.{parsed_with};
 ghost use Rattle.ixdtf_grammar.specs.language.Letters.{hyphen, colon, time_letter};
 ghost use Rattle.ixdtf_grammar.specs.table.Faults.Fault.{DateYear};
 ghost use Rattle.ixdtf_grammar.specs.table.DateTimeFronts.Field.{month_field, day_field};
@@ -15,14 +16,14 @@ ghost use Rattle.ixdtf_grammar.specs.table.LineNames.LineName.{of_date_time};
 ghost use Rattle.ixdtf_grammar.specs.table.LineNames.DateTimeLine.{after_secfrac};
 ghost use Rattle.ixdtf_reading.specs.reading.Clauses.{Reads, Spends, SpendsOr, KeepsBrackets, core_in, fault_of_stop};
 ghost use Rattle.ixdtf_reading.specs.reading.Looks.{error_of, as_number, digit_look, digits_by, look_for, next_by, letter_at};
-ghost use Rattle.ixdtf_reading.specs.reading.DateTimes.{field_at, is_month, is_day, secfrac_digits_at, time_offset_at, secfrac_at, after_whole_second_at};
+ghost use Rattle.ixdtf_reading.specs.reading.DateTimes.{field_at, is_month, is_day, secfrac_digits_at, num_offset_at, time_offset_at, secfrac_at, after_whole_second_at};
 ghost use Rattle.ixdtf_reading.specs.reading.DateTimes.{full_time_at, full_day_at, full_month_at};
 ghost use Rattle.ixdtf_reading.specs.reading.DateTimes.{open_end, date_time_by, rfc_3339_at};
 ghost use Rattle.ixdtf_times.specs.TimeTypes.{core_read};
 
 use crate::date_times::take_fixed_date_time;
 use crate::dates::{check_month, has_day};
-use crate::offsets::sign_from;
+use crate::offsets::{sign_from, take_numeric_offset};
 use crate::time::{WholeTime, next_number, parse_fraction};
 use ixdtf_grammar::encoding::EncodingType;
 use ixdtf_grammar::records::{
@@ -45,6 +46,20 @@ pub struct DateTime {
 }
 
 impl DateTime {
+    /// Returns the record of the parts, without a zone and without a calendar.
+    #[inline(always)]
+    pub fn record<'a, T: EncodingType>(self) -> IxdtfParseRecord<'a, T>
+        ensures { parsed_of T.number result ≡ parsed_with (core_read self) None }
+    {
+        IxdtfParseRecord {
+            date: Some(self.date),
+            time: Some(self.time),
+            offset: Some(self.offset),
+            tz: None,
+            calendar: None,
+        }
+    }
+
     /// Writes the parts into a record.
     #[inline(always)]
     pub fn place<'a, T: EncodingType>(self, found: &mut IxdtfParseRecord<'a, T>)
@@ -167,22 +182,17 @@ fn parse_time_offset<'a, T: EncodingType>(
 ) -> Result<DateTime, Stop>
     ensures offset { Reads T.letter core_read cursor.old result cursor.new
         (time_offset_at error_of open_end date time lead) }
-    ensures looks { Spends 3 cursor.old cursor.new }
+    ensures looks { Spends 8 cursor.old cursor.new }
 {
     if is_utc_designator(lead) {
         let offset = UtcOffsetRecordOrZ::Z;
         return Ok(DateTime { date, time, offset });
     }
-    let offset_hour = next_number(cursor, 23, Stop::TimeHour)?;
-    take_colon(cursor, Stop::UtcTimeSeparator)?;
-    let offset_minute = next_number(cursor, 59, Stop::TimeMinuteSecond)?;
-    let minutes = MinutePrecisionOffset {
-        sign: sign_from(lead),
-        hour: offset_hour,
-        minute: offset_minute,
-    };
-    let offset = UtcOffsetRecordOrZ::Offset(UtcOffsetRecord::MinutePrecision(minutes));
-    Ok(DateTime { date, time, offset })
+    if let Some(minutes) = take_numeric_offset(cursor, lead) {
+        let offset = UtcOffsetRecordOrZ::Offset(UtcOffsetRecord::MinutePrecision(minutes));
+        return Ok(DateTime { date, time, offset });
+    }
+    parse_offset_by_numbers(cursor, date, time, lead)
 }
 
 /// Takes what a time offset begins with off, after the digits of a fraction.
@@ -221,7 +231,7 @@ fn parse_fractional<'a, T: EncodingType>(
 ) -> Result<DateTime, Stop>
     ensures rest { Reads T.letter core_read cursor.old result cursor.new
         (secfrac_at error_of open_end date whole.hour whole.minute whole.second) }
-    ensures looks { Spends 6 cursor.old cursor.new }
+    ensures looks { Spends 11 cursor.old cursor.new }
 {
     let fraction = parse_secfrac(cursor)?;
     let lead = take_lead(cursor)?;
@@ -238,7 +248,7 @@ fn parse_after_seconds<'a, T: EncodingType>(
 ) -> Result<DateTime, Stop>
     ensures rest { Reads T.letter core_read cursor.old result cursor.new
         (after_whole_second_at error_of open_end date whole.hour whole.minute whole.second) }
-    ensures looks { Spends 7 cursor.old cursor.new }
+    ensures looks { Spends 12 cursor.old cursor.new }
 {
     match cursor.look()? {
         None => Err(Stop::AbruptOffset),
@@ -267,13 +277,37 @@ fn take_fixed_rfc3339<'a, T: EncodingType>(
     ensures rest { result ≡ None → cursor.new.rest ≡ cursor.old.rest }
     ensures looks { Spends 20 cursor.old cursor.new }
 {
-    if !is_time_designator(cursor.byte_at(10)) {
+    if cursor.remaining() < 19 || !is_time_designator(cursor.byte_at(10)) {
         return None;
     }
     take_fixed_date_time(cursor)
 }
 
 // ==== Number by number ====
+
+/// Reads an offset after its sign.
+#[inline(always)]
+fn parse_offset_by_numbers<'a, T: EncodingType>(
+    cursor: &mut Cursor<'a, T>,
+    date: DateRecord,
+    time: TimeRecord,
+    sign: u8,
+) -> Result<DateTime, Stop>
+    ensures offset { Reads T.letter core_read cursor.old result cursor.new
+        (num_offset_at error_of open_end date time sign) }
+    ensures looks { Spends 3 cursor.old cursor.new }
+{
+    let offset_hour = next_number(cursor, 23, Stop::TimeHour)?;
+    take_colon(cursor, Stop::UtcTimeSeparator)?;
+    let offset_minute = next_number(cursor, 59, Stop::TimeMinuteSecond)?;
+    let minutes = MinutePrecisionOffset {
+        sign: sign_from(sign),
+        hour: offset_hour,
+        minute: offset_minute,
+    };
+    let offset = UtcOffsetRecordOrZ::Offset(UtcOffsetRecord::MinutePrecision(minutes));
+    Ok(DateTime { date, time, offset })
+}
 
 /// Reads the time after a date and its letter.
 #[inline(always)]
@@ -283,7 +317,7 @@ fn parse_time_by_numbers<'a, T: EncodingType>(
 ) -> Result<DateTime, Stop>
     ensures time { Reads T.letter core_read cursor.old result cursor.new
         (full_time_at error_of open_end date) }
-    ensures looks { Spends 9 cursor.old cursor.new }
+    ensures looks { Spends 14 cursor.old cursor.new }
 {
     let hour = next_number(cursor, 23, Stop::TimeHour)?;
     take_colon(cursor, Stop::TimeSeparator)?;
@@ -307,7 +341,7 @@ fn parse_day_by_numbers<'a, T: EncodingType>(
 ) -> Result<DateTime, Stop>
     ensures day { Reads T.letter core_read cursor.old result cursor.new
         (full_day_at error_of open_end (pos year) month) }
-    ensures looks { Spends 10 cursor.old cursor.new }
+    ensures looks { Spends 15 cursor.old cursor.new }
 {
     let day = parse_day(cursor, year, month)?;
     take_time_letter(cursor)?;
@@ -327,7 +361,7 @@ fn parse_month_by_numbers<'a, T: EncodingType>(
 ) -> Result<DateTime, Stop>
     ensures month { Reads T.letter core_read cursor.old result cursor.new
         (full_month_at error_of open_end (pos year)) }
-    ensures looks { Spends 11 cursor.old cursor.new }
+    ensures looks { Spends 16 cursor.old cursor.new }
 {
     let month = parse_month(cursor)?;
     take_date_hyphen(cursor, Stop::DateSeparator)?;
@@ -340,7 +374,7 @@ fn parse_month_by_numbers<'a, T: EncodingType>(
 fn parse_by_numbers<'a, T: EncodingType>(cursor: &mut Cursor<'a, T>) -> Result<DateTime, Stop>
     ensures date_time { Reads T.letter core_read cursor.old result cursor.new
         (date_time_by error_of open_end) }
-    ensures looks { Spends 12 cursor.old cursor.new }
+    ensures looks { Spends 17 cursor.old cursor.new }
 {
     let year = parse_year(cursor)?;
     take_date_hyphen(cursor, Stop::AbruptDate)?;
@@ -354,7 +388,7 @@ pub fn parse_internet_date_time<'a, T: EncodingType>(
 ) -> Result<DateTime, Stop>
     ensures date_time { Reads T.letter core_read cursor.old result cursor.new
         (date_time_by error_of open_end) }
-    ensures looks { Spends 32 cursor.old cursor.new }
+    ensures looks { Spends 37 cursor.old cursor.new }
 {
     match take_fixed_rfc3339(cursor) {
         Some((date, whole)) => parse_after_seconds(cursor, date, whole),
@@ -362,20 +396,28 @@ pub fn parse_internet_date_time<'a, T: EncodingType>(
     }
 }
 
-/// Reads a date-time of RFC 3339 into an empty record, and wants the end.
+/// Reads a date-time of RFC 3339, and wants the end.
+///
+/// Each way to read it has an end of its own. So the record is made where its parts are read.
 #[inline(always)]
 #[tactic(auto, using(ixdtf_reading::proofs::code::OpenDateTimes::rfc_3339_open))]
 pub fn parse_rfc3339_text<'a, T: EncodingType>(
     cursor: &mut Cursor<'a, T>,
-    found: &mut IxdtfParseRecord<'a, T>,
-) -> Result<(), Stop>
-    requires empty { IsEmptyRecord found.old }
-    ensures date_time { Reads T.letter (λ _. parsed_of T.number found.new) cursor.old result cursor.new
+) -> Result<IxdtfParseRecord<'a, T>, Stop>
+    ensures date_time { Reads T.letter (parsed_of T.number) cursor.old result cursor.new
         (rfc_3339_at error_of) }
-    ensures looks { Spends 33 cursor.old cursor.new }
+    ensures looks { Spends 38 cursor.old cursor.new }
 {
-    let read = parse_internet_date_time(cursor)?;
-    cursor.close()?;
-    read.place(found);
-    Ok(())
+    match take_fixed_rfc3339(cursor) {
+        Some((date, whole)) => {
+            let read = parse_after_seconds(cursor, date, whole)?;
+            cursor.close()?;
+            Ok(read.record())
+        }
+        None => {
+            let read = parse_by_numbers(cursor)?;
+            cursor.close()?;
+            Ok(read.record())
+        }
+    }
 }

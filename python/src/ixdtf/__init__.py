@@ -23,23 +23,26 @@ from ixdtf._errors import IxdtfError
 from ixdtf._reader import (
     Record,
     canonical,
+    instant,
     is_valid,
     parse,
     parse_duration,
     parse_month_day,
     parse_offset,
+    parse_rfc3339,
     parse_time,
     parse_year_month,
     parse_zone,
     parse_zone_name,
 )
-from ixdtf._records import Annotation, Date, Duration, Fraction, Offset, Time, Z, Zone
+from ixdtf._records import Annotation, Date, Duration, Fraction, Instant, Offset, Time, Z, Zone
 
 __all__ = [
     "Annotation",
     "Date",
     "Duration",
     "Fraction",
+    "Instant",
     "IxdtfError",
     "Offset",
     "Record",
@@ -48,11 +51,13 @@ __all__ = [
     "Zone",
     "ZoneConflictError",
     "canonical",
+    "instant",
     "is_valid",
     "parse",
     "parse_duration",
     "parse_month_day",
     "parse_offset",
+    "parse_rfc3339",
     "parse_time",
     "parse_year_month",
     "parse_zone",

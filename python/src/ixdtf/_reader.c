@@ -24,6 +24,8 @@ typedef struct {
     PyObject *make_offset;
     PyObject *make_zone;
     PyObject *make_duration;
+    PyObject *make_instant;
+    PyObject *duration_type; /* Duration, of _records.py */
     PyObject *to_datetime; /* of _datetimes.py */
     PyObject *describe;    /* of _records.py: what repr() shows */
     PyObject *record_type;
@@ -109,7 +111,7 @@ typedef struct {
     list_record *list, *list_strict;
 } kind;
 
-enum { DATE_TIME, YEAR_MONTH, MONTH_DAY, TIME, OFFSET, ZONE, ZONE_NAME, RECORD_KINDS };
+enum { DATE_TIME, YEAR_MONTH, MONTH_DAY, TIME, RFC3339, OFFSET, ZONE, ZONE_NAME, RECORD_KINDS };
 
 static const kind KINDS[RECORD_KINDS] = {
     { "date-time", ixdtf_parse, ixdtf_parse, ixdtf_parse_with_annotations, ixdtf_parse_with_annotations },
@@ -118,6 +120,7 @@ static const kind KINDS[RECORD_KINDS] = {
     { "month-day", ixdtf_parse_month_day, ixdtf_parse_month_day_strict, ixdtf_parse_month_day_with_annotations,
       ixdtf_parse_month_day_with_annotations_strict },
     { "time", ixdtf_parse_time, ixdtf_parse_time_strict, ixdtf_parse_time_with_annotations, ixdtf_parse_time_with_annotations_strict },
+    { "rfc3339", ixdtf_parse_rfc3339, ixdtf_parse_rfc3339, NULL, NULL },
     { "offset", ixdtf_parse_offset, ixdtf_parse_offset, NULL, NULL },
     { "zone", ixdtf_parse_identifier, ixdtf_parse_identifier, NULL, NULL },
     { "zone-name", ixdtf_parse_iana_identifier, ixdtf_parse_iana_identifier, NULL, NULL },
@@ -786,6 +789,7 @@ READER(parse, DATE_TIME, 0, 1)
 READER(parse_year_month, YEAR_MONTH, 0, 1)
 READER(parse_month_day, MONTH_DAY, 1, 1)
 READER(parse_time, TIME, 1, 1)
+READER(parse_rfc3339, RFC3339, 0, 0)
 
 /* The offset or the zone of a text that is nothing else. */
 static PyObject *read_part(PyObject *module, PyObject *text, const kind *what) {
@@ -858,7 +862,7 @@ static int kind_number(PyObject *name) {
             return RECORD_KINDS;
         }
     }
-    PyErr_Format(PyExc_ValueError, "%R is no kind of text: the kinds are date-time, year-month, month-day, time, offset, zone, zone-name and duration", name);
+    PyErr_Format(PyExc_ValueError, "%R is no kind of text: the kinds are date-time, year-month, month-day, time, rfc3339, offset, zone, zone-name and duration", name);
     return -1;
 }
 
@@ -904,11 +908,81 @@ static PyObject *is_valid(PyObject *module, PyObject *const *arguments, Py_ssize
     return valid_of_kind(arguments[0], number, strict);
 }
 
-static PyObject *canonical(PyObject *module, PyObject *record) {
-    if (!PyObject_TypeCheck(record, (PyTypeObject *)state_of(module)->record_type)) {
-        return PyErr_Format(PyExc_TypeError, "canonical() takes a Record, and not %.100s", Py_TYPE(record)->tp_name);
+/* A number of a duration, of which *there says whether it is not None. */
+static int unit_of(PyObject *duration, const char *name, unsigned long long most, unsigned long long *out, int *there) {
+    PyObject *value = PyObject_GetAttrString(duration, name);
+    if (value == NULL) {
+        return -1;
     }
-    const ixdtf_record *fields = &((record_object *)record)->fields;
+    *out = 0;
+    *there = value != Py_None;
+    if (*there) {
+        *out = PyLong_AsUnsignedLongLong(value);
+    }
+    Py_DECREF(value);
+    if (PyErr_Occurred()) {
+        if (!PyErr_ExceptionMatches(PyExc_OverflowError)) {
+            return -1;
+        }
+        PyErr_Clear();
+    } else if (*out <= most) {
+        return 0;
+    }
+    PyErr_Format(PyExc_ValueError, "%s is a number from 0 to %llu, or None", name, most);
+    return -1;
+}
+
+/* The fields of a Duration. */
+static int duration_fields(PyObject *duration, ixdtf_duration *out) {
+    static const char *const names[7] = { "years", "months", "weeks", "days", "hours", "minutes", "seconds" };
+    unsigned long long numbers[7];
+    int there[7];
+    long long sign;
+    if (number_of(duration, "sign", -1, 1, &sign) < 0) {
+        return -1;
+    }
+    for (int i = 0; i < 7; i++) {
+        if (unit_of(duration, names[i], i < 3 ? UINT32_MAX : UINT64_MAX, &numbers[i], &there[i]) < 0) {
+            return -1;
+        }
+    }
+    if (fraction_of(duration, &out->fraction, &out->fraction_digits) < 0) {
+        return -1;
+    }
+    if (sign == 0 || there[0] != there[1] || there[0] != there[2] || there[0] != there[3] || there[4] < there[5] || there[5] < there[6]
+        || (out->fraction_digits != 0 && !there[4])) {
+        PyErr_SetString(PyExc_ValueError, "this is the Duration of no text: its sign is 1 or -1, its years, months, weeks and days are all None or all numbers, "
+                                          "and its hours, minutes, seconds and fraction are None from some place on");
+        return -1;
+    }
+    out->is_negative = sign < 0;
+    out->has_date = there[0];
+    out->years = (uint32_t)numbers[0];
+    out->months = (uint32_t)numbers[1];
+    out->weeks = (uint32_t)numbers[2];
+    out->days = numbers[3];
+    out->hours = numbers[4];
+    out->minutes = numbers[5];
+    out->seconds = numbers[6];
+    out->time_form = there[6] ? IXDTF_LAST_SECONDS : there[5] ? IXDTF_LAST_MINUTES : there[4] ? IXDTF_LAST_HOURS : IXDTF_NO_TIME;
+    return 0;
+}
+
+static PyObject *canonical_duration(PyObject *duration) {
+    ixdtf_duration fields = IXDTF_DURATION;
+    uint8_t text[512]; /* it has at most 406 bytes */
+    size_t count = 0;
+    if (duration_fields(duration, &fields) < 0) {
+        return NULL;
+    }
+    if (ixdtf_print_duration(&fields, text, sizeof text, &count) != IXDTF_OK) {
+        PyErr_SetString(PyExc_ValueError, "no text that parse_duration() accepts gives this duration, so it has no canonical text");
+        return NULL;
+    }
+    return PyUnicode_DecodeASCII((const char *)text, (Py_ssize_t)count, NULL);
+}
+
+static PyObject *canonical_record(const ixdtf_record *fields) {
     uint8_t few[128];
     size_t count = 0;
     uint32_t error = ixdtf_print(fields, few, sizeof few, &count);
@@ -927,6 +1001,35 @@ static PyObject *canonical(PyObject *module, PyObject *record) {
     return made;
 }
 
+static PyObject *canonical(PyObject *module, PyObject *record) {
+    module_state *state = state_of(module);
+    if (PyObject_TypeCheck(record, (PyTypeObject *)state->record_type)) {
+        return canonical_record(&((record_object *)record)->fields);
+    }
+    if (PyObject_TypeCheck(record, (PyTypeObject *)state->duration_type)) {
+        return canonical_duration(record);
+    }
+    return PyErr_Format(PyExc_TypeError, "canonical() takes a Record or a Duration, and not %.100s", Py_TYPE(record)->tp_name);
+}
+
+static PyObject *instant(PyObject *module, PyObject *record) {
+    module_state *state = state_of(module);
+    if (!PyObject_TypeCheck(record, (PyTypeObject *)state->record_type)) {
+        return PyErr_Format(PyExc_TypeError, "instant() takes a Record, and not %.100s", Py_TYPE(record)->tp_name);
+    }
+    const ixdtf_record *fields = &((record_object *)record)->fields;
+    int64_t seconds = 0;
+    uint32_t nanoseconds = 0;
+    if (ixdtf_instant(fields, &seconds, &nanoseconds) != IXDTF_OK) {
+        PyErr_SetString(PyExc_ValueError, !fields->date.is_there ? "the record has no date, and so no instant"
+                : !fields->time.is_there                         ? "the record has no time, and so no instant"
+                : fields->offset.form == IXDTF_NO_OFFSET         ? "the record has no offset, and so no instant"
+                                                                 : "a fraction has more digits than it says, so the record has no instant");
+        return NULL;
+    }
+    return PyObject_CallFunction(state->make_instant, "LI", (long long)seconds, (unsigned)nanoseconds);
+}
+
 #define FAST(function) (PyCFunction)(void (*)(void))function, METH_FASTCALL | METH_KEYWORDS
 
 static PyMethodDef module_methods[] = {
@@ -941,6 +1044,9 @@ static PyMethodDef module_methods[] = {
     { "parse_time", FAST(parse_time),
       "parse_time(text, /, *, strict=False, handler=None)\n--\n\nReturns the Record of a time, such as 'T12:30'. Without T a time that could be a month and a day, or a year and a month, is\n"
       "refused. In the strict profile there is no day 00, so that '1200' is a time." },
+    { "parse_rfc3339", FAST(parse_rfc3339),
+      "parse_rfc3339(text, /)\n--\n\nReturns the Record of a date-time of RFC 3339, section 5.6, such as '2024-03-02T08:48:00.25-05:00'. It refuses every other text.\n"
+      "parse() accepts each of these texts too, and returns an equal Record." },
     { "parse_offset", parse_offset, METH_O, "parse_offset(text, /)\n--\n\nReturns the Offset of a text such as '+05:30'." },
     { "parse_zone", parse_zone, METH_O, "parse_zone(text, /)\n--\n\nReturns the Zone of a name or an offset, such as 'Europe/Berlin' or '+05:30'." },
     { "parse_zone_name", parse_zone_name, METH_O, "parse_zone_name(text, /)\n--\n\nReturns the Zone of a name, such as 'Europe/Berlin'." },
@@ -948,9 +1054,14 @@ static PyMethodDef module_methods[] = {
       "parse_duration(text, /, *, strict=False)\n--\n\nReturns the Duration of a text such as '-P1Y2M3W4DT5H6M7.5S'. The strict profile refuses a unit that stands twice." },
     { "is_valid", FAST(is_valid),
       "is_valid(text, /, kind='date-time', *, strict=False)\n--\n\n"
-      "Returns whether a text is accepted. The kinds are date-time, year-month, month-day, time, offset, zone, zone-name and duration." },
+      "Returns whether a text is accepted. The kinds are date-time, year-month, month-day, time, rfc3339, offset, zone, zone-name and duration." },
     { "canonical", canonical, METH_O,
-      "canonical(record, /)\n--\n\nReturns the one canonical text of a Record: parse() reads it back as an equal record. ValueError is raised if parse() returns this\nrecord for no text." },
+      "canonical(record, /)\n--\n\nReturns the one canonical text of a Record or of a Duration. parse() reads it back as an equal Record, and parse_duration() as an\n"
+      "equal Duration. ValueError is raised if they return this value for no text." },
+    { "instant", instant, METH_O,
+      "instant(record, /)\n--\n\nReturns the Instant of a Record: the seconds since 1970-01-01T00:00:00Z, rounded down, and the nanoseconds after them.\n\n"
+      "ValueError is raised if the record has no date, no time or no offset. The zone does not count. The second 60 is the same\n"
+      "instant as the second 59." },
     { NULL, NULL, 0, NULL },
 };
 
@@ -974,8 +1085,10 @@ static int take_names(PyObject *module, const char *from, const char *const *nam
 
 static int execute(PyObject *module) {
     module_state *state = state_of(module);
-    static const char *const records[] = { "make_date", "make_time", "make_offset", "make_zone", "make_duration", "describe" };
-    PyObject **places[] = { &state->make_date, &state->make_time, &state->make_offset, &state->make_zone, &state->make_duration, &state->describe };
+    static const char *const records[] = { "make_date", "make_time", "make_offset", "make_zone", "make_duration", "make_instant", "describe",
+                                          "Duration" };
+    PyObject **places[] = { &state->make_date, &state->make_time, &state->make_offset, &state->make_zone, &state->make_duration, &state->make_instant,
+                             &state->describe, &state->duration_type };
     static const char *const errors[] = { "IxdtfError" };
     static const char *const datetimes[] = { "to_datetime" };
     if (ixdtf_interface_version() != IXDTF_INTERFACE_VERSION) {
@@ -983,7 +1096,7 @@ static int execute(PyObject *module) {
         return -1;
     }
     PyDateTime_IMPORT;
-    if (PyDateTimeAPI == NULL || take_names(module, "ixdtf._records", records, places, 6) < 0
+    if (PyDateTimeAPI == NULL || take_names(module, "ixdtf._records", records, places, (int)(sizeof places / sizeof *places)) < 0
         || take_names(module, "ixdtf._errors", errors, (PyObject **[]){ &state->error }, 1) < 0
         || take_names(module, "ixdtf._datetimes", datetimes, (PyObject **[]){ &state->to_datetime }, 1) < 0) {
         return -1;
@@ -1014,6 +1127,8 @@ static int traverse(PyObject *module, visitproc visit, void *arg) {
     Py_VISIT(state->make_offset);
     Py_VISIT(state->make_zone);
     Py_VISIT(state->make_duration);
+    Py_VISIT(state->make_instant);
+    Py_VISIT(state->duration_type);
     Py_VISIT(state->to_datetime);
     Py_VISIT(state->describe);
     Py_VISIT(state->record_type);
@@ -1029,6 +1144,8 @@ static int clear(PyObject *module) {
     Py_CLEAR(state->make_offset);
     Py_CLEAR(state->make_zone);
     Py_CLEAR(state->make_duration);
+    Py_CLEAR(state->make_instant);
+    Py_CLEAR(state->duration_type);
     Py_CLEAR(state->to_datetime);
     Py_CLEAR(state->describe);
     Py_CLEAR(state->record_type);

@@ -133,7 +133,18 @@ class Duration(NamedTuple):
         return self.sign * (_datetime.timedelta(days=days) + _datetime.timedelta(seconds=seconds) + _datetime.timedelta(microseconds=_microseconds(self.fraction, last)))
 
 
-for _part in (Fraction, Date, Time, Offset, Zone, Annotation, Duration):
+class Instant(NamedTuple):
+    """A point in time. Of two instants, the earlier one is the smaller one.
+
+    seconds      the seconds since 1970-01-01T00:00:00Z, rounded down; below 0 before 1970; leap seconds are not counted
+    nanoseconds  the nanoseconds after these seconds, 0 to 999,999,999
+    """
+
+    seconds: int
+    nanoseconds: int
+
+
+for _part in (Fraction, Date, Time, Offset, Zone, Annotation, Duration, Instant):
     _part.__module__ = "ixdtf"
 
 
@@ -151,6 +162,11 @@ def _microseconds(fraction: Optional[Fraction], seconds: int) -> int:
 
 def _fraction(digits: int, value: int) -> Optional[Fraction]:
     return Fraction(digits, value) if digits else None
+
+
+def make_instant(seconds: int, nanoseconds: int) -> Instant:
+    """The instant of a record, for the reader."""
+    return Instant(seconds, nanoseconds)
 
 
 def make_date(year: int, month: int, day: int) -> Date:

@@ -6,6 +6,7 @@
 //! which byte, and the readers see this byte.
 
 use crate::{ParseError, ParserResult};
+use core::hash::Hash;
 
 mod private {
     /// Only the encodings of this crate can implement this trait.
@@ -28,7 +29,7 @@ mod private {
 /// ```
 pub trait EncodingType: private::Sealed {
     /// The type of a code unit: `u8` or `u16`.
-    type CodeUnit: PartialEq + core::fmt::Debug + Clone;
+    type CodeUnit: Eq + Hash + core::fmt::Debug + Copy + Into<u32>;
 
     /// Returns the code units from `start` up to, but not including, `end`.
     ///
@@ -53,7 +54,7 @@ pub trait EncodingType: private::Sealed {
 ///
 /// Each code unit stands for itself, also 0 and the code units of 128 or more. So `get_ascii` returns no error. It is
 /// not checked that the source is UTF-8.
-#[derive(Clone, Debug, PartialEq)]
+#[derive(Clone, Copy, Debug, PartialEq, Eq, Hash)]
 pub struct Utf8;
 
 impl private::Sealed for Utf8 {}
@@ -80,7 +81,7 @@ impl EncodingType for Utf8 {
 ///
 /// The code units from 1 to 126 stand for themselves. All others, including 0 and 127, stand for no character. It is
 /// not checked that the source is UTF-16.
-#[derive(Clone, Debug, PartialEq)]
+#[derive(Clone, Copy, Debug, PartialEq, Eq, Hash)]
 pub struct Utf16;
 
 impl private::Sealed for Utf16 {}

@@ -7,9 +7,11 @@
 #[cfg(test)]
 extern crate self as ixdtf;
 
+mod civil;
 mod classes;
 mod cursor;
 mod days;
+mod display;
 pub mod encoding;
 mod error;
 mod instant;
@@ -28,6 +30,8 @@ pub use pointed::PointedText;
 
 /// The result of a reader: the value that it found, or the error.
 pub type ParserResult<T> = Result<T, ParseError>;
+
+mod from_text;
 
 #[cfg(test)]
 #[macro_use]

@@ -3,6 +3,7 @@
 //! Numbers that need no alignment.
 
 use core::fmt;
+use core::hash::{Hash, Hasher};
 
 /// A number below 2^64, stored as its eight bytes, the lowest byte first.
 ///
@@ -33,6 +34,16 @@ impl PartialEq for PackedNumber {
     #[inline(always)]
     fn eq(&self, other: &PackedNumber) -> bool {
         self.number() == other.number()
+    }
+}
+
+impl Eq for PackedNumber {
+}
+
+impl Hash for PackedNumber {
+    /// Hashes the number like a `u64`.
+    fn hash<H: Hasher>(&self, state: &mut H) {
+        self.number().hash(state);
     }
 }
 

@@ -21,6 +21,7 @@ mod date_times;
 mod dates;
 mod duration;
 mod exact;
+mod exact_zones;
 mod group_numbers;
 mod handled;
 mod letters;

@@ -2,7 +2,7 @@
 
 //! The records that the readers return: dates, times, offsets, time zones, durations and fractions.
 
-use crate::encoding::EncodingType;
+use crate::encoding::{EncodingType, Utf8};
 use crate::packed::PackedNumber;
 
 /// The parts of a text with a date or a time. A field is `None` if the text does not have this part.
@@ -16,7 +16,7 @@ use crate::packed::PackedNumber;
 /// assert!(record.date.is_some() && record.tz.is_some());
 /// assert!(record.time.is_none() && record.offset.is_none() && record.calendar.is_none());
 /// ```
-#[derive(Debug, PartialEq)]
+#[derive(Clone, Copy, Debug, PartialEq, Eq, Hash)]
 #[cfg_attr(not(feature = "open-records"), non_exhaustive)]
 pub struct IxdtfParseRecord<'a, T: EncodingType> {
     /// The date (`full-date` of RFC 3339, section 5.6, or another form of ISO 8601).
@@ -49,7 +49,7 @@ impl<'a, T: EncodingType> Default for IxdtfParseRecord<'a, T> {
 }
 
 /// A date of the proleptic Gregorian calendar (`full-date` of RFC 3339, section 5.6).
-#[derive(Clone, Copy, Debug, Default, PartialEq)]
+#[derive(Clone, Copy, Debug, Default, PartialEq, Eq, Hash)]
 pub struct DateRecord {
     /// The year: 0 to 9999 if it is written with four digits, and -999999 to 999999 if it is written with a sign and
     /// six digits. Year 0 is the year before year 1. For a month and a day without a year, it is 0.
@@ -62,7 +62,7 @@ pub struct DateRecord {
 }
 
 /// A time of day (`partial-time` of RFC 3339, section 5.6). Parts that the text does not have are 0.
-#[derive(Clone, Copy, Debug, Default, PartialEq)]
+#[derive(Clone, Copy, Debug, Default, PartialEq, Eq, Hash)]
 pub struct TimeRecord {
     /// The hour, 0 to 23.
     pub hour: u8,
@@ -87,7 +87,7 @@ pub struct TimeRecord {
 /// let TimeZoneRecord::Name(name) = zone.tz else { panic!("an offset") };
 /// assert_eq!(core::str::from_utf8(name), Ok("Europe/Paris"));
 /// ```
-#[derive(Clone, Debug, PartialEq)]
+#[derive(Clone, Copy, Debug, PartialEq, Eq, Hash)]
 #[cfg_attr(not(feature = "open-records"), non_exhaustive)]
 pub struct TimeZoneAnnotation<'a, T: EncodingType> {
     /// Whether a `!` follows the opening bracket (`critical-flag`). If it does, an application must process the zone,
@@ -113,7 +113,7 @@ pub struct TimeZoneAnnotation<'a, T: EncodingType> {
 /// let annotation = found.unwrap();
 /// assert_eq!((annotation.critical, annotation.key, annotation.value), (true, b"answer".as_slice(), b"fortytwo".as_slice()));
 /// ```
-#[derive(Clone, Debug, PartialEq)]
+#[derive(Clone, Copy, Debug, PartialEq, Eq, Hash)]
 #[cfg_attr(not(feature = "open-records"), non_exhaustive)]
 pub struct Annotation<'a, T: EncodingType> {
     /// Whether a `!` follows the opening bracket (`critical-flag`). If it does, an application must process the
@@ -126,7 +126,7 @@ pub struct Annotation<'a, T: EncodingType> {
 }
 
 /// A time zone: a name such as `Europe/Paris`, or an offset such as `+05:30`.
-#[derive(Clone, Debug, PartialEq)]
+#[derive(Clone, Copy, Debug, PartialEq, Eq, Hash)]
 #[non_exhaustive]
 pub enum TimeZoneRecord<'a, T: EncodingType> {
     /// The code units of a name (`time-zone-name` of RFC 9557, section 4.1): a slice of the text. It is not checked
@@ -136,8 +136,32 @@ pub enum TimeZoneRecord<'a, T: EncodingType> {
     Offset(MinutePrecisionOffset),
 }
 
+impl<'a> TimeZoneRecord<'a, Utf8> {
+    /// Returns the name of the zone as a string. It is a part of the text.
+    ///
+    /// The result is `None` if the zone is an offset, or if the name is not UTF-8. All characters of a name that a reader
+    /// returns are ASCII characters, so such a name is never `None`.
+    ///
+    /// # Examples
+    ///
+    /// ```rust
+    /// use ixdtf::parsers::TimeZoneParser;
+    ///
+    /// assert_eq!(TimeZoneParser::from_str("Europe/Berlin").parse_identifier()?.name(), Some("Europe/Berlin"));
+    /// assert_eq!(TimeZoneParser::from_str("+01:00").parse_identifier()?.name(), None);
+    /// # Ok::<(), ixdtf::ParseError>(())
+    /// ```
+    #[must_use]
+    pub fn name(&self) -> Option<&'a str> {
+        match self {
+            TimeZoneRecord::Name(units) => core::str::from_utf8(units).ok(),
+            TimeZoneRecord::Offset(_) => None,
+        }
+    }
+}
+
 /// The sign of an offset or of a duration.
-#[derive(Clone, Copy, Debug, PartialEq)]
+#[derive(Clone, Copy, Debug, PartialEq, Eq, Hash)]
 #[repr(i8)]
 pub enum Sign {
     /// The text has a `-`.
@@ -160,7 +184,7 @@ impl From<bool> for Sign {
 /// An offset from UTC in hours and minutes (`time-numoffset` of RFC 3339, section 5.6).
 ///
 /// Local time is UTC plus the offset.
-#[derive(Clone, Copy, Debug, PartialEq)]
+#[derive(Clone, Copy, Debug, PartialEq, Eq, Hash)]
 pub struct MinutePrecisionOffset {
     /// The sign. It is `Positive` if local time is ahead of UTC. For `-00:00` it is `Negative`: this offset means that
     /// UTC is known, and the local offset is not.
@@ -185,7 +209,7 @@ impl MinutePrecisionOffset {
 /// An offset from UTC with seconds, such as `-05:00:30.5`.
 ///
 /// `time-numoffset` of RFC 3339, section 5.6, has no seconds. The readers also accept this longer form.
-#[derive(Clone, Copy, Debug, PartialEq)]
+#[derive(Clone, Copy, Debug, PartialEq, Eq, Hash)]
 pub struct FullPrecisionOffset {
     /// The sign, the hours and the minutes. The sign is that of the complete offset.
     pub minute_precision_offset: MinutePrecisionOffset,
@@ -196,7 +220,7 @@ pub struct FullPrecisionOffset {
 }
 
 /// An offset from UTC, with or without seconds. `+01:00` and `+01:00:00` give different values.
-#[derive(Clone, Copy, Debug, PartialEq)]
+#[derive(Clone, Copy, Debug, PartialEq, Eq, Hash)]
 #[non_exhaustive]
 pub enum UtcOffsetRecord {
     /// Written without seconds.
@@ -287,7 +311,7 @@ impl UtcOffsetRecord {
 /// assert_eq!(minutes_ahead("2024-03-02T08:48:00+00:00"), Some(0));
 /// assert_eq!(minutes_ahead("2024-03-02T08:48:00Z"), None);
 /// ```
-#[derive(Clone, Copy, Debug, PartialEq)]
+#[derive(Clone, Copy, Debug, PartialEq, Eq, Hash)]
 pub enum UtcOffsetRecordOrZ {
     /// An offset that is written as numbers.
     Offset(UtcOffsetRecord),
@@ -326,7 +350,7 @@ impl UtcOffsetRecordOrZ {
 /// A duration, such as `P1Y2M3DT4H` (`Duration` of the Temporal grammar; ISO 8601, section 5.5.2).
 ///
 /// It has the units in which it was written. No unit is converted to another.
-#[derive(Clone, Copy, Debug, PartialEq)]
+#[derive(Clone, Copy, Debug, PartialEq, Eq, Hash)]
 pub struct DurationParseRecord {
     /// The sign of the complete duration. It is `Negative` exactly if the text begins with a `-`.
     pub sign: Sign,
@@ -339,7 +363,7 @@ pub struct DurationParseRecord {
 /// The years, months, weeks and days of a duration (`DurationDate` of the Temporal grammar; ISO 8601, section 5.5.2).
 ///
 /// A unit that the text does not have is 0. If the text repeats a unit, its last number counts.
-#[derive(Clone, Copy, Debug, Default, PartialEq)]
+#[derive(Clone, Copy, Debug, Default, PartialEq, Eq, Hash)]
 pub struct DateDurationRecord {
     /// The years (`Y`).
     pub years: u32,
@@ -377,7 +401,7 @@ pub struct DateDurationRecord {
 /// let duration = IsoDurationParser::from_str("-PT1H30.5M").parse().unwrap();
 /// assert_eq!(seconds_of(duration.time.unwrap()), 5430);
 /// ```
-#[derive(Clone, Copy, Debug, PartialEq)]
+#[derive(Clone, Copy, Debug, PartialEq, Eq, Hash)]
 pub enum TimeDurationRecord {
     /// The last unit is hours.
     Hours {
@@ -427,7 +451,7 @@ pub enum TimeDurationRecord {
 /// assert_eq!((fraction.digit_count(), fraction.leading_value()), (2, 10));
 /// assert_eq!(fraction.to_nanoseconds(), Some(100_000_000));
 /// ```
-#[derive(Clone, Copy, Debug, PartialEq)]
+#[derive(Clone, Copy, Debug, PartialEq, Eq, Hash)]
 pub struct Fraction {
     digits: u8,
     value: PackedNumber,

@@ -1,6 +1,6 @@
 // Made by tools/to_rust.py of crates/ixdtf_buffers/src/driver.rt. Do not edit.
 
-//! The run over lines, whatever is done with each of them.
+//! The loop that reads a source line by line, and passes each line to a task.
 
 use crate::error::RunError;
 use crate::line::Line;
@@ -9,10 +9,11 @@ use crate::place::place_of;
 use crate::sink::Sink;
 use crate::source::Source;
 
-/// What a program does with a line of at most `LIMIT` bytes, and with one that is longer.
+/// A task that handles lines of at most `LIMIT` bytes. It is also told about each longer line.
 pub trait LineTask<const LIMIT: usize> {
-    /// Puts what it has to say of the line into the output. It is `None` for a line of more than `LIMIT` bytes.
-    /// It fails with `RunError::Write`, where a write failed.
+    /// Handles one line, and writes its result to the output. `line` is `None` if the line has more than `LIMIT` bytes.
+    ///
+    /// Returns `RunError::Write` if a write fails.
     fn take_line<K: Sink>(
         &mut self,
         output: &mut Output<'_, K>,
@@ -20,20 +21,20 @@ pub trait LineTask<const LIMIT: usize> {
     ) -> Result<(), RunError>;
 }
 
-/// How a run over lines ended.
+/// How a run over the lines of a source ended.
 #[derive(Clone, Copy, Debug, PartialEq)]
 pub struct Driven {
-    /// How many bytes were read.
+    /// The number of bytes that were read.
     pub bytes: u64,
-    /// Whether all was read and written.
+    /// `Ok` if all bytes were read and all results were written. Otherwise the error that ended the run.
     pub end: Result<(), RunError>,
 }
 
-/// Reads the source to its end, and hands each of its lines to the task, which puts what it has to say of it into the sink.
+/// Reads the source to its end, and passes each of its lines to the task. The task writes its results to the sink.
 ///
-/// A newline ends a line. What stands after the last one is a line too, unless it is empty. What was put is written before each read
-/// and at the end, when the sink is flushed too. A read asks for `LIMIT` bytes. Where they would be more than a `u64` counts, nothing
-/// more is read, and that is `RunError::Read`.
+/// A newline ends a line. The bytes after the last newline are a line too, unless there are none. Before each read and at the
+/// end, all results are written to the sink. At the end, the sink is also flushed. A read asks for `LIMIT` bytes. If the number of
+/// bytes could exceed a `u64`, the function does not read further, and returns `RunError::Read`.
 pub fn drive<S: Source, K: Sink, T: LineTask<LIMIT>, const LIMIT: usize>(
     source: &mut S,
     sink: &mut K,
@@ -45,7 +46,7 @@ pub fn drive<S: Source, K: Sink, T: LineTask<LIMIT>, const LIMIT: usize>(
     Driven { bytes, end }
 }
 
-/// The run over an output where no byte waits. It counts the bytes that are read.
+/// Does the work of `drive` with an output whose buffer is empty. Adds the number of bytes that it reads to `bytes`.
 fn drive_all<S: Source, K: Sink, T: LineTask<LIMIT>, const LIMIT: usize>(
     source: &mut S,
     output: &mut Output<'_, K>,
@@ -54,7 +55,7 @@ fn drive_all<S: Source, K: Sink, T: LineTask<LIMIT>, const LIMIT: usize>(
 ) -> Result<(), RunError> {
     let mut line = Line::new();
     let mut input = [0; LIMIT];
-    // No byte waits at any of the reads.
+    // The buffer of the output is empty before each read.
     'reads: while *bytes <= u64::MAX - LIMIT as u64 {
         let count = source.read_some(&mut input)?;
         if count == 0 {
@@ -66,7 +67,7 @@ fn drive_all<S: Source, K: Sink, T: LineTask<LIMIT>, const LIMIT: usize>(
     Err(RunError::Read)
 }
 
-/// Takes the bytes of a read, hands each line that ends in them to the task, and writes what it put.
+/// Passes each line that ends in the bytes of one read to the task, and writes the results to the sink.
 fn take_bytes<K: Sink, T: LineTask<LIMIT>, const LIMIT: usize>(
     output: &mut Output<'_, K>,
     task: &mut T,
@@ -82,9 +83,9 @@ fn take_bytes<K: Sink, T: LineTask<LIMIT>, const LIMIT: usize>(
     output.hand_on()
 }
 
-/// Hands a line to the task of which these are the last bytes, and begins the next one.
+/// Passes a line to the task, and begins the next line. `bytes` are the last bytes of the line.
 ///
-/// A line that lies whole in what was read is taken where it lies.
+/// If no earlier bytes of the line are kept, `bytes` is the complete line, and is not copied.
 #[inline(always)]
 fn end_line<K: Sink, T: LineTask<LIMIT>, const LIMIT: usize>(
     output: &mut Output<'_, K>,
@@ -98,9 +99,9 @@ fn end_line<K: Sink, T: LineTask<LIMIT>, const LIMIT: usize>(
     end_kept_line(output, task, line, bytes)
 }
 
-/// The same of a line of which a part is kept, or that is too long.
+/// Does the work of `end_line` for a line whose first bytes are kept, or that is too long.
 ///
-/// It is not inlined, since there is at most one in most reads.
+/// The function is not inlined, because most reads contain at most one such line.
 #[inline(never)]
 fn end_kept_line<K: Sink, T: LineTask<LIMIT>, const LIMIT: usize>(
     output: &mut Output<'_, K>,
@@ -114,7 +115,8 @@ fn end_kept_line<K: Sink, T: LineTask<LIMIT>, const LIMIT: usize>(
     result
 }
 
-/// Hands what stands after the last newline to the task, writes what it put, and flushes the sink.
+/// Passes the bytes after the last newline to the task as the last line, unless there are none. Then writes the results to the
+/// sink, and flushes the sink.
 fn finish<K: Sink, T: LineTask<LIMIT>, const LIMIT: usize>(
     output: &mut Output<'_, K>,
     task: &mut T,

@@ -1,9 +1,9 @@
 // Made by tools/to_rust.py of crates/ixdtf_buffers/src/lib.rt. Do not edit.
 
-//! What the programs over lines share: the line that is being read, the bytes that wait to be
-//! written, texts that are made in an array, and decimal numbers.
+//! Code that both programs over lines share: the loop over lines, the buffers for input and output, the search for a byte,
+//! and short texts with decimal numbers.
 //!
-//! Nothing here allocates: each buffer is an array of fixed size. The crate uses the standard library alone.
+//! Nothing in this crate allocates, because each buffer is an array of fixed size. The crate uses only the standard library.
 
 #![forbid(unsafe_code)]
 

@@ -1,8 +1,9 @@
 // Made by tools/to_rust.py of crates/ixdtf_buffers/src/line.rt. Do not edit.
 
-//! The line that is being read.
+//! A buffer for the line that is being read.
 
-/// The bytes of a line so far, or that there were more than fit.
+/// The bytes of a line that were read so far. If there are more than `LIMIT` bytes, the buffer only knows that the line is
+/// too long.
 pub struct Line<const LIMIT: usize> {
     bytes: [u8; LIMIT],
     count: usize,
@@ -10,7 +11,7 @@ pub struct Line<const LIMIT: usize> {
 }
 
 impl<const LIMIT: usize> Line<LIMIT> {
-    /// An empty line.
+    /// Creates an empty line.
     pub fn new() -> Line<LIMIT> {
         Line {
             bytes: [0; LIMIT],
@@ -19,13 +20,13 @@ impl<const LIMIT: usize> Line<LIMIT> {
         }
     }
 
-    /// Begins a new line.
+    /// Makes the line empty, so that a new line can begin.
     pub fn clear(&mut self) {
         self.count = 0;
         self.is_too_long = false;
     }
 
-    /// Takes more bytes of the line.
+    /// Appends the bytes to the line.
     pub fn push_all(&mut self, bytes: &[u8]) {
         if bytes.len() > LIMIT - self.count {
             self.is_too_long = true;
@@ -38,12 +39,12 @@ impl<const LIMIT: usize> Line<LIMIT> {
         self.count = end;
     }
 
-    /// Whether the line has no byte so far.
+    /// Returns whether the line has no bytes so far.
     pub fn is_empty(&self) -> bool {
         self.count == 0 && !self.is_too_long
     }
 
-    /// The line, unless it is too long.
+    /// Returns the bytes of the line, or `None` if the line is too long.
     pub fn as_slice(&self) -> Option<&[u8]> {
         if self.is_too_long {
             None

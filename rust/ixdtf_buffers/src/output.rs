@@ -1,27 +1,29 @@
 // Made by tools/to_rust.py of crates/ixdtf_buffers/src/output.rt. Do not edit.
 
-//! A sink, and what waits to be written to it.
+//! A sink with a buffer in front of it.
 
 use crate::error::RunError;
 use crate::sink::Sink;
 use crate::waiting::{WAITING_LIMIT, Waiting};
 
-/// The fewest bytes that are written once what waits is full: half of it, so that few pieces have to be put in two parts.
+/// The least number of bytes that are written to the sink when the buffer is full. This is half of the buffer, so that few
+/// slices have to be written in two parts.
 const LEAST_WRITTEN: usize = 2048;
 
-/// A sink, and the bytes that wait to be written to it.
+/// A sink, and a buffer for the bytes that are not written to it yet.
 ///
-/// Where a piece does not fit behind what waits, that is filled with the first of its bytes, and at least half of it is written. So
-/// short pieces may be gathered, up to 2,048 bytes: a writer that takes up to some number of bytes at each write then has no less of
-/// them after as many writes than it would have if all that waits were written before each piece that does not fit. That is tested,
-/// and no clause says it. Bytes wait until `hand_on` or `finish`.
+/// If a slice does not fit into the buffer, the buffer is filled with the first bytes of the slice, and at least half of the buffer
+/// is written to the sink. So the buffer can still have up to 2,048 bytes after the write. Suppose that a writer accepts up to some
+/// number of bytes in each write. After the same number of writes, it has not received less than if the complete buffer were written
+/// before each slice that does not fit. A test checks this, and no contract says it. Bytes stay in the buffer until `hand_on` or
+/// `finish` is called.
 pub struct Output<'k, K> {
     sink: &'k mut K,
     waiting: Waiting,
 }
 
 impl<'k, K: Sink> Output<'k, K> {
-    /// An output to the sink. No byte waits.
+    /// Creates an output to the sink. Its buffer is empty.
     pub fn new(sink: &'k mut K) -> Output<'k, K> {
         Output {
             sink,
@@ -29,7 +31,7 @@ impl<'k, K: Sink> Output<'k, K> {
         }
     }
 
-    /// Puts the bytes behind those that wait.
+    /// Writes the bytes to the buffer. If they do not fit, writes bytes to the sink first.
     pub fn put(&mut self, bytes: &[u8]) -> Result<(), RunError> {
         if bytes.len() > self.waiting.room() {
             return self.put_after(bytes);
@@ -38,7 +40,7 @@ impl<'k, K: Sink> Output<'k, K> {
         Ok(())
     }
 
-    /// Puts bytes that do not fit behind those that wait. It stands out of line, since nearly all bytes fit.
+    /// Does the work of `put` for bytes that do not fit into the buffer. The function is not inlined, because nearly all bytes fit.
     #[cold]
     #[inline(never)]
     fn put_after(&mut self, bytes: &[u8]) -> Result<(), RunError> {
@@ -49,7 +51,7 @@ impl<'k, K: Sink> Output<'k, K> {
         write_whole(self.sink, bytes)
     }
 
-    /// Fills what waits with the first of the bytes, writes as much of it as makes room for the others, and puts these behind.
+    /// Fills the buffer with the first bytes, writes as much of the buffer as the other bytes need, and appends the other bytes.
     fn fill_with(&mut self, bytes: &[u8]) -> Result<(), RunError> {
         let (front, back) = bytes.split_at(self.waiting.room());
         self.push(front);
@@ -58,19 +60,19 @@ impl<'k, K: Sink> Output<'k, K> {
         Ok(())
     }
 
-    /// Writes of the bytes that wait at least so many, and further as far as the writes take them.
+    /// Writes at least `least` bytes of the buffer to the sink, and removes all bytes that the sink accepted.
     fn write_out(&mut self, least: usize) -> Result<(), RunError> {
         let taken = write_least(self.sink, self.waiting.as_slice(), least)?;
         self.waiting.drop_front(taken);
         Ok(())
     }
 
-    /// Puts bytes that fit behind those that wait.
+    /// Appends bytes that fit to the buffer.
     fn push(&mut self, bytes: &[u8]) {
         self.waiting.push_all(bytes);
     }
 
-    /// Puts the pieces in turn.
+    /// Writes the slices, one after the other, as `put` does.
     pub fn put_all(&mut self, pieces: &[&[u8]]) -> Result<(), RunError> {
         for piece in pieces {
             self.put(piece)?;
@@ -78,26 +80,27 @@ impl<'k, K: Sink> Output<'k, K> {
         Ok(())
     }
 
-    /// Writes the waiting bytes to the sink.
+    /// Writes the complete buffer to the sink.
     pub fn hand_on(&mut self) -> Result<(), RunError> {
         let all = self.waiting.as_slice().len();
         self.write_out(all)
     }
 
-    /// Writes the waiting bytes to the sink, and flushes it.
+    /// Writes the complete buffer to the sink, and flushes the sink.
     pub fn finish(&mut self) -> Result<(), RunError> {
         self.hand_on()?;
         self.sink.flush_all()
     }
 }
 
-/// Writes all the bytes, or fails after a prefix of them.
+/// Writes all the bytes to the sink. If a write fails, a prefix of the bytes is in the sink.
 fn write_whole<K: Sink>(sink: &mut K, bytes: &[u8]) -> Result<(), RunError> {
     write_least(sink, bytes, bytes.len())?;
     Ok(())
 }
 
-/// Writes at least so many of the bytes, and returns how many the writes took, or fails after a prefix of them.
+/// Writes at least `least` of the bytes to the sink, and returns how many bytes the sink accepted. If a write fails, a prefix of
+/// the bytes is in the sink.
 fn write_least<K: Sink>(sink: &mut K, bytes: &[u8], least: usize) -> Result<usize, RunError> {
     let mut rest = bytes;
     'writes: while bytes.len() - rest.len() < least {

@@ -1,16 +1,18 @@
 // Made by tools/to_rust.py of crates/ixdtf_buffers/src/sink.rt. Do not edit.
 
-//! What a run writes to.
+//! The sinks to which a run writes.
 
 use crate::error::RunError;
 use std::io::Write;
 
-/// What a run writes to: any writer, or a sink in memory.
+/// A sink to which a run writes: any `Write`, or a sink in memory.
 pub trait Sink {
-    /// Writes some of the bytes, at least one of any, and returns how many. It fails with `RunError::Write`.
+    /// Writes a prefix of the bytes, and returns its length. The prefix is empty only if there are no bytes.
+    ///
+    /// Returns `RunError::Write` if the write fails.
     fn write_some(&mut self, bytes: &[u8]) -> Result<usize, RunError>;
 
-    /// Flushes what was written. It fails with `RunError::Write`.
+    /// Flushes what was written. Returns `RunError::Write` if this fails.
     fn flush_all(&mut self) -> Result<(), RunError>;
 }
 

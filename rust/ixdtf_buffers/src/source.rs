@@ -1,14 +1,15 @@
 // Made by tools/to_rust.py of crates/ixdtf_buffers/src/source.rt. Do not edit.
 
-//! What a run reads from.
+//! The sources from which a run reads.
 
 use crate::error::RunError;
 use std::io::Read;
 
-/// What a run reads from: any reader, or bytes in memory.
+/// A source from which a run reads: any `Read`, or bytes in memory.
 pub trait Source {
-    /// Reads some bytes into the front of `input`, and returns how many: 0 at the end, or where `input` has no room.
-    /// It fails with `RunError::Read`.
+    /// Reads bytes into the beginning of `input`, and returns how many. Returns 0 at the end, or if `input` is empty.
+    ///
+    /// Returns `RunError::Read` if the read fails.
     fn read_some(&mut self, input: &mut [u8]) -> Result<usize, RunError>;
 }
 

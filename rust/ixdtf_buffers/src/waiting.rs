@@ -1,18 +1,18 @@
 // Made by tools/to_rust.py of crates/ixdtf_buffers/src/waiting.rt. Do not edit.
 
-//! Bytes that wait to be written.
+//! A buffer for bytes that are not written yet.
 
-/// How many bytes wait at most.
+/// The size of the buffer in bytes.
 pub const WAITING_LIMIT: usize = 4096;
 
-/// Bytes that wait to be written.
+/// A buffer for bytes that are not written yet.
 pub struct Waiting {
     bytes: [u8; WAITING_LIMIT],
     count: usize,
 }
 
 impl Waiting {
-    /// No byte waits.
+    /// Creates an empty buffer.
     pub fn new() -> Waiting {
         Waiting {
             bytes: [0; WAITING_LIMIT],
@@ -20,24 +20,24 @@ impl Waiting {
         }
     }
 
-    /// How many more bytes can wait.
+    /// Returns how many more bytes fit into the buffer.
     pub fn room(&self) -> usize {
         WAITING_LIMIT - self.count
     }
 
-    /// Puts bytes that fit behind those that wait.
+    /// Appends bytes that fit to the buffer.
     pub fn push_all(&mut self, bytes: &[u8]) {
         let end = self.count + bytes.len();
         self.bytes[self.count..end].copy_from_slice(bytes);
         self.count = end;
     }
 
-    /// The bytes that wait.
+    /// Returns the bytes in the buffer.
     pub fn as_slice(&self) -> &[u8] {
         &self.bytes[..self.count]
     }
 
-    /// The first of the bytes wait no longer, as many as these.
+    /// Removes the first `count` bytes from the buffer.
     pub fn drop_front(&mut self, count: usize) {
         self.bytes.copy_within(count..self.count, 0);
         self.count -= count;

@@ -11,7 +11,7 @@
 
 use crate::durations::{Duration, duration_into};
 use crate::narrow::{Annotation, Calendar, Record};
-use crate::readers::{name_into, offset_into, read_into, take_reply, zone_into};
+use crate::readers::{name_into, offset_into, read_into, rfc3339_into, take_reply, zone_into};
 use crate::{narrow_annotations, wide, wide_annotations};
 use ixdtf::encoding::{Utf8, Utf16};
 use ixdtf::parsers::{DateTimes, MonthDays, Profile, Times, YearMonths};
@@ -62,6 +62,14 @@ pub unsafe extern "C" fn ixdtf_parse_time_strict<'a>(text: *const u8, text_lengt
     // SAFETY: so the header has it.
     let text = unsafe { crate::slices::slice(text, text_length) };
     read_into::<Utf8, Times, _>(text, Profile::Strict, out)
+}
+
+/// Reads a date-time of RFC 3339, section 5.6.
+#[unsafe(no_mangle)]
+pub unsafe extern "C" fn ixdtf_parse_rfc3339<'a>(text: *const u8, text_length: usize, out: &mut Record<'a>) -> u32 {
+    // SAFETY: so the header has it.
+    let text = unsafe { crate::slices::slice(text, text_length) };
+    rfc3339_into::<Utf8, _>(text, out)
 }
 
 /// Reads an offset.
@@ -263,6 +271,14 @@ pub unsafe extern "C" fn ixdtf16_parse_time_strict<'a>(text: *const u16, text_le
     // SAFETY: so the header has it.
     let text = unsafe { crate::slices::slice(text, text_length) };
     read_into::<Utf16, Times, _>(text, Profile::Strict, out)
+}
+
+/// Reads a date-time of RFC 3339, section 5.6.
+#[unsafe(no_mangle)]
+pub unsafe extern "C" fn ixdtf16_parse_rfc3339<'a>(text: *const u16, text_length: usize, out: &mut wide::Record<'a>) -> u32 {
+    // SAFETY: so the header has it.
+    let text = unsafe { crate::slices::slice(text, text_length) };
+    rfc3339_into::<Utf16, _>(text, out)
 }
 
 /// Reads an offset.

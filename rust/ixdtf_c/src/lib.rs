@@ -4,17 +4,21 @@
 
 #![cfg_attr(not(test), no_std)]
 
+mod duration_texts;
 mod durations;
 mod errors;
 mod exports;
 mod fields;
 mod forms;
+mod instants;
+mod last_fractions;
 mod names;
 pub mod narrow;
 mod narrow_annotations;
 mod printing;
 mod readers;
 mod slices;
+mod texts;
 mod version;
 pub mod wide;
 mod wide_annotations;

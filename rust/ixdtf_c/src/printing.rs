@@ -13,7 +13,7 @@ use ixdtf::records::{
 use ixdtf_print::{PrintError, length_of, print};
 
 /// The fraction of so many digits and this value, where there is one of them.
-fn fraction_of(digits: u8, value: u64) -> Option<Option<Fraction>> {
+pub fn fraction_of(digits: u8, value: u64) -> Option<Option<Fraction>> {
     if digits == 0 {
         return Some(None);
     }
@@ -24,7 +24,7 @@ fn fraction_of(digits: u8, value: u64) -> Option<Option<Fraction>> {
 }
 
 /// The date.
-fn date_of(date: &Date) -> Option<DateRecord> {
+pub fn date_of(date: &Date) -> Option<DateRecord> {
     if !date.is_there {
         return None;
     }
@@ -36,7 +36,7 @@ fn date_of(date: &Date) -> Option<DateRecord> {
 }
 
 /// The time, where its fraction is one.
-fn time_of(time: &Time) -> Option<Option<TimeRecord>> {
+pub fn time_of(time: &Time) -> Option<Option<TimeRecord>> {
     if !time.is_there {
         return Some(None);
     }
@@ -61,7 +61,7 @@ fn minutes_of(is_negative: bool, hour: u8, minute: u8) -> MinutePrecisionOffset 
 }
 
 /// The offset, where its form has a name and its fraction is one.
-fn offset_of(offset: &Offset) -> Option<Option<UtcOffsetRecordOrZ>> {
+pub fn offset_of(offset: &Offset) -> Option<Option<UtcOffsetRecordOrZ>> {
     if offset.form == 0 {
         return Some(None);
     }

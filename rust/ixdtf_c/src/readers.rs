@@ -59,6 +59,21 @@ where
     }
 }
 
+/// Reads a date-time of RFC 3339, and writes it.
+#[inline(always)]
+pub fn rfc3339_into<'a, T: EncodingType, R: RecordOf<'a, T>>(
+    text: &'a [T::CodeUnit],
+    out: &mut R,
+) -> u32 {
+    match IxdtfParser::<T>::new(text).parse_rfc3339_located() {
+        Ok(found) => {
+            out.write(&found);
+            0
+        }
+        Err(located) => out.refuse(located),
+    }
+}
+
 /// Reads an offset, and writes it.
 #[inline(always)]
 pub fn offset_into<'a, T: EncodingType, R: RecordOf<'a, T>>(

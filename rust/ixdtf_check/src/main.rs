@@ -6,6 +6,7 @@ mod checker;
 mod checking;
 mod judge;
 mod kind;
+mod nearest;
 mod part;
 mod pointed;
 mod printed;
@@ -16,7 +17,7 @@ mod status;
 mod tally;
 mod verdict;
 
-use arguments::{Options, Word};
+use arguments::{Options, Word, Wrong, meant_by};
 use checker::check;
 use ixdtf_buffers::error::RunError;
 use status::status_of;
@@ -28,15 +29,36 @@ use tally::Tally;
 
 const USAGE: &str = "\
 usage: ixdtf_check [OPTION..] [FILE..]
-Reads each line of the files, or of standard input, and says which are wrong, where, and why.
-  --kind KIND    date-time (the default), year-month, month-day, time, offset, zone, zone-name, duration
-  --strict       without the day 00, and without a unit of a duration that stands twice
-  --field N      the N-th field of each line, from 1, in place of the whole line
-  --separator C  the byte between two fields; a tab where it is not said
-  --canonical    writes the canonical text of each date-time that is read
-  --quiet        writes nothing of a line that is refused
-  --help         this usage. -- ends the options, and the FILE - is standard input
-Status: 0 all were read; 1 some were refused; 2 wrong arguments, or a file or the output failed";
+Reports the lines of the files, or of standard input, that are no valid dates and times.
+
+What is read:
+  --kind KIND      the kind of the texts: date-time (the default), year-month, month-day,
+                   time, offset, zone, zone-name or iana, duration, rfc3339
+  --strict         stricter rules: a month-day does not have the day 00,
+                   and a duration does not repeat a unit
+  ixdtf_check --kind rfc3339 times.txt
+  ixdtf_check --kind=duration --strict durations.txt
+
+Which part of a line is read:
+  --field N        field N of each line, counted from 1, and not the complete line
+  --separator C    the byte between two fields; without this option, it is a tab
+  ixdtf_check --field 3 --separator , table.csv
+
+What is written:
+  --canonical      the canonical text of each date-time that is accepted
+  --quiet          nothing about lines that are refused
+  ixdtf_check --canonical --quiet dates.txt
+
+Other:
+  --help, -h       this text
+  --version, -V    the version of the program
+  --               every word after it is the name of a file
+  The file - is standard input.
+
+Exit status: 0 if every line was accepted, 1 if a line was refused, and 2 if an
+argument is wrong, or if a file or standard output failed.";
+
+const VERSION: &str = concat!("ixdtf_check ", env!("CARGO_PKG_VERSION"));
 
 /// What the checks of all files came to.
 struct Outcome {
@@ -51,7 +73,7 @@ fn main() -> ExitCode {
     for word in std::env::args_os().skip(1) {
         match word.into_string() {
             Ok(word) => words.push(word),
-            Err(_) => return refuse(),
+            Err(word) => return refuse(&format!("{}: this argument is not UTF-8", word.to_string_lossy())),
         }
     }
     let mut options = Options::new();
@@ -60,12 +82,13 @@ fn main() -> ExitCode {
         match options.take(word) {
             Word::Option => {}
             Word::File => files.push(word.as_str()),
-            Word::Help => return help(),
-            Word::Unknown => return refuse(),
+            Word::Help => return show(USAGE),
+            Word::Version => return show(VERSION),
+            Word::Wrong(wrong) => return refuse_word(word, wrong),
         }
     }
-    if options.request("-").is_none() {
-        return refuse();
+    if let Some(wrong) = options.wrong() {
+        return refuse(wrong.message());
     }
     if files.is_empty() {
         files.push("-");
@@ -82,17 +105,32 @@ fn main() -> ExitCode {
     ExitCode::from(status_of(outcome.has_failed, refused))
 }
 
-/// Shows the usage to whoever asked for it.
-fn help() -> ExitCode {
-    match writeln!(stdout(), "{USAGE}") {
+/// Shows a text that was asked for.
+fn show(text: &str) -> ExitCode {
+    match writeln!(stdout(), "{text}") {
         Ok(()) => ExitCode::SUCCESS,
         Err(_) => ExitCode::from(2),
     }
 }
 
-/// Shows the usage to whoever gave wrong arguments.
-fn refuse() -> ExitCode {
-    eprintln!("{USAGE}");
+/// Says what is wrong with a word, and which word was probably meant.
+fn refuse_word(word: &str, wrong: Wrong) -> ExitCode {
+    eprintln!("ixdtf_check: {word}: {}", wrong.message());
+    if let Some(meant) = meant_by(word, wrong) {
+        eprintln!("Did you mean {meant}?");
+    }
+    point_to_help()
+}
+
+/// Says what is wrong with the arguments together.
+fn refuse(message: &str) -> ExitCode {
+    eprintln!("ixdtf_check: {message}");
+    point_to_help()
+}
+
+/// Says how to see the usage.
+fn point_to_help() -> ExitCode {
+    eprintln!("ixdtf_check --help shows the options.");
     ExitCode::from(2)
 }
 

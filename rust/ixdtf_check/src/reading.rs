@@ -35,14 +35,24 @@ pub fn read(kind: Kind, profile: Profile, text: &[u8]) -> Result<(), LocatedErro
             Ok(_zone) => Ok(()),
             Err(error) => Err(error),
         },
-        Kind::ZoneName => match TimeZoneParser::from_utf8(text).parse_iana_identifier_located() {
-            Ok(_name) => Ok(()),
+        Kind::ZoneName => read_zone_name(text),
+        Kind::Iana => read_zone_name(text),
+        Kind::Rfc3339 => match IxdtfParser::from_utf8(text).parse_rfc3339_located() {
+            Ok(_record) => Ok(()),
             Err(error) => Err(error),
         },
         Kind::Duration => match duration_parser(profile, text).parse_located() {
             Ok(_duration) => Ok(()),
             Err(error) => Err(error),
         },
+    }
+}
+
+/// Reads the text as the name of a time zone, or returns the error with its position.
+fn read_zone_name(text: &[u8]) -> Result<(), LocatedError> {
+    match TimeZoneParser::from_utf8(text).parse_iana_identifier_located() {
+        Ok(_name) => Ok(()),
+        Err(error) => Err(error),
     }
 }
 

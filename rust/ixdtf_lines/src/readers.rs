@@ -33,12 +33,14 @@ pub fn answer_text<K: Sink>(
         Word::Time => answer_time(output, word, Profile::Crate, text),
         Word::Offset => answer_offset(output, text),
         Word::Zone => answer_zone(output, text),
-        Word::Iana => answer_iana(output, text),
+        Word::Iana => answer_zone_name(output, word, text),
         Word::Duration => answer_duration(output, word, Profile::Crate, text),
         Word::StrictMonthDay => answer_month_day(output, word, Profile::Strict, text),
         Word::StrictTime => answer_time(output, word, Profile::Strict, text),
         Word::StrictDuration => answer_duration(output, word, Profile::Strict, text),
         Word::Canonical => answer_canonical(output, printed, text),
+        Word::Rfc3339 => answer_rfc3339(output, text),
+        Word::ZoneName => answer_zone_name(output, word, text),
     }
 }
 
@@ -113,12 +115,26 @@ fn answer_zone<K: Sink>(output: &mut Output<'_, K>, text: &[u8]) -> Result<(), R
     }
 }
 
-/// Puts the answer of `iana`.
+/// Puts the answer of `iana`, or of `zone-name`.
 #[inline(never)]
-fn answer_iana<K: Sink>(output: &mut Output<'_, K>, text: &[u8]) -> Result<(), RunError> {
+fn answer_zone_name<K: Sink>(
+    output: &mut Output<'_, K>,
+    word: Word,
+    text: &[u8],
+) -> Result<(), RunError> {
     match TimeZoneParser::from_utf8(text).parse_iana_identifier() {
         Ok(name) => put_zone(output, &TimeZoneRecord::Name(name)),
         Err(error) => put_error(output, error),
+    }
+}
+
+/// Puts the answer of `rfc3339`.
+#[inline(never)]
+fn answer_rfc3339<K: Sink>(output: &mut Output<'_, K>, text: &[u8]) -> Result<(), RunError> {
+    let outcome = IxdtfParser::from_utf8(text).parse_rfc3339();
+    match &outcome {
+        Ok(date_time) => put_record(output, date_time),
+        Err(error) => put_error(output, *error),
     }
 }
 

@@ -29,6 +29,10 @@ pub enum Word {
     StrictDuration,
     /// `canonical`: as `parse`, to be printed as its canonical text.
     Canonical,
+    /// `rfc3339`: a date-time of RFC 3339, section 5.6.
+    Rfc3339,
+    /// `zone-name`: as `iana`.
+    ZoneName,
 }
 
 impl Word {
@@ -58,6 +62,10 @@ impl Word {
             Some(Word::StrictDuration)
         } else if name == b"canonical".as_slice() {
             Some(Word::Canonical)
+        } else if name == b"rfc3339".as_slice() {
+            Some(Word::Rfc3339)
+        } else if name == b"zone-name".as_slice() {
+            Some(Word::ZoneName)
         } else {
             None
         }

@@ -52,9 +52,17 @@ impl<'a> fmt::Display for Canonical<'a> {
     fn fmt(&self, f: &mut fmt::Formatter<'_>) -> fmt::Result {
         let parsed = self.parsed;
         write_core(f, parsed)?;
-        write_bracket(f, &parsed.tz)?;
-        write_calendar(f, parsed.calendar)
+        write_brackets(f, parsed)
     }
+}
+
+/// Writes the two brackets.
+pub fn write_brackets(
+    f: &mut fmt::Formatter<'_>,
+    parsed: &IxdtfParseRecord<'_, Utf8>,
+) -> fmt::Result {
+    write_bracket(f, &parsed.tz)?;
+    write_calendar(f, parsed.calendar)
 }
 
 /// Writes the date, the time and the offset.
@@ -95,7 +103,7 @@ fn write_bracket(
 }
 
 /// Writes the zone.
-fn write_zone(
+pub fn write_zone(
     f: &mut fmt::Formatter<'_>,
     zone: &TimeZoneRecord<'_, Utf8>,
 ) -> fmt::Result {

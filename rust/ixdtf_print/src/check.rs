@@ -33,7 +33,7 @@ fn is_minute_clock(offset: MinutePrecisionOffset) -> bool {
 }
 
 /// Returns whether the offset has a text. `Z` has one.
-fn is_shift(offset: UtcOffsetRecordOrZ) -> bool {
+pub fn is_shift(offset: UtcOffsetRecordOrZ) -> bool {
     match offset {
         UtcOffsetRecordOrZ::Z => true,
         UtcOffsetRecordOrZ::Offset(UtcOffsetRecord::MinutePrecision(offset)) => {
@@ -62,7 +62,7 @@ fn has_day(date: Option<DateRecord>) -> bool {
 }
 
 /// Returns whether the time and the offset have texts. An offset without a time has none.
-fn has_time(time: Option<TimeRecord>, offset: Option<UtcOffsetRecordOrZ>) -> bool {
+pub fn has_time(time: Option<TimeRecord>, offset: Option<UtcOffsetRecordOrZ>) -> bool {
     match (time, offset) {
         (None, None) => true,
         (None, Some(_)) => false,
@@ -79,7 +79,7 @@ fn is_name(name: &[u8]) -> bool {
 }
 
 /// Returns whether the zone has a text.
-fn is_zone(zone: &TimeZoneRecord<'_, Utf8>) -> bool {
+pub fn is_zone(zone: &TimeZoneRecord<'_, Utf8>) -> bool {
     match zone {
         TimeZoneRecord::Name(name) => is_name(name),
         TimeZoneRecord::Offset(offset) => is_minute_clock(*offset),
@@ -118,6 +118,12 @@ fn has_calendar(calendar: Option<&[u8]>) -> bool {
     }
 }
 
+/// Returns whether the zone and the calendar have texts.
+#[inline(always)]
+pub fn has_brackets(parsed: &IxdtfParseRecord<'_, Utf8>) -> bool {
+    has_zone(&parsed.tz) && has_calendar(parsed.calendar)
+}
+
 /// Returns whether `parse` returns this record for some text.
 #[inline(always)]
 pub fn is_printable(parsed: &IxdtfParseRecord<'_, Utf8>) -> bool {
@@ -126,8 +132,5 @@ pub fn is_printable(parsed: &IxdtfParseRecord<'_, Utf8>) -> bool {
 
 /// Returns whether there is a date, and each field has a text.
 fn is_spelled(parsed: &IxdtfParseRecord<'_, Utf8>) -> bool {
-    has_day(parsed.date)
-        && has_time(parsed.time, parsed.offset)
-        && has_zone(&parsed.tz)
-        && has_calendar(parsed.calendar)
+    has_day(parsed.date) && has_time(parsed.time, parsed.offset) && has_brackets(parsed)
 }

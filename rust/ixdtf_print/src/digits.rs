@@ -29,6 +29,11 @@ pub fn ones_digit(number: u8) -> u8 {
     WRITTEN_DIGITS.ones[number as usize]
 }
 
+/// Writes the last two digits of the number at index `at`. Returns the index after them.
+pub fn put_two(out: &mut [u8], at: usize, number: u8) -> usize {
+    put(out, at, &[tens_digit(number), ones_digit(number)])
+}
+
 /// Writes a number with four digits at index `at`. Returns the index after them.
 pub fn put_four(out: &mut [u8], at: usize, number: u64) -> usize {
     let hundreds = (number / 100) as u8;

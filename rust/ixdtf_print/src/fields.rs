@@ -16,7 +16,7 @@ fn distance_of(date: DateRecord) -> u64 {
 }
 
 /// Writes the year at index `at`. Returns the index after it.
-fn put_year(out: &mut [u8], at: usize, date: DateRecord) -> usize {
+pub fn put_year(out: &mut [u8], at: usize, date: DateRecord) -> usize {
     let distance = distance_of(date);
     if date.year < 0 {
         let digits = put_byte(out, at, b'-');
@@ -60,7 +60,7 @@ fn put_optional_date(out: &mut [u8], at: usize, date: Option<DateRecord>) -> usi
 }
 
 /// Writes a separator, an hour and a minute at index `at`. Returns the index after them.
-fn put_minutes(out: &mut [u8], at: usize, mark: u8, hour: u8, minute: u8) -> usize {
+pub fn put_minutes(out: &mut [u8], at: usize, mark: u8, hour: u8, minute: u8) -> usize {
     put(
         out,
         at,
@@ -138,7 +138,7 @@ pub fn put_minute_offset(out: &mut [u8], at: usize, offset: MinutePrecisionOffse
 }
 
 /// Writes the offset at index `at`, if there is one. Returns the index after it.
-fn put_offset(out: &mut [u8], at: usize, offset: Option<UtcOffsetRecordOrZ>) -> usize {
+pub fn put_offset(out: &mut [u8], at: usize, offset: Option<UtcOffsetRecordOrZ>) -> usize {
     match offset {
         None => at,
         Some(UtcOffsetRecordOrZ::Z) => put_byte(out, at, b'Z'),
@@ -180,7 +180,7 @@ fn put_opening(out: &mut [u8], at: usize, critical: bool) -> usize {
 }
 
 /// Writes the zone at index `at`. Returns the index after it.
-fn put_zone(out: &mut [u8], at: usize, zone: &TimeZoneRecord<'_, Utf8>) -> usize {
+pub fn put_zone(out: &mut [u8], at: usize, zone: &TimeZoneRecord<'_, Utf8>) -> usize {
     match zone {
         TimeZoneRecord::Name(name) => put_each(out, at, name),
         TimeZoneRecord::Offset(offset) => put_minute_offset(out, at, *offset),
@@ -212,6 +212,13 @@ fn put_calendar(out: &mut [u8], at: usize, calendar: Option<&[u8]>) -> usize {
     }
 }
 
+/// Writes the two brackets at index `at`. Returns the index after them.
+#[inline(always)]
+pub fn put_brackets(out: &mut [u8], at: usize, parsed: &IxdtfParseRecord<'_, Utf8>) -> usize {
+    let after_bracket = put_bracket(out, at, &parsed.tz);
+    put_calendar(out, after_bracket, parsed.calendar)
+}
+
 /// Writes the date, the time and the offset at index `at`. Returns the index after them.
 pub fn put_core(out: &mut [u8], at: usize, parsed: &IxdtfParseRecord<'_, Utf8>) -> usize {
     let after_date = put_optional_date(out, at, parsed.date);
@@ -222,6 +229,5 @@ pub fn put_core(out: &mut [u8], at: usize, parsed: &IxdtfParseRecord<'_, Utf8>) 
 /// Writes the record at the beginning of the slice. Returns the index after it.
 pub fn put_record(out: &mut [u8], parsed: &IxdtfParseRecord<'_, Utf8>) -> usize {
     let after_core = put_core(out, 0, parsed);
-    let after_bracket = put_bracket(out, after_core, &parsed.tz);
-    put_calendar(out, after_bracket, parsed.calendar)
+    put_brackets(out, after_core, parsed)
 }

@@ -45,7 +45,8 @@ fn time_length(time: Option<TimeRecord>) -> u16 {
 }
 
 /// Returns the number of bytes of the offset.
-fn offset_length(offset: Option<UtcOffsetRecordOrZ>) -> u16 {
+#[must_use]
+pub fn shift_length(offset: Option<UtcOffsetRecordOrZ>) -> u16 {
     match offset {
         None => 0,
         Some(UtcOffsetRecordOrZ::Z) => 1,
@@ -58,7 +59,8 @@ fn offset_length(offset: Option<UtcOffsetRecordOrZ>) -> u16 {
 }
 
 /// Returns the number of bytes of the zone, without its bracket.
-fn zone_length(zone: &TimeZoneRecord<'_, Utf8>) -> u128 {
+#[must_use]
+pub fn length_of_zone(zone: &TimeZoneRecord<'_, Utf8>) -> u128 {
     match zone {
         TimeZoneRecord::Name(name) => name.len() as u128,
         TimeZoneRecord::Offset(_) => 6,
@@ -72,9 +74,9 @@ fn bracket_length(note: &Option<TimeZoneAnnotation<'_, Utf8>>) -> u128 {
         None => 0,
         Some(note) => {
             if note.critical {
-                3 + zone_length(&note.tz)
+                3 + length_of_zone(&note.tz)
             } else {
-                2 + zone_length(&note.tz)
+                2 + length_of_zone(&note.tz)
             }
         }
     }
@@ -88,16 +90,23 @@ fn calendar_length(calendar: Option<&[u8]>) -> u128 {
     }
 }
 
+/// Returns the number of bytes of the two brackets.
+#[inline(always)]
+#[must_use]
+pub fn brackets_length(parsed: &IxdtfParseRecord<'_, Utf8>) -> u128 {
+    bracket_length(&parsed.tz) + calendar_length(parsed.calendar)
+}
+
 /// Returns the number of bytes of the date, the time and the offset.
 #[must_use]
 pub fn core_length(parsed: &IxdtfParseRecord<'_, Utf8>) -> u16 {
-    date_length(parsed.date) + time_length(parsed.time) + offset_length(parsed.offset)
+    date_length(parsed.date) + time_length(parsed.time) + shift_length(parsed.offset)
 }
 
 /// Returns the number of bytes of the canonical text of the record.
 #[must_use]
 pub fn length_of(parsed: &IxdtfParseRecord<'_, Utf8>) -> u128 {
-    u128::from(core_length(parsed)) + bracket_length(&parsed.tz) + calendar_length(parsed.calendar)
+    u128::from(core_length(parsed)) + brackets_length(parsed)
 }
 
 /// Tests quickly whether the canonical text of a record that has one fits into `room` bytes.

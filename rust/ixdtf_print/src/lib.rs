@@ -12,9 +12,14 @@ mod error;
 mod fields;
 mod length;
 mod message;
+mod month_days;
 mod numbers;
+mod offsets;
 mod printed;
 mod put;
+mod times;
+mod year_months;
+mod zones;
 
 pub use canonical::Canonical;
 use check::is_printable;
@@ -34,9 +39,14 @@ pub use length::printed_length;
 // For crates of this repository, and no part of the interface.
 #[doc(hidden)]
 pub use message::error_parts;
+pub use month_days::{CanonicalMonthDay, month_day_length, print_month_day};
+pub use offsets::{CanonicalOffset, offset_length, print_offset};
 // For crates of this repository, and no part of the interface.
 #[doc(hidden)]
 pub use printed::PrintedText;
+pub use times::{CanonicalTime, print_time, time_length};
+pub use year_months::{CanonicalYearMonth, print_year_month, year_month_length};
+pub use zones::{CanonicalZone, print_zone, zone_length};
 
 /// Writes the canonical text of the record to the beginning of the slice, such as `2024-03-02T08:48:00Z[u-ca=hebrew]`.
 ///

@@ -14,7 +14,7 @@ use Rattle.ixdtf.proofs.code.Chains.{text_result, text_fault, text_derived, text
 
 -- ---- what is looked at
 
-pub core_at_most : (exact : Bool) (count : ℕ) → core_looks exact count ≤ count + 37
+pub core_at_most : (exact : Bool) (count : ℕ) → core_looks exact count ≤ count + 38
 core_at_most true count = omega arith
 core_at_most false count = omega arith
 

@@ -72,11 +72,10 @@ impl<'a, T: EncodingType> IxdtfParser<'a, T> {
         ensures reads { ReadsPart T.letter fault_of (parsed_of T.number) dated reader_rfc3339 (unread_of self.old) result (unread_of self.new) }
         ensures profile { self.new.profile ≡ self.old.profile }
     {
-        let mut found = IxdtfParseRecord::default();
         let mut here = self.cursor.fork();
-        // A refusal returns in an arm of its own, and the record is made where it is returned, as in `parse`.
-        match parse_rfc3339_text(&mut here, &mut found) {
-            Ok(()) => {
+        // A refusal returns in an arm of its own, as in `parse`.
+        match parse_rfc3339_text(&mut here) {
+            Ok(found) => {
                 self.cursor = here;
                 Ok(found)
             }
@@ -112,12 +111,21 @@ impl<'a, T: EncodingType> IxdtfParser<'a, T> {
         ensures reads { ReadsPartAt T.letter (parsed_of T.number) dated reader_rfc3339 (unread_of self.old) result (unread_of self.new) }
         ensures profile { self.new.profile ≡ self.old.profile }
     {
-        let mut found = IxdtfParseRecord::default();
         let mut here = self.cursor.fork();
-        let read = parse_rfc3339_text(&mut here, &mut found);
-        match self.cursor.settle::<_, LocatedError>(here, read) {
-            Ok(()) => Ok(found),
-            Err(located) => return Err(located),
+        // This is `settle`, written out: the borrow checker has no rule for a call of it with a record.
+        match parse_rfc3339_text(&mut here) {
+            Ok(found) => {
+                self.cursor = here;
+                Ok(found)
+            }
+            Err(stop) => {
+                let at = self.cursor.remaining().saturating_sub(here.remaining());
+                self.cursor.keep_looks(here);
+                return Err(LocatedError {
+                    error: stop.error(),
+                    at,
+                });
+            }
         }
     }
 }

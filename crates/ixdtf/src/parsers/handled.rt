@@ -287,8 +287,7 @@ impl<'a, T: EncodingType> IxdtfParser<'a, T> {
     /// use ixdtf::ParseError;
     /// use ixdtf::parsers::IxdtfParser;
     ///
-    /// let text = "2024-03-02T08:48:00Z[!a=b]";
-    /// let located = IxdtfParser::from_str(text).parse_rfc9557_with_annotation_handler_located(Some).unwrap_err();
+    /// let located = IxdtfParser::from_str("2024-03-02T08:48:00Z[!a=b]").parse_rfc9557_with_annotation_handler_located(Some).unwrap_err();
     /// assert_eq!((located.error, located.at), (ParseError::UnrecognizedCritical, 26));
     /// ```
     ///

@@ -15,7 +15,7 @@ use crate::parsers::IxdtfParser;
 use crate::parsers::cores::CoreReader;
 use crate::parsers::replies::parse_annotations;
 use ixdtf_brackets::brackets::Bracket;
-use ixdtf_brackets::exact::parse_bracket_by;
+use ixdtf_brackets::exact_zones::parse_bracket_by;
 use ixdtf_grammar::encoding::EncodingType;
 use ixdtf_grammar::profile::Profile;
 use ixdtf_grammar::records::{Annotation, IxdtfParseRecord};

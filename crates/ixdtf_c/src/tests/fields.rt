@@ -1,10 +1,15 @@
 //! What is computed of the fields of a record, and the names of what calls return.
 
 use super::narrow::RECORD;
+use super::rows::DURATION;
 use super::wide;
 use crate::errors::Text;
-use crate::exports::{ixdtf_parse, ixdtf_parse_offset, ixdtf_reply, ixdtf16_reply};
+use crate::exports::{
+    ixdtf_parse, ixdtf_parse_duration, ixdtf_parse_offset, ixdtf_reply, ixdtf16_reply,
+};
 use crate::fields::{ixdtf_nanoseconds, ixdtf_offset_seconds, ixdtf_printed_length};
+use crate::instants::{ixdtf_instant, ixdtf16_instant};
+use crate::last_fractions::ixdtf_duration_fraction;
 use crate::names::ixdtf_error_constant;
 use crate::narrow::{Annotation, Calendar, ixdtf_keep_calendar};
 use crate::wide::ixdtf16_keep_calendar;
@@ -47,6 +52,54 @@ fn gives_seconds(rt: HostRuntime) {
     assert_eq!(rt; ixdtf_offset_seconds(&record.offset), 0);
 }
 
+/// What is returned of a date, of a date and a time, and of these with `Z` and with an offset, and the instant.
+const INSTANTS: [(&[u8], u32, i64, u32); 4] = [
+    (b"2024-03-02", 103, 7, 8),
+    (b"2024-03-02T08:48", 103, 7, 8),
+    (b"2024-03-02T08:48:00.25Z", 0, 1_709_369_280, 250_000_000),
+    (b"1969-12-31T23:59:59.5-00:00:01", 0, 0, 500_000_000),
+];
+
+#[test]
+fn gives_instants(rt: HostRuntime) {
+    for (text, number, seconds, nanoseconds) in INSTANTS {
+        let mut record = RECORD;
+        let mut found = (7, 8);
+        assert_eq!(rt; ixdtf_parse(text, &mut record), 0);
+        assert_eq!(rt; ixdtf_instant(&record, &mut found.0, &mut found.1), number);
+        assert_eq!(rt; found, (seconds, nanoseconds));
+    }
+    let mut found = (7, 8);
+    assert_eq!(rt;
+        ixdtf16_instant(&wide::RECORD, &mut found.0, &mut found.1),
+        0
+    );
+    assert_eq!(rt; found.1, 200_000_000);
+}
+
+/// What is returned of durations, and their fractions.
+const LAST_FRACTIONS: [(&[u8], u32, u32, u32); 5] = [
+    (b"PT1.5H", 0, 1800, 0),
+    (b"-PT0,000000001M", 0, 0, 60),
+    (b"PT0.0000000000025H", 0, 0, 9),
+    (b"PT0.0000000001S", 104, 7, 8),
+    (b"P1D", 0, 0, 0),
+];
+
+#[test]
+fn gives_last_fractions(rt: HostRuntime) {
+    for (text, number, seconds, nanoseconds) in LAST_FRACTIONS {
+        let mut duration = DURATION;
+        let mut found = (7, 8);
+        assert_eq!(rt; ixdtf_parse_duration(text, &mut duration), 0);
+        assert_eq!(rt;
+            ixdtf_duration_fraction(&duration, &mut found.0, &mut found.1),
+            number
+        );
+        assert_eq!(rt; found, (seconds, nanoseconds));
+    }
+}
+
 #[test]
 fn gives_lengths(rt: HostRuntime) {
     let mut record = RECORD;
@@ -57,13 +110,15 @@ fn gives_lengths(rt: HostRuntime) {
 }
 
 /// Numbers with the names of what they are.
-const NAMES: [(u32, &[u8]); 6] = [
+const NAMES: [(u32, &[u8]); 8] = [
     (0, b"IXDTF_OK"),
     (10, b"IXDTF_DATE_MONTH"),
     (46, b"IXDTF_INVALID_MONTH_DAY"),
     (47, b""),
     (101, b"IXDTF_NOT_PRINTABLE"),
     (102, b"IXDTF_TOO_SHORT"),
+    (103, b"IXDTF_NO_INSTANT"),
+    (104, b"IXDTF_NOT_EXACT"),
 ];
 
 #[test]

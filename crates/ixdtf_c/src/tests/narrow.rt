@@ -42,6 +42,7 @@ fn call<'a>(call: Call, text: &'a [u8], out: &mut Record<'a>) -> u32 {
         Call::MonthDayStrict => ixdtf_parse_month_day_strict(text, out),
         Call::Time => ixdtf_parse_time(text, out),
         Call::TimeStrict => ixdtf_parse_time_strict(text, out),
+        Call::Rfc3339 => ixdtf_parse_rfc3339(text, out),
         Call::Offset => ixdtf_parse_offset(text, out),
         Call::Identifier => ixdtf_parse_identifier(text, out),
         Call::IanaIdentifier => ixdtf_parse_iana_identifier(text, out),

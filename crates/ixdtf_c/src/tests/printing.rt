@@ -1,7 +1,9 @@
 //! Records printed as their canonical texts.
 
 use super::narrow::RECORD;
-use crate::exports::ixdtf_parse;
+use super::rows::DURATION;
+use crate::duration_texts::{ixdtf_print_duration, ixdtf_printed_duration_length};
+use crate::exports::{ixdtf_parse, ixdtf_parse_duration};
 use crate::forms::{Date, Offset, Time};
 use crate::narrow::Record;
 use crate::printing::ixdtf_print;
@@ -144,4 +146,38 @@ fn prints_no_record_without_a_text(rt: HostRuntime) {
     check_printed(&rt, &record, b"2024-02-29T08:48:00+01:00");
     record.zone.form = 3;
     check_refused(&rt, &record);
+}
+
+/// Texts of durations, and the canonical ones.
+const CANONICAL_DURATIONS: [(&[u8], &[u8]); 3] = [
+    (b"+p1y0m03dt04,50m", b"P1Y3DT4.50M"),
+    (b"-P0W", b"-P0D"),
+    (b"PT00H0S", b"PT0S"),
+];
+
+#[test]
+fn prints_durations(rt: HostRuntime) {
+    for (text, canonical) in CANONICAL_DURATIONS {
+        let mut duration = DURATION;
+        assert_eq!(rt; ixdtf_parse_duration(text, &mut duration), 0);
+        assert_eq!(rt; ixdtf_printed_duration_length(&duration), canonical.len());
+        let mut out = [7; 16];
+        let mut count = 9;
+        assert_eq!(rt;
+            ixdtf_print_duration(&duration, &mut out[..3], &mut count),
+            102
+        );
+        assert_eq!(rt; (count, out[0]), (canonical.len(), 7));
+        assert_eq!(rt; ixdtf_print_duration(&duration, &mut out, &mut count), 0);
+        assert_eq!(rt; out[..count.min(16)], *canonical);
+    }
+}
+
+#[test]
+fn prints_no_duration_of_an_unknown_form(rt: HostRuntime) {
+    let mut out = [7; 16];
+    let mut count = 9;
+    assert_eq!(rt; ixdtf_print_duration(&DURATION, &mut out, &mut count), 101);
+    assert_eq!(rt; (count, out[0]), (9, 7));
+    assert_eq!(rt; ixdtf_printed_duration_length(&DURATION), 0);
 }

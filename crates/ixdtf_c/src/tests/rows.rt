@@ -12,6 +12,7 @@ pub(super) enum Call {
     MonthDayStrict,
     Time,
     TimeStrict,
+    Rfc3339,
     Offset,
     Identifier,
     IanaIdentifier,
@@ -65,7 +66,7 @@ pub(super) const OFFSET: Offset = Offset {
     second: 1,
 };
 
-pub(super) const ROWS: [Row; 16] = [
+pub(super) const ROWS: [Row; 18] = [
     Row {
         call: Call::Parse,
         text: b"2024-03-02T08:48:00.25-05:00[America/New_York][u-ca=hebrew]",
@@ -195,6 +196,26 @@ pub(super) const ROWS: [Row; 16] = [
         offset: (3, 1, 1),
         zone: (2, 1, 1),
         others: (1, 0, 0),
+    },
+    Row {
+        call: Call::Rfc3339,
+        text: b"2024-03-02t08:48:00.25-05:00",
+        number: 0,
+        date: (2024, 3, 2),
+        time: (8, 48, 25),
+        offset: (2, 5, 0),
+        zone: (0, 0, 0),
+        others: (0, 0, 0),
+    },
+    Row {
+        call: Call::Rfc3339,
+        text: b"2024-03-02 08:48:00Z",
+        number: 19,
+        date: (1, 1, 1),
+        time: (1, 1, 1),
+        offset: (3, 1, 1),
+        zone: (2, 1, 1),
+        others: (1, 0, 10),
     },
     Row {
         call: Call::Identifier,

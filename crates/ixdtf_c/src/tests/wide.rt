@@ -48,6 +48,7 @@ fn call<'a>(call: Call, text: &'a [u16], out: &mut Record<'a>) -> u32 {
         Call::MonthDayStrict => ixdtf16_parse_month_day_strict(text, out),
         Call::Time => ixdtf16_parse_time(text, out),
         Call::TimeStrict => ixdtf16_parse_time_strict(text, out),
+        Call::Rfc3339 => ixdtf16_parse_rfc3339(text, out),
         Call::Offset => ixdtf16_parse_offset(text, out),
         Call::Identifier => ixdtf16_parse_identifier(text, out),
         Call::IanaIdentifier => ixdtf16_parse_iana_identifier(text, out),

@@ -51,7 +51,7 @@ struct Moment<'a> {
     time: (u8, u8, u8),
     /// The nanoseconds beyond the second.
     nanoseconds: u32,
-    /// How many minutes local time is ahead of UTC; `None` for `Z`, which says nothing of local time.
+    /// How many seconds local time is ahead of UTC; `None` for `Z`, which says nothing of local time.
     ahead: Option<i32>,
     /// The name of the time zone.
     zone: Option<&'a str>,
@@ -70,19 +70,10 @@ fn moment_of<'a>(text: &'a str) -> Option<Moment<'a>> {
     };
     let ahead = match offset {
         UtcOffsetRecordOrZ::Z => None,
-        UtcOffsetRecordOrZ::Offset(offset) => {
-            let minutes = i32::from(offset.hour()) * 60 + i32::from(offset.minute());
-            match offset.sign() {
-                Sign::Positive => Some(minutes),
-                Sign::Negative => Some(-minutes),
-            }
-        }
+        UtcOffsetRecordOrZ::Offset(offset) => Some(offset.to_seconds()),
     };
     let zone = match record.tz {
-        Some(zone) => match zone.tz {
-            TimeZoneRecord::Name(name) => std::str::from_utf8(name).ok(),
-            _ => None,
-        },
+        Some(zone) => zone.tz.name(),
         None => None,
     };
     Some(Moment {
@@ -98,7 +89,7 @@ const IN_NEW_YORK: Moment<'static> = Moment {
     date: (2024, 3, 2),
     time: (8, 48, 0),
     nanoseconds: 250_000_000,
-    ahead: Some(-300),
+    ahead: Some(-18_000),
     zone: Some("America/New_York"),
 };
 

@@ -6,7 +6,7 @@ use Rattle.ixdtf_grammar.specs.declared.records.{DateRecord.DateRecord, FullPrec
 use Rattle.ixdtf_grammar.specs.declared.records.TimeRecord.{TimeRecord}
 use Rattle.ixdtf.specs.language.{Letters.Letter, Fractions.FractionParts, Languages.Parsed}
 use Rattle.ixdtf_print.specs.Canonical.{year_text, date_text, fraction_text, time_text, minute_offset_text, full_offset_text, offset_text, bracket_text}
-use Rattle.ixdtf_print.specs.Canonical.{calendar_text, optional_date_text, core_text, canonical_text}
+use Rattle.ixdtf_print.specs.Canonical.{calendar_text, brackets_text, optional_date_text, core_text, canonical_text}
 use Rattle.ixdtf_print.proofs.{parts.DerivedDates.{fraction_long, year_few, date_long}, parts.DerivedTimes.{minutes_long, clock_long}}
 
 pub some_fraction_long : (fraction : FractionParts) → length (fraction_text (Some fraction)) ≡ 1 + fraction.count
@@ -21,11 +21,11 @@ minute_offset_long offset = omega (arith, minutes_long offset.hour offset.minute
 pub full_offset_long : (offset : FullPrecisionOffset) → length (full_offset_text offset) ≡ 9 + length (fraction_text offset.fraction)
 full_offset_long offset = omega (arith, clock_long offset.minute_precision_offset.hour offset.minute_precision_offset.minute offset.second offset.fraction)
 
-year_four : (year : ℤ) → pos 0 ≤ℤ year → year ≤ℤ pos 9999 → length (year_text year) ≡ 4
+pub year_four : (year : ℤ) → pos 0 ≤ℤ year → year ≤ℤ pos 9999 → length (year_text year) ≡ 4
 year_four (pos n) from to = year_few n (omega (arith, ints))
 year_four (negsuc n) from to = absurd (omega (arith, ints))
 
-year_seven : (year : ℤ) → ((pos 9999 <ℤ year) ⊎ (year <ℤ pos 0)) → length (year_text year) ≡ 7
+pub year_seven : (year : ℤ) → ((pos 9999 <ℤ year) ⊎ (year <ℤ pos 0)) → length (year_text year) ≡ 7
 unfolding year_text
 year_seven (pos n) (inl h) =
     let later : 9999 < n = omega (arith, ints) in
@@ -45,10 +45,12 @@ pub core_long : (found : Parsed) → length (core_text found)
 unfolding core_text
 core_long found = omega (arith, length-append {A = Letter})
 
-pub canonical_long : (found : Parsed) → length (canonical_text found)
-    ≡ length (core_text found) + length (bracket_text found.zone) + length (calendar_text found.calendar)
+pub brackets_long : (found : Parsed) → length (brackets_text found) ≡ length (bracket_text found.zone) + length (calendar_text found.calendar)
+brackets_long found = length-append (bracket_text found.zone) (calendar_text found.calendar)
+
+pub canonical_long : (found : Parsed) → length (canonical_text found) ≡ length (core_text found) + length (brackets_text found)
 unfolding canonical_text
-canonical_long found = omega (arith, length-append {A = Letter})
+canonical_long found = length-append (core_text found) (brackets_text found)
 
 pub ruleset lengths = (
   some_fraction_long,
@@ -58,5 +60,6 @@ pub ruleset lengths = (
   four_digit_date_long,
   signed_date_long,
   core_long,
+  brackets_long,
   canonical_long,
 )

@@ -3,11 +3,11 @@ use Rattle.std.proofs.Common.{ℕ, ◌+◌, ◌<◌, ◌≡◌, List, [], ◌∷
 use Rattle.std.proofs.{Common.take_all, Math.Seq.take-suc, lemmas.{List.map-append, Str.encodes-append}}
 use Rattle.std.specs.{Char.encode_utf8, Str.encode_utf8_all}
 use Rattle.ixdtf.specs.language.{Letters.{Text, Letter.Plain}, Brackets.ZoneNote, Languages.Parsed}
-use Rattle.ixdtf_print.specs.{Canonical.{opening_text, zone_text, bracket_text, calendar_text, core_text, canonical_text}, Prints.Prints}
+use Rattle.ixdtf_print.specs.{Canonical.{opening_text, zone_text, bracket_text, calendar_text, brackets_text, core_text, canonical_text}, Prints.Prints}
 use Rattle.ixdtf_print.specs.Shown.{code_point, bytes_of, shown_text}
 use Rattle.ixdtf_print.proofs.code.PutBytes.{front_of_new, text_long, puts_length}
 
-bytes-append : (a b : Text) → bytes_of (a ++ b) ≡ bytes_of a ++ bytes_of b
+pub bytes-append : (a b : Text) → bytes_of (a ++ b) ≡ bytes_of a ++ bytes_of b
 bytes-append a b = ap encode_utf8_all (map-append code_point a b) ∙ encodes-append (map code_point a) (map code_point b)
 
 numbers : (bytes : List ℕ) → map code_point (map Plain bytes) ≡ bytes
@@ -76,9 +76,9 @@ calendar_bytes value =
 
 -- ---- the whole text
 
-pub all_bytes : (found : Parsed)
-    → bytes_of (core_text found) ++ (bytes_of (bracket_text found.zone) ++ bytes_of (calendar_text found.calendar)) ≡ shown_text found
+pub brackets_bytes : (found : Parsed) → bytes_of (bracket_text found.zone) ++ bytes_of (calendar_text found.calendar) ≡ bytes_of (brackets_text found)
+brackets_bytes found = sym (bytes-append (bracket_text found.zone) (calendar_text found.calendar))
+
+pub all_bytes : (found : Parsed) → bytes_of (core_text found) ++ bytes_of (brackets_text found) ≡ shown_text found
 unfolding canonical_text
-all_bytes found =
-    ap (λ l. bytes_of (core_text found) ++ l) (sym (bytes-append (bracket_text found.zone) (calendar_text found.calendar)))
-    ∙ sym (bytes-append (core_text found) (bracket_text found.zone ++ calendar_text found.calendar))
+all_bytes found = sym (bytes-append (core_text found) (brackets_text found))

@@ -42,7 +42,7 @@ signed_abs true zero = refl
 signed_abs true (suc n) = refl
 signed_abs false n = refl
 
-of_year : (text : Text) (year : ℤ) → Year text year → (nat_abs year ≤ 999999) × (length (year_text year) ≤ length text)
+pub of_year : (text : Text) (year : ℤ) → Year text year → (nat_abs year ≤ 999999) × (length (year_text year) ≤ length text)
 of_year text year (inl h) =
     let small : decimal text < 10 ^ 4 = decimal_below 4 text h.0 in
     let long = digits_long 4 text h.0 in

@@ -125,7 +125,7 @@ of_minute_offset text offset h =
 
 -- ---- brackets
 
-of_zone : (text : Text) (zone : Zone) → IsZone text zone → IsZoneText zone × (length (zone_text zone) ≤ length text + 3)
+pub of_zone : (text : Text) (zone : Zone) → IsZone text zone → IsZoneText zone × (length (zone_text zone) ≤ length text + 3)
 of_zone text zone (inl (name, (h, spelled), is)) = rw is (rw spelled at h, rw spelled (omega arith))
 of_zone text zone (inr (offset, h, is)) = rw is (of_minute_offset text offset h)
 

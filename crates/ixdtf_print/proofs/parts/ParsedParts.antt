@@ -1,9 +1,11 @@
--- What `parse` reads without a handler, by the parts of the text, and back. The other proofs speak of these parts, and not of readers.
+-- What a reader of texts with brackets reads without a handler, by the parts of the text, and back. The other proofs speak of these
+-- parts, and not of readers.
 use Rattle.std.proofs.Common.{◌≡◌, ◌++◌, List, Option, refl, ◌∙◌, ap}
-use Rattle.ixdtf.specs.language.{Letters.Text, Brackets.{ZoneNote, Pair, OptionalBracket, ArePairs}, Cores.{Core, IsDateTimeCore}}
-use Rattle.ixdtf.specs.language.{Languages.{Parsed, parsed_with, IsBracketed, Derives, Derives.as_parsed, Found.parsed}, Readers.{parse, CoreKind.date_time}}
+use Rattle.ixdtf.specs.language.{Letters.Text, Brackets.{ZoneNote, Pair, OptionalBracket, ArePairs}, Cores.{Core, IsCore}}
+use Rattle.ixdtf.specs.language.{Languages.{Parsed, parsed_with, IsBracketed, Derives, Derives.as_parsed, Found.parsed}, Readers.{CoreKind, Reader.bracketed}}
 use Rattle.ixdtf.specs.{Handlers.{UnhandledRecord, NoneRefused, own_replies, calendar_value, first_calendar, with_calendar}, Widths.UnhandledOutcome.read_as}
 use Rattle.ixdtf_reading.proofs.theorems.OneUnhandledOutcome.{one_unhandled_outcome}
+use Rattle.ixdtf_print.proofs.theorems.OneTexts.{StandsForOne}
 
 -- a record of these parts
 abbrev pub joined : Core → Option ZoneNote → List Pair → Parsed
@@ -16,7 +18,7 @@ joined core zone pairs = record {
 }
 
 -- a core, a zone bracket or none, and pairs, of which none is refused, in a row; and what they stand for
-pub record HasParts (text : Text) (found : Parsed) : Type 0 where
+pub record HasParts (kind : CoreKind) (text : Text) (found : Parsed) : Type 0 where
   pub cores : Text
   pub zones : Text
   pub pair_texts : Text
@@ -24,19 +26,20 @@ pub record HasParts (text : Text) (found : Parsed) : Type 0 where
   pub zone : Option ZoneNote
   pub pairs : List Pair
   pub is : text ≡ cores ++ (zones ++ pair_texts)
-  pub is_core : IsDateTimeCore cores core
+  pub is_core : IsCore kind cores core
   pub is_bracket : OptionalBracket zones zone
   pub are_pairs : ArePairs pair_texts pairs
   pub accepted : NoneRefused (own_replies pairs)
   pub has : found ≡ joined core zone pairs
 
--- what `parse` derives is a core of its kind and brackets
-bracketed_of : (text : Text) (found : Parsed) (pairs : List Pair) → Derives parse text (parsed found) pairs → IsBracketed date_time text found pairs
-bracketed_of text found pairs (as_parsed h) = h
+-- what such a reader derives is a core of its kind and brackets
+bracketed_of : (kind : CoreKind) (text : Text) (found : Parsed) (pairs : List Pair) → Derives (bracketed kind) text (parsed found) pairs
+    → IsBracketed kind text found pairs
+bracketed_of kind text found pairs (as_parsed h) = h
 
-pub to_parts : (text : Text) (found : Parsed) → UnhandledRecord parse text found → HasParts text found
-to_parts text found (pairs, gives) =
-    let whole = bracketed_of text gives.read pairs gives.whole in
+pub to_parts : (kind : CoreKind) (text : Text) (found : Parsed) → UnhandledRecord (bracketed kind) text found → HasParts kind text found
+to_parts kind text found (pairs, gives) =
+    let whole = bracketed_of kind text gives.read pairs gives.whole in
     let tail = whole.is_tail in
     record {
       cores = whole.cores;
@@ -53,7 +56,7 @@ to_parts text found (pairs, gives) =
       has = gives.has ∙ ap (λ read. with_calendar read (calendar_value (first_calendar (own_replies pairs)))) whole.has;
     }
 
-pub of_parts : (text : Text) (found : Parsed) → HasParts text found → UnhandledRecord parse text found
+pub of_parts : {kind : CoreKind} (text : Text) (found : Parsed) → HasParts kind text found → UnhandledRecord (bracketed kind) text found
 of_parts text found h = (
   h.pairs,
   record {
@@ -74,9 +77,9 @@ of_parts text found h = (
 )
 
 -- a text gives one record
-pub one_record : (text : Text) (a b : Parsed) → UnhandledRecord parse text a → UnhandledRecord parse text b → a ≡ b
-one_record text a b p q =
-    let outcome = one_unhandled_outcome parse text in
+pub one_record : (kind : CoreKind) → StandsForOne (UnhandledRecord (bracketed kind))
+one_record kind text a b p q =
+    let outcome = one_unhandled_outcome (bracketed kind) text in
     let first : read_as (parsed a) ≡ outcome.0 = outcome.2 (read_as (parsed a)) p in
     let second : read_as (parsed b) ≡ outcome.0 = outcome.2 (read_as (parsed b)) q in
     cc

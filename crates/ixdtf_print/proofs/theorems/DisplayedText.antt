@@ -1,15 +1,15 @@
 -- The canonical text of a record that has a text is ASCII, so it is displayed as it is.
 use Rattle.std.proofs.Common.{◌≡◌, List, ℕ, [], ◌∷◌, ◌++◌, map, refl, ◌∙◌, ap, arith}
 use Rattle.std.proofs.lemmas.{Str.encode_ascii, Bool.Decides.nat_tests}
-use Rattle.ixdtf.specs.language.{Letters.{Text, Letter.{Plain, Bad}}, Readers.CoreKind.date_time, Languages.Parsed}
+use Rattle.ixdtf.specs.language.{Letters.{Text, Letter.{Plain, Bad}}, Readers.{CoreKind, CoreKind.date_time}, Languages.Parsed}
 use Rattle.ixdtf_grammar.proofs.parts.Classes.{ascii, AllOf, all_append, all_within}
 use Rattle.ixdtf_grammar.proofs.{theorems.CoreEnds.core_inside, widths.PlainTexts.{core_ascii, tail_ascii}}
 use Rattle.ixdtf_print.specs.{Canonical.canonical_text, Shown.{bytes_of, shown_text}, Spelled.IsSpelled}
 use Rattle.ixdtf_print.proofs.{parts.ParsedParts.HasParts, theorems.ReadBack.canonical_reads_back}
 
-ascii_of : (text : Text) (found : Parsed) → HasParts text found → AllOf ascii text
-ascii_of text found h =
-    let core = all_within core_ascii h.cores (core_inside date_time h.cores h.core h.is_core) in
+pub ascii_of : (kind : CoreKind) (text : Text) (found : Parsed) → HasParts kind text found → AllOf ascii text
+ascii_of kind text found h =
+    let core = all_within core_ascii h.cores (core_inside kind h.cores h.core h.is_core) in
     let tail = tail_ascii (h.zones ++ h.pair_texts) h.zone h.pairs (h.zones, h.pair_texts, refl, h.is_bracket, h.are_pairs) in
     rw h.is (all_append ascii h.cores _ core tail)
 
@@ -22,4 +22,4 @@ shown_as_it_is (Plain c ∷ rest) h =
 
 -- the bytes that are displayed of a record that has a text are those of its canonical text
 pub shown_is_canonical : (found : Parsed) → IsSpelled found → map Plain (shown_text found) ≡ canonical_text found
-shown_is_canonical found h = shown_as_it_is (canonical_text found) (ascii_of (canonical_text found) found (canonical_reads_back found h))
+shown_is_canonical found h = shown_as_it_is (canonical_text found) (ascii_of date_time (canonical_text found) found (canonical_reads_back found h))

@@ -6,22 +6,23 @@ use Rattle.std.proofs.Common.{take, replicate, codes, Option, Some, None, refl, 
 use Rattle.std.proofs.{Common.subst, lemmas.{Bool.{leb-true, Decides.nat_tests}, List.{take_all, length-append, length-replicate}}}
 use Rattle.std.proofs.Math.Seq.{take-append_seam}
 use Rattle.ixdtf_grammar.specs.declared.records.{DateRecord.DateRecord, MinutePrecisionOffset.MinutePrecisionOffset, Sign.Sign}
-use Rattle.ixdtf_grammar.specs.declared.records.{Sign.TheVariants.{Positive, Negative}, TimeRecord.TimeRecord, UtcOffsetRecordOrZ.UtcOffsetRecordOrZ}
+use Rattle.ixdtf_grammar.specs.declared.records.{Sign.TheVariants.{Positive, Negative}, TimeRecord.TimeRecord}
+use Rattle.ixdtf_grammar.specs.declared.records.{UtcOffsetRecord.UtcOffsetRecord, UtcOffsetRecordOrZ.UtcOffsetRecordOrZ}
 use Rattle.ixdtf_grammar.proofs.PaddedDigits.{decimal-whole, length-padded}
 use Rattle.ixdtf.specs.language.{Letters.{Text, sign, hyphen, Letter.Plain}, Digits.{decimal, padded_digits}, Shapes.digits}
 use Rattle.ixdtf.specs.language.{Dates.{Year, IsDate, signed as year_of, month_length}, Fractions.{FractionParts, IsFraction, places_of}}
 use Rattle.ixdtf.specs.language.Times.{Clock, TimeShape, SecondText, ClockOf, IsTime, has_seconds, greatest_second, writes_seconds, Clock as clocks}
 use Rattle.ixdtf.specs.language.Times.TimeShape.{colon_minutes, seconds, fractions}
-use Rattle.ixdtf.specs.language.Offsets.{IsSigned, IsOffsetOrZ, IsMinuteOffset, sign_of as sign_at, minutes_of as minutes_at}
+use Rattle.ixdtf.specs.language.Offsets.{IsSigned, IsOffset, IsOffsetOrZ, IsMinuteOffset, sign_of as sign_at, minutes_of as minutes_at}
 use Rattle.ixdtf_reading.proofs.theorems.Replies.{NoneRefused-nothing, NoneRefused-more}
 use Rattle.ixdtf.specs.language.ZoneNames.{Zone, IsZone, Zone.{Name, Offset}}
 use Rattle.ixdtf.specs.language.Brackets.{ZoneNote, Opens, OptionalBracket, Pair, Key, Value, IsPair, ArePairs}
-use Rattle.ixdtf.specs.{language.{Cores.{core_of, OptionalOffset, IsDateTimeCore}, Languages.Parsed}, table.Faults.{Fault, Fault.UnrecognizedCritical}}
+use Rattle.ixdtf.specs.{language.{Cores.{core_of, OptionalOffset, IsDateTimeCore, IsCore}, Languages.Parsed, Readers.{CoreKind, CoreKind.date_time}}, table.Faults.{Fault, Fault.UnrecognizedCritical}}
 use Rattle.ixdtf.specs.Handlers.{RefusedBeside, NoneRefused, own_replies, calendar_key, calendar_value, first_calendar}
 use Rattle.ixdtf_print.specs.Canonical.{two_digits, year_text, date_text, minutes_text, seconds_text, fraction_digits, clock_text, time_text, mark_of}
-use Rattle.ixdtf_print.specs.Canonical.{minute_offset_text, offset_text, zone_text, opening_text, bracket_text, calendar_text, optional_date_text, core_text}
+use Rattle.ixdtf_print.specs.Canonical.{minute_offset_text, offset_text, zone_text, opening_text, bracket_text, calendar_text, brackets_text, optional_date_text, core_text}
 use Rattle.ixdtf_print.specs.{Canonical.canonical_text, Spelled.{IsDay, AreDigits, HasDigits, IsClock, IsDayTime, IsMinuteClock, IsShift, HasDay, HasTime}}
-use Rattle.ixdtf_print.specs.Spelled.{IsZoneText, HasZone, HasCalendar, IsSpelled}
+use Rattle.ixdtf_print.specs.Spelled.{IsZoneText, HasZone, HasCalendar, HasBrackets, IsSpelled}
 use Rattle.ixdtf_print.proofs.{parts.ParsedParts.HasParts, parts.PaddedDigits.{padded_are, two_are, up_to, digits-append, zeros_are}}
 
 -- ---- dates
@@ -40,7 +41,7 @@ extended_year c n signs small not_zero =
       value = rw same refl;
     })
 
-is_year : (year : ℤ) → nat_abs year ≤ 999999 → Year (year_text year) year
+pub is_year : (year : ℤ) → nat_abs year ≤ 999999 → Year (year_text year) year
 unfolding year_text
 is_year (pos n) small = by_test (nat_le n 9999) refl
   where
@@ -49,7 +50,7 @@ is_year (pos n) small = by_test (nat_le n 9999) refl
     by_test false h = extended_year 43 n refl small (λ minus. absurd cc)
 is_year (negsuc n) small = extended_year 45 (suc n) refl small (λ minus none. absurd cc)
 
-month_length_most : (year : ℤ) (month : ℕ) → month_length year month ≤ 31
+pub month_length_most : (year : ℤ) (month : ℕ) → month_length year month ≤ 31
 month_length_most year month = grind (arith, nat_tests)
 
 pub is_date : (date : DateRecord) → IsDay date → IsDate (date_text date) date
@@ -180,20 +181,23 @@ minute_signed clock record_of offset value at is = signed offset.sign colon_minu
 pub is_minute_offset : (offset : MinutePrecisionOffset) → IsMinuteClock offset → IsMinuteOffset (minute_offset_text offset) offset
 is_minute_offset offset at = minute_signed clocks.MinuteOffset _ offset offset at (same_minutes offset 0 None)
 
-pub is_offset : (offset : UtcOffsetRecordOrZ) → IsShift offset → IsOffsetOrZ (offset_text (Some offset)) offset
-is_offset stands.Z at = inr ((90, refl, refl), refl)
-is_offset (stands.Offset (offsets.MinutePrecision offset)) at =
-    inl (_, minute_signed clocks.Offset _ offset _ at (ap offsets.MinutePrecision (same_minutes offset 0 None)), refl)
-is_offset (stands.Offset (offsets.FullPrecisionOffset offset)) at =
+pub is_utc_offset : (offset : UtcOffsetRecord) → IsShift (stands.Offset offset) → IsOffset (offset_text (Some (stands.Offset offset))) offset
+is_utc_offset (offsets.MinutePrecision offset) at =
+    minute_signed clocks.Offset _ offset _ at (ap offsets.MinutePrecision (same_minutes offset 0 None))
+is_utc_offset (offsets.FullPrecisionOffset offset) at =
     let minutes = offset.minute_precision_offset in
     let c = clock_of clocks.Offset refl (omega arith) minutes.hour minutes.minute offset.second offset.fraction at offset.fraction at.fraction in
     let time = time_of minutes.hour minutes.minute offset.second offset.fraction in
     let same = ap (λ m. offsets.FullPrecisionOffset (record offset { minute_precision_offset = m })) (same_minutes minutes offset.second offset.fraction) in
-    inl (_, signed minutes.sign c.0 time c.2 (same ∙ rw c.1 refl), refl)
+    signed minutes.sign c.0 time c.2 (same ∙ rw c.1 refl)
+
+is_offset : (offset : UtcOffsetRecordOrZ) → IsShift offset → IsOffsetOrZ (offset_text (Some offset)) offset
+is_offset stands.Z at = inr ((90, refl, refl), refl)
+is_offset (stands.Offset offset) at = inl (offset, is_utc_offset offset at, refl)
 
 -- ---- brackets
 
-is_zone : (zone : Zone) → IsZoneText zone → IsZone (zone_text zone) zone
+pub is_zone : (zone : Zone) → IsZoneText zone → IsZone (zone_text zone) zone
 is_zone (Name name) h = inl (name, (h, refl), refl)
 is_zone (Offset offset) h = inr (offset, is_minute_offset offset h, refl)
 
@@ -201,7 +205,7 @@ opens : (critical : Bool) → Opens (opening_text critical) critical
 opens true = (Plain 91 ∷ [], Plain 33 ∷ [], refl, (91, refl, refl), (33, refl, refl))
 opens false = (91, refl, refl)
 
-is_bracket : (note : Option ZoneNote) → HasZone note → OptionalBracket (bracket_text note) note
+pub is_bracket : (note : Option ZoneNote) → HasZone note → OptionalBracket (bracket_text note) note
 is_bracket None h = refl
 is_bracket (Some note) h = record {
   start = opening_text note.critical;
@@ -267,7 +271,7 @@ gives_calendar (Some value) = refl
 -- ---- cores
 
 -- the time, and the offset where there is one
-timed : (time : TimeRecord) (offset : Option UtcOffsetRecordOrZ) → HasTime (Some time) offset → IsDayTime time × OptionalOffset (offset_text offset) offset
+pub timed : (time : TimeRecord) (offset : Option UtcOffsetRecordOrZ) → HasTime (Some time) offset → IsDayTime time × OptionalOffset (offset_text offset) offset
 timed time None h = (h, refl)
 timed time (Some offset) h = (h.0, is_offset offset h.1)
 
@@ -294,20 +298,26 @@ is_core (Some date) (Some time) offset d h = inr (record {
 
 -- ---- records
 
--- the canonical text of a record whose fields have texts has the parts of the record
-pub canonical_reads_back : (found : Parsed) → IsSpelled found → HasParts (canonical_text found) found
-unfolding canonical_text core_text
-canonical_reads_back found s = record {
-  cores = core_text found;
+-- a core, and then the canonical brackets of a record, has the parts of the record
+pub brackets_read_back : (kind : CoreKind) (cores : Text) (found : Parsed) → IsCore kind cores (core_of found.date found.time found.offset) → HasBrackets found
+    → HasParts kind (cores ++ brackets_text found) found
+brackets_read_back kind cores found is_core h = record {
+  cores = cores;
   zones = bracket_text found.zone;
   pair_texts = calendar_text found.calendar;
   core = core_of found.date found.time found.offset;
   zone = found.zone;
   pairs = calendar_pairs found.calendar;
   is = refl;
-  is_core = is_core found.date found.time found.offset s.date s.time;
-  is_bracket = is_bracket found.zone s.zone;
-  are_pairs = are_pairs found.calendar s.calendar;
+  is_core = is_core;
+  is_bracket = is_bracket found.zone h.0;
+  are_pairs = are_pairs found.calendar h.1;
   accepted = none_refused found.calendar;
   has = λ i. record found { calendar = gives_calendar found.calendar i };
 }
+
+-- the canonical text of a record whose fields have texts has the parts of the record
+pub canonical_reads_back : (found : Parsed) → IsSpelled found → HasParts date_time (canonical_text found) found
+unfolding canonical_text core_text
+canonical_reads_back found s =
+    brackets_read_back date_time (core_text found) found (is_core found.date found.time found.offset s.date s.time) (s.zone, s.calendar)

@@ -1,5 +1,5 @@
 -- Little is written of an error that a reader without a handler returns.
-use Rattle.std.proofs.Common.{ℕ, ◌≤◌, [], length, inl, inr, arith}
+use Rattle.std.proofs.Common.{◌≤◌, [], length, inl, inr, arith}
 use Rattle.ixdtf_grammar.specs.language.{Letters.Text, Readers.{Reader, Reader.bracketed}}
 use Rattle.ixdtf_grammar.specs.{table.{ErrorTexts.message_of, Faults.Fault}, Handlers.UnhandledFault, Widths.{HasUnhandledOutcome, UnhandledOutcome.faulted}}
 use Rattle.ixdtf_grammar.proofs.theorems.NoRow.{fault_short}

@@ -1,7 +1,7 @@
 //! What the arguments ask for.
 
 use ixdtf::parsers::Profile;
-use ixdtf_checks::arguments::{Options, Word};
+use ixdtf_checks::arguments::{Options, Word, Wrong, meant_by};
 use ixdtf_checks::kind::Kind;
 use ixdtf_checks::request::{Field, Task};
 use ixdtf_checks::status::status_of;
@@ -20,8 +20,7 @@ fn options_of(rt: &impl Abort, words: &[&str]) -> Options {
 #[test]
 fn takes_options(rt: HostRuntime) {
     let words = [
-        "--kind",
-        "month-day",
+        "--kind=month-day",
         "--strict",
         "--field",
         "3",
@@ -58,19 +57,20 @@ fn asks_for_date_times_where_nothing_is_said(rt: HostRuntime) {
 }
 
 /// Words that ask for something, or do not go together.
-const TOGETHER: &[(&[&str], bool)] = &[
-    (&[], true),
-    (&["--separator", ";"], false),
-    (&["--kind"], false),
-    (&["--kind", "time", "--canonical"], false),
-    (&["--kind", "date-time", "--canonical"], true),
+const TOGETHER: &[(&[&str], Option<Wrong>)] = &[
+    (&[], None),
+    (&["--separator", ";"], Some(Wrong::SeparatorWithoutField)),
+    (&["--kind"], Some(Wrong::MissingValue)),
+    (&["--kind=time", "--canonical"], Some(Wrong::CanonicalKind)),
+    (&["--kind", "date-time", "--canonical"], None),
 ];
 
 #[test]
 fn refuses_words_that_do_not_go_together(rt: HostRuntime) {
     for (words, wanted) in TOGETHER {
         let options = options_of(&rt, words);
-        assert_eq!(rt; options.request("f").is_some(), *wanted);
+        assert_eq!(rt; options.wrong(), *wanted);
+        assert_eq!(rt; options.request("f").is_some(), wanted.is_none());
     }
 }
 
@@ -79,24 +79,49 @@ const ONE_BY_ONE: &[(&str, Word)] = &[
     ("dates", Word::File),
     ("-", Word::File),
     ("--help", Word::Help),
-    ("--kinds", Word::Unknown),
+    ("--kinds", Word::Wrong(Wrong::UnknownOption)),
+    ("--kinds=time", Word::Wrong(Wrong::UnknownOption)),
+    ("--quiet=yes", Word::Wrong(Wrong::UnexpectedValue)),
+    ("--version", Word::Version),
+    ("--separator==", Word::Option),
     ("--", Word::Option),
     ("--help", Word::File),
 ];
 
 /// Options, each with a word that is no value of it.
-const WITHOUT_VALUES: &[(&str, &str)] = &[
-    ("--field", "0"),
-    ("--kind", "date"),
-    ("--separator", ",,"),
+const WITHOUT_VALUES: &[(&str, &str, Wrong)] = &[
+    ("--field", "0", Wrong::InvalidField),
+    ("--field", "two", Wrong::InvalidField),
+    ("--kind", "date", Wrong::UnknownKind),
+    ("--separator", ",,", Wrong::InvalidSeparator),
 ];
+
+/// Words that are refused, each with the word that was probably meant.
+const MEANT: &[(&str, Wrong, Option<&str>)] = &[
+    ("--kid", Wrong::UnknownOption, Some("--kind")),
+    ("--quite", Wrong::UnknownOption, Some("--quiet")),
+    ("--seperator=,", Wrong::UnknownOption, Some("--separator")),
+    ("--colour", Wrong::UnknownOption, None),
+    ("datetime", Wrong::UnknownKind, Some("date-time")),
+    ("--kind=zonename", Wrong::UnknownKind, Some("zone-name")),
+    ("rfc9999999999999999999999", Wrong::UnknownKind, None),
+    ("week", Wrong::UnknownKind, None),
+    ("0", Wrong::InvalidField, None),
+];
+
+#[test]
+fn names_the_word_that_was_meant(rt: HostRuntime) {
+    for (word, wrong, wanted) in MEANT {
+        assert_eq!(rt; meant_by(word, *wrong), *wanted);
+    }
+}
 
 #[test]
 fn tells_files_from_options(rt: HostRuntime) {
     let mut options = Options::new();
-    for (option, value) in WITHOUT_VALUES {
+    for (option, value, wrong) in WITHOUT_VALUES {
         assert_eq!(rt; options.take(option), Word::Option);
-        assert_eq!(rt; options.take(value), Word::Unknown);
+        assert_eq!(rt; options.take(value), Word::Wrong(*wrong));
     }
     for (word, wanted) in ONE_BY_ONE {
         assert_eq!(rt; options.take(word), *wanted);

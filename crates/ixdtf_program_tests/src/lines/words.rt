@@ -72,11 +72,32 @@ const ZONES: &[(&str, &str)] = &[
     ("iana ", "error Invalid time zone leading character."),
     ("iana UTC!", "error Invalid IANA time zone character after '/'."),
     ("iana UTC]", "error Unexpected character found after parsing was completed."),
+    ("zone-name Europe/Berlin", "ok tz=Europe/Berlin"),
+    ("zone-name +05:30", "error Invalid time zone leading character."),
 ];
 
 #[test]
 fn answers_zones(rt: HostRuntime) -> Result<(), Fail> {
     check_answers(&rt, rt.alloc(), ZONES)
+}
+
+/// The examples of RFC 3339, section 5.8, and texts of other formats.
+#[rattlefmt::skip]
+const RFC_3339: &[(&str, &str)] = &[
+    ("rfc3339 1985-04-12T23:20:50.52Z", "ok date=1985,4,12 time=23,20,50.520000000 offset=Z"),
+    ("rfc3339 1996-12-19T16:39:57-08:00", "ok date=1996,12,19 time=16,39,57 offset=-8,0"),
+    ("rfc3339 1990-12-31T23:59:60Z", "ok date=1990,12,31 time=23,59,60 offset=Z"),
+    ("rfc3339 1990-12-31T15:59:60-08:00", "ok date=1990,12,31 time=15,59,60 offset=-8,0"),
+    ("rfc3339 1937-01-01T12:00:27.87+00:20", "ok date=1937,1,1 time=12,0,27.870000000 offset=+0,20"),
+    ("rfc3339 1985-04-12", "error Invalid character while parsing time separator."),
+    ("rfc3339 19850412T232050Z", "error Invalid character while parsing date separator."),
+    ("rfc3339 1985-04-12T23:20Z", "error Invalid character while parsing time separator."),
+    ("rfc3339 1985-04-12T23:20:50Z[UTC]", "error Unexpected character found after parsing was completed."),
+];
+
+#[test]
+fn answers_date_times_of_rfc_3339(rt: HostRuntime) -> Result<(), Fail> {
+    check_answers(&rt, rt.alloc(), RFC_3339)
 }
 
 #[rattlefmt::skip]

@@ -275,7 +275,7 @@ module _ {E : Type 0} (fault : Row → E) where
           rw (h.2, h.4.1) ((over_through_time h.0 h.3 h.4.0 (inl h.4.2)).over rest ∙ sign_over h.3.3.3.3.3.3.0 (time_to h.0 h.3) h.4.0 rest h.4.2);
     }
 
-    over_offset_hour : (date : DateRecord) (time : TimeRecord) (s : ℕ) (ds : Text) (c n : ℕ) → UpTo 23 ds n → IsTrue (colon c)
+    pub over_offset_hour : (date : DateRecord) (time : TimeRecord) (s : ℕ) (ds : Text) (c n : ℕ) → UpTo 23 ds n → IsTrue (colon c)
         → ReadsOver (num_offset_at fault finish date time s) (ds ++ (Plain c ∷ [])) (offset_minute_at fault finish date time s (decimal ds))
     unfolding num_offset_at
     over_offset_hour date time s ds c n h may =
@@ -287,7 +287,7 @@ module _ {E : Type 0} (fault : Row → E) where
         rw (h.2, h.4.2, h.4.4.1) (over_until_offset_hour h.0 h.3
         before over_offset_hour h.3.3.3.3.3.3.3.0 (time_to h.3.0 h.3.3) h.3.4.0 h.4.0 h.4.4.0 h.4.3.0 h.4.3.1 h.4.4.2)
 
-    over_offset_minute : (date : DateRecord) (time : TimeRecord) (s hour : ℕ) (ds rest : Text) (n : ℕ) → UpTo 59 ds n
+    pub over_offset_minute : (date : DateRecord) (time : TimeRecord) (s hour : ℕ) (ds rest : Text) (n : ℕ) → UpTo 59 ds n
         → offset_minute_at fault finish date time s hour (ds ++ rest)
         ≡ finish (of_date_time (after_field offset_minute_field)) (numeric_core date time (num_offset s hour (decimal ds))) rest
     unfolding offset_minute_at

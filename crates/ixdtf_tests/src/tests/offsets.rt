@@ -5,6 +5,7 @@ use super::{
     Found, Reader, check, check_found, check_fraction, check_parsed, dated, fraction_of, long,
     minutes, morning, offset_by, short, timed,
 };
+use ixdtf::parsers::TimeZoneParser;
 use ixdtf::records::Sign::{self, Negative, Positive};
 use ixdtf::records::{UtcOffsetRecord, UtcOffsetRecordOrZ};
 use std::process::Abort;
@@ -30,6 +31,28 @@ const OFFSETS: &[(&str, Sign, u8, u8, Option<u8>)] = &[
 fn reads_offsets(rt: HostRuntime) {
     for (text, sign, hour, minute, second) in OFFSETS {
         check_offset(&rt, text, offset_by(*sign, (*hour, *minute), *second));
+    }
+}
+
+// How many seconds local time is ahead of UTC at an offset.
+const SECONDS_AHEAD: &[(&str, i32)] = &[
+    ("+05", 5 * 60 * 60),
+    ("-05:30", -(5 * 60 + 30) * 60),
+    ("+00:00", 0),
+    ("-00:00", 0),
+    ("+00:00:01", 1),
+    ("-00:00:01.75", -1),
+    ("+23:59:59.999999999", 24 * 60 * 60 - 1),
+];
+
+#[test]
+fn offsets_are_seconds(rt: HostRuntime) {
+    for (text, seconds) in SECONDS_AHEAD {
+        let ahead = match TimeZoneParser::from_str(text).parse_offset() {
+            Ok(offset) => Some(offset.to_seconds()),
+            Err(_) => None,
+        };
+        check(&rt, text, ahead == Some(*seconds));
     }
 }
 

@@ -1,5 +1,5 @@
 -- An offset that stands at its places behind its sign, where the core ends with it, is read so.
-use Rattle.std.proofs.Common.{◌≡◌, ℕ, ◌≤◌, List, ◌∷◌, [], ◌++◌, map, length, drop, Option, Some, None, Ok, true, false, nat_le, refl, ap, ◌∙◌, arith}
+use Rattle.std.proofs.Common.{◌≡◌, ℕ, ◌≤◌, append_assoc, List, ◌∷◌, [], ◌++◌, map, length, drop, Option, Some, None, Ok, true, false, nat_le, refl, ap, ◌∙◌, arith}
 use Rattle.std.proofs.lemmas.{Bool.Decides.nat_tests, List.{drop-map, drop_all}}
 use Rattle.ixdtf_grammar.specs.declared.records.{DateRecord.DateRecord, TimeRecord.TimeRecord, MinutePrecisionOffset.MinutePrecisionOffset}
 use Rattle.ixdtf_grammar.specs.{declared.records.UtcOffsetRecord.TheVariants.MinutePrecision, language.Letters.{Text, Letter, colon, Letter.Plain}}
@@ -7,6 +7,8 @@ use Rattle.ixdtf_grammar.specs.language.{Offsets.minutes_of, ZoneNames.Zone, Tim
 use Rattle.ixdtf_grammar.specs.language.Times.TimeShape.{colon_minutes}
 use Rattle.ixdtf_reading.specs.reading.{Looks.{error_of, look_at, peek_by}, FixedPlaces.{letter_place, number_place, hour_place, minute_place}}
 use Rattle.ixdtf_reading.specs.reading.{Times.{time_of, line_after, clock_at}, Zones.{signed_alone_at, offset_alone_at, minute_offset_alone_at}}
+use Rattle.ixdtf_grammar.specs.language.Digits.decimal
+use Rattle.ixdtf_reading.{specs.reading.DateTimes.{num_offset_at, open_end, numeric_core}, proofs.to_reading.DateTimes.{over_offset_hour, over_offset_minute}}
 use Rattle.ixdtf_reading.specs.reading.Cores.{with_offset, offset_core_at, core_end_at}
 use Rattle.ixdtf_reading.proofs.{parts.Looks.onto, code.FixedPlaces.{then_some, then_held, Number, number_at_place, mark_at_place, two, two_digits, over_two}}
 use Rattle.ixdtf_reading.proofs.to_reading.{Times.{Closed, time_takes}, ClockRows.clock_starts}
@@ -64,6 +66,16 @@ module _ (c : ℕ) (text : Text) (hour minute : ℕ) (hours : hour_place text �
   is_read clock closed =
       ap (clock_at error_of clock) there.is ∙ time_takes error_of clock _ (clock_starts error_of clock) colon_minutes there.letters _
       (drop 5 text) there.minutes closed
+
+  -- so it is read behind the time of a date-time
+  pub is_numeric_offset : (date : DateRecord) (time : TimeRecord)
+      → num_offset_at error_of open_end date time c text ≡ Ok (numeric_core date time offset, drop 5 text)
+  is_numeric_offset date time =
+      let m = there.minutes in
+      ap (num_offset_at error_of open_end date time c) (there.is ∙ rw m.is (simp append_assoc))
+      ∙ (over_offset_hour error_of open_end date time c m.hs 58 hour m.hour refl).over (m.ms ++ drop 5 text)
+      ∙ over_offset_minute error_of open_end date time c (decimal m.hs) m.ms (drop 5 text) minute m.minute
+      ∙ rw (← m.hour.1, ← m.minute.1) refl
 
   module _ (is : drop 5 text ≡ []) where
     pub ends_the_text : offset_alone_at error_of c text ≡ Ok (MinutePrecision offset, [])

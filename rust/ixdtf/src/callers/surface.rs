@@ -17,16 +17,15 @@ use ixdtf::records::{
 use ixdtf::{LocatedError, ParseError, ParserResult, PointedText};
 use std::error::Error;
 use std::fmt::{Debug, Display};
+use std::hash::Hash;
 
 fn is_shown<X: Debug>() {}
 
 fn is_default<X: Default>() {}
 
-fn is_compared<X: Debug + PartialEq>() {}
-
-fn is_cloned<X: Clone + Debug + PartialEq>() {}
-
 fn is_copied<X: Copy + Debug + PartialEq>() {}
+
+fn is_hashed<X: Copy + Debug + Eq + Hash>() {}
 
 fn is_error<X: Copy + Debug + Display + Error + PartialEq>() {}
 
@@ -34,40 +33,40 @@ fn is_displayed<X: Copy + Debug + Display>() {}
 
 // The traits of what an encoding has, and of the encoding.
 fn has_traits<T: EncodingType>() {
-    is_compared::<IxdtfParseRecord<'static, Utf8>>();
+    is_hashed::<IxdtfParseRecord<'static, Utf8>>();
     is_default::<IxdtfParseRecord<'static, Utf16>>();
-    is_cloned::<Annotation<'static, Utf8>>();
-    is_cloned::<TimeZoneAnnotation<'static, Utf16>>();
-    is_cloned::<TimeZoneRecord<'static, Utf8>>();
+    is_hashed::<Annotation<'static, Utf8>>();
+    is_hashed::<TimeZoneAnnotation<'static, Utf16>>();
+    is_hashed::<TimeZoneRecord<'static, Utf8>>();
     is_shown::<IxdtfParser<'static, Utf16>>();
     is_shown::<TimeZoneParser<'static, Utf8>>();
     is_shown::<IsoDurationParser<'static, Utf16>>();
-    is_cloned::<T::CodeUnit>();
+    is_hashed::<T::CodeUnit>();
 }
 
 #[test]
 fn has_every_trait() {
     has_traits::<Utf8>();
     has_traits::<Utf16>();
-    is_cloned::<Utf8>();
-    is_cloned::<Utf16>();
+    is_hashed::<Utf8>();
+    is_hashed::<Utf16>();
     is_error::<ParseError>();
     is_error::<LocatedError>();
     is_displayed::<PointedText<'static>>();
-    is_copied::<DateRecord>();
+    is_hashed::<DateRecord>();
     is_default::<DateRecord>();
-    is_copied::<TimeRecord>();
+    is_hashed::<TimeRecord>();
     is_default::<TimeRecord>();
-    is_copied::<Sign>();
-    is_copied::<MinutePrecisionOffset>();
-    is_copied::<FullPrecisionOffset>();
-    is_copied::<UtcOffsetRecord>();
-    is_copied::<UtcOffsetRecordOrZ>();
-    is_copied::<Fraction>();
-    is_copied::<DurationParseRecord>();
-    is_copied::<DateDurationRecord>();
+    is_hashed::<Sign>();
+    is_hashed::<MinutePrecisionOffset>();
+    is_hashed::<FullPrecisionOffset>();
+    is_hashed::<UtcOffsetRecord>();
+    is_hashed::<UtcOffsetRecordOrZ>();
+    is_hashed::<Fraction>();
+    is_hashed::<DurationParseRecord>();
+    is_hashed::<DateDurationRecord>();
     is_default::<DateDurationRecord>();
-    is_copied::<TimeDurationRecord>();
+    is_hashed::<TimeDurationRecord>();
     is_copied::<Profile>();
 }
 
@@ -446,8 +445,10 @@ fn has_the_reader_of_durations() {
     check(&rt, "no text", nothing.is_err());
     let bytes = IsoDurationParser::<Utf8>::from_utf8(b"").parse();
     check(&rt, "no bytes", bytes.is_err());
-    let wide = IsoDurationParser::<Utf16>::from_utf8(&empty).parse();
-    check(&rt, "no units", wide.is_err());
+    let units = IsoDurationParser::<Utf16>::from_utf8(&empty).parse();
+    check(&rt, "no units", units.is_err());
+    let wide = IsoDurationParser::from_utf16(&empty).parse();
+    check(&rt, "no wide units", wide.is_err());
 }
 
 #[test]

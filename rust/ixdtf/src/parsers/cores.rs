@@ -30,6 +30,9 @@ pub trait CoreReader {
         profile: Profile,
         found: &mut IxdtfParseRecord<'a, T>,
     ) -> Result<AfterCore, Stop>;
+
+    /// Returns whether a zone behind the core has to be exactly one of RFC 9557.
+    fn has_exact_zones() -> bool;
 }
 
 /// The reader of a date, with a time and an offset if the text has them.
@@ -43,6 +46,11 @@ impl CoreReader for DateTimes {
         found: &mut IxdtfParseRecord<'a, T>,
     ) -> Result<AfterCore, Stop> {
         parse_date_time(cursor, found)
+    }
+
+    #[inline(always)]
+    fn has_exact_zones() -> bool {
+        false
     }
 }
 
@@ -60,6 +68,11 @@ impl CoreReader for InternetDateTimes {
         read.place(found);
         close_core(cursor)
     }
+
+    #[inline(always)]
+    fn has_exact_zones() -> bool {
+        true
+    }
 }
 
 /// The reader of a year and a month. The record has the first day of the month.
@@ -76,6 +89,11 @@ impl CoreReader for YearMonths {
         found.date = Some(date);
         close_core(cursor)
     }
+
+    #[inline(always)]
+    fn has_exact_zones() -> bool {
+        false
+    }
 }
 
 /// The reader of a month and a day. The record has the year 0.
@@ -91,6 +109,11 @@ impl CoreReader for MonthDays {
         let date = parse_month_day_date(cursor, profile)?;
         found.date = Some(date);
         close_core(cursor)
+    }
+
+    #[inline(always)]
+    fn has_exact_zones() -> bool {
+        false
     }
 }
 
@@ -116,6 +139,11 @@ impl CoreReader for Times {
                 Ok(after)
             }
         }
+    }
+
+    #[inline(always)]
+    fn has_exact_zones() -> bool {
+        false
     }
 }
 

@@ -64,11 +64,10 @@ impl<'a, T: EncodingType> IxdtfParser<'a, T> {
     /// - `NonAsciiCodePoint` at a 16-bit code unit that is not from 1 to 126.
     #[inline(always)]
     pub fn parse_rfc3339(&mut self) -> ParserResult<IxdtfParseRecord<'a, T>> {
-        let mut found = IxdtfParseRecord::default();
         let mut here = self.cursor.fork();
-        // A refusal returns in an arm of its own, and the record is made where it is returned, as in `parse`.
-        match parse_rfc3339_text(&mut here, &mut found) {
-            Ok(()) => {
+        // A refusal returns in an arm of its own, as in `parse`.
+        match parse_rfc3339_text(&mut here) {
+            Ok(found) => {
                 self.cursor = here;
                 Ok(found)
             }
@@ -100,12 +99,20 @@ impl<'a, T: EncodingType> IxdtfParser<'a, T> {
     /// Those of [`parse_rfc3339`](Self::parse_rfc3339), each with its place.
     #[inline(always)]
     pub fn parse_rfc3339_located(&mut self) -> Result<IxdtfParseRecord<'a, T>, LocatedError> {
-        let mut found = IxdtfParseRecord::default();
         let mut here = self.cursor.fork();
-        let read = parse_rfc3339_text(&mut here, &mut found);
-        match self.cursor.settle::<_, LocatedError>(here, read) {
-            Ok(()) => Ok(found),
-            Err(located) => return Err(located),
+        // This is `settle`, written out: the borrow checker has no rule for a call of it with a record.
+        match parse_rfc3339_text(&mut here) {
+            Ok(found) => {
+                self.cursor = here;
+                Ok(found)
+            }
+            Err(stop) => {
+                let at = self.cursor.remaining().saturating_sub(here.remaining());
+                return Err(LocatedError {
+                    error: stop.error(),
+                    at,
+                });
+            }
         }
     }
 }

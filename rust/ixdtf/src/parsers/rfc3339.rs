@@ -6,7 +6,7 @@
 
 use crate::parsers::date_times::take_fixed_date_time;
 use crate::parsers::dates::{check_month, has_day};
-use crate::parsers::offsets::sign_from;
+use crate::parsers::offsets::{sign_from, take_numeric_offset};
 use crate::parsers::time::{WholeTime, next_number, parse_fraction};
 use crate::encoding::EncodingType;
 use crate::records::{
@@ -29,6 +29,18 @@ pub struct DateTime {
 }
 
 impl DateTime {
+    /// Returns the record of the parts, without a zone and without a calendar.
+    #[inline(always)]
+    pub fn record<'a, T: EncodingType>(self) -> IxdtfParseRecord<'a, T> {
+        IxdtfParseRecord {
+            date: Some(self.date),
+            time: Some(self.time),
+            offset: Some(self.offset),
+            tz: None,
+            calendar: None,
+        }
+    }
+
     /// Writes the parts into a record.
     #[inline(always)]
     pub fn place<'a, T: EncodingType>(self, found: &mut IxdtfParseRecord<'a, T>) {
@@ -126,16 +138,11 @@ fn parse_time_offset<'a, T: EncodingType>(
         let offset = UtcOffsetRecordOrZ::Z;
         return Ok(DateTime { date, time, offset });
     }
-    let offset_hour = next_number(cursor, 23, Stop::TimeHour)?;
-    take_colon(cursor, Stop::UtcTimeSeparator)?;
-    let offset_minute = next_number(cursor, 59, Stop::TimeMinuteSecond)?;
-    let minutes = MinutePrecisionOffset {
-        sign: sign_from(lead),
-        hour: offset_hour,
-        minute: offset_minute,
-    };
-    let offset = UtcOffsetRecordOrZ::Offset(UtcOffsetRecord::MinutePrecision(minutes));
-    Ok(DateTime { date, time, offset })
+    if let Some(minutes) = take_numeric_offset(cursor, lead) {
+        let offset = UtcOffsetRecordOrZ::Offset(UtcOffsetRecord::MinutePrecision(minutes));
+        return Ok(DateTime { date, time, offset });
+    }
+    parse_offset_by_numbers(cursor, date, time, lead)
 }
 
 /// Takes what a time offset begins with off, after the digits of a fraction.
@@ -199,13 +206,33 @@ fn parse_after_seconds<'a, T: EncodingType>(
 fn take_fixed_rfc3339<'a, T: EncodingType>(
     cursor: &mut Cursor<'a, T>,
 ) -> Option<(DateRecord, WholeTime)> {
-    if !is_time_designator(cursor.byte_at(10)) {
+    if cursor.remaining() < 19 || !is_time_designator(cursor.byte_at(10)) {
         return None;
     }
     take_fixed_date_time(cursor)
 }
 
 // ==== Number by number ====
+
+/// Reads an offset after its sign.
+#[inline(always)]
+fn parse_offset_by_numbers<'a, T: EncodingType>(
+    cursor: &mut Cursor<'a, T>,
+    date: DateRecord,
+    time: TimeRecord,
+    sign: u8,
+) -> Result<DateTime, Stop> {
+    let offset_hour = next_number(cursor, 23, Stop::TimeHour)?;
+    take_colon(cursor, Stop::UtcTimeSeparator)?;
+    let offset_minute = next_number(cursor, 59, Stop::TimeMinuteSecond)?;
+    let minutes = MinutePrecisionOffset {
+        sign: sign_from(sign),
+        hour: offset_hour,
+        minute: offset_minute,
+    };
+    let offset = UtcOffsetRecordOrZ::Offset(UtcOffsetRecord::MinutePrecision(minutes));
+    Ok(DateTime { date, time, offset })
+}
 
 /// Reads the time after a date and its letter.
 #[inline(always)]
@@ -273,14 +300,23 @@ pub fn parse_internet_date_time<'a, T: EncodingType>(
     }
 }
 
-/// Reads a date-time of RFC 3339 into an empty record, and wants the end.
+/// Reads a date-time of RFC 3339, and wants the end.
+///
+/// Each way to read it has an end of its own. So the record is made where its parts are read.
 #[inline(always)]
 pub fn parse_rfc3339_text<'a, T: EncodingType>(
     cursor: &mut Cursor<'a, T>,
-    found: &mut IxdtfParseRecord<'a, T>,
-) -> Result<(), Stop> {
-    let read = parse_internet_date_time(cursor)?;
-    cursor.close()?;
-    read.place(found);
-    Ok(())
+) -> Result<IxdtfParseRecord<'a, T>, Stop> {
+    match take_fixed_rfc3339(cursor) {
+        Some((date, whole)) => {
+            let read = parse_after_seconds(cursor, date, whole)?;
+            cursor.close()?;
+            Ok(read.record())
+        }
+        None => {
+            let read = parse_by_numbers(cursor)?;
+            cursor.close()?;
+            Ok(read.record())
+        }
+    }
 }

@@ -11,7 +11,8 @@ use super::{
 };
 use ixdtf::ParseError::{
     AnnotationClose, AnnotationKeyLeadingChar, AnnotationKeyValueSeparator, AnnotationValueChar,
-    CriticalDuplicateCalendar, DateSeparator, DateYear, FractionPart, InvalidDayRange, InvalidEnd,
+    CriticalDuplicateCalendar, DateSeparator, DateYear, FractionPart, IanaChar, InvalidDayRange,
+    InvalidEnd, InvalidMinutePrecisionOffset,
     OffsetNeedsSign, TimeHour, TimeSeparator, TzLeadingChar, UnrecognizedCritical,
     UtcTimeSeparator,
 };
@@ -23,7 +24,7 @@ fn reads_the_calendar() {
     let wanted = Found::Parts(morning(
         Some(UtcOffsetRecordOrZ::Z),
         None,
-        Some(b"hebrew"),
+        Some("hebrew"),
     ));
     check_found(
         &rt,
@@ -44,6 +45,7 @@ const READ_ALIKE: &[&str] = &[
     "2022-07-08T00:14:07Z[u-ca=chinese][u-ca=japanese]",
     "2022-07-08T02:14:07+02:00[!Europe/Paris][knort=blargel]",
     "2022-07-08T02:14:07.123456789+02:00[+02:00]",
+    "2022-07-08T00:14:07Z[.../_/..a/.1]",
     "1990-12-31T15:59:60-08:00",
     "0000-02-29t00:00:00.0z[!u-ca=iso8601]",
 ];
@@ -84,6 +86,11 @@ const REFUSED: &[Refused] = &[
     ("2024-03-02T08:48:00Z[UTC][u-ca", AnnotationKeyValueSeparator, 30),
     ("2024-03-02T08:48:00Z[UTC][u-ca=]", AnnotationValueChar, 31),
     ("2024-03-02T08:48:00Z[UTC]x", InvalidEnd, 25),
+    ("2024-03-02T08:48:00Z[a/1]", IanaChar, 25),
+    ("2024-03-02T08:48:00Z[!Europe/..][u-ca=hebrew]", IanaChar, 32),
+    ("2024-03-02T08:48:00Z[.]", IanaChar, 23),
+    ("2024-03-02T08:48:00Z[+05]", InvalidMinutePrecisionOffset, 25),
+    ("2024-03-02T08:48:00Z[!-0530]", InvalidMinutePrecisionOffset, 28),
 ];
 
 #[test]

@@ -38,6 +38,25 @@ fn reads_names() {
     check_names(&rt, NAMES);
 }
 
+// Whether the zone of the text has this name.
+fn has_name(text: &str, name: Option<&str>) -> bool {
+    match TimeZoneParser::from_str(text).parse_identifier() {
+        Ok(zone) => zone.name() == name,
+        Err(_) => false,
+    }
+}
+
+#[test]
+fn names_are_strings() {
+    let rt = HostRuntime;
+    for name in NAMES {
+        check(&rt, name, has_name(name, Some(name)));
+    }
+    check(&rt, "+05:30", has_name("+05:30", None));
+    let odd: TimeZoneRecord<'_, Utf8> = TimeZoneRecord::Name(b"Europe/Malm\xf6");
+    check(&rt, "a name that is not UTF-8", odd.name().is_none());
+}
+
 const ZONES_THAT_ARE_OFFSETS: &[Short] = &[
     ("+05:30", Sign::Positive, 5, 30),
     ("-0530", Sign::Negative, 5, 30),

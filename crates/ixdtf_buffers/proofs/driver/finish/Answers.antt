@@ -1,4 +1,4 @@
--- No byte, and some, after the last newline.
+-- There are no bytes after the last newline, or some.
 use Rattle.ixdtf_buffers.proofs.driver.finish.Goals as goal
 use Rattle.std.proofs.lemmas.Result.{err_from_is_err_and}
 use Rattle.ixdtf_buffers.specs.Lines.{unended_of}

@@ -1,4 +1,4 @@
--- Line after line, and the bytes behind the last newline.
+-- What holds after each line, and for the bytes after the last newline.
 use Rattle.ixdtf_buffers.proofs.driver.take_bytes.Goals as goal
 use Rattle.std.proofs.{Common.{[], ◌+◌, ◌++◌, take, refl, ◌∙◌, append_assoc}, lemmas.{List.append-nil, Result.err_from_is_err_and}}
 use Rattle.ixdtf_buffers.specs.Lines.{unended_of}

@@ -1,4 +1,4 @@
--- From the lanes to the bytes.
+-- Each lane is one of the bytes.
 use Rattle.ixdtf_buffers.proofs.place.marks_from.Goals as goal
 use Rattle.std.proofs.Common.{eqb, arith, w8}
 use Rattle.std.proofs.lemmas.Simd.{bitmask_splat, length-chunk}

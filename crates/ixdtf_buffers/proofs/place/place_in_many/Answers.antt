@@ -1,4 +1,4 @@
--- A byte that is found, in a look or in the last one, or nowhere.
+-- The byte is found by a comparison in the loop, by the last comparison, or not at all.
 use Rattle.ixdtf_buffers.proofs.place.place_in_many.Goals as goal
 use Rattle.std.proofs.Common.{ℕ, ◌+◌, ◌-◌, ◌≤◌, Bool, length, arith}
 use Rattle.ixdtf_buffers.specs.Lines.{is_byte}

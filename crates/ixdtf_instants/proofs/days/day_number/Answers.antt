@@ -7,10 +7,29 @@ use borrow.Author.Differences.{up, down}
 
 pub returns-clause-value : goal.returns-clause-value
 returns-clause-value c =
-    let n : ℕ = up c.march_year.result + 2_147_484_000 - down c.march_year.result in
-    let is : c.march_year.result +ℤ pos 2_147_484_000 ≡ pos n = omega (arith, signed_arith) in
-    let years = c.days_of_years-days_of_years.ensures.value n (omega (arith, signed_casts)) in
+    let years = c.march_year-years.result in
+    let number = day_number-day_count c.args.year c.args.month c.args.day in
     elim (cases_lt 2 c.args.month) [
-      | inl late ↦ omega (arith, signed_casts, years, c.in_ok-days_of_months.ensures.late late, day_number-day_count c.args.year c.args.month c.args.day, day_count-late c.args.year n c.args.month c.args.day (omega (arith, signed_arith)) late (omega (arith, c.in_ok-days_of_months.ensures)))
-      | inr early ↦ omega (arith, signed_casts, years, c.in_ok-days_of_months.ensures.early early, day_number-day_count c.args.year c.args.month c.args.day, day_count-early c.args.year n c.args.month c.args.day (omega (arith, signed_arith)) (omega (arith, c.in_ok-days_of_months.ensures)) early)
+      | inl late ↦ omega (
+        arith,
+        signed_casts,
+        number,
+        c.in_ok-index.ensures.some,
+        c.days_of_years.ensures,
+        c.days_from_march.ensures,
+        c.from.ensures,
+        c.march_year-years.ensures,
+        day_count-late c.args.year years 5_368_710 c.args.month c.args.day (omega (arith, signed_arith, c.in_ok-index.ensures.some, c.march_year-years.ensures)) late (omega (arith, c.in_ok-index.ensures.some)),
+      )
+      | inr early ↦ omega (
+        arith,
+        signed_casts,
+        number,
+        c.in_ok-index.ensures.some,
+        c.days_of_years.ensures,
+        c.days_from_march.ensures,
+        c.from.ensures,
+        c.march_year-years.ensures,
+        day_count-early c.args.year years 5_368_710 c.args.month c.args.day (omega (arith, signed_arith, c.in_ok-index.ensures.some, c.march_year-years.ensures)) (omega (arith, c.in_ok-index.ensures.some)) early,
+      )
     ]

@@ -6,8 +6,8 @@ use Rattle.ixdtf_reading.proofs.code.ReadersWithoutPairs.{exact}
 
 pub returns : goal.returns
 returns g c =
-    let settled : Settles {X = Unit {0}} fault_of c.parse_rfc3339_text.result (Ok tt) = rw c.in-Ok.is refl in
-    let gives = exact g.T.EncodingType.letter (λ done. parsed_of g.T.EncodingType.number c.parse_rfc3339_text.new.found) reader_rfc3339 dated (λ x y e. cc) tt _ c.fork-here.result
+    let settled : Settles fault_of c.parse_rfc3339_text.result (Ok c.in-Ok.found) = rw c.in-Ok.is refl in
+    let gives = exact g.T.EncodingType.letter (parsed_of g.T.EncodingType.number) reader_rfc3339 dated (λ x y e. cc) tt _ c.fork-here.result
     c.parse_rfc3339_text.new.cursor refl _ _ _ c.parse_rfc3339_text.ensures.date_time settled in
     let spent = c.parse_rfc3339_text.ensures.looks in
     rw (← c.self.view_is, ← c.fork-here.ensures.same) (record {
@@ -23,8 +23,8 @@ returns g c =
 
 pub returns-in-Err : goal.returns-in-Err
 returns-in-Err g c =
-    let settled : Settles {X = Unit {0}} fault_of c.parse_rfc3339_text.result (Err c.error.result) = rw c.in-Err.is c.error.ensures in
-    let gives = exact g.T.EncodingType.letter (λ done. parsed_of g.T.EncodingType.number c.parse_rfc3339_text.new.found) reader_rfc3339 dated (λ x y e. cc) tt _ c.fork-here.result
+    let settled : Settles fault_of c.parse_rfc3339_text.result (Err c.error.result) = rw c.in-Err.is c.error.ensures in
+    let gives = exact g.T.EncodingType.letter (parsed_of g.T.EncodingType.number) reader_rfc3339 dated (λ x y e. cc) tt _ c.fork-here.result
     c.parse_rfc3339_text.new.cursor refl _ _ _ c.parse_rfc3339_text.ensures.date_time settled in
     rw (← c.self.view_is, ← c.fork-here.ensures.same) (record {
       reads = record { ok = gives.ok; err = gives.err; no_row = gives.no_row; only = gives.only; leaves = search rules };

@@ -1,36 +1,25 @@
-use Rattle.std.proofs.Common.{rules, arith, ◌≡◌, ◌∙◌, Some}
-use Rattle.ixdtf_grammar.specs.Instants.{HasInstant, IsInstantOf, instant_count}
-use Rattle.ixdtf_instants.proofs.SignedLemmas.{signed_arith}
+use Rattle.std.proofs.Common.{rules, arith, ◌≡◌, None, FitsSigned, w32, to_z-of_z}
+use Rattle.ixdtf_grammar.specs.declared.records.UtcOffsetRecordOrZ.TheVariants.{Z}
+use Rattle.ixdtf_grammar.specs.Instants.{instant_count}
+use Rattle.ixdtf_instants.proofs.SignedLemmas.{signed_casts}
 use Rattle.ixdtf_grammar.proofs.records.IxdtfParseRecord.instant.Goals as goal
 
-pub returns-in-Z-clause-some : goal.returns-in-Z-clause-some
+pub returns-then-time-lt60-clause-some : goal.returns-then-time-lt60-clause-some
 unfolding instant_count
-returns-in-Z-clause-some g c = record {
+returns-then-time-lt60-clause-some g c = record {
   has = record {
-    date = c.in_ok-date.date.now;
-    time = c.in_ok-time.time.now;
-    offset = c.in_ok-offset.offset.now;
+    date = c.in-Some-Some-Some-Z.date;
+    time = c.in-Some-Some-Some-Z.time;
+    offset = Z;
     has_date = search rules;
     has_time = search rules;
     has_offset = search rules;
-    month = c.in_ok-clock.ensures.some;
+    month = c.in_ok-days.ensures.some;
   };
-  counts = rw c.in-Z.is (omega (arith, signed_arith, c.in_ok-clock.ensures.value));
-  fits = c.in_ok-clock.ensures.fits;
-}
-
-pub returns-in-Offset-clause-some : goal.returns-in-Offset-clause-some
-unfolding instant_count
-returns-in-Offset-clause-some g c = record {
-  has = record {
-    date = c.in_ok-date.date.now;
-    time = c.in_ok-time.time.now;
-    offset = c.in_ok-offset.offset.now;
-    has_date = search rules;
-    has_time = search rules;
-    has_offset = search rules;
-    month = c.in_ok-clock.ensures.some;
-  };
-  counts = rw c.in-Offset.is (omega (arith, signed_arith, c.in_ok-clock.ensures.value, c.in_utc.ensures.value));
-  fits = c.in_utc.ensures.fits;
+  counts =
+      let fits : FitsSigned w32 c.in-Some-Some-Some-Z.date.year = search rules in
+      let days = simp to_z-of_z at c.in_ok-days.ensures.value in
+      let none : c.in-Some-Some-Some-Z.time.fraction ≡ None = search rules in
+      rw none (omega (arith, signed_casts, days, c.in_ok-days.ensures.low, c.in_ok-days.ensures.high, c.from.ensures, c.seconds_in-seconds.ensures));
+  fits = omega arith;
 }

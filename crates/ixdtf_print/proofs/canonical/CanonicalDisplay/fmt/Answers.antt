@@ -6,10 +6,8 @@ use Rattle.ixdtf_print.proofs.code.DisplayedBytes.{all_bytes}
 pub returns-clause-styled : goal.returns-clause-styled
 returns-clause-styled g c = λ flush ok.
     let core = c.in_ok-write_core.ensures flush refl in
-    let bracket = c.in_ok-write_bracket.ensures core.flush refl in
-    let calendar = c.write_calendar.ensures bracket.flush ok in
-    has_written_styled_of_eq _ _ _ _ _ (all_bytes (parsed_of (λ byte. byte) c.args.self.now.parsed.now))
-    (has_written_styled_append _ _ _ _ _ _ core (has_written_styled_append _ _ _ _ _ _ bracket calendar))
+    let brackets = c.write_brackets.ensures core.flush ok in
+    has_written_styled_of_eq _ _ _ _ _ (all_bytes (parsed_of (λ byte. byte) c.args.self.now.parsed.now)) (has_written_styled_append _ _ _ _ _ _ core brackets)
 
 pub returns-clause-writes : goal.returns-clause-writes
 returns-clause-writes g c = λ plain ok.

@@ -1,0 +1,272 @@
+//! Months and days printed as their canonical texts.
+ghost use Rattle.std.specs.Prelude.{◌≡◌, ◌↔◌, ◌<◌, ◌≤◌, ◌^◌, IsTrue, length, map, IfSome, OnSome, OnOk, None};
+ghost use Rattle.std.specs.Fmt.{WritesStyledOnOk};
+ghost use Rattle.ixdtf_grammar.specs.declared.profile.Profile.TheVariants.{Crate};
+ghost use Rattle.ixdtf.specs.language.Letters.{byte_letter};
+ghost use Rattle.ixdtf_print.specs.Canonical.{brackets_text};
+ghost use Rattle.ixdtf_print.specs.Printable.{record_of};
+ghost use Rattle.ixdtf_print.specs.Printing.{PrintsOrRefuses};
+ghost use Rattle.ixdtf_print.specs.Prints.{HasRoom, Prints};
+ghost use Rattle.ixdtf_print.specs.Shown.{bytes_of};
+ghost use Rattle.ixdtf_print.specs.SpelledCores.{IsDayOfAnyYear, HasLoneDay, IsSpelledAs};
+ghost use Rattle.ixdtf_print.specs.MonthDays.{day_text, optional_day_text, month_day_text, IsPrintableMonthDay, IsMonthDayReadBack};
+
+use crate::canonical::{front_of, write_brackets, write_bytes};
+use crate::check::has_brackets;
+use crate::digits::put_two;
+use crate::error::PrintError;
+use crate::fields::put_brackets;
+use crate::length::brackets_length;
+use crate::put::put_byte;
+use ixdtf::encoding::Utf8;
+use ixdtf::parsers::days_in_month;
+use ixdtf::records::{DateRecord, IxdtfParseRecord, TimeRecord, UtcOffsetRecordOrZ};
+use std::fmt;
+
+/// The number of bytes of a month and a day.
+const MOST_OF_DAY: usize = 5;
+
+/// Writes the canonical text of a month and a day to the beginning of the slice, such as `11-07[u-ca=hebrew]`.
+///
+/// The record is one that [`IxdtfParser::parse_month_day`](ixdtf::parsers::IxdtfParser::parse_month_day) returns. The
+/// canonical text has the month and the day, without hyphens before them. If the record has them, the zone and the calendar
+/// follow, as [`print`](crate::print) writes them. The day can be 00: under the default profile, `parse_month_day` returns
+/// such a record.
+///
+/// A date in the year 0 is the same record: `print` writes it as `0000-11-07`, and this function as `11-07`.
+///
+/// Returns the number of bytes that were written. The canonical text has at most 4 bytes more than the text that was
+/// parsed.
+///
+/// # Examples
+///
+/// ```rust
+/// use ixdtf::parsers::IxdtfParser;
+/// use ixdtf_print::{PrintError, print_month_day};
+///
+/// let mut out = [0; 64];
+/// for (text, canonical) in [
+///     ("--11-07", "11-07"),
+///     ("0229[u-ca=hebrew]", "02-29[u-ca=hebrew]"),
+///     ("1100[+01]", "11-00[+01:00]"),
+/// ] {
+///     let record = IxdtfParser::from_str(text).parse_month_day().unwrap();
+///     let count = print_month_day(&record, &mut out).unwrap();
+///     assert_eq!(&out[..count], canonical.as_bytes());
+///     assert_eq!(print_month_day(&record, &mut [0; 4]), Err(PrintError::TooShort));
+/// }
+/// let record = IxdtfParser::from_str("2020-11-08").parse().unwrap();
+/// assert_eq!(print_month_day(&record, &mut out), Err(PrintError::NotPrintable));
+/// ```
+///
+/// # Errors
+///
+/// After an error, the slice is unchanged.
+///
+/// - [`PrintError::NotPrintable`]: the record has no canonical text. It has no date, or another year than 0, or a time, or
+///   an offset, or a part that no text has.
+/// - [`PrintError::TooShort`]: the slice is shorter than the canonical text.
+pub fn print_month_day(
+    parsed: &IxdtfParseRecord<'_, Utf8>,
+    out: &mut [u8],
+) -> Result<usize, PrintError>
+    ensures prints { PrintsOrRefuses (IsPrintableMonthDay (record_of parsed.now)) (month_day_text (record_of parsed.now)) out.old out.new result }
+    ensures read_back { OnOk result (IsMonthDayReadBack (record_of parsed.now)) }
+{
+    if !is_month_day(parsed) {
+        return Err(PrintError::NotPrintable);
+    }
+    if (out.len() as u128) < length_of_month_day(parsed) {
+        return Err(PrintError::TooShort);
+    }
+    Ok(put_month_day(out, parsed))
+}
+
+/// Returns the number of bytes of the canonical text of a month and a day.
+///
+/// A slice of this length is long enough for [`print_month_day`](crate::print_month_day). Returns `None` if the record has no
+/// canonical text, or if its text is longer than any slice.
+///
+/// # Examples
+///
+/// ```rust
+/// use ixdtf::parsers::IxdtfParser;
+/// use ixdtf_print::month_day_length;
+///
+/// let record = IxdtfParser::from_str("--1107[u-ca=hebrew]").parse_month_day().unwrap();
+/// assert_eq!(month_day_length(&record), Some("11-07[u-ca=hebrew]".len()));
+/// ```
+pub fn month_day_length(parsed: &IxdtfParseRecord<'_, Utf8>) -> Option<usize>
+    ensures length { IfSome result (λ n. n ≡ length (month_day_text (record_of parsed.now))) }
+    ensures printable { OnSome result (IsPrintableMonthDay (record_of parsed.now)) }
+    ensures none { (result ≡ None) ↔ ¬ (IsPrintableMonthDay (record_of parsed.now) ×
+        (length (month_day_text (record_of parsed.now)) < 2 ^ 64)) }
+{
+    if !is_month_day(parsed) {
+        return None;
+    }
+    usize::try_from(length_of_month_day(parsed)).ok()
+}
+
+/// A record of a month and a day that `Display` writes as its canonical text, such as `11-07[u-ca=hebrew]`.
+///
+/// This is the text that [`print_month_day`](crate::print_month_day) writes into a slice. `Display` does not allocate, and ignores
+/// width and fill.
+///
+/// # Examples
+///
+/// ```rust
+/// use ixdtf::parsers::IxdtfParser;
+/// use ixdtf_print::CanonicalMonthDay;
+///
+/// let record = IxdtfParser::from_str("--1107[u-ca=hebrew]").parse_month_day().unwrap();
+/// assert_eq!(CanonicalMonthDay::of(&record).unwrap().to_string(), "11-07[u-ca=hebrew]");
+/// ```
+#[derive(Clone, Copy, Debug)]
+pub struct CanonicalMonthDay<'a> {
+    parsed: &'a IxdtfParseRecord<'a, Utf8>,
+}
+
+impl<'a> CanonicalMonthDay<'a> {
+    /// Creates a value that displays the record. Returns `None` if the record has no canonical text as a month and a day.
+    pub fn of(parsed: &'a IxdtfParseRecord<'a, Utf8>) -> Option<CanonicalMonthDay<'a>>
+        ensures shows { IfSome result
+            (λ canonical. record_of canonical.parsed.now ≡ record_of parsed.now) }
+        ensures text { IfSome result
+            (λ canonical. map byte_letter (bytes_of (month_day_text (record_of canonical.parsed.now)))
+            ≡ month_day_text (record_of parsed.now)) }
+        ensures read_back { OnSome result (IsMonthDayReadBack (record_of parsed.now)) }
+        ensures none { (result ≡ None) ↔ ¬ (IsPrintableMonthDay (record_of parsed.now)) }
+    {
+        if !is_month_day(parsed) {
+            return None;
+        }
+        Some(CanonicalMonthDay { parsed })
+    }
+}
+
+// `Display` ignores width and fill.
+impl<'a> fmt::Display for CanonicalMonthDay<'a> {
+    ghost use Rattle.std.specs.Prelude.{Some};
+    ghost use Rattle.ixdtf_print.specs.Printable.{record_of};
+    ghost use Rattle.ixdtf_print.specs.Shown.{bytes_of};
+    ghost use Rattle.ixdtf_print.specs.MonthDays.{month_day_text};
+
+    ghost output = { λ c. Some (bytes_of (month_day_text (record_of c.parsed.now))) };
+
+    ghost styled_output = { λ c _. Some (bytes_of (month_day_text (record_of c.parsed.now))) };
+
+    fn fmt<W: fmt::Write>(&self, f: &mut fmt::Formatter<W>) -> fmt::Result {
+        write_core(f, self.parsed)?;
+        write_brackets(f, self.parsed)
+    }
+}
+
+/// Writes what comes before the brackets.
+fn write_core<W: fmt::Write>(
+    f: &mut fmt::Formatter<W>,
+    parsed: &IxdtfParseRecord<'_, Utf8>,
+) -> fmt::Result
+    ensures { WritesStyledOnOk W.write_str_gives f.old result (bytes_of (optional_day_text parsed.now.date)) f.new }
+{
+    let count = usize::from(optional_day_length(parsed.date));
+    let mut bytes = [0; MOST_OF_DAY];
+    put_optional_day(&mut bytes, 0, parsed.date);
+    write_bytes(f, front_of(&bytes, count))
+}
+
+/// Returns whether `parse_month_day` returns this record for some text.
+fn is_month_day(parsed: &IxdtfParseRecord<'_, Utf8>) -> bool
+    ensures { IsTrue result ↔ IsPrintableMonthDay (record_of parsed.now) }
+{
+    is_spelled(parsed)
+}
+
+/// Returns whether each field has a text, and the record has the fields of a month and a day.
+fn is_spelled(parsed: &IxdtfParseRecord<'_, Utf8>) -> bool
+    ensures { IsTrue result ↔ IsSpelledAs (HasLoneDay Crate) (record_of parsed.now) }
+{
+    has_lone_day(parsed.date, parsed.time, parsed.offset) && has_brackets(parsed)
+}
+
+/// Returns whether there is a day of the year 0, and neither a time nor an offset. The day may be 0.
+fn has_lone_day(
+    date: Option<DateRecord>,
+    time: Option<TimeRecord>,
+    offset: Option<UtcOffsetRecordOrZ>,
+) -> bool
+    ensures { IsTrue result ↔ HasLoneDay Crate date time offset }
+{
+    match (date, time, offset) {
+        (None, _, _) => false,
+        (Some(date), None, None) => is_day_of_any_year(date),
+        (Some(_), None, Some(_)) => false,
+        (Some(_), Some(_), _) => false,
+    }
+}
+
+/// Returns whether the date has the year 0, and a day that its month has in some year, or the day 0.
+fn is_day_of_any_year(date: DateRecord) -> bool
+    ensures { IsTrue result ↔ IsDayOfAnyYear Crate date }
+{
+    date.year == 0
+        && 1 <= date.month
+        && date.month <= 12
+        && date.day <= days_in_month(0, date.month)
+}
+
+// ---- lengths
+
+/// Returns the number of bytes of the month and the day.
+#[tactic(auto, using(crate::proofs::code::LoneLengths::lone_lengths))]
+fn optional_day_length(date: Option<DateRecord>) -> u16
+    ensures length { result ≡ length (optional_day_text date) }
+    ensures small { result ≤ 5 }
+{
+    match date {
+        None => 0,
+        Some(_) => 5,
+    }
+}
+
+/// Returns the number of bytes of the canonical text.
+#[tactic(auto, using(crate::proofs::code::LoneLengths::lone_lengths))]
+fn length_of_month_day(parsed: &IxdtfParseRecord<'_, Utf8>) -> u128
+    ensures { result ≡ length (month_day_text (record_of parsed.now)) }
+{
+    u128::from(optional_day_length(parsed.date)) + brackets_length(parsed)
+}
+
+// ---- bytes
+
+/// Writes the month and the day at index `at`, if there is a date. Returns the index after them.
+fn put_optional_day(out: &mut [u8], at: usize, date: Option<DateRecord>) -> usize
+    requires { HasRoom out.old at (optional_day_text date) }
+    ensures { Prints out.old out.new at result (optional_day_text date) }
+{
+    match date {
+        None => at,
+        Some(date) => put_day(out, at, date),
+    }
+}
+
+/// Writes the month and the day at index `at`. Returns the index after them.
+#[tactic(auto, using(crate::proofs::code::PutBytes::putting), unfolding(crate::specs::MonthDays::day_text))]
+fn put_day(out: &mut [u8], at: usize, date: DateRecord) -> usize
+    requires { HasRoom out.old at (day_text date) }
+    ensures { Prints out.old out.new at result (day_text date) }
+{
+    let hyphen = put_two(out, at, date.month);
+    let day = put_byte(out, hyphen, b'-');
+    put_two(out, day, date.day)
+}
+
+/// Writes the record at the beginning of the slice. Returns the index after it.
+#[tactic(auto, using(crate::proofs::code::PutBytes::putting), unfolding(crate::specs::MonthDays::month_day_text))]
+fn put_month_day(out: &mut [u8], parsed: &IxdtfParseRecord<'_, Utf8>) -> usize
+    requires { HasRoom out.old 0 (month_day_text (record_of parsed.now)) }
+    ensures { Prints out.old out.new 0 result (month_day_text (record_of parsed.now)) }
+{
+    let after_core = put_optional_day(out, 0, parsed.date);
+    put_brackets(out, after_core, parsed)
+}

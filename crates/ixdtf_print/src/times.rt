@@ -1,0 +1,270 @@
+//! Times printed as their canonical texts.
+ghost use Rattle.std.specs.Prelude.{◌≡◌, ◌↔◌, ◌<◌, ◌≤◌, ◌^◌, IsTrue, length, map, IfSome, OnSome, OnOk, None};
+ghost use Rattle.std.specs.Fmt.{WritesStyledOnOk};
+ghost use Rattle.ixdtf.specs.language.Letters.{byte_letter};
+ghost use Rattle.ixdtf_print.specs.Canonical.{seconds_text, brackets_text};
+ghost use Rattle.ixdtf_print.specs.Printable.{record_of};
+ghost use Rattle.ixdtf_print.specs.Printing.{PrintsOrRefuses};
+ghost use Rattle.ixdtf_print.specs.Prints.{HasRoom, Prints};
+ghost use Rattle.ixdtf_print.specs.Shown.{bytes_of};
+ghost use Rattle.ixdtf_print.specs.SpelledCores.{HasLoneTime, IsSpelledAs};
+ghost use Rattle.ixdtf_print.specs.Times.{unmarked_time_text, time_core_text, lone_time_text, IsPrintableTime, IsTimeReadBack};
+
+use crate::canonical::{front_of, write_brackets, write_bytes};
+use crate::check::{has_brackets, has_time};
+use crate::digits::{put_fraction, put_two};
+use crate::error::PrintError;
+use crate::fields::{put_brackets, put_minutes, put_offset};
+use crate::length::{brackets_length, fraction_length, shift_length};
+use ixdtf::encoding::Utf8;
+use ixdtf::records::{DateRecord, IxdtfParseRecord, TimeRecord, UtcOffsetRecordOrZ};
+use std::fmt;
+
+/// The greatest number of bytes of a time and an offset: eight and nine, and a fraction of 255 digits with its point in each.
+const MOST_OF_TIME: usize = 529;
+
+/// Writes the canonical text of a time to the beginning of the slice, such as `08:48:00Z[u-ca=hebrew]`.
+///
+/// The time is a record that [`IxdtfParser::parse_time`](ixdtf::parsers::IxdtfParser::parse_time) returns. The canonical
+/// text has the time with its seconds, and no `T`. If the record has them, the offset, the zone and the calendar follow, as
+/// [`print`](crate::print) writes them. `parse_time` never takes the canonical text for the beginning of a date, because
+/// its third byte is a colon.
+///
+/// Returns the number of bytes that were written. The canonical text has at most 12 bytes more than the text that was
+/// parsed.
+///
+/// # Examples
+///
+/// ```rust
+/// use ixdtf::parsers::IxdtfParser;
+/// use ixdtf_print::{PrintError, print_time};
+///
+/// let mut out = [0; 64];
+/// for (text, canonical) in [
+///     ("T1214", "12:14:00"),
+///     ("084800,25z", "08:48:00.25Z"),
+///     ("12+01[!+01][u-ca=hebrew]", "12:00:00+01:00[!+01:00][u-ca=hebrew]"),
+/// ] {
+///     let record = IxdtfParser::from_str(text).parse_time().unwrap();
+///     let count = print_time(&record, &mut out).unwrap();
+///     assert_eq!(&out[..count], canonical.as_bytes());
+///     assert_eq!(print_time(&record, &mut [0; 7]), Err(PrintError::TooShort));
+/// }
+/// let record = IxdtfParser::from_str("2024-03-02T08:48:00Z").parse().unwrap();
+/// assert_eq!(print_time(&record, &mut out), Err(PrintError::NotPrintable));
+/// ```
+///
+/// # Errors
+///
+/// After an error, the slice is unchanged.
+///
+/// - [`PrintError::NotPrintable`]: the record has no canonical text. It has a date, or no time, or a part that no text has.
+/// - [`PrintError::TooShort`]: the slice is shorter than the canonical text.
+pub fn print_time(parsed: &IxdtfParseRecord<'_, Utf8>, out: &mut [u8]) -> Result<usize, PrintError>
+    ensures prints { PrintsOrRefuses (IsPrintableTime (record_of parsed.now)) (lone_time_text (record_of parsed.now)) out.old out.new result }
+    ensures read_back { OnOk result (IsTimeReadBack (record_of parsed.now)) }
+{
+    if !is_time(parsed) {
+        return Err(PrintError::NotPrintable);
+    }
+    if (out.len() as u128) < length_of_time(parsed) {
+        return Err(PrintError::TooShort);
+    }
+    Ok(put_time(out, parsed))
+}
+
+/// Returns the number of bytes of the canonical text of a time.
+///
+/// A slice of this length is long enough for [`print_time`](crate::print_time). Returns `None` if the record has no
+/// canonical text, or if its text is longer than any slice.
+///
+/// # Examples
+///
+/// ```rust
+/// use ixdtf::parsers::IxdtfParser;
+/// use ixdtf_print::time_length;
+///
+/// let record = IxdtfParser::from_str("084800z[u-ca=hebrew]").parse_time().unwrap();
+/// assert_eq!(time_length(&record), Some("08:48:00Z[u-ca=hebrew]".len()));
+/// ```
+pub fn time_length(parsed: &IxdtfParseRecord<'_, Utf8>) -> Option<usize>
+    ensures length { IfSome result (λ n. n ≡ length (lone_time_text (record_of parsed.now))) }
+    ensures printable { OnSome result (IsPrintableTime (record_of parsed.now)) }
+    ensures none { (result ≡ None) ↔ ¬ (IsPrintableTime (record_of parsed.now) ×
+        (length (lone_time_text (record_of parsed.now)) < 2 ^ 64)) }
+{
+    if !is_time(parsed) {
+        return None;
+    }
+    usize::try_from(length_of_time(parsed)).ok()
+}
+
+/// A record of a time that `Display` writes as its canonical text, such as `08:48:00Z[u-ca=hebrew]`.
+///
+/// This is the text that [`print_time`](crate::print_time) writes into a slice. `Display` does not allocate, and ignores
+/// width and fill.
+///
+/// # Examples
+///
+/// ```rust
+/// use ixdtf::parsers::IxdtfParser;
+/// use ixdtf_print::CanonicalTime;
+///
+/// let record = IxdtfParser::from_str("084800z[u-ca=hebrew]").parse_time().unwrap();
+/// assert_eq!(CanonicalTime::of(&record).unwrap().to_string(), "08:48:00Z[u-ca=hebrew]");
+/// ```
+#[derive(Clone, Copy, Debug)]
+pub struct CanonicalTime<'a> {
+    parsed: &'a IxdtfParseRecord<'a, Utf8>,
+}
+
+impl<'a> CanonicalTime<'a> {
+    /// Creates a value that displays the record. Returns `None` if the record has no canonical text as a time.
+    pub fn of(parsed: &'a IxdtfParseRecord<'a, Utf8>) -> Option<CanonicalTime<'a>>
+        ensures shows { IfSome result
+            (λ canonical. record_of canonical.parsed.now ≡ record_of parsed.now) }
+        ensures text { IfSome result
+            (λ canonical. map byte_letter (bytes_of (lone_time_text (record_of canonical.parsed.now)))
+            ≡ lone_time_text (record_of parsed.now)) }
+        ensures read_back { OnSome result (IsTimeReadBack (record_of parsed.now)) }
+        ensures none { (result ≡ None) ↔ ¬ (IsPrintableTime (record_of parsed.now)) }
+    {
+        if !is_time(parsed) {
+            return None;
+        }
+        Some(CanonicalTime { parsed })
+    }
+}
+
+// `Display` ignores width and fill.
+impl<'a> fmt::Display for CanonicalTime<'a> {
+    ghost use Rattle.std.specs.Prelude.{Some};
+    ghost use Rattle.ixdtf_print.specs.Printable.{record_of};
+    ghost use Rattle.ixdtf_print.specs.Shown.{bytes_of};
+    ghost use Rattle.ixdtf_print.specs.Times.{lone_time_text};
+
+    ghost output = { λ c. Some (bytes_of (lone_time_text (record_of c.parsed.now))) };
+
+    ghost styled_output = { λ c _. Some (bytes_of (lone_time_text (record_of c.parsed.now))) };
+
+    fn fmt<W: fmt::Write>(&self, f: &mut fmt::Formatter<W>) -> fmt::Result {
+        write_core(f, self.parsed)?;
+        write_brackets(f, self.parsed)
+    }
+}
+
+/// Writes what comes before the brackets.
+fn write_core<W: fmt::Write>(
+    f: &mut fmt::Formatter<W>,
+    parsed: &IxdtfParseRecord<'_, Utf8>,
+) -> fmt::Result
+    ensures { WritesStyledOnOk W.write_str_gives f.old result (bytes_of (time_core_text (record_of parsed.now))) f.new }
+{
+    let count = usize::from(time_core_length(parsed));
+    let mut bytes = [0; MOST_OF_TIME];
+    put_time_core(&mut bytes, 0, parsed);
+    write_bytes(f, front_of(&bytes, count))
+}
+
+/// Returns whether `parse_time` returns this record for some text.
+fn is_time(parsed: &IxdtfParseRecord<'_, Utf8>) -> bool
+    ensures { IsTrue result ↔ IsPrintableTime (record_of parsed.now) }
+{
+    is_spelled(parsed)
+}
+
+/// Returns whether each field has a text, and the record has the fields of a time.
+fn is_spelled(parsed: &IxdtfParseRecord<'_, Utf8>) -> bool
+    ensures { IsTrue result ↔ IsSpelledAs HasLoneTime (record_of parsed.now) }
+{
+    has_lone_time(parsed.date, parsed.time, parsed.offset) && has_brackets(parsed)
+}
+
+/// Returns whether there are a time and maybe an offset that have texts, and no date.
+fn has_lone_time(
+    date: Option<DateRecord>,
+    time: Option<TimeRecord>,
+    offset: Option<UtcOffsetRecordOrZ>,
+) -> bool
+    ensures { IsTrue result ↔ HasLoneTime date time offset }
+{
+    match (date, time) {
+        (None, None) => false,
+        (None, Some(time)) => has_time(Some(time), offset),
+        (Some(_), _) => false,
+    }
+}
+
+// ---- lengths
+
+/// Returns the number of bytes of the time, without a `T`.
+#[tactic(auto, using(crate::proofs::code::LoneLengths::lone_lengths))]
+fn unmarked_time_length(time: Option<TimeRecord>) -> u16
+    ensures length { result ≡ length (unmarked_time_text time) }
+    ensures small { result ≤ 264 }
+{
+    match time {
+        None => 0,
+        Some(time) => 8 + fraction_length(time.fraction),
+    }
+}
+
+/// Returns the number of bytes of the time and the offset.
+#[tactic(auto, using(crate::proofs::code::LoneLengths::lone_lengths))]
+fn time_core_length(parsed: &IxdtfParseRecord<'_, Utf8>) -> u16
+    ensures length { result ≡ length (time_core_text (record_of parsed.now)) }
+    ensures small { result ≤ 529 }
+{
+    unmarked_time_length(parsed.time) + shift_length(parsed.offset)
+}
+
+/// Returns the number of bytes of the canonical text.
+#[tactic(auto, using(crate::proofs::code::LoneLengths::lone_lengths))]
+fn length_of_time(parsed: &IxdtfParseRecord<'_, Utf8>) -> u128
+    ensures { result ≡ length (lone_time_text (record_of parsed.now)) }
+{
+    u128::from(time_core_length(parsed)) + brackets_length(parsed)
+}
+
+// ---- bytes
+
+/// Writes an hour, a minute and a second at index `at`. Returns the index after them.
+fn put_unmarked_seconds(out: &mut [u8], at: usize, hour: u8, minute: u8, second: u8) -> usize
+    requires { HasRoom out.old at (seconds_text hour minute second) }
+    ensures { Prints out.old out.new at result (seconds_text hour minute second) }
+{
+    let colon = put_two(out, at, hour);
+    put_minutes(out, colon, b':', minute, second)
+}
+
+/// Writes the time at index `at`, if there is one, without a `T`. Returns the index after it.
+fn put_unmarked_time(out: &mut [u8], at: usize, time: Option<TimeRecord>) -> usize
+    requires { HasRoom out.old at (unmarked_time_text time) }
+    ensures { Prints out.old out.new at result (unmarked_time_text time) }
+{
+    let Some(time) = time else {
+        return at;
+    };
+    let point = put_unmarked_seconds(out, at, time.hour, time.minute, time.second);
+    put_fraction(out, point, time.fraction)
+}
+
+/// Writes the time and the offset at index `at`. Returns the index after them.
+#[tactic(auto, using(crate::proofs::code::PutBytes::putting), unfolding(crate::specs::Times::time_core_text))]
+fn put_time_core(out: &mut [u8], at: usize, parsed: &IxdtfParseRecord<'_, Utf8>) -> usize
+    requires { HasRoom out.old at (time_core_text (record_of parsed.now)) }
+    ensures { Prints out.old out.new at result (time_core_text (record_of parsed.now)) }
+{
+    let after_time = put_unmarked_time(out, at, parsed.time);
+    put_offset(out, after_time, parsed.offset)
+}
+
+/// Writes the record at the beginning of the slice. Returns the index after it.
+#[tactic(auto, using(crate::proofs::code::PutBytes::putting), unfolding(crate::specs::Times::lone_time_text))]
+fn put_time(out: &mut [u8], parsed: &IxdtfParseRecord<'_, Utf8>) -> usize
+    requires { HasRoom out.old 0 (lone_time_text (record_of parsed.now)) }
+    ensures { Prints out.old out.new 0 result (lone_time_text (record_of parsed.now)) }
+{
+    let after_core = put_time_core(out, 0, parsed);
+    put_brackets(out, after_core, parsed)
+}

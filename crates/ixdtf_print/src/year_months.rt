@@ -1,0 +1,272 @@
+//! Years and months printed as their canonical texts.
+ghost use Rattle.std.specs.Prelude.{◌≡◌, ◌↔◌, ◌<◌, ◌≤◌, ◌^◌, IsTrue, length, map, IfSome, OnSome, OnOk, None};
+ghost use Rattle.std.specs.Fmt.{WritesStyledOnOk};
+ghost use Rattle.ixdtf.specs.language.Letters.{byte_letter};
+ghost use Rattle.ixdtf_print.specs.Canonical.{brackets_text};
+ghost use Rattle.ixdtf_print.specs.Printable.{record_of};
+ghost use Rattle.ixdtf_print.specs.Printing.{PrintsOrRefuses};
+ghost use Rattle.ixdtf_print.specs.Prints.{HasRoom, Prints};
+ghost use Rattle.ixdtf_print.specs.Shown.{bytes_of};
+ghost use Rattle.ixdtf_print.specs.SpelledCores.{IsFirstDay, HasLoneMonth, IsSpelledAs};
+ghost use Rattle.ixdtf_print.specs.YearMonths.{month_text, optional_month_text, year_month_text, IsPrintableYearMonth, IsYearMonthReadBack};
+
+use crate::canonical::{front_of, write_brackets, write_bytes};
+use crate::check::has_brackets;
+use crate::digits::put_two;
+use crate::error::PrintError;
+use crate::fields::{put_brackets, put_year};
+use crate::length::brackets_length;
+use crate::put::put_byte;
+use ixdtf::encoding::Utf8;
+use ixdtf::records::{DateRecord, IxdtfParseRecord, TimeRecord, UtcOffsetRecordOrZ};
+use std::fmt;
+
+/// The greatest number of bytes of a year and a month.
+const MOST_OF_MONTH: usize = 10;
+
+/// Writes the canonical text of a year and a month to the beginning of the slice, such as `2020-11[u-ca=hebrew]`.
+///
+/// The record is one that [`IxdtfParser::parse_year_month`](ixdtf::parsers::IxdtfParser::parse_year_month) returns. The
+/// canonical text has the year, with four digits or with a sign and six digits, and the month. If the record has them, the
+/// zone and the calendar follow, as [`print`](crate::print) writes them.
+///
+/// A date whose day is 1 is the same record: `print` writes it as `2020-11-01`, and this function as `2020-11`.
+///
+/// Returns the number of bytes that were written. The canonical text has at most 4 bytes more than the text that was
+/// parsed.
+///
+/// # Examples
+///
+/// ```rust
+/// use ixdtf::parsers::IxdtfParser;
+/// use ixdtf_print::{PrintError, print_year_month};
+///
+/// let mut out = [0; 64];
+/// for (text, canonical) in [
+///     ("202011", "2020-11"),
+///     ("+002020-11[u-ca=hebrew]", "2020-11[u-ca=hebrew]"),
+///     ("-00000112[+01]", "-000001-12[+01:00]"),
+/// ] {
+///     let record = IxdtfParser::from_str(text).parse_year_month().unwrap();
+///     let count = print_year_month(&record, &mut out).unwrap();
+///     assert_eq!(&out[..count], canonical.as_bytes());
+///     assert_eq!(print_year_month(&record, &mut [0; 6]), Err(PrintError::TooShort));
+/// }
+/// let record = IxdtfParser::from_str("2020-11-08").parse().unwrap();
+/// assert_eq!(print_year_month(&record, &mut out), Err(PrintError::NotPrintable));
+/// ```
+///
+/// # Errors
+///
+/// After an error, the slice is unchanged.
+///
+/// - [`PrintError::NotPrintable`]: the record has no canonical text. It has no date, or another day than 1, or a time, or an
+///   offset, or a part that no text has.
+/// - [`PrintError::TooShort`]: the slice is shorter than the canonical text.
+pub fn print_year_month(
+    parsed: &IxdtfParseRecord<'_, Utf8>,
+    out: &mut [u8],
+) -> Result<usize, PrintError>
+    ensures prints { PrintsOrRefuses (IsPrintableYearMonth (record_of parsed.now)) (year_month_text (record_of parsed.now)) out.old out.new result }
+    ensures read_back { OnOk result (IsYearMonthReadBack (record_of parsed.now)) }
+{
+    if !is_year_month(parsed) {
+        return Err(PrintError::NotPrintable);
+    }
+    if (out.len() as u128) < length_of_year_month(parsed) {
+        return Err(PrintError::TooShort);
+    }
+    Ok(put_year_month(out, parsed))
+}
+
+/// Returns the number of bytes of the canonical text of a year and a month.
+///
+/// A slice of this length is long enough for [`print_year_month`](crate::print_year_month). Returns `None` if the record has no
+/// canonical text, or if its text is longer than any slice.
+///
+/// # Examples
+///
+/// ```rust
+/// use ixdtf::parsers::IxdtfParser;
+/// use ixdtf_print::year_month_length;
+///
+/// let record = IxdtfParser::from_str("202011[u-ca=hebrew]").parse_year_month().unwrap();
+/// assert_eq!(year_month_length(&record), Some("2020-11[u-ca=hebrew]".len()));
+/// ```
+pub fn year_month_length(parsed: &IxdtfParseRecord<'_, Utf8>) -> Option<usize>
+    ensures length { IfSome result (λ n. n ≡ length (year_month_text (record_of parsed.now))) }
+    ensures printable { OnSome result (IsPrintableYearMonth (record_of parsed.now)) }
+    ensures none { (result ≡ None) ↔ ¬ (IsPrintableYearMonth (record_of parsed.now) ×
+        (length (year_month_text (record_of parsed.now)) < 2 ^ 64)) }
+{
+    if !is_year_month(parsed) {
+        return None;
+    }
+    usize::try_from(length_of_year_month(parsed)).ok()
+}
+
+/// A record of a year and a month that `Display` writes as its canonical text, such as `2020-11[u-ca=hebrew]`.
+///
+/// This is the text that [`print_year_month`](crate::print_year_month) writes into a slice. `Display` does not allocate, and ignores
+/// width and fill.
+///
+/// # Examples
+///
+/// ```rust
+/// use ixdtf::parsers::IxdtfParser;
+/// use ixdtf_print::CanonicalYearMonth;
+///
+/// let record = IxdtfParser::from_str("202011[u-ca=hebrew]").parse_year_month().unwrap();
+/// assert_eq!(CanonicalYearMonth::of(&record).unwrap().to_string(), "2020-11[u-ca=hebrew]");
+/// ```
+#[derive(Clone, Copy, Debug)]
+pub struct CanonicalYearMonth<'a> {
+    parsed: &'a IxdtfParseRecord<'a, Utf8>,
+}
+
+impl<'a> CanonicalYearMonth<'a> {
+    /// Creates a value that displays the record. Returns `None` if the record has no canonical text as a year and a month.
+    pub fn of(parsed: &'a IxdtfParseRecord<'a, Utf8>) -> Option<CanonicalYearMonth<'a>>
+        ensures shows { IfSome result
+            (λ canonical. record_of canonical.parsed.now ≡ record_of parsed.now) }
+        ensures text { IfSome result
+            (λ canonical. map byte_letter (bytes_of (year_month_text (record_of canonical.parsed.now)))
+            ≡ year_month_text (record_of parsed.now)) }
+        ensures read_back { OnSome result (IsYearMonthReadBack (record_of parsed.now)) }
+        ensures none { (result ≡ None) ↔ ¬ (IsPrintableYearMonth (record_of parsed.now)) }
+    {
+        if !is_year_month(parsed) {
+            return None;
+        }
+        Some(CanonicalYearMonth { parsed })
+    }
+}
+
+// `Display` ignores width and fill.
+impl<'a> fmt::Display for CanonicalYearMonth<'a> {
+    ghost use Rattle.std.specs.Prelude.{Some};
+    ghost use Rattle.ixdtf_print.specs.Printable.{record_of};
+    ghost use Rattle.ixdtf_print.specs.Shown.{bytes_of};
+    ghost use Rattle.ixdtf_print.specs.YearMonths.{year_month_text};
+
+    ghost output = { λ c. Some (bytes_of (year_month_text (record_of c.parsed.now))) };
+
+    ghost styled_output = { λ c _. Some (bytes_of (year_month_text (record_of c.parsed.now))) };
+
+    fn fmt<W: fmt::Write>(&self, f: &mut fmt::Formatter<W>) -> fmt::Result {
+        write_core(f, self.parsed)?;
+        write_brackets(f, self.parsed)
+    }
+}
+
+/// Writes what comes before the brackets.
+fn write_core<W: fmt::Write>(
+    f: &mut fmt::Formatter<W>,
+    parsed: &IxdtfParseRecord<'_, Utf8>,
+) -> fmt::Result
+    ensures { WritesStyledOnOk W.write_str_gives f.old result (bytes_of (optional_month_text parsed.now.date)) f.new }
+{
+    let count = usize::from(optional_month_length(parsed.date));
+    let mut bytes = [0; MOST_OF_MONTH];
+    put_optional_month(&mut bytes, 0, parsed.date);
+    write_bytes(f, front_of(&bytes, count))
+}
+
+/// Returns whether `parse_year_month` returns this record for some text.
+fn is_year_month(parsed: &IxdtfParseRecord<'_, Utf8>) -> bool
+    ensures { IsTrue result ↔ IsPrintableYearMonth (record_of parsed.now) }
+{
+    is_spelled(parsed)
+}
+
+/// Returns whether each field has a text, and the record has the fields of a year and a month.
+fn is_spelled(parsed: &IxdtfParseRecord<'_, Utf8>) -> bool
+    ensures { IsTrue result ↔ IsSpelledAs HasLoneMonth (record_of parsed.now) }
+{
+    has_lone_month(parsed.date, parsed.time, parsed.offset) && has_brackets(parsed)
+}
+
+/// Returns whether there is the first day of a month, and neither a time nor an offset.
+fn has_lone_month(
+    date: Option<DateRecord>,
+    time: Option<TimeRecord>,
+    offset: Option<UtcOffsetRecordOrZ>,
+) -> bool
+    ensures { IsTrue result ↔ HasLoneMonth date time offset }
+{
+    match (date, time, offset) {
+        (None, _, _) => false,
+        (Some(date), None, None) => is_first_day(date),
+        (Some(_), None, Some(_)) => false,
+        (Some(_), Some(_), _) => false,
+    }
+}
+
+/// Returns whether the date is the first day of a month, in a year with at most six digits.
+fn is_first_day(date: DateRecord) -> bool
+    ensures { IsTrue result ↔ IsFirstDay date }
+{
+    date.year.unsigned_abs() <= 999_999 && 1 <= date.month && date.month <= 12 && date.day == 1
+}
+
+// ---- lengths
+
+/// Returns the number of bytes of the year and the month.
+#[tactic(auto, using(crate::proofs::code::LoneLengths::lone_lengths))]
+fn optional_month_length(date: Option<DateRecord>) -> u16
+    ensures length { result ≡ length (optional_month_text date) }
+    ensures small { result ≤ 10 }
+{
+    match date {
+        None => 0,
+        Some(date) => {
+            if 0 <= date.year && date.year <= 9999 {
+                7
+            } else {
+                10
+            }
+        }
+    }
+}
+
+/// Returns the number of bytes of the canonical text.
+#[tactic(auto, using(crate::proofs::code::LoneLengths::lone_lengths))]
+fn length_of_year_month(parsed: &IxdtfParseRecord<'_, Utf8>) -> u128
+    ensures { result ≡ length (year_month_text (record_of parsed.now)) }
+{
+    u128::from(optional_month_length(parsed.date)) + brackets_length(parsed)
+}
+
+// ---- bytes
+
+/// Writes the year and the month at index `at`, if there is a date. Returns the index after them.
+fn put_optional_month(out: &mut [u8], at: usize, date: Option<DateRecord>) -> usize
+    requires { HasRoom out.old at (optional_month_text date) }
+    ensures { Prints out.old out.new at result (optional_month_text date) }
+{
+    match date {
+        None => at,
+        Some(date) => put_month(out, at, date),
+    }
+}
+
+/// Writes the year and the month at index `at`. Returns the index after them.
+#[tactic(auto, using(crate::proofs::code::PutBytes::putting), unfolding(crate::specs::YearMonths::month_text))]
+fn put_month(out: &mut [u8], at: usize, date: DateRecord) -> usize
+    requires { HasRoom out.old at (month_text date) }
+    ensures { Prints out.old out.new at result (month_text date) }
+{
+    let hyphen = put_year(out, at, date);
+    let month = put_byte(out, hyphen, b'-');
+    put_two(out, month, date.month)
+}
+
+/// Writes the record at the beginning of the slice. Returns the index after it.
+#[tactic(auto, using(crate::proofs::code::PutBytes::putting), unfolding(crate::specs::YearMonths::year_month_text))]
+fn put_year_month(out: &mut [u8], parsed: &IxdtfParseRecord<'_, Utf8>) -> usize
+    requires { HasRoom out.old 0 (year_month_text (record_of parsed.now)) }
+    ensures { Prints out.old out.new 0 result (year_month_text (record_of parsed.now)) }
+{
+    let after_core = put_optional_month(out, 0, parsed.date);
+    put_brackets(out, after_core, parsed)
+}

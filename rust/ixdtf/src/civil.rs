@@ -1,0 +1,61 @@
+// Made by tools/to_rust.py of crates/ixdtf_instants/src/civil.rt. Do not edit.
+
+//! The date of a day.
+
+// A multiple of 400 years, and more than the years before 0 of any instant.
+const SHIFT: i64 = 400_000_000_000;
+
+// The days from 1 March of the year -SHIFT to 1 January 1970.
+const EPOCH: i64 = 146_097_000_719_468;
+
+/// A date of the calendar.
+#[derive(Clone, Copy, Debug, PartialEq, Eq)]
+pub struct CivilDate {
+    pub year: i64,
+    pub month: u8,
+    pub day: u8,
+}
+
+/// The date with a day number: day 0 is 1970-01-01. The numbers of all instants are in the bounds.
+pub fn date_of(days: i64) -> CivilDate {
+    let count = days_from_first(days);
+    let year = march_year_of(count);
+    let day_of_year = (count - days_before(year)) as u32;
+    let month = march_month_of(day_of_year);
+    let day = (day_of_year - (153 * month + 2) / 5 + 1) as u8;
+    if month < 10 {
+        CivilDate {
+            year: year as i64 - SHIFT,
+            month: month as u8 + 3,
+            day,
+        }
+    } else {
+        CivilDate {
+            year: year as i64 - SHIFT + 1,
+            month: month as u8 - 9,
+            day,
+        }
+    }
+}
+
+// The days from 1 March of the year -SHIFT to a day.
+fn days_from_first(days: i64) -> u64 {
+    (days + EPOCH) as u64
+}
+
+// The year that a day is in, where years begin on 1 March and year 0 begins on day 0.
+fn march_year_of(count: u64) -> u64 {
+    let century = (4 * count + 3) / 146_097;
+    let day_of_century = count - 146_097 * century / 4;
+    100 * century + (4 * day_of_century + 3) / 1_461
+}
+
+// The days of the first years that begin on 1 March.
+fn days_before(year: u64) -> u64 {
+    365 * year + year / 4 - year / 100 + year / 400
+}
+
+// The month of a day in a year that begins on 1 March. March is 0.
+fn march_month_of(day_of_year: u32) -> u32 {
+    (5 * day_of_year + 2) / 153
+}

@@ -1,0 +1,210 @@
+// Made by tools/to_rust.py of crates/ixdtf_print/src/month_days.rt. Do not edit.
+
+//! Months and days printed as their canonical texts.
+
+use crate::canonical::{front_of, write_brackets, write_bytes};
+use crate::check::has_brackets;
+use crate::digits::put_two;
+use crate::error::PrintError;
+use crate::fields::put_brackets;
+use crate::length::brackets_length;
+use crate::put::put_byte;
+use ixdtf::encoding::Utf8;
+use ixdtf::parsers::days_in_month;
+use ixdtf::records::{DateRecord, IxdtfParseRecord, TimeRecord, UtcOffsetRecordOrZ};
+use core::fmt;
+
+/// The number of bytes of a month and a day.
+const MOST_OF_DAY: usize = 5;
+
+/// Writes the canonical text of a month and a day to the beginning of the slice, such as `11-07[u-ca=hebrew]`.
+///
+/// The record is one that [`IxdtfParser::parse_month_day`](ixdtf::parsers::IxdtfParser::parse_month_day) returns. The
+/// canonical text has the month and the day, without hyphens before them. If the record has them, the zone and the calendar
+/// follow, as [`print`](crate::print) writes them. The day can be 00: under the default profile, `parse_month_day` returns
+/// such a record.
+///
+/// A date in the year 0 is the same record: `print` writes it as `0000-11-07`, and this function as `11-07`.
+///
+/// Returns the number of bytes that were written. The canonical text has at most 4 bytes more than the text that was
+/// parsed.
+///
+/// # Examples
+///
+/// ```rust
+/// use ixdtf::parsers::IxdtfParser;
+/// use ixdtf_print::{PrintError, print_month_day};
+///
+/// let mut out = [0; 64];
+/// for (text, canonical) in [
+///     ("--11-07", "11-07"),
+///     ("0229[u-ca=hebrew]", "02-29[u-ca=hebrew]"),
+///     ("1100[+01]", "11-00[+01:00]"),
+/// ] {
+///     let record = IxdtfParser::from_str(text).parse_month_day().unwrap();
+///     let count = print_month_day(&record, &mut out).unwrap();
+///     assert_eq!(&out[..count], canonical.as_bytes());
+///     assert_eq!(print_month_day(&record, &mut [0; 4]), Err(PrintError::TooShort));
+/// }
+/// let record = IxdtfParser::from_str("2020-11-08").parse().unwrap();
+/// assert_eq!(print_month_day(&record, &mut out), Err(PrintError::NotPrintable));
+/// ```
+///
+/// # Errors
+///
+/// After an error, the slice is unchanged.
+///
+/// - [`PrintError::NotPrintable`]: the record has no canonical text. It has no date, or another year than 0, or a time, or
+///   an offset, or a part that no text has.
+/// - [`PrintError::TooShort`]: the slice is shorter than the canonical text.
+pub fn print_month_day(
+    parsed: &IxdtfParseRecord<'_, Utf8>,
+    out: &mut [u8],
+) -> Result<usize, PrintError> {
+    if !is_month_day(parsed) {
+        return Err(PrintError::NotPrintable);
+    }
+    if (out.len() as u128) < length_of_month_day(parsed) {
+        return Err(PrintError::TooShort);
+    }
+    Ok(put_month_day(out, parsed))
+}
+
+/// Returns the number of bytes of the canonical text of a month and a day.
+///
+/// A slice of this length is long enough for [`print_month_day`](crate::print_month_day). Returns `None` if the record has no
+/// canonical text, or if its text is longer than any slice.
+///
+/// # Examples
+///
+/// ```rust
+/// use ixdtf::parsers::IxdtfParser;
+/// use ixdtf_print::month_day_length;
+///
+/// let record = IxdtfParser::from_str("--1107[u-ca=hebrew]").parse_month_day().unwrap();
+/// assert_eq!(month_day_length(&record), Some("11-07[u-ca=hebrew]".len()));
+/// ```
+pub fn month_day_length(parsed: &IxdtfParseRecord<'_, Utf8>) -> Option<usize> {
+    if !is_month_day(parsed) {
+        return None;
+    }
+    usize::try_from(length_of_month_day(parsed)).ok()
+}
+
+/// A record of a month and a day that `Display` writes as its canonical text, such as `11-07[u-ca=hebrew]`.
+///
+/// This is the text that [`print_month_day`](crate::print_month_day) writes into a slice. `Display` does not allocate, and ignores
+/// width and fill.
+///
+/// # Examples
+///
+/// ```rust
+/// use ixdtf::parsers::IxdtfParser;
+/// use ixdtf_print::CanonicalMonthDay;
+///
+/// let record = IxdtfParser::from_str("--1107[u-ca=hebrew]").parse_month_day().unwrap();
+/// assert_eq!(CanonicalMonthDay::of(&record).unwrap().to_string(), "11-07[u-ca=hebrew]");
+/// ```
+#[derive(Clone, Copy, Debug)]
+pub struct CanonicalMonthDay<'a> {
+    parsed: &'a IxdtfParseRecord<'a, Utf8>,
+}
+
+impl<'a> CanonicalMonthDay<'a> {
+    /// Creates a value that displays the record. Returns `None` if the record has no canonical text as a month and a day.
+    pub fn of(parsed: &'a IxdtfParseRecord<'a, Utf8>) -> Option<CanonicalMonthDay<'a>> {
+        if !is_month_day(parsed) {
+            return None;
+        }
+        Some(CanonicalMonthDay { parsed })
+    }
+}
+
+// `Display` ignores width and fill.
+impl<'a> fmt::Display for CanonicalMonthDay<'a> {
+    fn fmt(&self, f: &mut fmt::Formatter<'_>) -> fmt::Result {
+        write_core(f, self.parsed)?;
+        write_brackets(f, self.parsed)
+    }
+}
+
+/// Writes what comes before the brackets.
+fn write_core(
+    f: &mut fmt::Formatter<'_>,
+    parsed: &IxdtfParseRecord<'_, Utf8>,
+) -> fmt::Result {
+    let count = usize::from(optional_day_length(parsed.date));
+    let mut bytes = [0; MOST_OF_DAY];
+    put_optional_day(&mut bytes, 0, parsed.date);
+    write_bytes(f, front_of(&bytes, count))
+}
+
+/// Returns whether `parse_month_day` returns this record for some text.
+fn is_month_day(parsed: &IxdtfParseRecord<'_, Utf8>) -> bool {
+    is_spelled(parsed)
+}
+
+/// Returns whether each field has a text, and the record has the fields of a month and a day.
+fn is_spelled(parsed: &IxdtfParseRecord<'_, Utf8>) -> bool {
+    has_lone_day(parsed.date, parsed.time, parsed.offset) && has_brackets(parsed)
+}
+
+/// Returns whether there is a day of the year 0, and neither a time nor an offset. The day may be 0.
+fn has_lone_day(
+    date: Option<DateRecord>,
+    time: Option<TimeRecord>,
+    offset: Option<UtcOffsetRecordOrZ>,
+) -> bool {
+    match (date, time, offset) {
+        (None, _, _) => false,
+        (Some(date), None, None) => is_day_of_any_year(date),
+        (Some(_), None, Some(_)) => false,
+        (Some(_), Some(_), _) => false,
+    }
+}
+
+/// Returns whether the date has the year 0, and a day that its month has in some year, or the day 0.
+fn is_day_of_any_year(date: DateRecord) -> bool {
+    date.year == 0
+        && 1 <= date.month
+        && date.month <= 12
+        && date.day <= days_in_month(0, date.month)
+}
+
+// ---- lengths
+
+/// Returns the number of bytes of the month and the day.
+fn optional_day_length(date: Option<DateRecord>) -> u16 {
+    match date {
+        None => 0,
+        Some(_) => 5,
+    }
+}
+
+/// Returns the number of bytes of the canonical text.
+fn length_of_month_day(parsed: &IxdtfParseRecord<'_, Utf8>) -> u128 {
+    u128::from(optional_day_length(parsed.date)) + brackets_length(parsed)
+}
+
+// ---- bytes
+
+/// Writes the month and the day at index `at`, if there is a date. Returns the index after them.
+fn put_optional_day(out: &mut [u8], at: usize, date: Option<DateRecord>) -> usize {
+    match date {
+        None => at,
+        Some(date) => put_day(out, at, date),
+    }
+}
+
+/// Writes the month and the day at index `at`. Returns the index after them.
+fn put_day(out: &mut [u8], at: usize, date: DateRecord) -> usize {
+    let hyphen = put_two(out, at, date.month);
+    let day = put_byte(out, hyphen, b'-');
+    put_two(out, day, date.day)
+}
+
+/// Writes the record at the beginning of the slice. Returns the index after it.
+fn put_month_day(out: &mut [u8], parsed: &IxdtfParseRecord<'_, Utf8>) -> usize {
+    let after_core = put_optional_day(out, 0, parsed.date);
+    put_brackets(out, after_core, parsed)
+}

@@ -1,0 +1,130 @@
+// Made by tools/to_rust.py of crates/ixdtf_print/src/offsets.rt. Do not edit.
+
+//! Offsets printed as their canonical texts.
+
+use crate::canonical::{front_of, write_bytes};
+use crate::check::is_shift;
+use crate::error::PrintError;
+use crate::fields::put_offset;
+use crate::length::shift_length;
+use ixdtf::records::{UtcOffsetRecord, UtcOffsetRecordOrZ};
+use core::fmt;
+
+/// The greatest number of bytes of an offset: a sign, eight bytes, a point, and a fraction of 255 digits.
+const MOST_OF_OFFSET: usize = 265;
+
+/// Writes the canonical text of an offset to the beginning of the slice, such as `-05:00` or `+01:30:15.5`.
+///
+/// The offset is a record that [`TimeZoneParser::parse_offset`](ixdtf::parsers::TimeZoneParser::parse_offset) returns. The
+/// canonical text has the seconds exactly if the offset was read with seconds: `+01` is written as `+01:00`, and
+/// `+01:00:00` stays as it is. Digits of a fraction after the first 18 are written as zeros.
+///
+/// Returns the number of bytes that were written. The canonical text has at most 3 bytes more than the text that was
+/// parsed.
+///
+/// # Examples
+///
+/// ```rust
+/// use ixdtf::parsers::TimeZoneParser;
+/// use ixdtf_print::{PrintError, print_offset};
+///
+/// let mut out = [0; 16];
+/// for (text, canonical) in [("-05", "-05:00"), ("+0130", "+01:30"), ("+013015,5", "+01:30:15.5")] {
+///     let offset = TimeZoneParser::from_str(text).parse_offset().unwrap();
+///     let count = print_offset(&offset, &mut out).unwrap();
+///     assert_eq!(&out[..count], canonical.as_bytes());
+///     assert_eq!(print_offset(&offset, &mut [0; 5]), Err(PrintError::TooShort));
+/// }
+/// ```
+///
+/// # Errors
+///
+/// After an error, the slice is unchanged.
+///
+/// - [`PrintError::NotPrintable`]: the offset has no canonical text, because a number of it is out of its range.
+/// - [`PrintError::TooShort`]: the slice is shorter than the canonical text.
+pub fn print_offset(offset: &UtcOffsetRecord, out: &mut [u8]) -> Result<usize, PrintError> {
+    if !is_offset(offset) {
+        return Err(PrintError::NotPrintable);
+    }
+    if out.len() < usize::from(length_of_offset(offset)) {
+        return Err(PrintError::TooShort);
+    }
+    Ok(put_utc_offset(out, offset))
+}
+
+/// Returns the number of bytes of the canonical text of an offset.
+///
+/// A slice of this length is long enough for [`print_offset`](crate::print_offset). Returns `None` if the offset has no
+/// canonical text.
+///
+/// # Examples
+///
+/// ```rust
+/// use ixdtf::parsers::TimeZoneParser;
+/// use ixdtf_print::offset_length;
+///
+/// let offset = TimeZoneParser::from_str("+013015,5").parse_offset().unwrap();
+/// assert_eq!(offset_length(&offset), Some("+01:30:15.5".len()));
+/// ```
+pub fn offset_length(offset: &UtcOffsetRecord) -> Option<usize> {
+    if !is_offset(offset) {
+        return None;
+    }
+    Some(usize::from(length_of_offset(offset)))
+}
+
+/// An offset that `Display` writes as its canonical text, such as `-05:00`.
+///
+/// This is the text that [`print_offset`](crate::print_offset) writes into a slice. `Display` does not allocate, and
+/// ignores width and fill.
+///
+/// # Examples
+///
+/// ```rust
+/// use ixdtf::parsers::TimeZoneParser;
+/// use ixdtf_print::CanonicalOffset;
+///
+/// let offset = TimeZoneParser::from_str("-0530").parse_offset().unwrap();
+/// assert_eq!(CanonicalOffset::of(&offset).unwrap().to_string(), "-05:30");
+/// ```
+#[derive(Clone, Copy, Debug)]
+pub struct CanonicalOffset<'a> {
+    offset: &'a UtcOffsetRecord,
+}
+
+impl<'a> CanonicalOffset<'a> {
+    /// Creates a value that displays the offset. Returns `None` if the offset has no canonical text.
+    pub fn of(offset: &'a UtcOffsetRecord) -> Option<CanonicalOffset<'a>> {
+        if !is_offset(offset) {
+            return None;
+        }
+        Some(CanonicalOffset { offset })
+    }
+}
+
+// `Display` ignores width and fill.
+impl<'a> fmt::Display for CanonicalOffset<'a> {
+    fn fmt(&self, f: &mut fmt::Formatter<'_>) -> fmt::Result {
+        let count = usize::from(length_of_offset(self.offset));
+        let mut bytes = [0; MOST_OF_OFFSET];
+        put_utc_offset(&mut bytes, self.offset);
+        write_bytes(f, front_of(&bytes, count))
+    }
+}
+
+/// Returns whether `parse_offset` returns this offset for some text.
+#[inline(always)]
+fn is_offset(offset: &UtcOffsetRecord) -> bool {
+    is_shift(UtcOffsetRecordOrZ::Offset(*offset))
+}
+
+/// Returns the number of bytes of the canonical text of the offset.
+fn length_of_offset(offset: &UtcOffsetRecord) -> u16 {
+    shift_length(Some(UtcOffsetRecordOrZ::Offset(*offset)))
+}
+
+/// Writes the offset at the beginning of the slice. Returns the index after it.
+fn put_utc_offset(out: &mut [u8], offset: &UtcOffsetRecord) -> usize {
+    put_offset(out, 0, Some(UtcOffsetRecordOrZ::Offset(*offset)))
+}

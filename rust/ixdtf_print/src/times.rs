@@ -1,0 +1,204 @@
+// Made by tools/to_rust.py of crates/ixdtf_print/src/times.rt. Do not edit.
+
+//! Times printed as their canonical texts.
+
+use crate::canonical::{front_of, write_brackets, write_bytes};
+use crate::check::{has_brackets, has_time};
+use crate::digits::{put_fraction, put_two};
+use crate::error::PrintError;
+use crate::fields::{put_brackets, put_minutes, put_offset};
+use crate::length::{brackets_length, fraction_length, shift_length};
+use ixdtf::encoding::Utf8;
+use ixdtf::records::{DateRecord, IxdtfParseRecord, TimeRecord, UtcOffsetRecordOrZ};
+use core::fmt;
+
+/// The greatest number of bytes of a time and an offset: eight and nine, and a fraction of 255 digits with its point in each.
+const MOST_OF_TIME: usize = 529;
+
+/// Writes the canonical text of a time to the beginning of the slice, such as `08:48:00Z[u-ca=hebrew]`.
+///
+/// The time is a record that [`IxdtfParser::parse_time`](ixdtf::parsers::IxdtfParser::parse_time) returns. The canonical
+/// text has the time with its seconds, and no `T`. If the record has them, the offset, the zone and the calendar follow, as
+/// [`print`](crate::print) writes them. `parse_time` never takes the canonical text for the beginning of a date, because
+/// its third byte is a colon.
+///
+/// Returns the number of bytes that were written. The canonical text has at most 12 bytes more than the text that was
+/// parsed.
+///
+/// # Examples
+///
+/// ```rust
+/// use ixdtf::parsers::IxdtfParser;
+/// use ixdtf_print::{PrintError, print_time};
+///
+/// let mut out = [0; 64];
+/// for (text, canonical) in [
+///     ("T1214", "12:14:00"),
+///     ("084800,25z", "08:48:00.25Z"),
+///     ("12+01[!+01][u-ca=hebrew]", "12:00:00+01:00[!+01:00][u-ca=hebrew]"),
+/// ] {
+///     let record = IxdtfParser::from_str(text).parse_time().unwrap();
+///     let count = print_time(&record, &mut out).unwrap();
+///     assert_eq!(&out[..count], canonical.as_bytes());
+///     assert_eq!(print_time(&record, &mut [0; 7]), Err(PrintError::TooShort));
+/// }
+/// let record = IxdtfParser::from_str("2024-03-02T08:48:00Z").parse().unwrap();
+/// assert_eq!(print_time(&record, &mut out), Err(PrintError::NotPrintable));
+/// ```
+///
+/// # Errors
+///
+/// After an error, the slice is unchanged.
+///
+/// - [`PrintError::NotPrintable`]: the record has no canonical text. It has a date, or no time, or a part that no text has.
+/// - [`PrintError::TooShort`]: the slice is shorter than the canonical text.
+pub fn print_time(parsed: &IxdtfParseRecord<'_, Utf8>, out: &mut [u8]) -> Result<usize, PrintError> {
+    if !is_time(parsed) {
+        return Err(PrintError::NotPrintable);
+    }
+    if (out.len() as u128) < length_of_time(parsed) {
+        return Err(PrintError::TooShort);
+    }
+    Ok(put_time(out, parsed))
+}
+
+/// Returns the number of bytes of the canonical text of a time.
+///
+/// A slice of this length is long enough for [`print_time`](crate::print_time). Returns `None` if the record has no
+/// canonical text, or if its text is longer than any slice.
+///
+/// # Examples
+///
+/// ```rust
+/// use ixdtf::parsers::IxdtfParser;
+/// use ixdtf_print::time_length;
+///
+/// let record = IxdtfParser::from_str("084800z[u-ca=hebrew]").parse_time().unwrap();
+/// assert_eq!(time_length(&record), Some("08:48:00Z[u-ca=hebrew]".len()));
+/// ```
+pub fn time_length(parsed: &IxdtfParseRecord<'_, Utf8>) -> Option<usize> {
+    if !is_time(parsed) {
+        return None;
+    }
+    usize::try_from(length_of_time(parsed)).ok()
+}
+
+/// A record of a time that `Display` writes as its canonical text, such as `08:48:00Z[u-ca=hebrew]`.
+///
+/// This is the text that [`print_time`](crate::print_time) writes into a slice. `Display` does not allocate, and ignores
+/// width and fill.
+///
+/// # Examples
+///
+/// ```rust
+/// use ixdtf::parsers::IxdtfParser;
+/// use ixdtf_print::CanonicalTime;
+///
+/// let record = IxdtfParser::from_str("084800z[u-ca=hebrew]").parse_time().unwrap();
+/// assert_eq!(CanonicalTime::of(&record).unwrap().to_string(), "08:48:00Z[u-ca=hebrew]");
+/// ```
+#[derive(Clone, Copy, Debug)]
+pub struct CanonicalTime<'a> {
+    parsed: &'a IxdtfParseRecord<'a, Utf8>,
+}
+
+impl<'a> CanonicalTime<'a> {
+    /// Creates a value that displays the record. Returns `None` if the record has no canonical text as a time.
+    pub fn of(parsed: &'a IxdtfParseRecord<'a, Utf8>) -> Option<CanonicalTime<'a>> {
+        if !is_time(parsed) {
+            return None;
+        }
+        Some(CanonicalTime { parsed })
+    }
+}
+
+// `Display` ignores width and fill.
+impl<'a> fmt::Display for CanonicalTime<'a> {
+    fn fmt(&self, f: &mut fmt::Formatter<'_>) -> fmt::Result {
+        write_core(f, self.parsed)?;
+        write_brackets(f, self.parsed)
+    }
+}
+
+/// Writes what comes before the brackets.
+fn write_core(
+    f: &mut fmt::Formatter<'_>,
+    parsed: &IxdtfParseRecord<'_, Utf8>,
+) -> fmt::Result {
+    let count = usize::from(time_core_length(parsed));
+    let mut bytes = [0; MOST_OF_TIME];
+    put_time_core(&mut bytes, 0, parsed);
+    write_bytes(f, front_of(&bytes, count))
+}
+
+/// Returns whether `parse_time` returns this record for some text.
+fn is_time(parsed: &IxdtfParseRecord<'_, Utf8>) -> bool {
+    is_spelled(parsed)
+}
+
+/// Returns whether each field has a text, and the record has the fields of a time.
+fn is_spelled(parsed: &IxdtfParseRecord<'_, Utf8>) -> bool {
+    has_lone_time(parsed.date, parsed.time, parsed.offset) && has_brackets(parsed)
+}
+
+/// Returns whether there are a time and maybe an offset that have texts, and no date.
+fn has_lone_time(
+    date: Option<DateRecord>,
+    time: Option<TimeRecord>,
+    offset: Option<UtcOffsetRecordOrZ>,
+) -> bool {
+    match (date, time) {
+        (None, None) => false,
+        (None, Some(time)) => has_time(Some(time), offset),
+        (Some(_), _) => false,
+    }
+}
+
+// ---- lengths
+
+/// Returns the number of bytes of the time, without a `T`.
+fn unmarked_time_length(time: Option<TimeRecord>) -> u16 {
+    match time {
+        None => 0,
+        Some(time) => 8 + fraction_length(time.fraction),
+    }
+}
+
+/// Returns the number of bytes of the time and the offset.
+fn time_core_length(parsed: &IxdtfParseRecord<'_, Utf8>) -> u16 {
+    unmarked_time_length(parsed.time) + shift_length(parsed.offset)
+}
+
+/// Returns the number of bytes of the canonical text.
+fn length_of_time(parsed: &IxdtfParseRecord<'_, Utf8>) -> u128 {
+    u128::from(time_core_length(parsed)) + brackets_length(parsed)
+}
+
+// ---- bytes
+
+/// Writes an hour, a minute and a second at index `at`. Returns the index after them.
+fn put_unmarked_seconds(out: &mut [u8], at: usize, hour: u8, minute: u8, second: u8) -> usize {
+    let colon = put_two(out, at, hour);
+    put_minutes(out, colon, b':', minute, second)
+}
+
+/// Writes the time at index `at`, if there is one, without a `T`. Returns the index after it.
+fn put_unmarked_time(out: &mut [u8], at: usize, time: Option<TimeRecord>) -> usize {
+    let Some(time) = time else {
+        return at;
+    };
+    let point = put_unmarked_seconds(out, at, time.hour, time.minute, time.second);
+    put_fraction(out, point, time.fraction)
+}
+
+/// Writes the time and the offset at index `at`. Returns the index after them.
+fn put_time_core(out: &mut [u8], at: usize, parsed: &IxdtfParseRecord<'_, Utf8>) -> usize {
+    let after_time = put_unmarked_time(out, at, parsed.time);
+    put_offset(out, after_time, parsed.offset)
+}
+
+/// Writes the record at the beginning of the slice. Returns the index after it.
+fn put_time(out: &mut [u8], parsed: &IxdtfParseRecord<'_, Utf8>) -> usize {
+    let after_core = put_time_core(out, 0, parsed);
+    put_brackets(out, after_core, parsed)
+}

@@ -1,0 +1,118 @@
+// Made by tools/to_rust.py of crates/ixdtf_print/src/zones.rt. Do not edit.
+
+//! Time zones printed as their canonical texts.
+
+use crate::canonical::write_zone;
+use crate::check::is_zone;
+use crate::error::PrintError;
+use crate::fields::put_zone;
+use crate::length::length_of_zone;
+use ixdtf::encoding::Utf8;
+use ixdtf::records::TimeZoneRecord;
+use core::fmt;
+
+/// Writes the canonical text of a time zone to the beginning of the slice, such as `Europe/Paris` or `+05:30`.
+///
+/// The zone is a record that [`TimeZoneParser::parse_identifier`](ixdtf::parsers::TimeZoneParser::parse_identifier)
+/// returns. A name is written as it is. An offset has a sign, an hour and a minute. The canonical text has no brackets.
+///
+/// The name that [`TimeZoneParser::parse_iana_identifier`](ixdtf::parsers::TimeZoneParser::parse_iana_identifier) returns
+/// is its own canonical text. `TimeZoneRecord::Name(name)` is the zone of this name.
+///
+/// Returns the number of bytes that were written. The canonical text has at most 3 bytes more than the text that was
+/// parsed.
+///
+/// # Examples
+///
+/// ```rust
+/// use ixdtf::parsers::TimeZoneParser;
+/// use ixdtf_print::{PrintError, print_zone};
+///
+/// let mut out = [0; 16];
+/// for (text, canonical) in [("Europe/Paris", "Europe/Paris"), ("-05", "-05:00"), ("+0530", "+05:30")] {
+///     let zone = TimeZoneParser::from_str(text).parse_identifier().unwrap();
+///     let count = print_zone(&zone, &mut out).unwrap();
+///     assert_eq!(&out[..count], canonical.as_bytes());
+///     assert_eq!(print_zone(&zone, &mut [0; 5]), Err(PrintError::TooShort));
+/// }
+/// ```
+///
+/// # Errors
+///
+/// After an error, the slice is unchanged.
+///
+/// - [`PrintError::NotPrintable`]: the zone has no canonical text. Its name is not the name of a zone, or a number of its
+///   offset is out of its range.
+/// - [`PrintError::TooShort`]: the slice is shorter than the canonical text.
+pub fn print_zone(zone: &TimeZoneRecord<'_, Utf8>, out: &mut [u8]) -> Result<usize, PrintError> {
+    if !is_identifier(zone) {
+        return Err(PrintError::NotPrintable);
+    }
+    if (out.len() as u128) < length_of_zone(zone) {
+        return Err(PrintError::TooShort);
+    }
+    Ok(put_zone(out, 0, zone))
+}
+
+/// Returns the number of bytes of the canonical text of a time zone.
+///
+/// A slice of this length is long enough for [`print_zone`](crate::print_zone). Returns `None` if the zone has no
+/// canonical text.
+///
+/// # Examples
+///
+/// ```rust
+/// use ixdtf::parsers::TimeZoneParser;
+/// use ixdtf_print::zone_length;
+///
+/// let zone = TimeZoneParser::from_str("+0530").parse_identifier().unwrap();
+/// assert_eq!(zone_length(&zone), Some("+05:30".len()));
+/// ```
+pub fn zone_length(zone: &TimeZoneRecord<'_, Utf8>) -> Option<usize> {
+    if !is_identifier(zone) {
+        return None;
+    }
+    Some(length_of_zone(zone) as usize)
+}
+
+/// A time zone that `Display` writes as its canonical text, such as `Europe/Paris` or `+05:30`.
+///
+/// This is the text that [`print_zone`](crate::print_zone) writes into a slice. `Display` does not allocate, and ignores
+/// width and fill.
+///
+/// # Examples
+///
+/// ```rust
+/// use ixdtf::parsers::TimeZoneParser;
+/// use ixdtf_print::CanonicalZone;
+///
+/// let zone = TimeZoneParser::from_str("+0530").parse_identifier().unwrap();
+/// assert_eq!(CanonicalZone::of(&zone).unwrap().to_string(), "+05:30");
+/// ```
+#[derive(Clone, Copy, Debug)]
+pub struct CanonicalZone<'a> {
+    zone: &'a TimeZoneRecord<'a, Utf8>,
+}
+
+impl<'a> CanonicalZone<'a> {
+    /// Creates a value that displays the zone. Returns `None` if the zone has no canonical text.
+    pub fn of(zone: &'a TimeZoneRecord<'a, Utf8>) -> Option<CanonicalZone<'a>> {
+        if !is_identifier(zone) {
+            return None;
+        }
+        Some(CanonicalZone { zone })
+    }
+}
+
+// `Display` ignores width and fill.
+impl<'a> fmt::Display for CanonicalZone<'a> {
+    fn fmt(&self, f: &mut fmt::Formatter<'_>) -> fmt::Result {
+        write_zone(f, self.zone)
+    }
+}
+
+/// Returns whether `parse_identifier` returns this zone for some text.
+#[inline(always)]
+fn is_identifier(zone: &TimeZoneRecord<'_, Utf8>) -> bool {
+    is_zone(zone)
+}
