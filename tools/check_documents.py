@@ -192,7 +192,7 @@ class Contract(NamedTuple):
     clauses: dict[str, str]
 
 
-RECORD_READERS = ['IxdtfParser::' + it for it in ('parse', 'parse_year_month', 'parse_month_day', 'parse_time')]
+RECORD_READERS = ['IxdtfParser::' + it for it in ('parse', 'parse_rfc9557', 'parse_year_month', 'parse_month_day', 'parse_time')]
 HANDLER_READERS = [it + '_with_annotation_handler' for it in RECORD_READERS]
 ZONE_READERS = ['TimeZoneParser::' + it for it in ('parse_offset', 'parse_identifier', 'parse_iana_identifier')]
 DURATION_READERS = ['IsoDurationParser::parse']
@@ -612,7 +612,7 @@ CLASSES = {'digit': places.DIGIT, 'sign': places.SIGN, 'Sign': places.SIGN, 'spa
            'KeyChar': places.KEY_CHAR, 'ValueChar': places.VALUE_CHAR, 'DateUnit': places.DATE_UNIT, 'TimeUnit': places.TIME_UNIT}
 CLOCK_LINES = ('hour_', 'after_hour', 'minute_', 'after_basic_minute', 'after_colon_minute', 'second_', 'after_second',
                'fraction_start', 'after_fraction')
-BRACKETS = ['parse', 'parse_year_month', 'parse_month_day', 'parse_time']
+BRACKETS = ['parse', 'parse_rfc9557', 'parse_year_month', 'parse_month_day', 'parse_time']
 NAMES_OF_READERS = {'none': [], 'brackets': BRACKETS, 'durations': ['duration'], 'all': list(places.READERS[False])}
 Row = dict[str, str]
 

@@ -220,7 +220,7 @@ def unescaped(literal: str) -> Union[str, bytes]:
 
 # the readers of the model, by their names in the tests
 READERS = {'Parse': 'parse', 'YearMonth': 'parse_year_month', 'MonthDay': 'parse_month_day', 'Time': 'parse_time',
-           'Rfc3339': 'parse_rfc3339', 'Offset': 'parse_offset', 'Identifier': 'parse_identifier', 'IanaIdentifier': 'parse_iana_identifier', 'Duration': 'duration'}
+           'Rfc3339': 'parse_rfc3339', 'Rfc9557': 'parse_rfc9557', 'Offset': 'parse_offset', 'Identifier': 'parse_identifier', 'IanaIdentifier': 'parse_iana_identifier', 'Duration': 'duration'}
 CONSTANT = re.compile(r'^\s*(?:pub(?:\(\w+\))? )?(?:const|static) (\w+):[^=]*=\s', re.M)
 CALL = re.compile(r'(?<!fn )\bcheck_(refused|no_letter|scanned|refused_in_both|refused_replies|no_letter_replies|heeded)\(')
 NO_LETTER = Error('NonAsciiCodePoint')

@@ -52,7 +52,8 @@ macro_rules! in_width {
                 parse parse_with_annotation_handler parse_located parse_with_annotation_handler_located,
                 parse_year_month parse_year_month_with_annotation_handler parse_year_month_located parse_year_month_with_annotation_handler_located,
                 parse_month_day parse_month_day_with_annotation_handler parse_month_day_located parse_month_day_with_annotation_handler_located,
-                parse_time parse_time_with_annotation_handler parse_time_located parse_time_with_annotation_handler_located);
+                parse_time parse_time_with_annotation_handler parse_time_located parse_time_with_annotation_handler_located,
+                parse_rfc9557 parse_rfc9557_with_annotation_handler parse_rfc9557_located parse_rfc9557_with_annotation_handler_located);
             black_box(IxdtfParser::<$encoding>::new(black_box(source)).parse_rfc3339()).is_ok();
             black_box(IxdtfParser::<$encoding>::new(black_box(source)).parse_rfc3339_located()).is_ok();
             black_box(TimeZoneParser::<$encoding>::new(black_box(source)).parse_identifier()).is_ok();

@@ -228,8 +228,18 @@ ZONE_BRACKET = OPEN + ZONE + one(CLOSING)
 KEY = one(KEY_LEAD) + any_number(one(KEY_CHAR))
 VALUE = some(one(VALUE_CHAR)) + any_number('-' + some(one(VALUE_CHAR)))
 PAIR = OPEN + KEY + '=' + VALUE + one(CLOSING)
-BRACKETS = either(ZONE_BRACKET, PAIR) + any_number(PAIR)  # one or more complete brackets
-TAIL = maybe(BRACKETS)
+
+
+def brackets(zone_bracket: str) -> str:
+    """One or more complete brackets, where a zone stands so."""
+    return either(zone_bracket, PAIR) + any_number(PAIR)
+
+
+# a zone exactly as RFC 9557 has it (`parse_rfc9557`)
+EXACT_PART = not_ahead(r'\.{1,2}' + not_ahead(one(ZONE_CHAR))) + one(ZONE_LEAD) + any_number(one(ZONE_CHAR))
+EXACT_NAME = EXACT_PART + any_number('/' + EXACT_PART)
+EXACT_OFFSET = one(SIGN) + HOUR + ':' + MINUTE
+EXACT_ZONE_BRACKET = OPEN + either(EXACT_NAME, EXACT_OFFSET) + one(CLOSING)
 
 
 # ---------------------------------------------------------------------------------------------------------------------------------
@@ -595,9 +605,15 @@ READS_AS_NAME = either(ahead(but_not(one(KEY_LEAD), one(ZONE_LEAD))), ahead(UP_T
 READS_AS_PAIR = ahead(UP_TO_EQUALS_OR_CLOSING + one(EQUALS))
 
 
-def bracket_lines(core: str) -> list[Line]:
-    """The lines of the brackets after a core."""
-    core_and_open, bracketed = core + OPEN, core + BRACKETS
+EXACT_LINES = [
+    whole('first_name_form',     but_not(EXACT_ZONE_BRACKET, OPEN + NAME + one(CLOSING)),          'IanaChar'),
+    whole('first_offset_form',   but_not(EXACT_ZONE_BRACKET, OPEN + MINUTE_OFFSET + one(CLOSING)), 'InvalidMinutePrecisionOffset'),
+]
+
+
+def bracket_lines(core: str, zone_bracket: str) -> list[Line]:
+    """The lines of the brackets after a core, where a zone stands so."""
+    core_and_open, bracketed = core + OPEN, core + brackets(zone_bracket)
     return (after(core, FIRST_BRACKET_LINES)
             + after(core_and_open + one(SIGN), clock_lines(MINUTE_OFFSET_CLOCK, FOLLOWS_BRACKETED_OFFSET))
             + after(core_and_open + READS_AS_NAME, NAME_IN_BRACKET_LINES + AFTER_SLASH_LINES)
@@ -703,9 +719,9 @@ class Reader:
         return rows[0] if rows else None
 
 
-def bracketed_reader(core: str, lines: list[Line]) -> Reader:
+def bracketed_reader(core: str, lines: list[Line], zone_bracket: str = ZONE_BRACKET) -> Reader:
     """A reader with brackets. It is made from its core and the lines of the core."""
-    return Reader(core + TAIL, lines + bracket_lines(core), core)
+    return Reader(core + maybe(brackets(zone_bracket)), lines + bracket_lines(core, zone_bracket), core)
 
 
 def parse_reader() -> Reader:
@@ -757,29 +773,31 @@ def separator_line(field: str, through: str, goes_on: str, error: str) -> Line:
     return line(f'after_field {field}', through, goes_on, error, error)
 
 
-DATE_TIME_LINES = [
-    line('four_digits', digits(0, 3), DIGIT, abrupt('digit'), 'DateYear'),
-    line('after_four_digits', digits(4), HYPHEN, abrupt('Date'), 'DateSeparator'),
-    *number_lines('month_field', UNTIL_MONTH, MONTH, 'DateMonth', 'InvalidMonthRange'),
-    separator_line('month_field', UNTIL_MONTH + MONTH, HYPHEN, 'DateSeparator'),
-    line('field_digits day_field', UNTIL_DAY + digits(0, 1), DIGIT, abrupt('digit'), 'DateDay'),
-    whole('field_range day_field', but_not(FULL_DATE, FULL_DATE_SHAPE), 'InvalidDayRange'),
-    separator_line('day_field', FULL_DATE, TIME_LETTER, 'TimeSeparator'),
-    *number_lines('hour_field', UNTIL_HOUR, HOUR, 'TimeHour', 'TimeHour'),
-    separator_line('hour_field', UNTIL_HOUR + HOUR, COLON, 'TimeSeparator'),
-    *number_lines('minute_field', UNTIL_MINUTE, MINUTE, 'TimeMinuteSecond', 'TimeMinuteSecond'),
-    separator_line('minute_field', UNTIL_MINUTE + MINUTE, COLON, 'TimeSeparator'),
-    *number_lines('second_field', UNTIL_SECOND, two_digits(0, 60), 'TimeSecond', 'TimeSecond'),
-    line('after_field second_field', THROUGH_SECOND, '.' + SIGN + ZULU, abrupt('time-numoffset'),
-         At(',', 'FractionPart', 'OffsetNeedsSign')),
-    line('after_point', THROUGH_SECOND + r'\.', DIGIT, 'FractionPart', 'FractionPart'),
-    line('after_secfrac', THROUGH_SECOND + SECFRAC, DIGIT + SIGN + ZULU, abrupt('time-numoffset'), 'OffsetNeedsSign'),
-    *number_lines('offset_hour_field', UNTIL_OFFSET_HOUR, HOUR, 'TimeHour', 'TimeHour'),
-    separator_line('offset_hour_field', UNTIL_OFFSET_HOUR + HOUR, COLON, 'UtcTimeSeparator'),
-    *number_lines('offset_minute_field', UNTIL_OFFSET_MINUTE, MINUTE, 'TimeMinuteSecond', 'TimeMinuteSecond'),
-    line('after_field offset_minute_field', UNTIL_OFFSET_MINUTE + MINUTE, NOTHING, OK, 'InvalidEnd'),
-    line('after_utc', THROUGH_TIME + one(ZULU), NOTHING, OK, 'InvalidEnd'),
-]
+def date_time_lines(follows: str) -> list[Line]:
+    """The lines of date-times, before the end or these letters."""
+    return [
+        line('four_digits', digits(0, 3), DIGIT, abrupt('digit'), 'DateYear'),
+        line('after_four_digits', digits(4), HYPHEN, abrupt('Date'), 'DateSeparator'),
+        *number_lines('month_field', UNTIL_MONTH, MONTH, 'DateMonth', 'InvalidMonthRange'),
+        separator_line('month_field', UNTIL_MONTH + MONTH, HYPHEN, 'DateSeparator'),
+        line('field_digits day_field', UNTIL_DAY + digits(0, 1), DIGIT, abrupt('digit'), 'DateDay'),
+        whole('field_range day_field', but_not(FULL_DATE, FULL_DATE_SHAPE), 'InvalidDayRange'),
+        separator_line('day_field', FULL_DATE, TIME_LETTER, 'TimeSeparator'),
+        *number_lines('hour_field', UNTIL_HOUR, HOUR, 'TimeHour', 'TimeHour'),
+        separator_line('hour_field', UNTIL_HOUR + HOUR, COLON, 'TimeSeparator'),
+        *number_lines('minute_field', UNTIL_MINUTE, MINUTE, 'TimeMinuteSecond', 'TimeMinuteSecond'),
+        separator_line('minute_field', UNTIL_MINUTE + MINUTE, COLON, 'TimeSeparator'),
+        *number_lines('second_field', UNTIL_SECOND, two_digits(0, 60), 'TimeSecond', 'TimeSecond'),
+        line('after_field second_field', THROUGH_SECOND, '.' + SIGN + ZULU, abrupt('time-numoffset'),
+             At(',', 'FractionPart', 'OffsetNeedsSign')),
+        line('after_point', THROUGH_SECOND + r'\.', DIGIT, 'FractionPart', 'FractionPart'),
+        line('after_secfrac', THROUGH_SECOND + SECFRAC, DIGIT + SIGN + ZULU, abrupt('time-numoffset'), 'OffsetNeedsSign'),
+        *number_lines('offset_hour_field', UNTIL_OFFSET_HOUR, HOUR, 'TimeHour', 'TimeHour'),
+        separator_line('offset_hour_field', UNTIL_OFFSET_HOUR + HOUR, COLON, 'UtcTimeSeparator'),
+        *number_lines('offset_minute_field', UNTIL_OFFSET_MINUTE, MINUTE, 'TimeMinuteSecond', 'TimeMinuteSecond'),
+        line('after_field offset_minute_field', UNTIL_OFFSET_MINUTE + MINUTE, follows, OK, 'InvalidEnd'),
+        line('after_utc', THROUGH_TIME + one(ZULU), follows, OK, 'InvalidEnd'),
+    ]
 
 
 def readers(strict: bool) -> dict[str, Reader]:
@@ -791,7 +809,8 @@ def readers(strict: bool) -> dict[str, Reader]:
         'parse_year_month': bracketed_reader(YEAR_MONTH, YEAR_LINES + MONTH_LINES + YEAR_MONTH_LINES),
         'parse_month_day': bracketed_reader(month_day(strict), month_day_lines(strict)),
         'parse_time': time_reader(strict),
-        'parse_rfc3339': Reader(DATE_TIME, DATE_TIME_LINES),
+        'parse_rfc3339': Reader(DATE_TIME, date_time_lines(NOTHING)),
+        'parse_rfc9557': bracketed_reader(DATE_TIME, date_time_lines(OPENING) + after(DATE_TIME, EXACT_LINES), EXACT_ZONE_BRACKET),
         'parse_offset': Reader(OFFSET, OFFSET_START_LINES + after_sign),
         'parse_identifier': Reader(ZONE, IDENTIFIER_LINES + NAME_ALONE_LINES + AFTER_SLASH_LINES + minute_after_sign),
         'parse_iana_identifier': Reader(NAME, IANA_LINES + NAME_ALONE_LINES + AFTER_SLASH_LINES),

@@ -71,7 +71,7 @@ LAYERS = {
     'ixdtf_grammar': 'encoding error instants located packed pointed records parsers/profile'.split(),
     'ixdtf_reading': 'cursor classes stop parsers/annotations parsers/letters'.split(),
     'ixdtf_times': 'parsers/date_times parsers/dates parsers/months parsers/offsets parsers/rfc3339 parsers/time'.split(),
-    'ixdtf_brackets': 'parsers/brackets parsers/zone'.split(),
+    'ixdtf_brackets': 'parsers/brackets parsers/exact_zones parsers/zone'.split(),
     'ixdtf_durations': 'parsers/date_groups parsers/duration parsers/group_numbers parsers/time_groups'.split(),
 }
 PLACES = {(layer, place.rpartition('/')[2]): place for layer, places in LAYERS.items() for place in places}

@@ -1,10 +1,15 @@
 -- What the functions promise by which the readers of whole texts read, each as one clause. No clause of a public reader cites
 -- this.
-use Rattle.std.specs.Prelude.{◌≡◌, ℕ, ◌+◌, map, Result, OnOk, IfErr}
+use Rattle.std.specs.Prelude.{◌≡◌, ℕ, Bool, true, false, ◌+◌, map, Result, OnOk, IfErr}
 use Rattle.ixdtf_grammar.specs.{language.{Letters.Letter, Readers.Reader, Languages.Parsed}, table.{Faults.Fault, Outcomes.NoRowFits}, Handlers.{Step, replies_of}}
 use Rattle.ixdtf_grammar.specs.{Laws.InNoOther, Places.{HandledToAt, UnhandledFaultAt, UnhandledOnlyPlace}}
 use Rattle.ixdtf_grammar.specs.{Views.{UnreadUnder, unread_of, most_looks, LeavesBehind, returned_by}, Promises.most_looks_beside}
 use Rattle.ixdtf_reading.specs.{declared.stop.StopAt.StopAt, reading.{Chains.{Counting, TextReadTo}, Clauses.{UnhandledForm, fault_of_stop_at}}}
+
+-- how many looks a core may cost that its code units do not pay for, by whether the zone behind it has to be exact
+abbrev pub core_looks : Bool → ℕ → ℕ
+core_looks true count = 38
+core_looks false count = count + 37
 
 -- into a record, which is `found` after `Ok`, with a handler that is left in the state `last`; its replies may cost `spent` accesses beyond those of a reader without one
 pub record ReadsInto {T U F : Type 0} (letter : ℕ → Letter) (number : U → ℕ) (step : Step T U F) (handler last : F)

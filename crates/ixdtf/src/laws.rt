@@ -15,6 +15,7 @@ ghost use Rattle.ixdtf_grammar.specs.Laws.{EveryDateTimeIsRead, EveryNameIsAnIde
 ghost use Rattle.ixdtf_grammar.specs.Laws.{OffsetsAgree, HyphensSayNothing, OneHyphenIsRefused, OneResult, OnePlace, OneChain};
 ghost use Rattle.ixdtf_grammar.specs.Laws.{DefaultIs, ClonesAreEqual, IsEqualityBy};
 ghost use Rattle.ixdtf_grammar.specs.Rfc3339Laws.{DerivesDateTimesAlone, ParseReadsTheSame};
+ghost use Rattle.ixdtf_grammar.specs.Rfc9557Laws.{Rfc9557ReadsTheSame, ParseGivesTheSame};
 ghost use Rattle.ixdtf_grammar.specs.Widths.{OneUnhandledOutcome, SameWhereShared, FaultWhereNotShared};
 ghost use Rattle.ixdtf_grammar.specs.Widths.{SamePlaceWhereShared, PlaceWhereNotShared, NonAsciiIsFirst, NonAsciiIsWide};
 ghost use Rattle.ixdtf_grammar.specs.table.Outcomes.{OneOutcome, FrontsBegin};
@@ -49,6 +50,17 @@ pub fn every_rfc3339_date_time_is_read()
 pub fn rfc3339_date_times_are_read_alike()
     ensures alone { DerivesDateTimesAlone }
     ensures same { ParseReadsTheSame }
+{}
+
+/// States that the texts of `parse_rfc9557` lie between those of `parse_rfc3339` and of `parse`, and are read alike.
+///
+/// - `dated`: [`IxdtfParser::parse_rfc9557`] accepts each text that [`IxdtfParser::parse_rfc3339`] accepts, and returns an
+///   equal record.
+/// - `same`: [`IxdtfParser::parse`] accepts each text that [`IxdtfParser::parse_rfc9557`] accepts, and returns an equal
+///   record. This holds for the readers with a handler too, whatever the handler replies, if it replies the same.
+pub fn rfc9557_texts_are_read_alike()
+    ensures dated { Rfc9557ReadsTheSame }
+    ensures same { ParseGivesTheSame }
 {}
 
 /// States that an accepted name is the complete text, and that `parse_identifier` returns it too.

@@ -24,7 +24,7 @@ mod unhandled;
 // These are only for crates of this repository, and not a part of the public interface. `read_lending_handler` is
 // generic in them.
 #[doc(hidden)]
-pub use self::cores::{CoreReader, DateTimes, MonthDays, Times, YearMonths};
+pub use self::cores::{CoreReader, DateTimes, InternetDateTimes, MonthDays, Times, YearMonths};
 pub use self::time_zone_parser::TimeZoneParser;
 pub use ixdtf_durations::duration::IsoDurationParser;
 use ixdtf_grammar::encoding::{EncodingType, Utf8, Utf16};

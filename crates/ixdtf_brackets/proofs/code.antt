@@ -1,3 +1,4 @@
 -- What the functions of the code use.
+pub mod ExactParts
 pub mod FirstPass
 pub mod NameLoop

@@ -4,7 +4,10 @@ use Rattle.ixdtf_brackets.specs.declared.{brackets.Bracket.{Bracket as CodeBrack
 use Rattle.ixdtf_grammar.specs.{Views.{Unread, note_of}, Handlers.pair_of, language.{Letters.{Letter, Text, zone_char}, Brackets.skipped}}
 use Rattle.ixdtf_reading.specs.reading.{Brackets.{Bracket, zoned, paired}, Clauses.fault_of_stop, Looks.{Read, Placed}, Runs.{Taken, within}, Zones.name_step}
 use Rattle.ixdtf_reading.specs.declared.stop.Stop.{Stop}
-use Rattle.std.specs.Prelude.{◌≡◌, ℕ, List, ◌++◌, map, Option, Result, Ok, Err, option_map}
+use Rattle.ixdtf_brackets.specs.declared.exact_zones.PartForm.TheVariants as forms
+use Rattle.ixdtf_brackets.specs.declared.exact_zones.PartForm.{PartForm as CodePartForm}
+use Rattle.ixdtf_reading.specs.reading.ExactZones.{PartForm, PartForm.{part_start, one_dot, two_dots, in_part}}
+use Rattle.std.specs.Prelude.{◌≡◌, ℕ, Bool, true, false, ◌+◌, List, ◌++◌, map, Option, Result, Ok, Err, option_map}
 
 abbrev pub bracket_of : {T U : Type 0} → (U → ℕ) → CodeBracket T U → Bracket
 bracket_of number (brackets.Zone annotation) = zoned (note_of number annotation)
@@ -26,3 +29,15 @@ abbrev pub Passes : (ℕ → Letter) → Unread → Result PassedName Stop → U
 Passes letter old (Ok passed) new reading = (letters : List ℕ) × (old.rest ≡ letters ++ new.rest)
     × (reading (map letter old.rest) ≡ Ok (record { letters = letters; state = passed.state; next = passed.next }, map letter new.rest))
 Passes letter old (Err stop) new reading = reading (map letter old.rest) ≡ Err (fault_of_stop stop, map letter new.rest)
+
+-- what was read of a part of a name
+abbrev pub part_form_of : CodePartForm → PartForm
+part_form_of forms.Start = part_start
+part_form_of forms.OneDot = one_dot
+part_form_of forms.TwoDots = two_dots
+part_form_of forms.Whole = in_part
+
+-- how many more looks a zone may cost that has to be exact
+abbrev pub exact_looks : Bool → ℕ → ℕ
+exact_looks true count = count + 1
+exact_looks false count = 0

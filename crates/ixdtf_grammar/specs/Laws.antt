@@ -4,7 +4,7 @@ use Rattle.ixdtf_grammar.specs.declared.{profile.Profile.Profile, records.{Minut
 use Rattle.ixdtf_grammar.specs.{declared.records.UtcOffsetRecord.TheVariants.MinutePrecision, Handlers.{Reply, GivesRecord, GivesFault, UnhandledRecord}}
 use Rattle.ixdtf_grammar.specs.language.{Brackets.Pair, Dates.{Year, Month}, Languages.{Parsed, Found, Derives, Found.{parsed, shifted, identified, named}}}
 use Rattle.ixdtf_grammar.specs.language.{Letters.{Text, Letter.Plain}, Readers.{Reader, CoreKind, parse}}
-use Rattle.ixdtf_grammar.specs.language.Readers.CoreKind.{date_time, year_month, month_day, time_of_day}
+use Rattle.ixdtf_grammar.specs.language.Readers.CoreKind.{date_time, internet_date_time, year_month, month_day, time_of_day}
 use Rattle.ixdtf_grammar.specs.language.Readers.Reader.{bracketed, parse_rfc3339, parse_offset, parse_identifier, parse_iana_identifier, parse_duration}
 use Rattle.ixdtf_grammar.specs.{language.{Rfc3339.IsRfcDateTime, Shapes.{digits, some}, ZoneNames.{Zone, Zone.{Name, Offset}}}, table.Faults.Fault}
 use Rattle.ixdtf_grammar.specs.{table.{Faults.Fault.DateSeparator, Outcomes.ExactlyOne}, Places.{GivesFaultAt, GivesOnlyPlace}}
@@ -44,9 +44,10 @@ OneHyphenIsRefused = (years months days rest : Text) → IsDateParts years month
 
 -- ---- the languages of the readers of dates, times and durations
 
--- the kinds of cores under the profile
+-- the kinds of cores under the profile, but for the date-times of RFC 3339, which are cores of `parse`
 abbrev pub IsKindUnder : Profile → CoreKind → Type 0
 IsKindUnder profile date_time = Unit {0}
+IsKindUnder profile internet_date_time = ⊥
 IsKindUnder profile year_month = Unit {0}
 IsKindUnder profile (month_day other) = other ≡ profile
 IsKindUnder profile (time_of_day other) = other ≡ profile
@@ -70,9 +71,10 @@ abbrev pub LanguagesDisjoint : Type 0
 LanguagesDisjoint = (profile : Profile) (text : Text) (first second : Reader) → IsTextReader profile first → IsTextReader profile second →
     InLanguage first text → InLanguage second text → first ≡ second
 
--- under the profile, the text is in the language of none of these readers but this one
+-- where this is one of these readers under the profile, the text is in the language of none but this one
 abbrev pub InNoOther : Profile → Reader → Text → Type 0
-InNoOther profile reader text = (other : Reader) → IsTextReader profile other → reader ≢ other → ¬ (InLanguage other text)
+InNoOther profile reader text =
+    IsTextReader profile reader → (other : Reader) → IsTextReader profile other → reader ≢ other → ¬ (InLanguage other text)
 
 -- ---- replies
 

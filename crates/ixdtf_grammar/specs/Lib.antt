@@ -7,6 +7,7 @@ pub mod LocatedTexts
 pub mod Places
 pub mod Promises
 pub mod Rfc3339Laws
+pub mod Rfc9557Laws
 pub mod Views
 pub mod Widths
 pub mod language

@@ -7,6 +7,7 @@ pub mod FixedPlaces
 pub mod FractionLoop
 pub mod LetterLoops
 pub mod Located
+pub mod OpenDateTimes
 pub mod PairLoops
 pub mod ReadersWithoutPairs
 pub mod Tables

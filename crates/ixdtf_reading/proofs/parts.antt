@@ -1,5 +1,6 @@
 -- What readings are made of.
 pub mod DurationRuns
+pub mod ExactZones
 pub mod Fronts
 pub mod GrowingDigits
 pub mod LookAhead

@@ -11,3 +11,4 @@ pub mod OnlyOutcome
 pub mod Replies
 pub mod Rfc3339
 pub mod Rfc3339Texts
+pub mod Rfc9557Texts

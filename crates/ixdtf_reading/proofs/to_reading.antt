@@ -4,6 +4,7 @@ pub mod Cores
 pub mod DateTimes
 pub mod Dates
 pub mod Durations
+pub mod ExactBracket
 pub mod FirstBracket
 pub mod Months
 pub mod MorePairs

@@ -6,6 +6,7 @@ pub mod Cores
 pub mod DateTimes
 pub mod Dates
 pub mod Durations
+pub mod ExactZones
 pub mod FixedPlaces
 pub mod Looks
 pub mod Months

@@ -32,6 +32,7 @@ pub fn take_fixed_date_time<'a, T: EncodingType>(
     ensures none { result ≡ None → (date : DateRecord) (time : TimeRecord) (rest : Text) →
         FixedDateTime (map T.letter cursor.old.rest) date time rest → ⊥ }
     ensures rest { result ≡ None → cursor.new.rest ≡ cursor.old.rest }
+    ensures shorter { length cursor.new.rest ≤ length cursor.old.rest }
     ensures few { cursor.new.looks ≤ cursor.old.looks + 19 }
     ensures short { length cursor.old.rest < 19 → cursor.new.looks ≡ cursor.old.looks }
     ensures looks { Spends (length cursor.old.rest) cursor.old cursor.new }

@@ -14,9 +14,8 @@ ghost use Rattle.ixdtf_reading.specs.reading.Clauses.{Reads, Spends};
 ghost use Rattle.ixdtf_times.specs.TimeTypes.{opens_bracket, shape_of};
 ghost use Rattle.ixdtf_reading.specs.reading.Looks.{error_of};
 ghost use Rattle.ixdtf_reading.specs.reading.FixedPlaces.{hour_place, minute_place};
-ghost use Rattle.ixdtf_grammar.specs.language.Languages.{parsed_with};
 ghost use Rattle.ixdtf_reading.specs.reading.Cores.{offset_core_at};
-ghost use Rattle.ixdtf_reading.specs.reading.DateTimes.{num_offset_at, date_time_ends, numeric_core};
+ghost use Rattle.ixdtf_reading.specs.reading.DateTimes.{num_offset_at, open_end, numeric_core};
 ghost use Rattle.ixdtf_reading.specs.reading.Zones.{offset_at, offset_alone_at, minute_offset_alone_at};
 
 use crate::time::{Clock, TimeShape, parse_clock};
@@ -165,15 +164,42 @@ pub fn take_last_offset<'a, T: EncodingType>(
         Ok (MinutePrecision offset, map T.letter cursor.new.rest)) }
     ensures zone { IfSome result (λ offset. minute_offset_alone_at error_of sign (map T.letter cursor.old.rest) ≡
         Ok (Zone.Offset offset, map T.letter cursor.new.rest)) }
-    ensures date_time { IfSome result (λ offset. (date : DateRecord) (time : TimeRecord) →
-        num_offset_at error_of (date_time_ends error_of) date time sign (map T.letter cursor.old.rest) ≡
-        Ok (parsed_with (numeric_core date time offset) None, map T.letter cursor.new.rest)) }
     ensures rest { result ≡ None → cursor.new.rest ≡ cursor.old.rest }
     ensures shorter { length cursor.new.rest ≤ length cursor.old.rest }
     ensures few { cursor.new.looks ≤ cursor.old.looks + 5 }
     ensures counted { cursor.old.looks ≤ cursor.new.looks }
 {
     if cursor.remaining() != 5 {
+        return None;
+    }
+    let hour = fixed_hour(cursor)?;
+    let minute = fixed_minute(cursor)?;
+    let offset = MinutePrecisionOffset {
+        sign: sign_from(sign),
+        hour,
+        minute,
+    };
+    cursor.advance_by(5);
+    Some(offset)
+}
+
+/// Consumes an offset `HH:MM` after its sign, whatever follows it.
+///
+/// Returns `None`, and consumes nothing, if the input has another form, or if a number is out of range.
+#[inline(always)]
+pub fn take_numeric_offset<'a, T: EncodingType>(
+    cursor: &mut Cursor<'a, T>,
+    sign: u8,
+) -> Option<MinutePrecisionOffset>
+    ensures offset { IfSome result (λ offset. (date : DateRecord) (time : TimeRecord) →
+        num_offset_at error_of open_end date time sign (map T.letter cursor.old.rest) ≡
+        Ok (numeric_core date time offset, map T.letter cursor.new.rest)) }
+    ensures rest { result ≡ None → cursor.new.rest ≡ cursor.old.rest }
+    ensures shorter { length cursor.new.rest ≤ length cursor.old.rest }
+    ensures few { cursor.new.looks ≤ cursor.old.looks + 5 }
+    ensures counted { cursor.old.looks ≤ cursor.new.looks }
+{
+    if cursor.remaining() < 5 {
         return None;
     }
     let hour = fixed_hour(cursor)?;

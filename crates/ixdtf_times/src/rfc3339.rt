@@ -1,4 +1,6 @@
 //! Reading date-times of RFC 3339: at their fixed places, and number by number where these do not fit, which is an error.
+//!
+//! What may follow a date-time depends on the reader. So only [`parse_rfc3339_text`] reads the end.
 
 #![tactic(auto, unfolding(ixdtf_reading::specs::reading::DateTimes::date_time_line_readings, ixdtf_reading::specs::reading::Looks::number_by))]
 
@@ -6,22 +8,22 @@ ghost use Rattle.std.specs.Prelude.{◌≡◌, ◌+◌, ◌<◌, ◌≤◌, map,
 ghost use Rattle.ixdtf_grammar.specs.declared.records.DateRecord.{DateRecord};
 ghost use Rattle.ixdtf_grammar.specs.declared.records.TimeRecord.{TimeRecord};
 ghost use Rattle.ixdtf_grammar.specs.Views.{parsed_of};
-ghost use Rattle.ixdtf_grammar.specs.language.Cores.{core_of};
 ghost use Rattle.ixdtf_grammar.specs.language.Languages.{parsed_with};
 ghost use Rattle.ixdtf_grammar.specs.language.Letters.{hyphen, colon, time_letter};
 ghost use Rattle.ixdtf_grammar.specs.table.Faults.Fault.{DateYear};
 ghost use Rattle.ixdtf_grammar.specs.table.DateTimeFronts.Field.{month_field, day_field};
 ghost use Rattle.ixdtf_grammar.specs.table.LineNames.LineName.{of_date_time};
 ghost use Rattle.ixdtf_grammar.specs.table.LineNames.DateTimeLine.{after_secfrac};
-ghost use Rattle.ixdtf_reading.specs.reading.Clauses.{Reads, Spends, SpendsOr, fault_of_stop};
+ghost use Rattle.ixdtf_reading.specs.reading.Clauses.{Reads, Spends, SpendsOr, KeepsBrackets, core_in, fault_of_stop};
 ghost use Rattle.ixdtf_reading.specs.reading.Looks.{error_of, as_number, digit_look, digits_by, look_for, next_by, letter_at};
 ghost use Rattle.ixdtf_reading.specs.reading.DateTimes.{field_at, is_month, is_day, secfrac_digits_at, num_offset_at, time_offset_at, secfrac_at, after_whole_second_at};
-ghost use Rattle.ixdtf_reading.specs.reading.DateTimes.{full_time_at, full_day_at, full_month_at, numeric_core};
-ghost use Rattle.ixdtf_reading.specs.reading.DateTimes.{date_time_ends, rfc_3339_at};
+ghost use Rattle.ixdtf_reading.specs.reading.DateTimes.{full_time_at, full_day_at, full_month_at};
+ghost use Rattle.ixdtf_reading.specs.reading.DateTimes.{open_end, date_time_by, rfc_3339_at};
+ghost use Rattle.ixdtf_times.specs.TimeTypes.{core_read};
 
 use crate::date_times::take_fixed_date_time;
 use crate::dates::{check_month, has_day};
-use crate::offsets::{sign_from, take_last_offset};
+use crate::offsets::{sign_from, take_numeric_offset};
 use crate::time::{WholeTime, next_number, parse_fraction};
 use ixdtf_grammar::encoding::EncodingType;
 use ixdtf_grammar::records::{
@@ -34,6 +36,41 @@ use ixdtf_reading::classes::{
 };
 use ixdtf_reading::cursor::Cursor;
 use ixdtf_reading::stop::Stop;
+
+/// A date-time: its date, its time and its offset.
+#[derive(Clone, Copy)]
+pub struct DateTime {
+    pub date: DateRecord,
+    pub time: TimeRecord,
+    pub offset: UtcOffsetRecordOrZ,
+}
+
+impl DateTime {
+    /// Returns the record of the parts, without a zone and without a calendar.
+    #[inline(always)]
+    pub fn record<'a, T: EncodingType>(self) -> IxdtfParseRecord<'a, T>
+        ensures { parsed_of T.number result ≡ parsed_with (core_read self) None }
+    {
+        IxdtfParseRecord {
+            date: Some(self.date),
+            time: Some(self.time),
+            offset: Some(self.offset),
+            tz: None,
+            calendar: None,
+        }
+    }
+
+    /// Writes the parts into a record.
+    #[inline(always)]
+    pub fn place<'a, T: EncodingType>(self, found: &mut IxdtfParseRecord<'a, T>)
+        ensures core { core_in found.new ≡ core_read self }
+        ensures kept { KeepsBrackets found.old found.new }
+    {
+        found.date = Some(self.date);
+        found.time = Some(self.time);
+        found.offset = Some(self.offset);
+    }
+}
 
 /// Takes a colon off. The end and any other code unit are this stop.
 #[inline(always)]
@@ -135,60 +172,25 @@ fn parse_day<'a, T: EncodingType>(
     Ok(day)
 }
 
-/// Returns the record of a date, a time and an offset.
-#[inline(always)]
-fn date_time_record<'a, T: EncodingType>(
-    date: DateRecord,
-    time: TimeRecord,
-    offset: UtcOffsetRecordOrZ,
-) -> IxdtfParseRecord<'a, T>
-    ensures { parsed_of T.number result ≡ parsed_with (core_of (Some date) (Some time) (Some offset)) None }
-{
-    IxdtfParseRecord {
-        date: Some(date),
-        time: Some(time),
-        offset: Some(offset),
-        tz: None,
-        calendar: None,
-    }
-}
-
-/// Returns the record of a date, a time and an offset of hours and minutes.
-#[inline(always)]
-fn numeric_record<'a, T: EncodingType>(
-    date: DateRecord,
-    time: TimeRecord,
-    offset: MinutePrecisionOffset,
-) -> IxdtfParseRecord<'a, T>
-    ensures { parsed_of T.number result ≡ parsed_with (numeric_core date time offset) None }
-{
-    date_time_record(
-        date,
-        time,
-        UtcOffsetRecordOrZ::Offset(UtcOffsetRecord::MinutePrecision(offset)),
-    )
-}
-
-/// Reads a time offset after its first code unit, and expects the end.
-///
-/// An offset in its fixed columns is read there. Any other offset is an error, which is found number by number.
+/// Reads a time offset after its first code unit.
 #[inline(always)]
 fn parse_time_offset<'a, T: EncodingType>(
     cursor: &mut Cursor<'a, T>,
     date: DateRecord,
     time: TimeRecord,
     lead: u8,
-) -> Result<IxdtfParseRecord<'a, T>, Stop>
-    ensures offset { Reads T.letter (parsed_of T.number) cursor.old result cursor.new
-        (time_offset_at error_of (date_time_ends error_of) date time lead) }
+) -> Result<DateTime, Stop>
+    ensures offset { Reads T.letter core_read cursor.old result cursor.new
+        (time_offset_at error_of open_end date time lead) }
     ensures looks { Spends 8 cursor.old cursor.new }
 {
     if is_utc_designator(lead) {
-        cursor.close()?;
-        return Ok(date_time_record(date, time, UtcOffsetRecordOrZ::Z));
+        let offset = UtcOffsetRecordOrZ::Z;
+        return Ok(DateTime { date, time, offset });
     }
-    if let Some(offset) = take_last_offset(cursor, lead) {
-        return Ok(numeric_record(date, time, offset));
+    if let Some(minutes) = take_numeric_offset(cursor, lead) {
+        let offset = UtcOffsetRecordOrZ::Offset(UtcOffsetRecord::MinutePrecision(minutes));
+        return Ok(DateTime { date, time, offset });
     }
     parse_offset_by_numbers(cursor, date, time, lead)
 }
@@ -220,15 +222,15 @@ fn parse_secfrac<'a, T: EncodingType>(cursor: &mut Cursor<'a, T>) -> Result<Frac
     parse_fraction(cursor)
 }
 
-/// Reads a fraction after its point and an offset after it, and wants the end.
+/// Reads a fraction after its point and an offset after it.
 #[inline(always)]
 fn parse_fractional<'a, T: EncodingType>(
     cursor: &mut Cursor<'a, T>,
     date: DateRecord,
     whole: WholeTime,
-) -> Result<IxdtfParseRecord<'a, T>, Stop>
-    ensures rest { Reads T.letter (parsed_of T.number) cursor.old result cursor.new
-        (secfrac_at error_of (date_time_ends error_of) date whole.hour whole.minute whole.second) }
+) -> Result<DateTime, Stop>
+    ensures rest { Reads T.letter core_read cursor.old result cursor.new
+        (secfrac_at error_of open_end date whole.hour whole.minute whole.second) }
     ensures looks { Spends 11 cursor.old cursor.new }
 {
     let fraction = parse_secfrac(cursor)?;
@@ -237,15 +239,15 @@ fn parse_fractional<'a, T: EncodingType>(
     parse_time_offset(cursor, date, time, lead)
 }
 
-/// Reads what follows the seconds, and wants the end: a fraction where there is one, and an offset.
+/// Reads what follows the seconds: a fraction where there is one, and an offset.
 #[inline(always)]
 fn parse_after_seconds<'a, T: EncodingType>(
     cursor: &mut Cursor<'a, T>,
     date: DateRecord,
     whole: WholeTime,
-) -> Result<IxdtfParseRecord<'a, T>, Stop>
-    ensures rest { Reads T.letter (parsed_of T.number) cursor.old result cursor.new
-        (after_whole_second_at error_of (date_time_ends error_of) date whole.hour whole.minute whole.second) }
+) -> Result<DateTime, Stop>
+    ensures rest { Reads T.letter core_read cursor.old result cursor.new
+        (after_whole_second_at error_of open_end date whole.hour whole.minute whole.second) }
     ensures looks { Spends 12 cursor.old cursor.new }
 {
     match cursor.look()? {
@@ -270,13 +272,12 @@ fn parse_after_seconds<'a, T: EncodingType>(
 fn take_fixed_rfc3339<'a, T: EncodingType>(
     cursor: &mut Cursor<'a, T>,
 ) -> Option<(DateRecord, WholeTime)>
-    ensures read { IfSome result (λ found. rfc_3339_at error_of (map T.letter cursor.old.rest) ≡
-        after_whole_second_at error_of (date_time_ends error_of) found.0 found.1.hour found.1.minute found.1.second (map T.letter cursor.new.rest)) }
+    ensures read { IfSome result (λ found. date_time_by error_of open_end (map T.letter cursor.old.rest) ≡
+        after_whole_second_at error_of open_end found.0 found.1.hour found.1.minute found.1.second (map T.letter cursor.new.rest)) }
     ensures rest { result ≡ None → cursor.new.rest ≡ cursor.old.rest }
-    ensures few { cursor.new.looks ≤ cursor.old.looks + 20 }
-    ensures looks { Spends (length cursor.old.rest + 1) cursor.old cursor.new }
+    ensures looks { Spends 20 cursor.old cursor.new }
 {
-    if !is_time_designator(cursor.byte_at(10)) {
+    if cursor.remaining() < 19 || !is_time_designator(cursor.byte_at(10)) {
         return None;
     }
     take_fixed_date_time(cursor)
@@ -284,38 +285,38 @@ fn take_fixed_rfc3339<'a, T: EncodingType>(
 
 // ==== Number by number ====
 
-/// Reads an offset after its sign, and expects the end.
+/// Reads an offset after its sign.
 #[inline(always)]
 fn parse_offset_by_numbers<'a, T: EncodingType>(
     cursor: &mut Cursor<'a, T>,
     date: DateRecord,
     time: TimeRecord,
     sign: u8,
-) -> Result<IxdtfParseRecord<'a, T>, Stop>
-    ensures offset { Reads T.letter (parsed_of T.number) cursor.old result cursor.new
-        (num_offset_at error_of (date_time_ends error_of) date time sign) }
+) -> Result<DateTime, Stop>
+    ensures offset { Reads T.letter core_read cursor.old result cursor.new
+        (num_offset_at error_of open_end date time sign) }
     ensures looks { Spends 3 cursor.old cursor.new }
 {
     let offset_hour = next_number(cursor, 23, Stop::TimeHour)?;
     take_colon(cursor, Stop::UtcTimeSeparator)?;
     let offset_minute = next_number(cursor, 59, Stop::TimeMinuteSecond)?;
-    cursor.close()?;
-    let offset = MinutePrecisionOffset {
+    let minutes = MinutePrecisionOffset {
         sign: sign_from(sign),
         hour: offset_hour,
         minute: offset_minute,
     };
-    Ok(numeric_record(date, time, offset))
+    let offset = UtcOffsetRecordOrZ::Offset(UtcOffsetRecord::MinutePrecision(minutes));
+    Ok(DateTime { date, time, offset })
 }
 
-/// Reads the time after a date and its letter, and wants the end.
+/// Reads the time after a date and its letter.
 #[inline(always)]
 fn parse_time_by_numbers<'a, T: EncodingType>(
     cursor: &mut Cursor<'a, T>,
     date: DateRecord,
-) -> Result<IxdtfParseRecord<'a, T>, Stop>
-    ensures time { Reads T.letter (parsed_of T.number) cursor.old result cursor.new
-        (full_time_at error_of (date_time_ends error_of) date) }
+) -> Result<DateTime, Stop>
+    ensures time { Reads T.letter core_read cursor.old result cursor.new
+        (full_time_at error_of open_end date) }
     ensures looks { Spends 14 cursor.old cursor.new }
 {
     let hour = next_number(cursor, 23, Stop::TimeHour)?;
@@ -331,15 +332,15 @@ fn parse_time_by_numbers<'a, T: EncodingType>(
     parse_after_seconds(cursor, date, whole)
 }
 
-/// Reads the day after a month and its hyphen, and what follows, and wants the end.
+/// Reads the day after a month and its hyphen, and what follows.
 #[inline(always)]
 fn parse_day_by_numbers<'a, T: EncodingType>(
     cursor: &mut Cursor<'a, T>,
     year: u16,
     month: u8,
-) -> Result<IxdtfParseRecord<'a, T>, Stop>
-    ensures day { Reads T.letter (parsed_of T.number) cursor.old result cursor.new
-        (full_day_at error_of (date_time_ends error_of) (pos year) month) }
+) -> Result<DateTime, Stop>
+    ensures day { Reads T.letter core_read cursor.old result cursor.new
+        (full_day_at error_of open_end (pos year) month) }
     ensures looks { Spends 15 cursor.old cursor.new }
 {
     let day = parse_day(cursor, year, month)?;
@@ -352,14 +353,14 @@ fn parse_day_by_numbers<'a, T: EncodingType>(
     parse_time_by_numbers(cursor, date)
 }
 
-/// Reads the month after a year and its hyphen, and what follows, and wants the end.
+/// Reads the month after a year and its hyphen, and what follows.
 #[inline(always)]
 fn parse_month_by_numbers<'a, T: EncodingType>(
     cursor: &mut Cursor<'a, T>,
     year: u16,
-) -> Result<IxdtfParseRecord<'a, T>, Stop>
-    ensures month { Reads T.letter (parsed_of T.number) cursor.old result cursor.new
-        (full_month_at error_of (date_time_ends error_of) (pos year)) }
+) -> Result<DateTime, Stop>
+    ensures month { Reads T.letter core_read cursor.old result cursor.new
+        (full_month_at error_of open_end (pos year)) }
     ensures looks { Spends 16 cursor.old cursor.new }
 {
     let month = parse_month(cursor)?;
@@ -367,14 +368,12 @@ fn parse_month_by_numbers<'a, T: EncodingType>(
     parse_day_by_numbers(cursor, year, month)
 }
 
-/// Reads a date-time number by number, and wants the end. It is not inlined: no text is read so that has no error.
+/// Reads a date-time number by number. It is not inlined: no text is read so that has no error.
 #[inline(never)]
 #[tactic(auto, using(ixdtf_reading::proofs::code::FixedDateTimes::year_then), unfolding(ixdtf_reading::specs::reading::Looks::look_readings))]
-fn parse_by_numbers<'a, T: EncodingType>(
-    cursor: &mut Cursor<'a, T>,
-) -> Result<IxdtfParseRecord<'a, T>, Stop>
-    ensures date_time { Reads T.letter (parsed_of T.number) cursor.old result cursor.new
-        (rfc_3339_at error_of) }
+fn parse_by_numbers<'a, T: EncodingType>(cursor: &mut Cursor<'a, T>) -> Result<DateTime, Stop>
+    ensures date_time { Reads T.letter core_read cursor.old result cursor.new
+        (date_time_by error_of open_end) }
     ensures looks { Spends 17 cursor.old cursor.new }
 {
     let year = parse_year(cursor)?;
@@ -382,17 +381,43 @@ fn parse_by_numbers<'a, T: EncodingType>(
     parse_month_by_numbers(cursor, year)
 }
 
-/// Reads a date-time of RFC 3339, and wants the end.
+/// Reads a date-time of RFC 3339.
 #[inline(always)]
+pub fn parse_internet_date_time<'a, T: EncodingType>(
+    cursor: &mut Cursor<'a, T>,
+) -> Result<DateTime, Stop>
+    ensures date_time { Reads T.letter core_read cursor.old result cursor.new
+        (date_time_by error_of open_end) }
+    ensures looks { Spends 37 cursor.old cursor.new }
+{
+    match take_fixed_rfc3339(cursor) {
+        Some((date, whole)) => parse_after_seconds(cursor, date, whole),
+        None => parse_by_numbers(cursor),
+    }
+}
+
+/// Reads a date-time of RFC 3339, and wants the end.
+///
+/// Each way to read it has an end of its own. So the record is made where its parts are read.
+#[inline(always)]
+#[tactic(auto, using(ixdtf_reading::proofs::code::OpenDateTimes::rfc_3339_open))]
 pub fn parse_rfc3339_text<'a, T: EncodingType>(
     cursor: &mut Cursor<'a, T>,
 ) -> Result<IxdtfParseRecord<'a, T>, Stop>
     ensures date_time { Reads T.letter (parsed_of T.number) cursor.old result cursor.new
         (rfc_3339_at error_of) }
-    ensures looks { Spends (length cursor.old.rest + 18) cursor.old cursor.new }
+    ensures looks { Spends 38 cursor.old cursor.new }
 {
     match take_fixed_rfc3339(cursor) {
-        Some((date, whole)) => parse_after_seconds(cursor, date, whole),
-        None => parse_by_numbers(cursor),
+        Some((date, whole)) => {
+            let read = parse_after_seconds(cursor, date, whole)?;
+            cursor.close()?;
+            Ok(read.record())
+        }
+        None => {
+            let read = parse_by_numbers(cursor)?;
+            cursor.close()?;
+            Ok(read.record())
+        }
     }
 }

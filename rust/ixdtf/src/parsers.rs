@@ -21,6 +21,7 @@ mod date_times;
 mod dates;
 mod duration;
 mod exact;
+mod exact_zones;
 mod group_numbers;
 mod handled;
 mod letters;
@@ -38,7 +39,7 @@ mod zone;
 // These are only for crates of this repository, and not a part of the public interface. `read_lending_handler` is
 // generic in them.
 #[doc(hidden)]
-pub use self::cores::{CoreReader, DateTimes, MonthDays, Times, YearMonths};
+pub use self::cores::{CoreReader, DateTimes, InternetDateTimes, MonthDays, Times, YearMonths};
 pub use self::time_zone_parser::TimeZoneParser;
 pub use self::duration::IsoDurationParser;
 use crate::encoding::{EncodingType, Utf8, Utf16};

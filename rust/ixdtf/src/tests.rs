@@ -28,6 +28,7 @@ mod refused;
 mod refused_replies;
 mod replies;
 mod rfc3339;
+mod rfc9557;
 mod times;
 mod wide;
 mod wide_refused;
@@ -238,6 +239,8 @@ enum Reader {
     Time,
     /// `IxdtfParser::parse_rfc3339`.
     Rfc3339,
+    /// `IxdtfParser::parse_rfc9557`.
+    Rfc9557,
     /// `TimeZoneParser::parse_offset`.
     Offset,
     /// `TimeZoneParser::parse_identifier`.
@@ -314,6 +317,7 @@ impl<'a, T: EncodingType> Parsers<'a, T> {
             Reader::MonthDay => self.dates.parse_month_day(),
             Reader::Time => self.dates.parse_time(),
             Reader::Rfc3339 => self.dates.parse_rfc3339(),
+            Reader::Rfc9557 => self.dates.parse_rfc9557(),
             Reader::Offset => {
                 return match self.zones.parse_offset() {
                     Ok(offset) => Ok(Found::Offset(offset)),
@@ -361,6 +365,7 @@ impl<'a, T: EncodingType> Parsers<'a, T> {
             Reader::MonthDay => self.dates.parse_month_day_located(),
             Reader::Time => self.dates.parse_time_located(),
             Reader::Rfc3339 => self.dates.parse_rfc3339_located(),
+            Reader::Rfc9557 => self.dates.parse_rfc9557_located(),
             Reader::Offset => {
                 return match self.zones.parse_offset_located() {
                     Ok(_found) => None,

@@ -98,6 +98,8 @@ fn refusals<T: EncodingType>(row: &Row, units: &[T::CodeUnit]) -> Refusals {
             Refusals::of(text.parse_time(), text.parse_time_located()).and(text.parse_time_with_annotation_handler_located(Some))
         }
         "parse_rfc3339" => Refusals::of(text.parse_rfc3339(), text.parse_rfc3339_located()),
+        "parse_rfc9557" => Refusals::of(text.parse_rfc9557(), text.parse_rfc9557_located())
+            .and(text.parse_rfc9557_with_annotation_handler_located(Some)),
         "parse_offset" => Refusals::of(zone.parse_offset(), zone.parse_offset_located()),
         "parse_identifier" => Refusals::of(zone.parse_identifier(), zone.parse_identifier_located()),
         "parse_iana_identifier" => Refusals::of(zone.parse_iana_identifier(), zone.parse_iana_identifier_located()),
@@ -132,7 +134,7 @@ fn a_unit_that_stands_for_no_letter_has_its_place() {
 
 #[test]
 fn each_reader_has_rows() {
-    let names = ["parse", "parse_year_month", "parse_month_day", "parse_time", "parse_rfc3339", "parse_offset", "parse_identifier", "parse_iana_identifier", "duration"];
+    let names = ["parse", "parse_year_month", "parse_month_day", "parse_time", "parse_rfc3339", "parse_rfc9557", "parse_offset", "parse_identifier", "parse_iana_identifier", "duration"];
     for name in names {
         for is_wide in [false, true] {
             assert!(rows().any(|row| row.reader == name && row.is_wide == is_wide), "{name}");

@@ -3,12 +3,12 @@ use Rattle.std.proofs.Common.{◌≡◌, ℕ, List, [], ◌∷◌, ◌++◌, Opt
 use Rattle.std.proofs.{lemmas.List.{map-append, append-nil}, SliceLists.chained_more}
 use Rattle.std.specs.Option.{option_or}
 use Rattle.ixdtf_grammar.specs.{declared.records.Annotation.Annotation, language.{Letters.Text, Brackets.{Pair, IsPair, ArePairs}, Cores.{Core, IsCore}}}
-use Rattle.ixdtf_grammar.specs.language.{Readers.{Reader, CoreKind, Reader.bracketed}, Languages.{Parsed, parsed_with, IsBracketed, Derives.as_parsed}}
+use Rattle.ixdtf_grammar.specs.language.{Readers.{Reader, CoreKind, has_exact_zones, Reader.bracketed}, Languages.{Parsed, parsed_with, IsBracketed, Derives.as_parsed}}
 use Rattle.ixdtf_grammar.specs.{table.{Faults.Fault, Rows.{Row, Fits}}, Handlers.{first_calendar, RefusedBeside, NoneRefused, LastRefused, calendar_value}}
 use Rattle.ixdtf_grammar.specs.Handlers.{with_calendar, pair_of, Calls, handed, replies_of, Step, IsChain}
 use Rattle.ixdtf_reading.specs.reading.{Looks.{Placed, error_of}, Brackets.{Bracket, zone_in, pairs_in}}
 use Rattle.ixdtf_reading.specs.reading.Chains.{FitsAfterBrackets, PairsUpTo, PairsRead, TextGives, TextRead}
-use Rattle.ixdtf_reading.proofs.{to_grammar.{FirstBracket.IsBracket, Wholes.{after_brackets, tail_of, bracket_stands}}, theorems.Replies.first_calendar-more}
+use Rattle.ixdtf_reading.proofs.{to_reading.ExactBracket.IsBracketBy, to_grammar.Wholes.{after_brackets, tail_of, bracket_stands}, theorems.Replies.first_calendar-more}
 use Rattle.ixdtf_reading.proofs.theorems.Replies.{NoneRefused-more, NoneRefused-nothing}
 
 -- ---- texts of pairs
@@ -189,11 +189,11 @@ text_result core b (Ok calendar) = Ok (with_calendar (parsed_with core (zone_in 
 text_result core b (Err placed) = Err placed
 
 module _ (kind : CoreKind) (text cores bracket rest : Text) (core : Core) (b : Bracket) (is : text ≡ cores ++ (bracket ++ rest))
-    (is_core : IsCore kind cores core) (is_bracket : IsBracket bracket b) where
+    (is_core : IsCore kind cores core) (is_bracket : IsBracketBy (has_exact_zones kind) bracket b) where
   -- a core, a first bracket and more pairs
   whole_of : (front : Text) (more : List Pair) → ArePairs front more
       → IsBracketed kind (cores ++ (bracket ++ front)) (parsed_with core (zone_in b)) (pairs_in b ++ more)
-  whole_of front more pairs = let tail = tail_of b bracket front more is_bracket pairs in
+  whole_of front more pairs = let tail = tail_of _ b bracket front more is_bracket pairs in
       record { cores = cores; brackets = bracket ++ front; core = core; zone = zone_in b; is = refl; is_core = is_core; is_tail = tail; has = refl }
 
   split_of : (front left : Text) → rest ≡ front ++ left → text ≡ (cores ++ (bracket ++ front)) ++ left
@@ -210,8 +210,8 @@ module _ (kind : CoreKind) (text cores bracket rest : Text) (core : Core) (b : B
         refl,
         (core, is_core),
         zone_in b,
-        tail_of b bracket front more is_bracket upto_left.2,
-        bracket_stands bracket front b is_bracket,
+        tail_of _ b bracket front more is_bracket upto_left.2,
+        bracket_stands _ bracket front b is_bracket,
       ) fits
 
   module _ {T U F : Type 0} (number : U → ℕ) (step : Step T U F) (handler last : F) where

@@ -2,7 +2,7 @@
 use Rattle.std.proofs.Common.{◌≡◌, ℕ, ◌+◌, ◌≤◌, map, Result, Ok, Err, refl, arith}
 use Rattle.ixdtf_grammar.specs.{declared.located.LocatedError.LocatedError, language.{Letters.{Letter, Text}, Languages.{Parsed, Found}}}
 use Rattle.ixdtf_grammar.specs.{language.Readers.{Reader, CoreKind, Reader.bracketed}, table.Faults.{Fault, fault_of_located}, Handlers.{Step, replies_of}}
-use Rattle.ixdtf_grammar.specs.{Laws.IsTextReader, Promises.{ReadsText, ReadsTextAt, HandlesText, HandlesTextAt, ReadsPartAt, most_looks_beside}}
+use Rattle.ixdtf_grammar.specs.{Promises.{ReadsText, ReadsTextAt, HandlesText, HandlesTextAt, ReadsPartAt, most_looks_beside}}
 use Rattle.ixdtf_grammar.specs.Views.{Unread, UnreadUnder, most_looks, LeavesBehind}
 use Rattle.ixdtf_reading.specs.{declared.stop.StopAt.StopAt, reading.{Clauses.fault_of_stop_at, Chains.{Counting, TextRead}, Looks.{Read, Placed}}}
 use Rattle.ixdtf_reading.proofs.{code.Located.Located, theorems.Handled.{OwnReplies, handled, handled_of, gives_result, handled_accepted, unhandled_form}}
@@ -65,13 +65,13 @@ unhandled letter number step handler last found kind old new (Err why) own read 
     }
 
 module _ {X : Type 0} (letter : ℕ → Letter) (view : X → Parsed) (reader : Reader) (old new : UnreadUnder) where
-  pub reads_ok : {E : Type 0} (fault : E → Fault) (given found : X) → given ≡ found → IsTextReader old.profile reader
+  pub reads_ok : {E : Type 0} (fault : E → Fault) (given found : X) → given ≡ found
       → ReadsUnhandled letter (view found) reader old ended new → ReadsText letter fault view reader old (Ok given) new
-  reads_ok fault given found same is read = rw same (record {
+  reads_ok fault given found same read = rw same (record {
     ok = read.form.ok;
     err = tt;
     no_row = read.form.no_row;
-    no_other_reader = read.form.no_other_reader old.profile is;
+    no_other_reader = read.form.no_other_reader old.profile;
     only = tt;
     leaves = leaves_ok fault at_most found read.leaves;
     profile = read.profile;
@@ -111,14 +111,14 @@ module _ {T U F X E : Type 0} (letter : ℕ → Letter) (number : U → ℕ) (st
       → most_looks old.rest + spent ≤ most_looks_beside old.rest (replies_of number read.calls)
   within read = omega (arith, cost_of number step read.calls _ _ read.chain)
 
-  pub handles_ok : IsTextReader old.profile reader → (found : X) → ReadsInto letter number step handler last (view found) reader old ended new
+  pub handles_ok : (found : X) → ReadsInto letter number step handler last (view found) reader old ended new
       → HandlesText letter number step handler fault view reader old (Ok found) new
-  handles_ok is found read =
+  handles_ok found read =
       let gives = handled number step handler reader (map letter old.rest) (Ok (view found)) last (text_of number step read.replied) in
       let whole = handled_accepted number step handler reader (map letter old.rest) _ gives (view found) refl in record {
         handled = gives;
         no_row = whole.no_row;
-        no_other_reader = whole.no_other_reader old.profile is;
+        no_other_reader = whole.no_other_reader old.profile;
         leaves = leaves_ok fault (within read.replied) found read.leaves;
         profile = read.profile;
       }
@@ -138,10 +138,10 @@ module _ {T U F X E : Type 0} (letter : ℕ → Letter) (number : U → ℕ) (st
 
   -- with the place of an error, and then with the state that the handler is left in
   module _ (stands : ℕ → E → Type 0) where
-    pub handles_ok_at : IsTextReader old.profile reader → (found : X) → ReadsInto letter number step handler last (view found) reader old ended new
+    pub handles_ok_at : (found : X) → ReadsInto letter number step handler last (view found) reader old ended new
         → HandlesTextAt letter number step handler fault stands view reader old (Ok found) new
     unfolding handled_to_at_ok handles_ok
-    handles_ok_at is found read = let plain = handles_ok is found read in record {
+    handles_ok_at found read = let plain = handles_ok found read in record {
       handled = handled_at_ok number step handler last reader (map letter old.rest) fault stands view found (text_of number step read.replied);
       no_row = plain.no_row;
       no_other_reader = plain.no_other_reader;
@@ -163,11 +163,11 @@ module _ {T U F X E : Type 0} (letter : ℕ → Letter) (number : U → ℕ) (st
           profile = read.profile;
         }
 
-    pub handles_ok_to : IsTextReader old.profile reader → (found : X) → ReadsInto letter number step handler last (view found) reader old ended new
+    pub handles_ok_to : (found : X) → ReadsInto letter number step handler last (view found) reader old ended new
         → HandlesTextTo letter number step handler last fault stands view reader old (Ok found) new
     unfolding handled_to_at_ok handles_ok
-    handles_ok_to is found read =
-        let plain = handles_ok is found read in
+    handles_ok_to found read =
+        let plain = handles_ok found read in
         let to = handled_to_at_ok number step handler last reader (map letter old.rest) fault stands view found (text_of number step read.replied) in
         record { handled = to; no_row = plain.no_row; no_other_reader = plain.no_other_reader; leaves = plain.leaves; profile = plain.profile }
 

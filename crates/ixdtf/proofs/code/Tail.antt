@@ -1,13 +1,27 @@
 -- What the code read of a core, and of the first bracket after it, as what the text is.
-use Rattle.std.proofs.Common.{◌≡◌, ℕ, ◌≤◌, suc, Bool, true, false, List, [], ◌∷◌, ◌++◌, length, map, Option, None, Result, Ok, Err, refl, sym, ap, ◌∙◌, subst}
+use Rattle.std.proofs.Common.{◌≡◌, ℕ, ◌≤◌, ◌+◌, suc, Bool, true, false, List, [], ◌∷◌, ◌++◌, length, map, Option, None, Result, Ok, Err, refl, sym, ap, ◌∙◌, subst}
 use Rattle.std.proofs.{Common.arith, lemmas.List.{length-map, length-append}}
-use Rattle.ixdtf_grammar.specs.language.{Letters.{Letter, Text, Letter.Plain}, Cores.Core, Brackets.Pair, Languages.parsed_with, Readers.CoreKind}
+use Rattle.ixdtf_grammar.specs.language.{Letters.{Letter, Text, Letter.Plain}, Cores.Core, Brackets.Pair, Languages.parsed_with, Readers.{CoreKind, has_exact_zones}}
 use Rattle.ixdtf_grammar.specs.{language.Readers.Reader.bracketed, Handlers.{Step, with_calendar}}
-use Rattle.ixdtf_reading.specs.reading.{Looks.{Read, Placed, error_of}, Cores.{ClosedCore, core_at}, Brackets.{Bracket, pairs_in, bracket_at}}
+use Rattle.ixdtf_reading.specs.reading.{Looks.{Read, Placed, error_of}, Cores.{ClosedCore, core_at}, Brackets.{Bracket, pairs_in}, ExactZones.bracket_by}
 use Rattle.ixdtf_reading.specs.reading.Chains.{PairsRead, TextRead, TextReadAfter}
 use Rattle.ixdtf_reading.proofs.{parts.Looks.OnRead, to_grammar.Cores.{Splits, CoreFront, ReadsCore, core_read}}
-use Rattle.ixdtf_reading.proofs.to_grammar.{FirstBracket.{IsBracket, FitsAfterCore, bracket_read}, Wholes.after_core}
+use Rattle.ixdtf_reading.proofs.to_grammar.{ExactBracket.{BracketFront, FitsBracket, bracket_by_read}, Wholes.after_core_by}
+use Rattle.ixdtf_reading.proofs.to_reading.ExactBracket.{IsBracketBy}
+use Rattle.ixdtf.specs.Readings.{core_looks}
+use Rattle.ixdtf_brackets.specs.BracketTypes.{exact_looks}
 use Rattle.ixdtf.proofs.code.Chains.{text_result, text_fault, text_derived, text_read}
+
+-- ---- what is looked at
+
+pub core_at_most : (exact : Bool) (count : ℕ) → core_looks exact count ≤ count + 38
+core_at_most true count = omega arith
+core_at_most false count = omega arith
+
+-- where a zone has to be exact, the core costs so much less
+pub looks_at_most : (exact same : Bool) → exact ≡ same → (count left : ℕ) → suc left ≤ count → core_looks same count + exact_looks exact left ≤ count + 38
+looks_at_most true same is count left less = rw (← is) (omega (arith, less))
+looks_at_most false same is count left less = rw (← is) (omega (arith, less))
 
 -- ---- a core
 
@@ -40,20 +54,18 @@ core_ends_text kind text rest core is = (core_is kind text rest (core, false) is
 
 -- ---- a first bracket
 
-abbrev BracketFront : Text → Bracket → Text → Type 0
-BracketFront body bracket rest = (front : Text) × (body ≡ front ++ rest) × IsBracket front bracket
+abbrev OnBracket : Bool → Text → Read Placed Bracket → Type 0
+OnBracket exact inner r = OnRead error_of r (BracketFront exact (Plain 91 ∷ inner)) (λ row. FitsBracket exact row (Plain 91 ∷ inner))
 
-abbrev OnBracket : Text → Read Placed Bracket → Type 0
-OnBracket inner r = OnRead error_of r (BracketFront (Plain 91 ∷ inner)) (λ row. FitsAfterCore row (Plain 91 ∷ inner))
-
-bracket_is : (inner rest : Text) (bracket : Bracket) → bracket_at error_of inner ≡ Ok (bracket, rest) → BracketFront (Plain 91 ∷ inner) bracket rest
-bracket_is inner rest bracket is = subst (OnBracket inner) is (bracket_read error_of (Plain 91 ∷ inner) inner refl)
+bracket_is : (exact : Bool) (inner rest : Text) (bracket : Bracket) → bracket_by error_of exact inner ≡ Ok (bracket, rest)
+    → BracketFront exact (Plain 91 ∷ inner) bracket rest
+bracket_is exact inner rest bracket is = subst (OnBracket exact inner) is (bracket_by_read error_of exact inner)
 
 -- what is left after a bracket is no longer than the text
-pub bracket_shortens : (letter : ℕ → Letter) (units left : List ℕ) (bracket : Bracket) → bracket_at error_of (map letter units) ≡ Ok (bracket, map letter left)
+pub bracket_shortens : (exact : Bool) (letter : ℕ → Letter) (units left : List ℕ) (bracket : Bracket) → bracket_by error_of exact (map letter units) ≡ Ok (bracket, map letter left)
     → length left ≤ suc (length units)
-bracket_shortens letter units left bracket is =
-    let h = bracket_is _ _ bracket is in
+bracket_shortens exact letter units left bracket is =
+    let h = bracket_is exact _ _ bracket is in
     omega (arith, ap (λ t. length t) h.1, length-append h.0 (map letter left), length-map units letter, length-map left letter)
 
 -- ---- the whole text
@@ -67,24 +79,26 @@ module _ {T U F : Type 0} (number : U → ℕ) (step : Step T U F) (handler : F)
       text_fault number step handler text _ fault (row.0, row.2, sym row.1)
 
   -- a core, and the end
-  pub core_alone : (core : Core) (rest : Text) → TextReadAfter number step handler handler core false rest (Ok (with_calendar (parsed_with core None) None))
-  core_alone core rest kind text is =
+  pub core_alone : (exact : Bool) (core : Core) (rest : Text) → TextReadAfter number step handler handler exact core false rest (Ok (with_calendar (parsed_with core None) None))
+  core_alone exact core rest kind text asked is =
       let h = core_is kind text rest (core, false) is in
       text_derived number step handler text kind core (rw h.1.0 h.2)
 
   -- a first bracket that is refused
-  pub first_refused : (core : Core) (inner : Text) (fault : Placed) → bracket_at error_of inner ≡ Err fault
-      → TextReadAfter number step handler handler core true inner (Err fault)
-  first_refused core inner fault refused kind text is =
+  pub first_refused : (exact : Bool) (core : Core) (inner : Text) (fault : Placed) → bracket_by error_of exact inner ≡ Err fault
+      → TextReadAfter number step handler handler exact core true inner (Err fault)
+  first_refused exact core inner fault refused kind text asked is =
       let h = core_is kind text inner (core, true) is in
-      let row = subst (OnBracket inner) refused (bracket_read error_of (Plain 91 ∷ inner) inner refl) in
-      text_fault number step handler text _ fault (row.0, after_core kind row.0 text h.0 (Plain 91 ∷ inner) h.1 (core, h.2) row.2, sym row.1)
+      let row = subst (OnBracket exact inner) refused (bracket_by_read error_of exact inner) in
+      let fits : FitsBracket (has_exact_zones kind) row.0 (Plain 91 ∷ inner) = rw asked row.2 in
+      text_fault number step handler text _ fault (row.0, after_core_by kind row.0 text h.0 (Plain 91 ∷ inner) h.1 (core, h.2) fits, sym row.1)
 
   -- a first bracket, and the pairs after it
-  pub first_read : (core : Core) (inner : Text) (last : F) (bracket : Bracket) (rest : Text) (result : Result (Option Pair) Placed)
-      → bracket_at error_of inner ≡ Ok (bracket, rest) → PairsRead number step handler last (pairs_in bracket) rest result
-      → TextReadAfter number step handler last core true inner (text_result core bracket result)
-  first_read core inner last bracket rest result read pairs kind text is =
+  pub first_read : (exact : Bool) (core : Core) (inner : Text) (last : F) (bracket : Bracket) (rest : Text) (result : Result (Option Pair) Placed)
+      → bracket_by error_of exact inner ≡ Ok (bracket, rest) → PairsRead number step handler last (pairs_in bracket) rest result
+      → TextReadAfter number step handler last exact core true inner (text_result core bracket result)
+  first_read exact core inner last bracket rest result read pairs kind text asked is =
       let h = core_is kind text inner (core, true) is in
-      let b = bracket_is inner rest bracket read in
-      text_read kind text h.0 b.0 rest core bracket (h.1 ∙ ap (λ t. h.0 ++ t) b.1) h.2 b.2 number step handler last result pairs
+      let b = bracket_is exact inner rest bracket read in
+      let stands : IsBracketBy (has_exact_zones kind) b.0 bracket = rw asked b.2 in
+      text_read kind text h.0 b.0 rest core bracket (h.1 ∙ ap (λ t. h.0 ++ t) b.1) h.2 stands number step handler last result pairs

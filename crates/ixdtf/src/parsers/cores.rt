@@ -1,13 +1,13 @@
 //! Functions that read a core into a record. A core is the part of a text before its first `[`.
 
 ghost use Rattle.std.specs.Prelude.{◌≡◌, ◌+◌, map, length, Ok, OnOk, Some, None, refl};
-ghost use Rattle.ixdtf_grammar.specs.Laws.{IsKindUnder};
 ghost use Rattle.ixdtf_grammar.specs.declared.profile.Profile.{Profile};
 ghost use Rattle.ixdtf_grammar.specs.declared.records.TimeRecord.{TimeRecord};
 ghost use Rattle.ixdtf_grammar.specs.language.Letters.{Text};
 ghost use Rattle.ixdtf_grammar.specs.language.Times.Clock.{Time as of_day};
 ghost use Rattle.ixdtf_grammar.specs.language.Cores.{Core};
-ghost use Rattle.ixdtf_grammar.specs.language.Readers.{CoreKind};
+ghost use Rattle.ixdtf_grammar.specs.language.Readers.{CoreKind, has_exact_zones as exact_zones};
+ghost use Rattle.ixdtf.specs.Readings.{core_looks};
 ghost use Rattle.ixdtf_grammar.specs.language.Readers.CoreKind.{date_time};
 ghost use Rattle.ixdtf_grammar.specs.table.LineNames.{LineName};
 ghost use Rattle.ixdtf_reading.specs.reading.Clauses.{Reads, Spends, SpendsOr, YieldsAt, core_in, KeepsBrackets, timed_core_at};
@@ -31,6 +31,7 @@ use ixdtf_times::months::{
     parse_month_day_date, parse_month_day_parts, parse_year_month_date, parse_year_month_parts,
 };
 use ixdtf_times::offsets::{AfterCore, offset_from, take_fixed_offset};
+use ixdtf_times::rfc3339::parse_internet_date_time;
 use ixdtf_times::time::{Clock, TimeShape, WholeTime, parse_after_second, parse_clock};
 
 /// A type that reads cores of one kind.
@@ -52,10 +53,11 @@ pub trait CoreReader {
         ensures core { Reads T.letter (λ after. (core_in found.new, opens_bracket after)) cursor.old result
             cursor.new (core_at error_of (kind profile)) }
         ensures kept { KeepsBrackets found.old found.new }
-        ensures looks { Spends (length cursor.old.rest + 37) cursor.old cursor.new };
+        ensures looks { Spends (core_looks (exact_zones (kind profile)) (length cursor.old.rest)) cursor.old cursor.new };
 
-    /// The kind belongs to the profile.
-    ghost is_under: { (profile : Profile) → IsKindUnder profile (kind profile) };
+    /// Returns whether a zone behind the core has to be exactly one of RFC 9557.
+    fn has_exact_zones() -> bool
+        ensures { (profile : Profile) → result ≡ exact_zones (kind profile) };
 }
 
 /// The reader of a date, with a time and an offset if the text has them.
@@ -66,8 +68,6 @@ impl CoreReader for DateTimes {
 
     ghost kind = { λ profile. date_time };
 
-    ghost is_under = { λ profile. tt };
-
     #[inline(always)]
     fn parse_core<'a, T: EncodingType>(
         cursor: &mut Cursor<'a, T>,
@@ -75,6 +75,37 @@ impl CoreReader for DateTimes {
         found: &mut IxdtfParseRecord<'a, T>,
     ) -> Result<AfterCore, Stop> {
         parse_date_time(cursor, found)
+    }
+
+    #[inline(always)]
+    fn has_exact_zones() -> bool {
+        false
+    }
+}
+
+/// The reader of a date-time of RFC 3339: a date, a time and an offset.
+pub struct InternetDateTimes;
+
+impl CoreReader for InternetDateTimes {
+    ghost use Rattle.ixdtf_grammar.specs.language.Readers.CoreKind.{internet_date_time};
+
+    ghost kind = { λ profile. internet_date_time };
+
+    #[inline(always)]
+    #[tactic(auto, using(ixdtf_reading::proofs::code::OpenDateTimes::internet_date_time_open))]
+    fn parse_core<'a, T: EncodingType>(
+        cursor: &mut Cursor<'a, T>,
+        _profile: Profile,
+        found: &mut IxdtfParseRecord<'a, T>,
+    ) -> Result<AfterCore, Stop> {
+        let read = parse_internet_date_time(cursor)?;
+        read.place(found);
+        close_core(cursor)
+    }
+
+    #[inline(always)]
+    fn has_exact_zones() -> bool {
+        true
     }
 }
 
@@ -86,8 +117,6 @@ impl CoreReader for YearMonths {
 
     ghost kind = { λ profile. year_month };
 
-    ghost is_under = { λ profile. tt };
-
     #[inline(always)]
     fn parse_core<'a, T: EncodingType>(
         cursor: &mut Cursor<'a, T>,
@@ -97,6 +126,11 @@ impl CoreReader for YearMonths {
         let date = parse_year_month_date(cursor)?;
         found.date = Some(date);
         close_core(cursor)
+    }
+
+    #[inline(always)]
+    fn has_exact_zones() -> bool {
+        false
     }
 }
 
@@ -108,8 +142,6 @@ impl CoreReader for MonthDays {
 
     ghost kind = { λ profile. month_day profile };
 
-    ghost is_under = { λ profile. refl };
-
     #[inline(always)]
     fn parse_core<'a, T: EncodingType>(
         cursor: &mut Cursor<'a, T>,
@@ -120,6 +152,11 @@ impl CoreReader for MonthDays {
         found.date = Some(date);
         close_core(cursor)
     }
+
+    #[inline(always)]
+    fn has_exact_zones() -> bool {
+        false
+    }
 }
 
 /// The reader of a time, with an offset if the text has one.
@@ -129,8 +166,6 @@ impl CoreReader for Times {
     ghost use Rattle.ixdtf_grammar.specs.language.Readers.CoreKind.{time_of_day};
 
     ghost kind = { λ profile. time_of_day profile };
-
-    ghost is_under = { λ profile. refl };
 
     #[inline(always)]
     fn parse_core<'a, T: EncodingType>(
@@ -150,6 +185,11 @@ impl CoreReader for Times {
                 Ok(after)
             }
         }
+    }
+
+    #[inline(always)]
+    fn has_exact_zones() -> bool {
+        false
     }
 }
 

@@ -6,6 +6,7 @@ ghost use Rattle.ixdtf_grammar.specs.table.Faults.{Fault, fault_of, fault_of_loc
 ghost use Rattle.ixdtf_grammar.specs.Handlers.{RefusedBeside, first_calendar, pair_of};
 ghost use Rattle.ixdtf_reading.specs.reading.Clauses.{fault_of_stop};
 ghost use Rattle.ixdtf_grammar.specs.language.Readers.{parse as reader_parse, parse_year_month as reader_parse_year_month};
+ghost use Rattle.ixdtf_grammar.specs.language.Readers.{parse_rfc9557 as reader_parse_rfc9557};
 ghost use Rattle.ixdtf_grammar.specs.language.Readers.{parse_month_day as reader_parse_month_day, parse_time as reader_parse_time};
 ghost use Rattle.ixdtf_grammar.specs.language.Readers.Reader.{bracketed};
 ghost use Rattle.ixdtf_grammar.specs.Views.{parsed_of};
@@ -13,7 +14,9 @@ ghost use Rattle.ixdtf_grammar.specs.Promises.{HandlesText, HandlesTextAt};
 ghost use Rattle.ixdtf.specs.Readings.{HandlesTextTo};
 
 use crate::parsers::replies::keep_first_calendar;
-use crate::parsers::{CoreReader, DateTimes, FromStop, IxdtfParser, MonthDays, Times, YearMonths};
+use crate::parsers::{
+    CoreReader, DateTimes, FromStop, InternetDateTimes, IxdtfParser, MonthDays, Times, YearMonths,
+};
 use crate::{LocatedError, ParseError, ParserResult};
 use ixdtf_grammar::encoding::EncodingType;
 use ixdtf_grammar::records::{Annotation, IxdtfParseRecord};
@@ -106,6 +109,40 @@ impl<'a, T: EncodingType> IxdtfParser<'a, T> {
         ensures handles { HandlesText T.letter T.number F.step handler fault_of (parsed_of T.number) reader_parse self.old result self.new }
     {
         self.read_as::<ParseError, DateTimes, F>(handler)
+    }
+
+    /// Parses the remaining input as RFC 9557 has it, like [`parse_rfc9557`](Self::parse_rfc9557), and lets a handler
+    /// decide about each annotation.
+    ///
+    /// [`parse_with_annotation_handler`](Self::parse_with_annotation_handler) describes the handler.
+    ///
+    /// # Examples
+    ///
+    /// ```rust
+    /// use ixdtf::parsers::IxdtfParser;
+    ///
+    /// let text = "2024-03-02T08:48:00Z[!a=b][u-ca=hebrew]";
+    /// let record = IxdtfParser::from_str(text).parse_rfc9557_with_annotation_handler(|annotation| {
+    ///     if annotation.key == b"u-ca" { Some(annotation) } else { None }
+    /// });
+    /// assert_eq!(record.unwrap().calendar, Some(b"hebrew".as_slice()));
+    /// ```
+    ///
+    /// # Errors
+    ///
+    /// The errors of [`parse_rfc9557`](Self::parse_rfc9557). `CriticalDuplicateCalendar` and `UnrecognizedCritical`
+    /// are about the annotations that the handler returns.
+    pub fn parse_rfc9557_with_annotation_handler<F>(
+        &mut self,
+        handler: F,
+    ) -> ParserResult<IxdtfParseRecord<'a, T>>
+    where
+        F: FnMut(Annotation<'a, T>) -> Option<Annotation<'a, T>>,
+        // The handler can be called at any time, in any state that it has reached, with any annotation.
+        requires callable { F.IsAlwaysCallable handler }
+        ensures handles { HandlesText T.letter T.number F.step handler fault_of (parsed_of T.number) reader_parse_rfc9557 self.old result self.new }
+    {
+        self.read_as::<ParseError, InternetDateTimes, F>(handler)
     }
 
     /// Parses the remaining input as a year and a month, like [`parse_year_month`](Self::parse_year_month), and lets a
@@ -237,6 +274,38 @@ impl<'a, T: EncodingType> IxdtfParser<'a, T> {
         ensures handles { HandlesTextAt T.letter T.number F.step handler fault_of_located stands_behind (parsed_of T.number) reader_parse self.old result self.new }
     {
         self.read_as::<LocatedError, DateTimes, F>(handler)
+    }
+
+    /// Parses the remaining input as RFC 9557 has it, with a handler. An error has its position.
+    ///
+    /// This is [`parse_rfc9557_with_annotation_handler`](Self::parse_rfc9557_with_annotation_handler) with positions as
+    /// in [`parse_rfc9557_located`](Self::parse_rfc9557_located).
+    ///
+    /// # Examples
+    ///
+    /// ```rust
+    /// use ixdtf::ParseError;
+    /// use ixdtf::parsers::IxdtfParser;
+    ///
+    /// let located = IxdtfParser::from_str("2024-03-02T08:48:00Z[!a=b]").parse_rfc9557_with_annotation_handler_located(Some).unwrap_err();
+    /// assert_eq!((located.error, located.at), (ParseError::UnrecognizedCritical, 26));
+    /// ```
+    ///
+    /// # Errors
+    ///
+    /// The errors of [`parse_rfc9557_with_annotation_handler`](Self::parse_rfc9557_with_annotation_handler), each with
+    /// its position. If a reply is refused, the position is after the bracket of its annotation.
+    pub fn parse_rfc9557_with_annotation_handler_located<F>(
+        &mut self,
+        handler: F,
+    ) -> Result<IxdtfParseRecord<'a, T>, LocatedError>
+    where
+        F: FnMut(Annotation<'a, T>) -> Option<Annotation<'a, T>>,
+        // The handler can be called at any time, in any state that it has reached, with any annotation.
+        requires callable { F.IsAlwaysCallable handler }
+        ensures handles { HandlesTextAt T.letter T.number F.step handler fault_of_located stands_behind (parsed_of T.number) reader_parse_rfc9557 self.old result self.new }
+    {
+        self.read_as::<LocatedError, InternetDateTimes, F>(handler)
     }
 
     /// Parses the remaining input as a year and a month, with a handler. An error has its position.

@@ -8,13 +8,14 @@ ghost use Rattle.ixdtf_grammar.specs.Views.{IsEmptyRecord, parsed_of, most_looks
 ghost use Rattle.ixdtf_reading.specs.reading.Brackets.{zone_in, pairs_in};
 ghost use Rattle.ixdtf_reading.specs.reading.Chains.{TextRead, TextReadAfter, Counting, first_pairs};
 ghost use Rattle.ixdtf_reading.specs.reading.Clauses.{Spends, HasNoBrackets, yielded_at, core_in};
-ghost use Rattle.ixdtf_brackets.specs.BracketTypes.{bracket_of};
+ghost use Rattle.ixdtf_brackets.specs.BracketTypes.{bracket_of, exact_looks};
 ghost use Rattle.ixdtf.specs.Readings.{ReadsInto};
 
 use crate::parsers::IxdtfParser;
 use crate::parsers::cores::CoreReader;
 use crate::parsers::replies::parse_annotations;
-use ixdtf_brackets::brackets::{Bracket, parse_first_bracket};
+use ixdtf_brackets::brackets::Bracket;
+use ixdtf_brackets::exact_zones::parse_bracket_by;
 use ixdtf_grammar::encoding::EncodingType;
 use ixdtf_grammar::profile::Profile;
 use ixdtf_grammar::records::{Annotation, IxdtfParseRecord};
@@ -79,16 +80,17 @@ where
     let read = C::parse_core(&mut here, profile, found);
     *cursor = here;
     if read?.opens_bracket() {
-        return parse_brackets(cursor, found, handler);
+        return parse_brackets(cursor, C::has_exact_zones(), found, handler);
     }
     Ok(())
 }
 
 /// Reads the brackets after a core and the first `[`, up to the end of the input: the first bracket, and the
-/// annotations after it.
+/// annotations after it. If `is_exact`, a zone in the first bracket has to be exactly one of RFC 9557.
 #[inline(never)]
 fn parse_brackets<'a, T: EncodingType, F>(
     cursor: &mut Cursor<'a, T>,
+    is_exact: bool,
     found: &mut IxdtfParseRecord<'a, T>,
     handler: &mut F,
 ) -> Result<(), Stop>
@@ -98,13 +100,13 @@ where
     requires unbracketed { HasNoBrackets found.old }
     ensures replied { (spent : ℕ) ×
         TextReadAfter T.number (Counting F.step) (handler.old, 0) (handler.new, spent)
-        (core_in found.old) true (map T.letter cursor.old.rest)
+        is_exact (core_in found.old) true (map T.letter cursor.old.rest)
         (yielded_at (λ _. parsed_of T.number found.new) result (map T.letter cursor.new.rest)) ×
-        Spends (2 * length cursor.old.rest + 28 + spent) cursor.old cursor.new }
+        Spends (2 * length cursor.old.rest + exact_looks is_exact (length cursor.old.rest) + 28 + spent) cursor.old cursor.new }
     ensures empty { OnOk result (cursor.new.rest ≡ []) }
 {
     let mut here = cursor.fork();
-    let bracket = parse_first_bracket(&mut here);
+    let bracket = parse_bracket_by(&mut here, is_exact);
     *cursor = here;
     let first = place_bracket(bracket?, found);
     let mut here = cursor.fork();

@@ -4,7 +4,7 @@ use Rattle.ixdtf_grammar.specs.declared.records.{DateRecord.DateRecord, TimeReco
 use Rattle.ixdtf_grammar.specs.language.{Letters.{Text, sign, date_time_separator, Letter.Plain}, Shapes.one, Digits.UpTo, Dates.{IsDate, Year, Month}}
 use Rattle.ixdtf_grammar.specs.language.Offsets.{IsSigned}
 use Rattle.ixdtf_grammar.specs.language.Times.{Clock, TimeShape, ClockOf, IsTime, ColonMinuteText, ColonSecondText, greatest_second, has_seconds}
-use Rattle.ixdtf_grammar.specs.language.{Brackets.{Pair, ZoneNote, IsTail}, Cores.{Core, core_of, OptionalOffset, DateAndTime, IsCore}, Readers.CoreKind}
+use Rattle.ixdtf_grammar.specs.language.{Brackets.{Pair, ZoneNote, IsTail}, Cores.{Core, core_of, OptionalOffset, DateAndTime, IsCore}, Readers.{CoreKind, has_exact_zones}}
 use Rattle.ixdtf_grammar.specs.language.{Languages.{parsed_with, IsBracketed}, Months.{OptionalHyphen, IsYearMonth}}
 
 -- ---- dates
@@ -55,6 +55,6 @@ date_and_time dates separator times offsets date time offset is is_date separate
 }
 
 pub bracketed_text : {kind : CoreKind} {text : Text} (cores brackets : Text) (core : Core) (zone : Option ZoneNote) (pairs : List Pair)
-    → text ≡ cores ++ brackets → IsCore kind cores core → IsTail brackets zone pairs → IsBracketed kind text (parsed_with core zone) pairs
+    → text ≡ cores ++ brackets → IsCore kind cores core → IsTail (has_exact_zones kind) brackets zone pairs → IsBracketed kind text (parsed_with core zone) pairs
 bracketed_text cores brackets core zone pairs is is_core is_tail =
     record { cores = cores; brackets = brackets; core = core; zone = zone; is = is; is_core = is_core; is_tail = is_tail; has = refl }

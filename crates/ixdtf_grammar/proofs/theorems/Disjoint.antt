@@ -3,7 +3,7 @@ use Rattle.std.proofs.Common.{◌≡◌, List, [], ◌∷◌, ◌++◌, refl, sy
 use Rattle.ixdtf_grammar.specs.{declared.{profile.Profile.Profile, records.DateRecord.DateRecord}, language.Letters.{Text, Letter.Plain}}
 use Rattle.ixdtf_grammar.specs.language.{Shapes.{Shape, some}, Dates.DateText, Months.{IsYearMonth, IsMonthDay}, Brackets.Pair}
 use Rattle.ixdtf_grammar.specs.language.{Cores.{Core, IsDateTimeCore, BeginsWith, IsCore}, Durations.IsDuration, Readers.{Reader, CoreKind}}
-use Rattle.ixdtf_grammar.specs.language.Readers.CoreKind.{date_time, year_month, month_day, time_of_day}
+use Rattle.ixdtf_grammar.specs.language.Readers.CoreKind.{date_time, internet_date_time, year_month, month_day, time_of_day}
 use Rattle.ixdtf_grammar.specs.language.Readers.Reader.{bracketed, parse_rfc3339, parse_offset, parse_identifier, parse_iana_identifier, parse_duration}
 use Rattle.ixdtf_grammar.specs.language.Languages.{Parsed, IsBracketed, Derives.{as_parsed, as_lasting}}
 use Rattle.ixdtf_grammar.specs.Laws.{IsKindUnder, IsTextReader, InLanguage, LanguagesDisjoint, InNoOther}
@@ -54,9 +54,9 @@ Apart first second = (text : Text) → Whole first text → Whole second text �
 cores_apart : (first second : CoreKind) → ((cores : Text) (core other : Core) → IsCore first cores core → IsCore second cores other → ⊥) → Apart first second
 cores_apart first second clash text (found, pairs, h) (others, marks, k) =
     let inside = core_inside first h.cores h.core h.is_core in
-    let ends = tail_ends h.brackets h.zone pairs h.is_tail in
+    let ends = tail_ends _ h.brackets h.zone pairs h.is_tail in
     let inside_too = core_inside second k.cores k.core k.is_core in
-    let ends_too = tail_ends k.brackets k.zone marks k.is_tail in
+    let ends_too = tail_ends _ k.brackets k.zone marks k.is_tail in
     let same : h.cores ≡ k.cores = same_core h.cores k.cores h.brackets k.brackets inside inside_too ends ends_too (sym h.is ∙ k.is) in
     clash h.cores h.core k.core h.is_core (rw same k.is_core)
 
@@ -91,18 +91,23 @@ month_day_or_time profile first second is too text h k =
 same_kind : (profile : Profile) (first second : CoreKind) → IsKindUnder profile first → IsKindUnder profile second → (text : Text) → Whole first text
     → Whole second text → first ≡ second
 same_kind profile date_time date_time is too text h k = refl
+same_kind profile date_time internet_date_time is too text h k = absurd too
 same_kind profile date_time year_month is too text h k = absurd (date_times_and_year_months text h k)
 same_kind profile date_time (month_day second) is too text h k = absurd (date_times_and_month_days second text h k)
 same_kind profile date_time (time_of_day second) is too text h k = absurd (date_times_and_times second text h k)
+same_kind profile internet_date_time second is too text h k = absurd is
 same_kind profile year_month date_time is too text h k = absurd (date_times_and_year_months text k h)
+same_kind profile year_month internet_date_time is too text h k = absurd too
 same_kind profile year_month year_month is too text h k = refl
 same_kind profile year_month (month_day second) is too text h k = absurd (year_months_and_month_days second text h k)
 same_kind profile year_month (time_of_day second) is too text h k = absurd (year_months_and_times second text h k)
 same_kind profile (month_day first) date_time is too text h k = absurd (date_times_and_month_days first text k h)
+same_kind profile (month_day first) internet_date_time is too text h k = absurd too
 same_kind profile (month_day first) year_month is too text h k = absurd (year_months_and_month_days first text k h)
 same_kind profile (month_day first) (month_day second) is too text h k = ap month_day (is ∙ sym too)
 same_kind profile (month_day first) (time_of_day second) is too text h k = absurd (month_day_or_time profile first second is too text h k)
 same_kind profile (time_of_day first) date_time is too text h k = absurd (date_times_and_times first text k h)
+same_kind profile (time_of_day first) internet_date_time is too text h k = absurd too
 same_kind profile (time_of_day first) year_month is too text h k = absurd (year_months_and_times first text k h)
 same_kind profile (time_of_day first) (month_day second) is too text h k = absurd (month_day_or_time profile second first too is text k h)
 same_kind profile (time_of_day first) (time_of_day second) is too text h k = ap time_of_day (is ∙ sym too)
@@ -112,7 +117,7 @@ same_kind profile (time_of_day first) (time_of_day second) is too text h k = ap 
 -- a core before the end or a bracket does not begin as a duration
 whole_no_duration : (profile : Profile) (kind : CoreKind) (text : Text) → Whole kind text → some (IsDuration profile) text → ⊥
 whole_no_duration profile kind text (found, pairs, h) (duration, d) =
-    let ends = tail_ends h.brackets h.zone pairs h.is_tail in
+    let ends = tail_ends _ h.brackets h.zone pairs h.is_tail in
     no_duration h.cores h.brackets d.start _ d.sign (core_inside kind h.cores h.core h.is_core) ends d.is_start (sym h.is ∙ d.is)
 
 -- ---- all of the readers
@@ -138,5 +143,5 @@ languages_disjoint profile text parse_iana_identifier second is too h k = absurd
 languages_disjoint profile text first second is too h k = absurd too
 
 -- what is in the language of one of the readers is in no other
-pub in_no_other : (profile : Profile) (reader : Reader) (text : Text) → IsTextReader profile reader → InLanguage reader text → InNoOther profile reader text
-in_no_other profile reader text is h other too differ k = differ (languages_disjoint profile text reader other is too h k)
+pub in_no_other : (profile : Profile) (reader : Reader) (text : Text) → InLanguage reader text → InNoOther profile reader text
+in_no_other profile reader text h is other too differ k = differ (languages_disjoint profile text reader other is too h k)

@@ -4,7 +4,7 @@ use Rattle.ixdtf_grammar.specs.language.{Letters.{Text, Class, Letter.Plain}, Sh
 use Rattle.ixdtf_grammar.specs.language.Brackets.{Pair, IsPair, ArePairs, Opens, Value}
 use Rattle.ixdtf_grammar.specs.{language.{Readers.Reader.bracketed, Languages.{Found, Derives, Derives.as_parsed}}, table.{Faults.Fault, LineNames.LineName}}
 use Rattle.ixdtf_grammar.specs.table.LineNames.{ZoneLine.{identifier_start, zone_name_start}, BracketLine.after_bracket}
-use Rattle.ixdtf_grammar.specs.table.LineNames.{PairLine.{key_start, critical_key_start}, LineName.{of_clock, of_date_time, of_zone, of_bracket, of_pair, of_duration}}
+use Rattle.ixdtf_grammar.specs.table.LineNames.{PairLine.{key_start, critical_key_start}, LineName.{of_clock, of_zone, of_bracket, of_pair, of_duration}}
 use Rattle.ixdtf_grammar.specs.{table.{Before.{BeforeBracketed, Bracketed, BeforeKey}, Outcomes.HasFault}, Handlers.{Reply, GivesFault}}
 
 -- a part of a text is no longer than it
@@ -60,7 +60,6 @@ before_few kind (of_pair critical_key_start) pairs before rest p = bracketed_few
 before_few kind (of_pair line) pairs before rest p = key_few kind pairs before rest p
 before_few kind (of_bracket after_bracket) pairs before rest p = bracketed_few kind pairs before p
 before_few kind (of_duration profile line) pairs before rest p = absurd p
-before_few kind (of_date_time line) pairs before rest p = absurd p
 before_few kind (of_zone identifier_start) pairs before rest p = absurd p
 before_few kind (of_zone zone_name_start) pairs before rest p = absurd p
 before_few kind (of_clock Time line) pairs before rest p = none_few pairs before p.1

@@ -3,50 +3,19 @@ use Rattle.std.proofs.Common.{ℕ, suc, Bool, Option, Some, None, ◌++◌, refl
 use Rattle.std.proofs.lemmas.Bool.Decides.{nat_tests}
 use Rattle.ixdtf_grammar.specs.declared.records.{DateRecord.DateRecord, TimeRecord.TimeRecord, UtcOffsetRecordOrZ.UtcOffsetRecordOrZ}
 use Rattle.ixdtf_grammar.specs.language.{Letters.Text, Shapes.{Shape, some, ◌then◌, nothing, ◌either◌}, Digits.UpTo, Dates.Month, Fractions.FractionParts}
-use Rattle.ixdtf_grammar.specs.language.{Cores.Core, DateTimes.{FullDateText, OptionalSecfrac, IsPartialTime, IsTimeOffset, IsDateTime}, Rfc3339.SecondFraction}
+use Rattle.ixdtf_grammar.specs.language.{Cores.{Core, IsDateTime}, DateTimes.FullDateText, Rfc3339.SecondFraction}
 use Rattle.ixdtf_grammar.specs.table.DateTimeFronts.{Field, UntilDay, UntilHour, UntilMinute, UntilSecond, ThroughSecond, ThroughTime, UntilOffsetHour}
 use Rattle.ixdtf_grammar.specs.table.DateTimeFronts.{UntilOffsetMinute, Until, Through, Field.{month_field, day_field, hour_field, minute_field, second_field}}
 use Rattle.ixdtf_grammar.specs.table.DateTimeFronts.Field.{offset_hour_field, offset_minute_field}
 use Rattle.ixdtf_grammar.specs.table.LineNames.{DateTimeLine, DateTimeLine.{four_digits, after_four_digits, field_digits, field_range, after_field}}
 use Rattle.ixdtf_grammar.specs.table.{LineNames.DateTimeLine.{after_point, after_secfrac, after_utc}, Lines.{OutOfRange, date_time_line}, Rows.front_of}
-use Rattle.ixdtf_grammar.proofs.parts.{Classes.all_append, CoreLetters.{core_unit, AllInside, of_sign, in_digits}}
+use Rattle.ixdtf_grammar.proofs.{parts.CoreLetters.{core_unit, in_digits}, theorems.CoreEnds.{in_full_date, in_internet_date_time}}
 use Rattle.ixdtf_grammar.proofs.widths.PlainTexts.{IsPlain, is_plain, PlainShape, plain_nothing, plain_one, ◌and_then◌, ◌or_else◌, plain_digits, plain_fewer}
 use Rattle.ixdtf_grammar.proofs.widths.PlainTexts.{plain_some, plain_inside, plain_with}
 
--- ---- what is derived
-
-in_full_date : (text : Text) (date : DateRecord) → FullDateText text date → AllInside text
-in_full_date text date h =
-    rw h.is (all_append _ h.years _ (in_digits 4 h.years h.year.0)
-    (refl, all_append _ h.months _ (in_digits 2 h.months h.month.0.0) (refl, in_digits 2 h.days h.day.0)))
-
-in_secfrac : (text : Text) (fraction : Option FractionParts) → OptionalSecfrac text fraction → AllInside text
-in_secfrac text None h = rw h tt
-in_secfrac text (Some fraction) h = rw h.is (refl, in_digits (suc h.some.0) h.ds h.some.1)
-
-in_partial_time : (text : Text) (time : TimeRecord) → IsPartialTime text time → AllInside text
-in_partial_time text time h =
-    rw h.is (all_append _ h.hs _ (in_digits 2 h.hs h.hour.0) (
-      refl,
-      all_append _ h.ms _ (in_digits 2 h.ms h.minute.0)
-          (refl, all_append _ h.ss _ (in_digits 2 h.ss h.second.0) (in_secfrac h.part time.fraction h.fraction)),
-    ))
-
-in_time_offset : (text : Text) (offset : UtcOffsetRecordOrZ) → IsTimeOffset text offset → AllInside text
-in_time_offset text offset (inl h) = let zulu = h.0 in rw zulu.1 (grind (arith, nat_tests, zulu.2), tt)
-in_time_offset text offset (inr (minutes, h, is)) =
-    rw h.is (of_sign h.c h.signed, all_append _ h.hs _ (in_digits 2 h.hs h.hour.0) (refl, in_digits 2 h.ms h.minute.0))
-
-in_rfc_3339 : (text : Text) (core : Core) → IsDateTime text core → AllInside text
-in_rfc_3339 text core h =
-    let letter = h.separates in
-    rw h.is (all_append _ h.dates _ (in_full_date h.dates h.date h.is_date.0)
-    (all_append _ h.letters _ (rw letter.1 (grind (arith, nat_tests, letter.2), tt))
-    (all_append _ h.times _ (in_partial_time h.times h.time h.is_time) (in_time_offset h.offsets h.offset h.is_offset))))
-
 -- a date-time is plain
 pub date_time_plain : (text : Text) (core : Core) → IsDateTime text core → IsPlain text
-date_time_plain text core h = is_plain _ text (in_rfc_3339 text core h)
+date_time_plain text core h = is_plain _ text (in_internet_date_time text core h)
 
 -- ---- fronts
 

@@ -14,7 +14,7 @@ use Rattle.ixdtf_grammar.specs.table.LineNames.{CoreLine.{dates, year_months, mo
 use Rattle.ixdtf_grammar.specs.table.LineNames.ClockLine.{minute_digits, minute_range, after_basic_minute, after_colon_minute, second_digits, second_range}
 use Rattle.ixdtf_grammar.specs.table.LineNames.{ClockLine.{after_second, fraction_start, after_fraction}, OffsetLine.{offset_start, after_zulu}}
 use Rattle.ixdtf_grammar.specs.table.LineNames.ZoneLine.{identifier_start, zone_name_start, in_zone_name, after_zone_slash}
-use Rattle.ixdtf_grammar.specs.table.LineNames.BracketLine.{first_bracket_start, first_critical_start, first_bracket_scan, after_bracket}
+use Rattle.ixdtf_grammar.specs.table.LineNames.BracketLine.{first_bracket_start, first_critical_start, first_bracket_scan, first_name_form, first_offset_form, after_bracket}
 use Rattle.ixdtf_grammar.specs.table.LineNames.PairLine.{key_start, critical_key_start, in_key, value_start, in_value, after_value_hyphen}
 use Rattle.ixdtf_grammar.specs.table.LineNames.DurationLine.{duration_start, after_duration_sign, after_duration_designator, after_date_groups}
 use Rattle.ixdtf_grammar.specs.table.LineNames.DurationLine.{after_time_designator, group_digits, group_value_range, unit_order, date_unit_range}
@@ -23,7 +23,7 @@ use Rattle.ixdtf_grammar.specs.table.{LineNames.LineName.{of_core, of_clock, of_
 use Rattle.ixdtf_grammar.specs.table.Lines.{year_month_line, month_day_line, time_line, core_line, clock_line, offset_line, zone_line, bracket_line}
 use Rattle.ixdtf_grammar.specs.table.{Lines.{pair_line, duration_line, Hour, line_of}, Rows.front_of}
 use Rattle.ixdtf_grammar.proofs.widths.PlainTexts.{PlainShape, plain_nothing, plain_one, ◌and_then◌, ◌or_else◌, plain_digits, plain_fewer, plain_some_digits}
-use Rattle.ixdtf_grammar.proofs.widths.PlainTexts.{plain_many, plain_with, plain_where, plain_some, plain_inside, plain_shape, date_plain}
+use Rattle.ixdtf_grammar.proofs.widths.PlainTexts.{plain_many, plain_with, plain_where, zone_bracket_plain, plain_some, plain_inside, plain_shape, date_plain}
 use Rattle.ixdtf_grammar.proofs.{parts.CoreLetters.{in_year, in_hyphens, in_marks, in_year_month, in_month_day}, theorems.CoreEnds.{in_date, in_clock}}
 use Rattle.ixdtf_grammar.proofs.widths.{PlainTexts.{plain_name, plain_key, plain_value}, PlainDurations.{designator_plain, plain_number, plain_in_context}}
 use Rattle.ixdtf_grammar.proofs.widths.PlainDurations.{plain_after_dates, plain_after_time, plain_after_times, plain_value_past, plain_out_of_order}
@@ -128,6 +128,8 @@ plain_bracket_line : (name : BracketLine) → PlainShape (front_of (bracket_line
 plain_bracket_line first_bracket_start = plain_one
 plain_bracket_line first_critical_start = plain_one and_then plain_one
 plain_bracket_line first_bracket_scan = plain_one and_then plain_many plain_one
+plain_bracket_line first_name_form = record { plain = λ text h. zone_bracket_plain text _ h.2.0 }
+plain_bracket_line first_offset_form = record { plain = λ text h. zone_bracket_plain text _ h.2.0 }
 plain_bracket_line after_bracket = plain_nothing
 
 plain_pair_line : (name : PairLine) → PlainShape (front_of (pair_line name))

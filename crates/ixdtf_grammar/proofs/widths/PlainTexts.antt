@@ -5,7 +5,7 @@ use Rattle.std.proofs.lemmas.Bool.Decides.{nat_tests}
 use Rattle.ixdtf_grammar.specs.declared.records.{DateRecord.DateRecord, TimeRecord.TimeRecord}
 use Rattle.ixdtf_grammar.specs.language.{Letters.{Text, Class, any, zone_char, value_char, Letter.Plain}, Shapes.{Shape, one, digits, fewer_digits_than, some}}
 use Rattle.ixdtf_grammar.specs.language.{Dates.IsDate, Times.{Clock, TimeShape, IsTime}, Fractions.SomeDigits, Offsets.IsSigned}
-use Rattle.ixdtf_grammar.specs.language.{ZoneNames.{ZoneName, Zone, IsZone}, Brackets.{ZoneNote, Opens, OptionalBracket, Pair, Key, ValueRun, Value, ArePairs, IsTail}}
+use Rattle.ixdtf_grammar.specs.language.{ZoneNames.{ZoneName, Zone, IsZone}, Brackets.{ZoneNote, Opens, IsZoneBracket, OptionalBracket, Pair, Key, ValueRun, Value, ArePairs, IsTail}}
 use Rattle.ixdtf_grammar.specs.language.{Cores.{Core, TimeMark, MarkedTime, IsCore}, Readers.CoreKind}
 use Rattle.ixdtf_grammar.proofs.{parts.CoreLetters.{core_unit, AllInside}, theorems.CoreEnds.{in_date, in_clock, in_signed, in_marked_time, core_inside}}
 use Rattle.ixdtf_grammar.proofs.parts.Classes.{ascii, AllOf, all_append, Within, all_within, PlainOf, one_of, all_digits}
@@ -118,10 +118,16 @@ ascii_opens text false h = (one_of (λ c k. grind (arith, nat_tests, k))).plain 
 pub opens_plain : (text : Text) (critical : Bool) → Opens text critical → IsPlain text
 opens_plain text critical h = is_plain _ text (ascii_opens text critical h)
 
-optional_bracket_ascii : (text : Text) (note : Option ZoneNote) → OptionalBracket text note → AllOf ascii text
-optional_bracket_ascii text None h = rw h tt
-optional_bracket_ascii text (Some note) h =
+zone_bracket_ascii : (text : Text) (note : ZoneNote) → IsZoneBracket text note → AllOf ascii text
+zone_bracket_ascii text note h =
     rw h.is (all_append _ h.start _ (ascii_opens _ _ h.opens) (all_append _ h.inside _ (zone_ascii _ _ h.zone) (refl, tt)))
+
+pub zone_bracket_plain : (text : Text) (note : ZoneNote) → IsZoneBracket text note → IsPlain text
+zone_bracket_plain text note h = is_plain _ text (zone_bracket_ascii text note h)
+
+optional_bracket_ascii : (exact : Bool) (text : Text) (note : Option ZoneNote) → OptionalBracket exact text note → AllOf ascii text
+optional_bracket_ascii exact text None h = rw h tt
+optional_bracket_ascii exact text (Some note) h = zone_bracket_ascii text note h.0
 
 pairs_ascii : (text : Text) (pairs : List Pair) → ArePairs text pairs → AllOf ascii text
 pairs_ascii text [] h = rw h tt
@@ -132,8 +138,8 @@ pairs_ascii text (pair ∷ pairs) h =
     (all_append _ p.keys _ (ascii_key.plain _ p.is_key) (refl, all_append _ p.values (Plain 93 ∷ []) (ascii_value.plain _ p.is_value) (refl, tt))))
     (pairs_ascii h.1 pairs h.4))
 
-pub tail_ascii : (text : Text) (zone : Option ZoneNote) (pairs : List Pair) → IsTail text zone pairs → AllOf ascii text
-tail_ascii text note pairs h = rw h.2 (all_append _ h.0 h.1 (optional_bracket_ascii h.0 note h.3) (pairs_ascii h.1 pairs h.4))
+pub tail_ascii : (exact : Bool) (text : Text) (zone : Option ZoneNote) (pairs : List Pair) → IsTail exact text zone pairs → AllOf ascii text
+tail_ascii exact text note pairs h = rw h.2 (all_append _ h.0 h.1 (optional_bracket_ascii exact h.0 note h.3) (pairs_ascii h.1 pairs h.4))
 
-pub tail_plain : (text : Text) (zone : Option ZoneNote) (pairs : List Pair) → IsTail text zone pairs → IsPlain text
-tail_plain text note pairs h = is_plain _ text (tail_ascii text note pairs h)
+pub tail_plain : (exact : Bool) (text : Text) (zone : Option ZoneNote) (pairs : List Pair) → IsTail exact text zone pairs → IsPlain text
+tail_plain exact text note pairs h = is_plain _ text (tail_ascii exact text note pairs h)

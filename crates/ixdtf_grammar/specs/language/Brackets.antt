@@ -2,7 +2,7 @@
 -- first bracket of a text is told.
 use Rattle.std.specs.Prelude.{◌≡◌, Bool, true, false, [], ◌∷◌, ◌++◌, Option, Some, None, not, ◌&&◌, ◌||◌, ℕ, List, map}
 use Rattle.ixdtf_grammar.specs.language.Letters.{Text, Class, zone_lead, key_lead, opening, closing, exclamation, equals, hyphen, key_char, value_char}
-use Rattle.ixdtf_grammar.specs.language.{Letters.Letter.Plain, Shapes.{Shape, one, ◌then◌, ◌either◌, many, anything}, ZoneNames.{Zone, IsZone}}
+use Rattle.ixdtf_grammar.specs.language.{Letters.Letter.Plain, Shapes.{Shape, one, ◌then◌, ◌either◌, many, anything}, ZoneNames.{Zone, IsZone, IsExactZone}}
 
 -- a zone bracket, and whether it is critical
 pub record ZoneNote : Type 0 where
@@ -22,9 +22,22 @@ pub record IsZoneBracket (text : Text) (note : ZoneNote) : Type 0 where
   pub opens : Opens start note.critical
   pub zone : IsZone inside note.zone
 
-abbrev pub OptionalBracket : Text → Option ZoneNote → Type 0
-OptionalBracket text None = text ≡ []
-OptionalBracket text (Some note) = IsZoneBracket text note
+-- `time-zone = "[" critical-flag time-zone-name / time-numoffset "]"`, exactly
+pub record IsExactBracket (text : Text) (note : ZoneNote) : Type 0 where
+  pub start : Text
+  pub inside : Text
+  pub is : text ≡ start ++ (inside ++ (Plain 93 ∷ []))
+  pub opens : Opens start note.critical
+  pub zone : IsExactZone inside note.zone
+
+-- what else a zone bracket is, where it is to be exact
+abbrev pub MayStand : Bool → Text → ZoneNote → Type 0
+MayStand true text note = IsExactBracket text note
+MayStand false text note = Unit {0}
+
+abbrev pub OptionalBracket : Bool → Text → Option ZoneNote → Type 0
+OptionalBracket exact text None = text ≡ []
+OptionalBracket exact text (Some note) = IsZoneBracket text note × MayStand exact text note
 
 -- ---- zone or key
 
@@ -78,9 +91,9 @@ abbrev pub ArePairs : Text → List Pair → Type 0
 ArePairs text [] = text ≡ []
 ArePairs text (pair ∷ pairs) = (first rest : Text) × (text ≡ first ++ rest) × IsPair first pair × ArePairs rest pairs
 
--- at most one zone bracket, and then any number of pairs
-abbrev pub IsTail : Text → Option ZoneNote → List Pair → Type 0
-IsTail text zone pairs = (first rest : Text) × (text ≡ first ++ rest) × OptionalBracket first zone × ArePairs rest pairs
+-- at most one zone bracket, which may have to be exact, and then any number of pairs
+abbrev pub IsTail : Bool → Text → Option ZoneNote → List Pair → Type 0
+IsTail exact text zone pairs = (first rest : Text) × (text ≡ first ++ rest) × OptionalBracket exact first zone × ArePairs rest pairs
 
 -- What begins here in a first bracket is a key: an `=` comes before any `]`.
 abbrev pub ReadsAsPair : Shape

@@ -4,6 +4,7 @@ use Rattle.ixdtf_grammar.specs.declared.{profile.Profile.Profile, records.{DateR
 use Rattle.ixdtf_grammar.specs.{declared.records.UtcOffsetRecordOrZ.UtcOffsetRecordOrZ, language.Letters.{Text, date_time_separator, time_letter}}
 use Rattle.ixdtf_grammar.specs.language.{Shapes.{Shape, nothing, one, ◌then◌, ◌either◌, some, anything}, Dates.IsDate, Months.{IsYearMonth, IsMonthDay}}
 use Rattle.ixdtf_grammar.specs.language.{Times.IsTime, Offsets.IsOffsetOrZ, Readers.{CoreKind, CoreKind.{date_time, year_month, month_day, time_of_day}}}
+use Rattle.ixdtf_grammar.specs.language.{Readers.CoreKind.internet_date_time, DateTimes.{IsFullDate, IsPartialTime, IsTimeOffset}}
 
 -- what stands before the brackets
 pub record Core : Type 0 where
@@ -41,6 +42,24 @@ pub record DateAndTime (text : Text) (core : Core) : Type 0 where
 abbrev pub IsDateTimeCore : Text → Core → Type 0
 IsDateTimeCore text core = DateAlone IsDate text core ⊎ DateAndTime text core
 
+-- ---- date-times of RFC 3339
+
+-- `date-time = full-date "T" full-time`, where `full-time = partial-time time-offset`
+pub record IsDateTime (text : Text) (core : Core) : Type 0 where
+  pub dates : Text
+  pub letters : Text
+  pub times : Text
+  pub offsets : Text
+  pub date : DateRecord
+  pub time : TimeRecord
+  pub offset : UtcOffsetRecordOrZ
+  pub is : text ≡ dates ++ (letters ++ (times ++ offsets))
+  pub is_date : IsFullDate dates date
+  pub separates : one time_letter letters
+  pub is_time : IsPartialTime times time
+  pub is_offset : IsTimeOffset offsets offset
+  pub has : core ≡ core_of (Some date) (Some time) (Some offset)
+
 -- ---- times that stand alone
 
 -- `T` or `t` or neither
@@ -76,6 +95,7 @@ IsTimeCore profile text core = MarkedTime text core × HasNoDateFront profile te
 
 abbrev pub IsCore : CoreKind → Text → Core → Type 0
 IsCore date_time text core = IsDateTimeCore text core
+IsCore internet_date_time text core = IsDateTime text core
 IsCore year_month text core = DateAlone IsYearMonth text core
 IsCore (month_day profile) text core = DateAlone (IsMonthDay profile) text core
 IsCore (time_of_day profile) text core = IsTimeCore profile text core

@@ -1,12 +1,11 @@
--- The date-times of RFC 3339 section 5.6, production by production, and what they stand for. In quotes stands the ABNF of the
--- section, whose letters are of either case.
+-- The parts of the date-times of RFC 3339 section 5.6, production by production, and what they stand for. In quotes stands the
+-- ABNF of the section, whose letters are of either case.
 use Rattle.std.specs.Prelude.{◌≡◌, ℕ, IsTrue, ◌⊎◌, [], ◌∷◌, ◌++◌, Option, Some, None}
 use Rattle.ixdtf_grammar.specs.declared.records.{DateRecord.DateRecord, TimeRecord.TimeRecord, MinutePrecisionOffset.MinutePrecisionOffset}
 use Rattle.ixdtf_grammar.specs.declared.records.UtcOffsetRecordOrZ.{UtcOffsetRecordOrZ, TheVariants.{Offset, Z}}
 use Rattle.ixdtf_grammar.specs.declared.records.UtcOffsetRecord.TheVariants.{MinutePrecision}
-use Rattle.ixdtf_grammar.specs.language.{Letters.{Text, sign, zulu, time_letter, Letter.Plain}, Shapes.one, Digits.{TwoDigits, UpTo}}
+use Rattle.ixdtf_grammar.specs.language.{Letters.{Text, sign, zulu, Letter.Plain}, Shapes.one, Digits.{TwoDigits, UpTo}}
 use Rattle.ixdtf_grammar.specs.language.{Dates.{FourDigitYear, Month, IsDayOfMonth}, Fractions.{FractionParts, SomeDigits, fraction_of}, Offsets.sign_of}
-use Rattle.ixdtf_grammar.specs.language.Cores.{Core, core_of}
 
 -- `full-date = date-fullyear "-" date-month "-" date-mday`, whatever its day
 pub record FullDateText (text : Text) (date : DateRecord) : Type 0 where
@@ -59,19 +58,3 @@ pub record IsNumOffset (text : Text) (offset : MinutePrecisionOffset) : Type 0 w
 -- `time-offset = "Z" / time-numoffset`
 abbrev pub IsTimeOffset : Text → UtcOffsetRecordOrZ → Type 0
 IsTimeOffset text found = (one zulu text × (found ≡ Z)) ⊎ ((offset : MinutePrecisionOffset) × IsNumOffset text offset × (found ≡ Offset (MinutePrecision offset)))
-
--- `date-time = full-date "T" full-time`, where `full-time = partial-time time-offset`
-pub record IsDateTime (text : Text) (core : Core) : Type 0 where
-  pub dates : Text
-  pub letters : Text
-  pub times : Text
-  pub offsets : Text
-  pub date : DateRecord
-  pub time : TimeRecord
-  pub offset : UtcOffsetRecordOrZ
-  pub is : text ≡ dates ++ (letters ++ (times ++ offsets))
-  pub is_date : IsFullDate dates date
-  pub separates : one time_letter letters
-  pub is_time : IsPartialTime times time
-  pub is_offset : IsTimeOffset offsets offset
-  pub has : core ≡ core_of (Some date) (Some time) (Some offset)

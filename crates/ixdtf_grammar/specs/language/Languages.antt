@@ -3,7 +3,7 @@ use Rattle.std.specs.Prelude.{◌≡◌, ℕ, List, [], ◌++◌, Option, None}
 use Rattle.ixdtf_grammar.specs.declared.records.{DateRecord.DateRecord, TimeRecord.TimeRecord, UtcOffsetRecord.UtcOffsetRecord}
 use Rattle.ixdtf_grammar.specs.declared.{records.{UtcOffsetRecordOrZ.UtcOffsetRecordOrZ, DurationParseRecord.DurationParseRecord}, profile.Profile.Profile}
 use Rattle.ixdtf_grammar.specs.language.{Letters.Text, Offsets.IsOffset, ZoneNames.{Zone, IsZoneName, IsZone}, Brackets.{ZoneNote, Pair, IsTail}}
-use Rattle.ixdtf_grammar.specs.language.{Cores.{Core, IsCore}, DateTimes.IsDateTime, Durations.IsDuration, Readers.{Reader, CoreKind}}
+use Rattle.ixdtf_grammar.specs.language.{Cores.{Core, IsCore, IsDateTime}, Durations.IsDuration, Readers.{Reader, CoreKind, has_exact_zones}}
 use Rattle.ixdtf_grammar.specs.language.Readers.Reader.{bracketed, parse_rfc3339, parse_offset, parse_identifier, parse_iana_identifier, parse_duration}
 
 -- what is derived from a text with brackets, with names by the numbers of their code units
@@ -26,7 +26,7 @@ pub record IsBracketed (kind : CoreKind) (text : Text) (parsed : Parsed) (pairs 
   pub zone : Option ZoneNote
   pub is : text ≡ cores ++ brackets
   pub is_core : IsCore kind cores core
-  pub is_tail : IsTail brackets zone pairs
+  pub is_tail : IsTail (has_exact_zones kind) brackets zone pairs
   pub has : parsed ≡ parsed_with core zone
 
 -- a date-time of RFC 3339 section 5.6, with no zone and no calendar

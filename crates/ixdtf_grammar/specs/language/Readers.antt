@@ -2,11 +2,19 @@
 use Rattle.std.specs.Prelude.{Bool, true, false}
 use Rattle.ixdtf_grammar.specs.declared.profile.Profile.{Profile}
 
--- what stands before the brackets of a text: a date, or a date and a time; a year and a month; and, of a profile, a month and
--- a day; a time
+-- what stands before the brackets of a text: a date, or a date and a time; a date-time of RFC 3339; a year and a month; and,
+-- of a profile, a month and a day; a time
 pub data CoreKind : Type 0 where
-  date_time year_month : CoreKind
+  date_time internet_date_time year_month : CoreKind
   month_day time_of_day : Profile → CoreKind
+
+-- whether a zone behind a core of the kind is exactly one of RFC 9557 section 4.1
+abbrev pub has_exact_zones : CoreKind → Bool
+has_exact_zones date_time = false
+has_exact_zones internet_date_time = true
+has_exact_zones year_month = false
+has_exact_zones (month_day profile) = false
+has_exact_zones (time_of_day profile) = false
 
 -- the readers: of a core and the brackets after it, of a date-time of RFC 3339, of an offset, of a time zone, of the name of
 -- one, and of a duration under a profile
@@ -17,6 +25,10 @@ pub data Reader : Type 0 where
 
 abbrev pub parse : Reader
 parse = bracketed date_time
+
+-- of RFC 9557 section 4.1
+abbrev pub parse_rfc9557 : Reader
+parse_rfc9557 = bracketed internet_date_time
 
 abbrev pub parse_year_month : Reader
 parse_year_month = bracketed year_month

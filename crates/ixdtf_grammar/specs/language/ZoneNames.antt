@@ -1,7 +1,7 @@
 -- Zones: which texts are names of time zones (`time-zone-name` of RFC 9557 section 4.1), and what a zone is.
-use Rattle.std.specs.Prelude.{◌≡◌, ℕ, ◌⊎◌, List, map}
+use Rattle.std.specs.Prelude.{◌≡◌, ◌≢◌, ℕ, ◌⊎◌, List, [], ◌∷◌, map, IsTrue, All}
 use Rattle.ixdtf_grammar.specs.{declared.records.MinutePrecisionOffset.MinutePrecisionOffset, language.Letters.{Text, zone_lead, zone_char, slash}}
-use Rattle.ixdtf_grammar.specs.language.{Letters.Letter.Plain, Shapes.{Shape, one, ◌then◌, ◌either◌, many}, Offsets.IsMinuteOffset}
+use Rattle.ixdtf_grammar.specs.language.{Letters.Letter.Plain, Shapes.{Shape, one, ◌then◌, ◌either◌, many}, Offsets.IsMinuteOffset, DateTimes.IsNumOffset}
 
 -- a code unit of a name, or a slash and a code unit
 abbrev pub NameItem : Shape
@@ -24,3 +24,24 @@ abbrev pub IsZone : Text → Zone → Type 0
 IsZone text zone =
     ((name : List ℕ) × IsZoneName text name × (zone ≡ Name name))
     ⊎ ((offset : MinutePrecisionOffset) × IsMinuteOffset text offset × (zone ≡ Offset offset))
+
+-- ---- as RFC 9557 section 4.1 has them
+
+-- `time-zone-part = time-zone-initial *time-zone-char`, but not `.` and not `..`
+pub record IsNamePart (text : Text) : Type 0 where
+  pub lead : ℕ
+  pub others : List ℕ
+  pub is : text ≡ map Plain (lead ∷ others)
+  pub leads : IsTrue (zone_lead lead)
+  pub chars : All (λ c. IsTrue (zone_char c)) others
+  pub no_dot : text ≢ Plain 46 ∷ []
+  pub no_dots : text ≢ Plain 46 ∷ (Plain 46 ∷ [])
+
+-- `time-zone-name = time-zone-part *("/" time-zone-part)`
+abbrev pub IsPartedName : Shape
+IsPartedName = IsNamePart then many (one slash then IsNamePart)
+
+-- `time-zone-name / time-numoffset`
+abbrev pub IsExactZone : Text → Zone → Type 0
+IsExactZone text (Name name) = IsPartedName text × (text ≡ map Plain name)
+IsExactZone text (Offset offset) = IsNumOffset text offset

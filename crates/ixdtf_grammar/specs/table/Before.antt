@@ -1,10 +1,10 @@
 -- Where a line is looked at: what stands before its front in a reader, and what the text has from the front on.
-use Rattle.std.specs.Prelude.{◌≡◌, ◌≢◌, ◌⊎◌, List, [], ◌++◌, Option}
+use Rattle.std.specs.Prelude.{◌≡◌, ◌≢◌, ◌⊎◌, IsTrue, List, [], ◌++◌, Option}
 use Rattle.ixdtf_grammar.specs.{declared.profile.Profile.Profile, language.Letters.{Text, sign, date_time_separator, time_letter, opening}}
 use Rattle.ixdtf_grammar.specs.language.{Shapes.{Shape, nothing, one, ◌then◌, ◌either◌, some, anything}, Dates.IsDate, Months.IsMonthDay, Times.IsTime}
 use Rattle.ixdtf_grammar.specs.language.{Times.Clock.{Time, Offset, MinuteOffset}, Brackets.{ZoneNote, Opens, ReadsAsName, ReadsAsPair, Pair, IsTail}}
-use Rattle.ixdtf_grammar.specs.language.{Cores.{TimeMark, MarkedTime, BeginsWith, IsCore}, Readers.{Reader, CoreKind}}
-use Rattle.ixdtf_grammar.specs.language.Readers.CoreKind.{date_time, year_month, month_day, time_of_day}
+use Rattle.ixdtf_grammar.specs.language.{Cores.{TimeMark, MarkedTime, BeginsWith, IsCore}, Readers.{Reader, CoreKind, has_exact_zones}}
+use Rattle.ixdtf_grammar.specs.language.Readers.CoreKind.{date_time, internet_date_time, year_month, month_day, time_of_day}
 use Rattle.ixdtf_grammar.specs.language.Readers.Reader.{bracketed, parse_rfc3339, parse_offset, parse_identifier, parse_iana_identifier, parse_duration}
 use Rattle.ixdtf_grammar.specs.table.LineNames.{DateLine, MonthDayLine, TimeLine, CoreLine, ClockLine, OffsetLine, LineName, DateLine.year_start}
 use Rattle.ixdtf_grammar.specs.table.LineNames.DateLine.{year_digits, extended_year_digits, minus_zero_year, after_year, month_digits, month_range}
@@ -16,7 +16,7 @@ use Rattle.ixdtf_grammar.specs.table.LineNames.{CoreLine.{dates, year_months, mo
 use Rattle.ixdtf_grammar.specs.table.LineNames.ClockLine.{minute_digits, minute_range, after_basic_minute, after_colon_minute, second_digits, second_range}
 use Rattle.ixdtf_grammar.specs.table.LineNames.{ClockLine.{after_second, fraction_start, after_fraction}, OffsetLine.{offset_start, after_zulu}}
 use Rattle.ixdtf_grammar.specs.table.LineNames.ZoneLine.{identifier_start, zone_name_start, in_zone_name, after_zone_slash}
-use Rattle.ixdtf_grammar.specs.table.LineNames.BracketLine.{first_bracket_start, first_critical_start, first_bracket_scan, after_bracket}
+use Rattle.ixdtf_grammar.specs.table.LineNames.BracketLine.{first_bracket_start, first_critical_start, first_bracket_scan, first_name_form, first_offset_form, after_bracket}
 use Rattle.ixdtf_grammar.specs.table.LineNames.PairLine.{key_start, critical_key_start, in_key, value_start, in_value, after_value_hyphen}
 use Rattle.ixdtf_grammar.specs.table.LineNames.LineName.{of_core, of_clock, of_offset, of_date_time, of_zone, of_bracket, of_pair, of_duration}
 
@@ -42,6 +42,7 @@ BeforeDate date_time after_basic_month before = nothing before
 BeforeDate date_time day_digits before = nothing before
 BeforeDate date_time day_range before = nothing before
 BeforeDate date_time after_date before = nothing before
+BeforeDate internet_date_time line before = ⊥
 BeforeDate year_month year_start before = nothing before
 BeforeDate year_month year_digits before = nothing before
 BeforeDate year_month extended_year_digits before = nothing before
@@ -60,6 +61,7 @@ BeforeDate (time_of_day profile) line before = ⊥
 abbrev pub BeforeYearMonth : CoreKind → Shape
 BeforeYearMonth year_month before = nothing before
 BeforeYearMonth date_time before = ⊥
+BeforeYearMonth internet_date_time before = ⊥
 BeforeYearMonth (month_day profile) before = ⊥
 BeforeYearMonth (time_of_day profile) before = ⊥
 
@@ -77,6 +79,7 @@ InMonthDay profile (after_month_day other) before = nothing before × (other ≡
 abbrev pub BeforeMonthDay : CoreKind → MonthDayLine → Shape
 BeforeMonthDay (month_day profile) line before = InMonthDay profile line before
 BeforeMonthDay date_time line before = ⊥
+BeforeMonthDay internet_date_time line before = ⊥
 BeforeMonthDay year_month line before = ⊥
 BeforeMonthDay (time_of_day profile) line before = ⊥
 
@@ -99,6 +102,7 @@ InTimeAlone profile time_reads_as_year_month before rest = nothing before × Rea
 abbrev pub BeforeTimeAlone : CoreKind → TimeLine → Text → Text → Type 0
 BeforeTimeAlone (time_of_day profile) line before rest = InTimeAlone profile line before rest
 BeforeTimeAlone date_time line before rest = ⊥
+BeforeTimeAlone internet_date_time line before rest = ⊥
 BeforeTimeAlone year_month line before rest = ⊥
 BeforeTimeAlone (month_day profile) line before rest = ⊥
 
@@ -112,6 +116,7 @@ BeforeCore kind (times line) before rest = BeforeTimeAlone kind line before rest
 -- what stands before a line of times; a time that stands alone has its own line where it begins without `T` or `t`
 abbrev pub BeforeTime : CoreKind → ClockLine → Shape
 BeforeTime date_time line before = DateAndSeparator before
+BeforeTime internet_date_time line before = ⊥
 BeforeTime year_month line before = ⊥
 BeforeTime (month_day profile) line before = ⊥
 BeforeTime (time_of_day profile) hour_start before = one time_letter before
@@ -131,6 +136,7 @@ BeforeTime (time_of_day profile) after_fraction before = TimeMark before
 -- what stands before the sign of an offset, and before `Z`
 abbrev pub BeforeOffset : CoreKind → Shape
 BeforeOffset date_time before = DateTime before
+BeforeOffset internet_date_time before = ⊥
 BeforeOffset year_month before = ⊥
 BeforeOffset (month_day profile) before = ⊥
 BeforeOffset (time_of_day profile) before = (TimeMark then some IsTime) before
@@ -138,6 +144,14 @@ BeforeOffset (time_of_day profile) before = (TimeMark then some IsTime) before
 abbrev pub BeforeOffsetLine : CoreKind → OffsetLine → Shape
 BeforeOffsetLine kind offset_start before = ⊥
 BeforeOffsetLine kind after_zulu before = BeforeOffset kind before
+
+-- what stands before the lines of date-times of RFC 3339
+abbrev pub BeforeInternetDateTime : CoreKind → Shape
+BeforeInternetDateTime internet_date_time before = nothing before
+BeforeInternetDateTime date_time before = ⊥
+BeforeInternetDateTime year_month before = ⊥
+BeforeInternetDateTime (month_day profile) before = ⊥
+BeforeInternetDateTime (time_of_day profile) before = ⊥
 
 -- ---- lines of brackets
 
@@ -149,7 +163,7 @@ Opened kind = some (IsCore kind) then some Opens
 abbrev pub Bracketed : CoreKind → List Pair → Text → Type 0
 Bracketed kind pairs before =
     (cores brackets : Text) × (before ≡ cores ++ brackets) × some (IsCore kind) cores
-    × (zone : Option ZoneNote) × IsTail brackets zone pairs × (brackets ≢ [])
+    × (zone : Option ZoneNote) × IsTail (has_exact_zones kind) brackets zone pairs × (brackets ≢ [])
 
 -- what stands before a key: a first bracket's opening, where what begins is a key, or that of another bracket
 abbrev pub BeforeKey : CoreKind → List Pair → Text → Text → Type 0
@@ -162,7 +176,7 @@ BeforeBracketed kind (of_clock Time line) pairs before rest = BeforeTime kind li
 BeforeBracketed kind (of_clock Offset line) pairs before rest = (BeforeOffset kind then one sign) before × (pairs ≡ [])
 BeforeBracketed kind (of_clock MinuteOffset line) pairs before rest = (Opened kind then one sign) before × (pairs ≡ [])
 BeforeBracketed kind (of_offset line) pairs before rest = BeforeOffsetLine kind line before × (pairs ≡ [])
-BeforeBracketed kind (of_date_time line) pairs before rest = ⊥
+BeforeBracketed kind (of_date_time line) pairs before rest = BeforeInternetDateTime kind before × (pairs ≡ [])
 BeforeBracketed kind (of_zone identifier_start) pairs before rest = ⊥
 BeforeBracketed kind (of_zone zone_name_start) pairs before rest = ⊥
 BeforeBracketed kind (of_zone in_zone_name) pairs before rest = (Opened kind before × ReadsAsName rest) × (pairs ≡ [])
@@ -170,6 +184,8 @@ BeforeBracketed kind (of_zone after_zone_slash) pairs before rest = (Opened kind
 BeforeBracketed kind (of_bracket first_bracket_start) pairs before rest = some (IsCore kind) before × (pairs ≡ [])
 BeforeBracketed kind (of_bracket first_critical_start) pairs before rest = some (IsCore kind) before × (pairs ≡ [])
 BeforeBracketed kind (of_bracket first_bracket_scan) pairs before rest = Opened kind before × (pairs ≡ [])
+BeforeBracketed kind (of_bracket first_name_form) pairs before rest = (some (IsCore kind) before × IsTrue (has_exact_zones kind)) × (pairs ≡ [])
+BeforeBracketed kind (of_bracket first_offset_form) pairs before rest = (some (IsCore kind) before × IsTrue (has_exact_zones kind)) × (pairs ≡ [])
 BeforeBracketed kind (of_bracket after_bracket) pairs before rest = Bracketed kind pairs before
 BeforeBracketed kind (of_pair key_start) pairs before rest = Bracketed kind pairs before
 BeforeBracketed kind (of_pair critical_key_start) pairs before rest = Bracketed kind pairs before

@@ -3,7 +3,7 @@ use Rattle.std.proofs.Common.{refl, ◌≡◌, ℕ, List, [], map, Result, Ok, E
 use Rattle.ixdtf_grammar.specs.{declared.profile.Profile.Profile, language.{Letters.{Letter, Text}, Brackets.Pair, Readers.Reader}}
 use Rattle.ixdtf_grammar.specs.language.Readers.Reader.{bracketed, parse_rfc3339, parse_offset, parse_identifier, parse_iana_identifier, parse_duration}
 use Rattle.ixdtf_grammar.specs.{language.Languages.{Found, Derives}, table.{Faults.{Fault, never_comes}, Rows.{Row, Fits}}}
-use Rattle.ixdtf_grammar.specs.{table.Outcomes.{HasFault, NoRowFits, OnlyFault}, Views.{Unread, returned_by}, Laws.{IsTextReader, InNoOther}}
+use Rattle.ixdtf_grammar.specs.{table.Outcomes.{HasFault, NoRowFits, OnlyFault}, Views.{Unread, returned_by}, Laws.InNoOther}
 use Rattle.ixdtf_grammar.proofs.theorems.NoRow.{fault_comes}
 use Rattle.ixdtf_reading.specs.{declared.stop.Stop.Stop, reading.{Clauses.{Reads, Settles, fault_of_stop}, Looks.{Read, Placed, error_of}}}
 use Rattle.ixdtf_reading.specs.reading.Wholes.{finding, read_at}
@@ -88,7 +88,7 @@ module _ {U A : Type 0} (letter : ℕ → Letter) (view : U → A) (reader : Rea
     pub err : IfErr result (λ e. HasFault reader (map letter old.rest) [] (named e))
     pub comes : IfErr result (λ e. IsFalse (never_comes (named e)))
     pub no_row : OnOk result (NoRowFits reader (map letter old.rest))
-    pub no_other_reader : (profile : Profile) → IsTextReader profile reader → OnOk result (InNoOther profile reader (map letter old.rest))
+    pub no_other_reader : (profile : Profile) → OnOk result (InNoOther profile reader (map letter old.rest))
     pub only : IfErr result (λ e. OnlyFault reader (map letter old.rest) [] (named e))
     pub empty : (left : List ℕ) → OnOk result (left ≡ new.rest) → OnOk result (left ≡ [])
 
@@ -111,7 +111,7 @@ module _ {U A : Type 0} (letter : ℕ → Letter) (view : U → A) (reader : Rea
         err = fits;
         comes = fault_comes reader _ [] (named e) fits;
         no_row = tt;
-        no_other_reader = λ profile is. tt;
+        no_other_reader = λ profile. tt;
         only = only_fault reader _ [] (named e) fits;
         empty = λ left is. tt;
       }

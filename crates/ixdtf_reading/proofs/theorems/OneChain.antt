@@ -4,9 +4,9 @@ use Rattle.std.proofs.{Common.{◌∙◌, inl, inr, append_assoc, true≢false},
 use Rattle.ixdtf_grammar.specs.Handlers.{Reply, calendar_key, first_calendar, calendar_value, with_calendar, RefusedBeside, NoneRefused, LastRefused}
 use Rattle.ixdtf_grammar.specs.{Handlers.HasFront, Laws.{GivesResult, OneResult, replies_to, OneChain}, language.Brackets.{Pair, ZoneNote, ArePairs, IsTail}}
 use Rattle.ixdtf_grammar.specs.language.{Cores.{Core, IsCore}, Languages.{Parsed, parsed_with, Derives, Derives.as_parsed, Found.parsed}, Letters.Text}
-use Rattle.ixdtf_grammar.specs.{language.{Readers.{CoreKind, Reader.bracketed}, Times.Clock.Time}, table.Faults.Fault, Handlers.{GivesRecord, GivesFault}}
+use Rattle.ixdtf_grammar.specs.{language.{Readers.{CoreKind, has_exact_zones, Reader.bracketed}, Times.Clock.Time}, table.Faults.Fault, Handlers.{GivesRecord, GivesFault}}
 use Rattle.ixdtf_grammar.specs.table.{Faults.Fault.{UnrecognizedCritical, CriticalDuplicateCalendar}, LineNames.{LineName, BracketLine.after_bracket}}
-use Rattle.ixdtf_grammar.specs.table.LineNames.{LineName.{of_clock, of_date_time, of_zone, of_bracket, of_pair, of_duration}, ZoneLine.{identifier_start, zone_name_start}}
+use Rattle.ixdtf_grammar.specs.table.LineNames.{LineName.{of_clock, of_zone, of_bracket, of_pair, of_duration}, ZoneLine.{identifier_start, zone_name_start}}
 use Rattle.ixdtf_grammar.specs.table.{LineNames.PairLine.{key_start, critical_key_start}, Before.{Bracketed, BeforeBracketed}}
 use Rattle.ixdtf_grammar.specs.{table.{Outcomes.{ExactlyOne, Outcome, Outcome.{derived, refused}, Holds}, Rows.{Row, Fits}}, language.Readers.Reader}
 use Rattle.ixdtf_grammar.proofs.parts.Texts.{bracketed_text}
@@ -262,7 +262,7 @@ regrouped : (cores brackets first rest a b more : Text) → brackets ≡ first +
 regrouped cores brackets first rest a b more is split = rw (is, split) (simp append_assoc)
 
 whole_front : (kind : CoreKind) (cores brackets more : Text) (core : Core) (zone : Option ZoneNote) (xs ys : List Pair) → IsCore kind cores core
-    → IsTail brackets zone (xs ++ ys) → HasFront (bracketed kind) ((cores ++ brackets) ++ more) xs
+    → IsTail (has_exact_zones kind) brackets zone (xs ++ ys) → HasFront (bracketed kind) ((cores ++ brackets) ++ more) xs
 whole_front kind cores brackets more core zone xs ys is_core (first, rest, is, one, pairs) =
     let (a, b, split, are) = pairs_front rest xs ys pairs in (
       cores ++ (first ++ a),
@@ -282,7 +282,6 @@ whole_bracketed kind pairs before h = inr (before, [], sym (append-nil before), 
 before_row : (kind : CoreKind) (name : LineName) (pairs : List Pair) (before rest : Text) → BeforeBracketed kind name pairs before rest
     → NoneOrBracketed kind pairs before
 before_row kind (of_clock Time name) pairs before rest h = inl h.1
-before_row kind (of_date_time name) pairs before rest h = absurd h
 before_row kind (of_zone identifier_start) pairs before rest h = absurd h
 before_row kind (of_zone zone_name_start) pairs before rest h = absurd h
 before_row kind (of_bracket after_bracket) pairs before rest h = whole_bracketed kind pairs before h

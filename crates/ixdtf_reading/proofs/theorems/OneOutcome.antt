@@ -1,6 +1,6 @@
 -- Each text has exactly one outcome, and the pairs of a front begin those of the text.
 use Rattle.std.proofs.Common.{◌≡◌, ℕ, length, arith, ◌⊎◌, List, [], ◌++◌, Option, Ok, Err, refl, sym, ap, ◌∙◌, subst, inl, inr, append_assoc, ◌≢◌}
-use Rattle.ixdtf_grammar.specs.language.{Letters.Text, Brackets.{ZoneNote, Pair}, Cores.Core, Readers.Reader, Languages.{Parsed, parsed_with, Found, Derives}}
+use Rattle.ixdtf_grammar.specs.language.{Letters.Text, Brackets.{ZoneNote, Pair}, Cores.Core, Readers.{Reader, has_exact_zones}, Languages.{Parsed, parsed_with, Found, Derives}}
 use Rattle.ixdtf_grammar.specs.{language.Languages.{Derives.{as_parsed, as_dated, as_shifted, as_identified, as_named, as_lasting}, Found.parsed}, table.Faults.Fault}
 use Rattle.ixdtf_grammar.specs.table.Outcomes.{HasFault, HasFaultAt, OnlyPlace, NoRowFits, Outcome, Holds, OneOutcome, pairs_of, Begins, FrontsBegin}
 use Rattle.ixdtf_grammar.specs.{table.{Outcomes.Outcome.{derived, refused}, Rows.left_at}, Laws.InLanguage, language.Brackets.ArePairs}
@@ -64,9 +64,9 @@ more_begins core first_zone pairs rest (Err stop) h = (h.0, ap (λ s. s.0) h.4)
 -- reading goes over the front to the pairs after it
 front_begins : (reader : Reader) (front rest : Text) (read : Parsed) (pairs : List Pair) → Derives reader front (parsed read) pairs
     → OnBegins pairs rest (read_at row_behind reader (front ++ rest))
-front_begins reader front rest read pairs (as_parsed {kind = kind} d) = go (brackets_of d.brackets d.zone pairs d.is_tail)
+front_begins reader front rest read pairs (as_parsed {kind = kind} d) = go (brackets_of (has_exact_zones kind) d.brackets d.zone pairs d.is_tail)
   where
-    go : NoBrackets d.brackets d.zone pairs ⊎ Brackets d.brackets d.zone pairs → OnBegins pairs rest (with_pairs (bracketed_text_at row_behind kind (front ++ rest)))
+    go : NoBrackets d.brackets d.zone pairs ⊎ Brackets (has_exact_zones kind) d.brackets d.zone pairs → OnBegins pairs rest (with_pairs (bracketed_text_at row_behind kind (front ++ rest)))
     go (inl h) = rw h.pairs_are (none_begins rest (with_pairs (bracketed_text_at row_behind kind (front ++ rest))))
     go (inr h) =
         let over = over_brackets row_behind kind d.cores d.brackets rest d.core d.zone pairs d.is_core h in

@@ -2,19 +2,19 @@
 use Rattle.std.proofs.{Common.{◌≡◌, List, ap, inl, inr}, lemmas.Bool.both_ways}
 use Rattle.ixdtf_grammar.specs.{declared.profile.Profile.Profile, language.{Letters.Text, Brackets.Pair, Readers.Reader}, table.Faults.{Fault, is_refusal}}
 use Rattle.ixdtf_grammar.specs.{table.Outcomes.{HasFault, NoRowFits, OnlyFault, Outcome.refused}, Handlers.{Reply, GivesFault, GivesOnlyFault}}
-use Rattle.ixdtf_grammar.specs.Laws.{IsTextReader, InLanguage, InNoOther}
+use Rattle.ixdtf_grammar.specs.Laws.{InLanguage, InNoOther}
 use Rattle.ixdtf_grammar.proofs.theorems.{NoRow.fault_refuses_none, Disjoint.in_no_other}
 use Rattle.ixdtf_reading.proofs.theorems.{OneOutcome.{same_outcome, no_row_fits}, Replies.refused_split}
 
 -- what holds besides where something is derived from the text
 pub record Accepted (reader : Reader) (text : Text) : Type 0 where
   pub no_row : NoRowFits reader text
-  pub no_other_reader : (profile : Profile) → IsTextReader profile reader → InNoOther profile reader text
+  pub no_other_reader : (profile : Profile) → InNoOther profile reader text
 
 pub accepted : (reader : Reader) (text : Text) → InLanguage reader text → Accepted reader text
 accepted reader text h = record {
   no_row = no_row_fits reader text h;
-  no_other_reader = λ profile is. in_no_other profile reader text is h;
+  no_other_reader = λ profile. in_no_other profile reader text h;
 }
 
 -- a row that fits is the only one, and nothing is derived

@@ -6,9 +6,9 @@ use Rattle.ixdtf_grammar.specs.declared.records.UtcOffsetRecordOrZ.{UtcOffsetRec
 use Rattle.ixdtf_grammar.specs.declared.records.UtcOffsetRecord.TheVariants.{MinutePrecision}
 use Rattle.ixdtf_grammar.specs.language.{Letters.{Text, time_letter, date_time_separator, Letter.Plain}, Shapes.{one, nothing, ◌either◌}, Digits.decimal}
 use Rattle.ixdtf_grammar.specs.language.{Dates.IsDate, Times.{Clock as clocks, IsTime, TimeShape.{colon_minutes, seconds, fractions}}, Fractions.{FractionParts, fraction_of}}
-use Rattle.ixdtf_grammar.specs.language.{Offsets.{minutes_of, IsOffsetOrZ}, Cores.{Core, core_of, IsDateTimeCore}, Readers.{parse, Reader.parse_rfc3339}}
+use Rattle.ixdtf_grammar.specs.language.{Offsets.{minutes_of, IsOffsetOrZ}, Cores.{Core, core_of, IsDateTimeCore, IsDateTime}, Readers.{parse, Reader.parse_rfc3339}}
 use Rattle.ixdtf_grammar.specs.language.Languages.{Parsed, parsed_with, Derives, Derives.{as_parsed, as_dated}, Found.{parsed, dated}}
-use Rattle.ixdtf_grammar.specs.language.DateTimes.{IsFullDate, IsSecfrac, OptionalSecfrac, IsPartialTime, IsNumOffset, IsTimeOffset, IsDateTime}
+use Rattle.ixdtf_grammar.specs.language.DateTimes.{IsFullDate, IsSecfrac, OptionalSecfrac, IsPartialTime, IsNumOffset, IsTimeOffset}
 use Rattle.ixdtf_grammar.specs.language.Rfc3339.{FullDate, WholeTime, SecondFraction, TimeOffset, IsRfcDateTime}
 use Rattle.ixdtf_grammar.specs.{Handlers.UnhandledRecord, Rfc3339Laws.{DerivesDateTimesAlone, ParseReadsTheSame}}
 use Rattle.ixdtf_grammar.proofs.parts.Texts.{signed_text, colon_minutes_text, colon_seconds_text, date_and_time, bracketed_text}
@@ -205,7 +205,7 @@ is_offset text offset (inr (minutes, o, is)) =
 separates : (c : ℕ) → IsTrue (time_letter c) → IsTrue (date_time_separator c)
 separates c h = grind (arith, nat_tests, h)
 
-date_time_core : (text : Text) (core : Core) → IsDateTime text core → IsDateTimeCore text core
+pub date_time_core : (text : Text) (core : Core) → IsDateTime text core → IsDateTimeCore text core
 date_time_core text core d =
     let (full, in_month) = d.is_date in
     let is_date : IsDate d.dates d.date =

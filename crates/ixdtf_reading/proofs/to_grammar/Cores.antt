@@ -6,10 +6,10 @@ use Rattle.ixdtf_grammar.specs.declared.records.UtcOffsetRecordOrZ.{UtcOffsetRec
 use Rattle.ixdtf_grammar.specs.language.Letters.{Text, Class, digit, sign, zulu, opening, time_letter, date_time_separator, Letter.{Plain, Bad}}
 use Rattle.ixdtf_grammar.specs.language.{Shapes.{Shape, one, some, ◌then◌}, Dates.IsDate, Months.{IsYearMonth, IsMonthDay}}
 use Rattle.ixdtf_grammar.specs.language.{Times.{Clock, TimeShape, IsTime, writes_seconds, TimeShape.{seconds, fractions}}, Offsets.{IsOffset, offset_of}}
-use Rattle.ixdtf_grammar.specs.language.Cores.{Core, core_of, OptionalOffset, DateAlone, IsDateTimeCore, TimeMark, MarkedTime, HasNoDateFront, IsCore}
-use Rattle.ixdtf_grammar.specs.{language.Readers.{CoreKind, CoreKind.{date_time, year_month, month_day, time_of_day}, Reader.bracketed}, table.Faults.Fault}
+use Rattle.ixdtf_grammar.specs.language.Cores.{Core, core_of, OptionalOffset, DateAlone, IsDateTimeCore, IsDateTime, TimeMark, MarkedTime, HasNoDateFront, IsCore}
+use Rattle.ixdtf_grammar.specs.{language.Readers.{CoreKind, CoreKind.{date_time, internet_date_time, year_month, month_day, time_of_day}, Reader.bracketed}, table.Faults.Fault}
 use Rattle.ixdtf_grammar.specs.table.Faults.Fault.{NonAsciiCodePoint, InvalidEnd, TimeHour}
-use Rattle.ixdtf_grammar.specs.table.LineNames.{DateLine, ClockLine, LineName, of_date, of_year_month, of_month_day, of_time, LineName.{of_clock, of_offset}}
+use Rattle.ixdtf_grammar.specs.table.LineNames.{DateLine, ClockLine, DateTimeLine, LineName, of_date, of_year_month, of_month_day, of_time, LineName.{of_clock, of_offset, of_date_time}}
 use Rattle.ixdtf_grammar.specs.table.LineNames.{DateLine.{year_start, after_date}, YearMonthLine.after_year_month, MonthDayLine.after_month_day}
 use Rattle.ixdtf_grammar.specs.table.{LineNames.{TimeLine.time_start, ClockLine.hour_start, OffsetLine.after_zulu}, Lines.{line_of, abrupt_digit, always}}
 use Rattle.ixdtf_grammar.specs.table.{Lines.{Line.line, Ending.ok}, Before.{BeforeDate, BeforeTime, BeforeOffset, DateAndSeparator, AtCoreEnd, ReadsAsTime}}
@@ -18,9 +18,13 @@ use Rattle.ixdtf_grammar.proofs.parts.Texts.{date_and_time, signed_text}
 use Rattle.ixdtf_reading.specs.reading.{Looks.{Read, row_of, look_at, next_by}, Months.{year_month_at, month_day_at}}
 use Rattle.ixdtf_reading.specs.reading.{Times.{OpenTime, line_after, bad_after, hour_from, clock_at}, Cores.{ClosedCore, core_look, core_end_at, with_offset}}
 use Rattle.ixdtf_reading.specs.reading.Cores.{offset_core_at, after_time_at, time_core_at, after_date_at, date_time_core_at, date_alone_at, hour_look}
-use Rattle.ixdtf_reading.specs.reading.Cores.{lone_time_at, marked_time_at, marked_core_at, unfronted, time_alone_core_at, core_at}
+use Rattle.ixdtf_reading.specs.reading.Cores.{lone_time_at, marked_time_at, marked_core_at, unfronted, time_alone_core_at, internet_date_time_core_at, core_at}
 use Rattle.ixdtf_reading.proofs.parts.Fronts.{no_front_of, unfronted_read}
 use Rattle.ixdtf_reading.proofs.parts.Looks.{IsRowFault, OnRead, then_read, read_weaker, read_if, lift, NotNext, next_read, Peeked, peek_read, further}
+use Rattle.ixdtf_grammar.specs.table.DateTimeFronts.{Through, ThroughTime, Field.offset_minute_field}
+use Rattle.ixdtf_grammar.specs.table.LineNames.DateTimeLine.{after_field, after_utc}
+use Rattle.ixdtf_reading.proofs.parts.Looks.{fits_in, peek_line_read}
+use Rattle.ixdtf_reading.proofs.to_grammar.DateTimes.{FitsDateTime, date_time_read as rfc_date_time_read}
 use Rattle.ixdtf_reading.proofs.{to_reading.Times.{Closed, IsLater}, to_grammar.Dates.{DateFront, date_read}}
 use Rattle.ixdtf_reading.proofs.to_grammar.{Months.{FrontIs, year_month_read, month_day_read}, Times.{later, TimeFront, hour_read, clock_read, clock_stops}}
 
@@ -320,9 +324,32 @@ module _ {E : Type 0} (fault : Row → E) (profile : Profile) (text : Text) wher
   unfolding time_alone_core_at
   time_alone_read = then_read fault (marked_core_at fault text) _ _ _ _ _ marked_core_read tested_read (λ row f. f)
 
+-- ---- date-times of RFC 3339
+
+module _ {E : Type 0} (fault : Row → E) (text : Text) where
+  -- the end of a date-time, at one of its lines
+  date_time_ended : (name : DateTimeLine) (shape : Shape) (prior rest : Text) (core : Core) → text ≡ prior ++ rest → IsDateTime prior core
+      → ((row : Row) → (row.name ≡ of_date_time name) × Stops (line shape opening ok (always InvalidEnd)) row.place row.error rest → FitsDateTime fault true text row)
+      → OnRead fault (core_end_at fault (of_date_time name) core rest) (FrontOf IsDateTime text) (FitsDateTime fault true text)
+  unfolding core_end_at
+  date_time_ended name shape prior rest core is d fits =
+      then_read fault _ _ _ _ _ _ (peek_line_read fault (of_date_time name) shape opening (always InvalidEnd) rest)
+      (at_next fault internet_date_time text IsDateTime (of_date_time name) core prior rest is d) fits
+
+  internet_date_time_read : ReadsCore fault internet_date_time text (internet_date_time_core_at fault text)
+  internet_date_time_read = read_weaker fault (internet_date_time_core_at fault text) (FrontOf IsDateTime text) _ (FitsDateTime fault true text) _
+      (rfc_date_time_read fault true text (core_end_at fault) (FrontOf IsDateTime text)
+      (λ prior rest core is d front. date_time_ended after_utc (ThroughTime then one zulu) prior rest core is d
+      (λ row h. fits_in of_date_time true after_utc row text prior rest h.0 is front h.1))
+      (λ prior rest core is d front. date_time_ended (after_field offset_minute_field) (Through offset_minute_field) prior rest core is d
+      (λ row h. fits_in of_date_time true (after_field offset_minute_field) row text prior rest h.0 is front h.1)))
+      (λ x rest h. h)
+      (λ row h. lift of_date_time (bracketed internet_date_time) row text [] text refl (λ l. (refl, refl)) h)
+
 -- a core of any kind
 pub core_read : {E : Type 0} (fault : Row → E) (text : Text) (kind : CoreKind) → ReadsCore fault kind text (core_at fault kind text)
 core_read fault text date_time = date_time_read fault text
+core_read fault text internet_date_time = internet_date_time_read fault text
 core_read fault text year_month = alone_read fault year_month text IsYearMonth (of_year_month after_year_month)
     (λ place e front rest is date at. ([], text, refl, (refl, refl), (front, rest, is, date, at))) (year_month_at fault text) (year_month_read fault text)
 core_read fault text (month_day profile) = alone_read fault (month_day profile) text (IsMonthDay profile) (of_month_day (after_month_day profile))

@@ -8,8 +8,8 @@ use Rattle.ixdtf_grammar.specs.declared.records.UtcOffsetRecord.TheVariants.{Min
 use Rattle.ixdtf_grammar.specs.language.Letters.{Text, Class, none, digit, hyphen, colon, sign, zulu, time_letter, ◌or◌, Letter.{Plain, Bad}}
 use Rattle.ixdtf_grammar.specs.language.{Shapes.{Shape, one, some, digits, fewer_digits_than, ◌then◌, ◌either◌, nothing}, Digits.{decimal, UpTo}}
 use Rattle.ixdtf_grammar.specs.language.{Dates.{Month, IsDayOfMonth, month_length}, Rfc3339.SecondFraction, Fractions.{FractionParts, fraction_of}}
-use Rattle.ixdtf_grammar.specs.language.{Cores.{Core, core_of}, Languages.{Parsed, parsed_with, IsRfc3339}, Readers.Reader.parse_rfc3339}
-use Rattle.ixdtf_grammar.specs.language.DateTimes.{FullDateText, IsFullDate, IsSecfrac, OptionalSecfrac, IsPartialTime, IsNumOffset, IsTimeOffset, IsDateTime}
+use Rattle.ixdtf_grammar.specs.language.{Cores.{Core, core_of, IsDateTime}, Languages.{Parsed, parsed_with, IsRfc3339}, Readers.Reader.parse_rfc3339}
+use Rattle.ixdtf_grammar.specs.language.DateTimes.{FullDateText, IsFullDate, IsSecfrac, OptionalSecfrac, IsPartialTime, IsNumOffset, IsTimeOffset}
 use Rattle.ixdtf_grammar.specs.table.{Faults.Fault, LineNames.{DateTimeLine, LineName, LineName.of_date_time}}
 use Rattle.ixdtf_grammar.specs.table.Lines.{date_time_line, line_of, range_fault, NoMonth, Past, OutOfRange, always}
 use Rattle.ixdtf_grammar.specs.table.DateTimeFronts.{Field, point, UntilMonth, UntilDay, UntilHour, UntilMinute, UntilSecond, ThroughSecond, ThroughTime}

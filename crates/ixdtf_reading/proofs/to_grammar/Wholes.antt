@@ -1,25 +1,27 @@
 -- What reading a whole text returns is derived, or is a row that fits.
 use Rattle.std.proofs.Common.{◌≡◌, ◌≢◌, suc, List, [], ◌∷◌, ◌++◌, length, Ok, Err, None, refl, ap, ◌∙◌, sym, inl, inr, arith, append_assoc, append-nil, false}
-use Rattle.std.proofs.Common.{true}
+use Rattle.std.proofs.Common.{Bool, true, IsTrue}
 use Rattle.ixdtf_grammar.specs.language.{Times.Clock, Letters.{Text, Letter.Plain}, Shapes.some, Brackets.{Pair, ArePairs, IsTail}, Cores.{Core, IsCore}}
-use Rattle.ixdtf_grammar.specs.language.Readers.{Reader, CoreKind, Reader.{bracketed, parse_rfc3339, parse_offset, parse_identifier, parse_iana_identifier, parse_duration}}
+use Rattle.ixdtf_grammar.specs.language.Readers.{Reader, CoreKind, has_exact_zones, Reader.{bracketed, parse_rfc3339, parse_offset, parse_identifier, parse_iana_identifier, parse_duration}}
 use Rattle.ixdtf_grammar.specs.language.Languages.{Parsed, parsed_with, IsBracketed, Found, Derives}
 use Rattle.ixdtf_grammar.specs.language.Languages.Derives.{as_parsed, as_dated, as_shifted, as_identified, as_named, as_lasting}
 use Rattle.ixdtf_grammar.specs.{language.Languages.Found.{dated, shifted, identified, named, lasting}, table.LineNames.LineName}
 use Rattle.ixdtf_grammar.specs.table.LineNames.{LineName.{of_clock, of_zone, of_bracket, of_pair}, ZoneLine.{in_zone_name, after_zone_slash}}
-use Rattle.ixdtf_grammar.specs.table.LineNames.BracketLine.{first_bracket_start, first_critical_start, first_bracket_scan, after_bracket}
+use Rattle.ixdtf_grammar.specs.table.LineNames.BracketLine.{first_bracket_start, first_critical_start, first_bracket_scan, first_name_form, first_offset_form, after_bracket}
 use Rattle.ixdtf_grammar.specs.table.{LineNames.PairLine.{key_start, critical_key_start}, Before.{Before, Bracketed}, Rows.{Row, Fits}}
 use Rattle.ixdtf_grammar.proofs.parts.Texts.{bracketed_text}
 use Rattle.ixdtf_reading.specs.reading.{Looks.{Read, ◌>>=◌, error_of}, Pairs.pairs_at, Durations.duration_at}
 use Rattle.ixdtf_reading.specs.reading.DateTimes.{rfc_3339_at}
 use Rattle.ixdtf_reading.specs.reading.Zones.{offset_at, identifier_at, iana_identifier_at}
-use Rattle.ixdtf_reading.specs.reading.{Brackets.{Bracket, zoned, paired, zone_in, pairs_in, bracket_at}, Cores.{ClosedCore, core_at}}
+use Rattle.ixdtf_reading.specs.reading.{Brackets.{Bracket, zoned, paired, zone_in, pairs_in}, Cores.{ClosedCore, core_at}}
+use Rattle.ixdtf_reading.specs.reading.{ExactZones.bracket_by}
 use Rattle.ixdtf_reading.specs.reading.Wholes.{bracketed_at, annotated_at, tail_at, bracketed_text_at, with_pairs, finding, read_at}
 use Rattle.ixdtf_reading.specs.reading.Chains.{AfterBrackets, FitsAfterBrackets}
 use Rattle.ixdtf_reading.proofs.to_grammar.DateTimes.{rfc_3339_read}
 use Rattle.ixdtf_reading.proofs.{parts.Looks.OnRead, to_grammar.ZonesAlone.{offset_read, identifier_read, iana_identifier_read}}
-use Rattle.ixdtf_reading.proofs.to_grammar.{Cores.{CoreFront, ReadsCore, core_read}, FirstBracket.{InBracket, FitsAfterCore, IsBracket, bracket_read}}
-use Rattle.ixdtf_reading.proofs.{to_grammar.{MorePairs.{OnPairs, pairs_read}, Durations.duration_read}, to_reading.FirstBracket.bracket_takes}
+use Rattle.ixdtf_reading.proofs.to_grammar.{Cores.{CoreFront, ReadsCore, core_read}, FirstBracket.{InBracket, FitsAfterCore}}
+use Rattle.ixdtf_reading.proofs.to_grammar.ExactBracket.{BracketFront, IsForm, FitsBracket, bracket_by_read}
+use Rattle.ixdtf_reading.proofs.{to_grammar.{MorePairs.{OnPairs, pairs_read}, Durations.duration_read}, to_reading.ExactBracket.{IsBracketBy, bracket_by_takes}}
 
 -- what stands before a line of a first bracket, where a core stands before it
 in_first : (kind : CoreKind) (name : LineName) (cores prior rest : Text) → some (IsCore kind) cores → InBracket name prior rest
@@ -36,10 +38,23 @@ in_first kind (of_pair critical_key_start) cores prior rest core b = absurd b
 in_first kind (of_pair l) cores prior rest core b = inl ((cores, prior, refl, core, b.0), b.1, refl)
 in_first kind name cores prior rest core b = absurd b
 
+-- what stands before the line of a zone that is not exact
+of_form : (kind : CoreKind) (name : LineName) (cores rest : Text) → some (IsCore kind) cores → IsTrue (has_exact_zones kind) → IsForm name
+    → Before (bracketed kind) name [] cores rest
+of_form kind (of_bracket first_name_form) cores rest core exact h = ((core, exact), refl)
+of_form kind (of_bracket first_offset_form) cores rest core exact h = ((core, exact), refl)
+of_form kind name cores rest core exact h = absurd h
+
 -- the row fits the text, where it fits what stands after the core
 pub after_core : (kind : CoreKind) (row : Row) (text cores body : Text) → text ≡ cores ++ body → some (IsCore kind) cores → FitsAfterCore row body
     → Fits (bracketed kind) row [] text
 after_core kind row text cores body is core f = (cores ++ f.0, f.1, is ∙ rw f.2 (simp append_assoc), in_first kind row.name cores f.0 f.1 core f.3, f.4)
+
+-- the same of a row of a zone that is not exact
+pub after_core_by : (kind : CoreKind) (row : Row) (text cores body : Text) → text ≡ cores ++ body → some (IsCore kind) cores
+    → FitsBracket (has_exact_zones kind) row body → Fits (bracketed kind) row [] text
+after_core_by kind row text cores body is core (inl f) = after_core kind row text cores body is core f
+after_core_by kind row text cores body is core (inr f) = (cores, body, is, of_form kind row.name cores body core f.0 f.1, f.2)
 
 -- the same where whole brackets stand before the line
 in_later : (kind : CoreKind) (name : LineName) (pairs : List Pair) (whole prior rest : Text) → Bracketed kind pairs whole → AfterBrackets name prior
@@ -56,15 +71,15 @@ after_brackets kind row pairs text whole rest is h f =
     (whole ++ f.0, f.1, is ∙ rw f.2 (simp append_assoc), in_later kind row.name pairs whole f.0 f.1 h f.3, f.4)
 
 -- a first bracket and pairs after it
-pub tail_of : (bracket : Bracket) (first rest : Text) (more : List Pair) → IsBracket first bracket → ArePairs rest more
-    → IsTail (first ++ rest) (zone_in bracket) (pairs_in bracket ++ more)
-tail_of (zoned note) first rest more b h = (first, rest, refl, b, h)
-tail_of (paired pair) first rest more b h = ([], first ++ rest, refl, refl, (first, rest, refl, b, h))
+pub tail_of : (exact : Bool) (bracket : Bracket) (first rest : Text) (more : List Pair) → IsBracketBy exact first bracket → ArePairs rest more
+    → IsTail exact (first ++ rest) (zone_in bracket) (pairs_in bracket ++ more)
+tail_of exact (zoned note) first rest more b h = (first, rest, refl, b, h)
+tail_of exact (paired pair) first rest more b h = ([], first ++ rest, refl, refl, (first, rest, refl, b, h))
 
 -- brackets begin with a first one
-pub bracket_stands : (first rest : Text) (bracket : Bracket) → IsBracket first bracket → first ++ rest ≢ []
-bracket_stands first rest bracket b none =
-    let start = bracket_takes error_of first [] bracket b in
+pub bracket_stands : (exact : Bool) (first rest : Text) (bracket : Bracket) → IsBracketBy exact first bracket → first ++ rest ≢ []
+bracket_stands exact first rest bracket b none =
+    let start = bracket_by_takes error_of exact first [] bracket b in
     let bad : Plain 91 ∷ (start.0 ++ rest) ≡ [] = ap (λ t. t ++ rest) (sym start.1) ∙ none in absurd cc
 
 -- what reading a whole text gave
@@ -73,6 +88,10 @@ OnWhole fault reader text (Ok x) = (x.1 ≡ []) × Derives reader text x.0.0 x.0
 OnWhole fault reader text (Err e) = (pairs : List Pair) × (row : Row) × (e ≡ fault pairs row) × Fits reader row pairs text
 
 module _ {E : Type 0} (fault : List Pair → Row → E) (kind : CoreKind) where
+  -- whether a zone has to be exact
+  abbrev exact : Bool
+  exact = has_exact_zones kind
+
   -- what reading a core and brackets gave
   abbrev OnBracketed : Text → Read E (Parsed × List Pair) → Type 0
   OnBracketed text (Ok x) = (x.1 ≡ []) × IsBracketed kind text x.0.0 x.0.1
@@ -80,7 +99,7 @@ module _ {E : Type 0} (fault : List Pair → Row → E) (kind : CoreKind) where
 
   -- after a core and a first bracket
   bracketed_read : (text cores first rest : Text) (core : Core) (bracket : Bracket) → text ≡ cores ++ (first ++ rest) → IsCore kind cores core
-      → IsBracket first bracket → OnBracketed text (bracketed_at fault core bracket rest)
+      → IsBracketBy exact first bracket → OnBracketed text (bracketed_at fault core bracket rest)
   unfolding bracketed_at
   bracketed_read text cores first rest core bracket is is_core b =
       go (pairs_at fault (suc (length rest)) (pairs_in bracket) rest) (pairs_read fault (suc (length rest)) (pairs_in bracket) rest (omega arith))
@@ -88,27 +107,26 @@ module _ {E : Type 0} (fault : List Pair → Row → E) (kind : CoreKind) where
       go : (r : Read E (List Pair)) → OnPairs fault (pairs_in bracket) rest r
           → OnBracketed text (r >>= λ pairs. Ok ((parsed_with core (zone_in bracket), pairs.0), pairs.1))
       go (Ok x) h =
-          (h.0, bracketed_text cores (first ++ rest) core (zone_in bracket) x.0 is is_core (rw h.2 (tail_of bracket first rest h.1 b h.3)))
+          (h.0, bracketed_text cores (first ++ rest) core (zone_in bracket) x.0 is is_core (rw h.2 (tail_of exact bracket first rest h.1 b h.3)))
       go (Err e) h = (
         pairs_in bracket ++ h.0,
         h.3,
         h.4,
         after_brackets kind h.3 (pairs_in bracket ++ h.0) text (cores ++ (first ++ h.2.0)) h.1 (is ∙ rw h.2.1 (simp append_assoc))
-            (cores, first ++ h.2.0, refl, (core, is_core), zone_in bracket, tail_of bracket first h.2.0 h.0 b h.2.2, bracket_stands first h.2.0 bracket b) h.5,
+            (cores, first ++ h.2.0, refl, (core, is_core), zone_in bracket, tail_of exact bracket first h.2.0 h.0 b h.2.2, bracket_stands exact first h.2.0 bracket b) h.5,
       )
 
   -- after a core and `[`
   annotated_read : (text cores inner : Text) (core : Core) → text ≡ cores ++ (Plain 91 ∷ inner) → IsCore kind cores core
-      → OnBracketed text (annotated_at fault core inner)
+      → OnBracketed text (annotated_at fault exact core inner)
   unfolding annotated_at
-  annotated_read text cores inner core is is_core = go (bracket_at (fault []) inner) (bracket_read (fault []) (Plain 91 ∷ inner) inner refl)
+  annotated_read text cores inner core is is_core = go (bracket_by (fault []) exact inner) (bracket_by_read (fault []) exact inner)
     where
-      go : (r : Read E Bracket) → OnRead (fault []) r (λ bracket rest. (front : Text) × (Plain 91 ∷ inner ≡ front ++ rest) × IsBracket front bracket)
-          (λ row. FitsAfterCore row (Plain 91 ∷ inner)) → OnBracketed text (r >>= λ bracket. bracketed_at fault core bracket.0 bracket.1)
+      go : (r : Read E Bracket) → OnRead (fault []) r (BracketFront exact (Plain 91 ∷ inner)) (λ row. FitsBracket exact row (Plain 91 ∷ inner)) → OnBracketed text (r >>= λ bracket. bracketed_at fault core bracket.0 bracket.1)
       go (Ok x) h = bracketed_read text cores h.0 x.1 core x.0 (is ∙ ap (λ t. cores ++ t) h.1) is_core h.2
-      go (Err e) h = ([], h.0, h.1, after_core kind h.0 text cores (Plain 91 ∷ inner) is (core, is_core) h.2)
+      go (Err e) h = ([], h.0, h.1, after_core_by kind h.0 text cores (Plain 91 ∷ inner) is (core, is_core) h.2)
 
-  tail_read : (text : Text) (x : ClosedCore) (rest : Text) → CoreFront kind text x rest → OnBracketed text (tail_at fault x rest)
+  tail_read : (text : Text) (x : ClosedCore) (rest : Text) → CoreFront kind text x rest → OnBracketed text (tail_at fault exact x rest)
   tail_read text (core, false) rest h =
       (h.1.1, bracketed_text h.0 [] core None [] (h.1.0 ∙ sym (append-nil h.0)) h.2 ([], [], refl, refl, refl))
   tail_read text (core, true) rest h = annotated_read text h.0 rest core h.1 h.2
@@ -117,7 +135,7 @@ module _ {E : Type 0} (fault : List Pair → Row → E) (kind : CoreKind) where
   unfolding bracketed_text_at
   text_read text = go (core_at (fault []) kind text) (core_read (fault []) text kind)
     where
-      go : (r : Read E ClosedCore) → ReadsCore (fault []) kind text r → OnBracketed text (r >>= λ core. tail_at fault core.0 core.1)
+      go : (r : Read E ClosedCore) → ReadsCore (fault []) kind text r → OnBracketed text (r >>= λ core. tail_at fault exact core.0 core.1)
       go (Err e) h = ([], h.0, h.1, h.2)
       go (Ok x) h = tail_read text x.0 x.1 h
 

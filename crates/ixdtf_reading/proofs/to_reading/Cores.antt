@@ -6,23 +6,26 @@ use Rattle.ixdtf_grammar.specs.{declared.records.UtcOffsetRecordOrZ.TheVariants.
 use Rattle.ixdtf_grammar.specs.language.{Letters.{time_letter, Letter.Plain, ◌or◌}, Shapes.{Shape, one, some, ◌then◌, nothing}, Dates.IsDate}
 use Rattle.ixdtf_grammar.specs.language.{Months.{IsYearMonth, IsMonthDay}, Times.{Clock, TimeShape, ClockOf, IsTime, writes_seconds, TimeShape.hours}}
 use Rattle.ixdtf_grammar.specs.language.{Times.TimeShape.{seconds, fractions}, Offsets.offset_of, Cores.{Core, core_of, OptionalOffset, DateAlone}}
-use Rattle.ixdtf_grammar.specs.language.{Cores.{IsDateTimeCore, TimeMark, MarkedTime, IsCore}, Readers.{CoreKind, CoreKind.{date_time, year_month, month_day}}}
-use Rattle.ixdtf_grammar.specs.{language.Readers.CoreKind.time_of_day, table.{Faults.{Fault, Fault.InvalidEnd}, LineNames.{TimeLine, CoreLine, ClockLine}}}
+use Rattle.ixdtf_grammar.specs.language.{Cores.{IsDateTimeCore, IsDateTime, TimeMark, MarkedTime, IsCore}, Readers.{CoreKind, CoreKind.{date_time, internet_date_time, year_month, month_day}}}
+use Rattle.ixdtf_grammar.specs.{language.Readers.CoreKind.time_of_day, table.{Faults.{Fault, Fault.InvalidEnd}, LineNames.{TimeLine, CoreLine, ClockLine, DateTimeLine}}}
 use Rattle.ixdtf_grammar.specs.table.LineNames.{LineName, of_date, of_year_month, of_month_day, of_time, CoreLine.{dates, year_months, month_days, times}}
-use Rattle.ixdtf_grammar.specs.table.LineNames.{LineName.{of_core, of_clock, of_offset}, DateLine.after_date, YearMonthLine.after_year_in_year_month}
+use Rattle.ixdtf_grammar.specs.table.LineNames.{LineName.{of_core, of_clock, of_offset, of_date_time}, DateLine.after_date, YearMonthLine.after_year_in_year_month}
 use Rattle.ixdtf_grammar.specs.table.LineNames.{YearMonthLine.after_year_month, MonthDayLine.{month_day_range, after_month_day}, TimeLine.time_start}
 use Rattle.ixdtf_grammar.specs.table.LineNames.{TimeLine.{time_reads_as_month_day, time_reads_as_year_month}, ClockLine.hour_start, OffsetLine.after_zulu}
 use Rattle.ixdtf_grammar.specs.table.{Lines.{line_of, always, Line.line, Ending.ok}, Before.{DateAndSeparator, ReadsAsTime, InTimeAlone, BeforeCore}}
-use Rattle.ixdtf_grammar.specs.table.{Before.{BeforeTime, BeforeOffset}, Rows.{Row, Place, Stops, Place.{other, anywhere}}}
+use Rattle.ixdtf_grammar.specs.table.{Before.{BeforeTime, BeforeOffset, BeforeInternetDateTime}, Rows.{Row, Place, Stops, Place.{other, anywhere}}}
 use Rattle.ixdtf_grammar.proofs.parts.CoreLetters.{CoreEnds, core_ends}
 use Rattle.ixdtf_reading.specs.reading.{Looks.{Read, ◌>>=◌, row_of, look_at, next_by}, Months.{year_month_at, month_day_at}, Times.{OpenTime, line_after}}
 use Rattle.ixdtf_reading.specs.reading.{Times.{hour_from, clock_at}, Cores.{ClosedCore, core_look, core_end_at, with_offset, offset_core_at, after_time_at}}
 use Rattle.ixdtf_reading.specs.reading.Cores.{time_core_at, after_date_at, date_time_core_at, date_alone_at, lone_time_at, marked_time_at, marked_core_at}
-use Rattle.ixdtf_reading.specs.reading.Cores.{unfronted, time_alone_core_at, core_at}
+use Rattle.ixdtf_reading.specs.reading.Cores.{unfronted, time_alone_core_at, internet_date_time_core_at, core_at}
 use Rattle.ixdtf_reading.proofs.parts.{Looks.{ReadsOver, RowsRead, peek_end, peek_goes, peek_other, peek_stops, row_here, RowsWhere}, Fronts.no_front_after}
 use Rattle.ixdtf_reading.proofs.{parts.Fronts.{month_day_stops, year_month_stops, unfronted_goes}, to_reading.Dates.{date_takes, date_row_read}}
 use Rattle.ixdtf_reading.proofs.to_reading.{Months.{year_month_takes, month_day_takes, year_month_date_row, year_month_row, month_day_row}, Times.closed_at_end}
 use Rattle.ixdtf_reading.proofs.to_reading.{Times.{Closed, IsLater, stops_behind}, ClockRows.{RowsBehind, Refuses, TimeLead, hour_start_row, clock_lead}}
+use Rattle.ixdtf_reading.proofs.to_reading.DateTimes.{Ends, date_time_takes as internet_date_time_takes, date_time_rows}
+use Rattle.ixdtf_grammar.specs.table.DateTimeFronts.{Through, ThroughTime, Field.offset_minute_field}
+use Rattle.ixdtf_grammar.specs.table.LineNames.DateTimeLine.{after_field, after_utc}
 use Rattle.ixdtf_reading.proofs.to_reading.ClockRows.{over_time, start_rows, later_rows, over_clock, clock_rows}
 
 -- what may follow a time does not go on in it
@@ -287,6 +290,21 @@ module _ {E : Type 0} (fault : Row → E) where
       rw (b.0, at.0, at.1) (front_refuses profile (front ++ rest) _ b.1 (λ x. year_month_stops profile (front ++ rest) fault (Ok x) rest (front, refl, f) b.2))
   time_line_rows profile time_reads_as_year_month place e prior front rest b f at = absurd at
 
+  -- ---- date-times of RFC 3339
+
+  internet_date_time_closes : (front : Text) (core : Core) (rest : Text) → IsDateTime front core → Closes core rest (internet_date_time_core_at fault (front ++ rest))
+  internet_date_time_closes front core rest d = by_end (internet_date_time_takes fault (core_end_at fault) front core rest d)
+    where
+      by_end : Ends fault (core_end_at fault) core rest (internet_date_time_core_at fault (front ++ rest)) → Closes core rest (internet_date_time_core_at fault (front ++ rest))
+      by_end (inl same) = end_closes (of_date_time after_utc) core rest _ same
+      by_end (inr same) = end_closes (of_date_time (after_field offset_minute_field)) core rest _ same
+
+  internet_date_time_rows : (l : DateTimeLine) → RowsRead fault true (internet_date_time_core_at fault) (of_date_time l)
+  internet_date_time_rows l = date_time_rows fault (core_end_at fault) true
+      (λ core place e rest at. end_rows (of_date_time after_utc) core (ThroughTime then one zulu) place e rest at)
+      (λ core place e rest at. end_rows (of_date_time (after_field offset_minute_field)) core (Through offset_minute_field) place e rest at)
+      l
+
   -- ---- a core of any kind
 
   -- a core is read where the end or a bracket follows it
@@ -294,6 +312,7 @@ module _ {E : Type 0} (fault : Row → E) where
       → Closes core rest (core_at fault kind (front ++ rest))
   unfolding time_alone_core_at
   core_takes date_time front core rest d ends = date_time_takes front core rest d ends
+  core_takes internet_date_time front core rest d ends = internet_date_time_closes front core rest d
   core_takes year_month front core rest d ends =
       alone_takes IsYearMonth (of_year_month after_year_month) (year_month_at fault) (year_month_takes fault) front core rest d
   core_takes (month_day profile) front core rest d ends =
@@ -310,6 +329,7 @@ module _ {E : Type 0} (fault : Row → E) where
   unfolding date_time_core_at
   core_line_rows date_time (dates after_date) place e prior front rest b f at = rw b (after_date_row place e front rest f at)
   core_line_rows date_time (dates l) place e prior front rest b f at = rw (b, date_row_read fault true l tt place e front rest f at) refl
+  core_line_rows internet_date_time (dates l) place e prior front rest b f at = absurd b
   core_line_rows year_month (dates l) place e prior front rest b f at = rw (year_month_date_row fault l prior b place e front rest f at) refl
   core_line_rows year_month (year_months after_year_in_year_month) place e prior front rest b f at =
       rw (b, year_month_row fault place e front rest f at) refl
@@ -347,3 +367,8 @@ module _ {E : Type 0} (fault : Row → E) where
   core_zulu_row date_time prior b = time_zulu_row _ _ _ date_time_lead prior b
   core_zulu_row (time_of_day profile) prior b = in_marked profile (of_offset after_zulu) prior (time_zulu_row _ _ _ mark_lead prior b)
   core_zulu_row kind prior b = absurd b
+
+  pub core_date_time_rows : (kind : CoreKind) (l : DateTimeLine) (prior : Text) → BeforeInternetDateTime kind prior
+      → RowsBehind fault true (core_at fault kind) prior (of_date_time l)
+  core_date_time_rows internet_date_time l prior b place e front rest f at = rw b (internet_date_time_rows l place e front rest f at)
+  core_date_time_rows kind l prior b place e front rest f at = absurd b

@@ -5,9 +5,9 @@ use Rattle.std.proofs.lemmas.Bool.{false_from_ne_true, eqb-true, Decides.nat_tes
 use Rattle.ixdtf_grammar.specs.declared.records.{DateRecord.DateRecord, TimeRecord.TimeRecord, MinutePrecisionOffset.MinutePrecisionOffset}
 use Rattle.ixdtf_grammar.specs.declared.records.UtcOffsetRecordOrZ.{UtcOffsetRecordOrZ, TheVariants.{Offset, Z}}
 use Rattle.ixdtf_grammar.specs.language.{Letters.{Text, digit, hyphen, colon, sign, zulu, time_letter, ◌or◌, Letter.{Plain, Bad}}, Shapes.{Shape, one, some, digits, ◌then◌, ◌either◌, nothing}, Digits.{decimal, UpTo}}
-use Rattle.ixdtf_grammar.specs.language.{Dates.{Month, IsDayOfMonth, month_length}, Rfc3339.SecondFraction, Fractions.{FractionParts, fraction_of}, Cores.{Core, core_of}}
+use Rattle.ixdtf_grammar.specs.language.{Dates.{Month, IsDayOfMonth, month_length}, Rfc3339.SecondFraction, Fractions.{FractionParts, fraction_of}, Cores.{Core, core_of, IsDateTime}}
 use Rattle.ixdtf_grammar.specs.language.{Letters.none, Languages.{Parsed, parsed_with, IsRfc3339}, Readers.Reader.parse_rfc3339}
-use Rattle.ixdtf_grammar.specs.language.DateTimes.{FullDateText, IsFullDate, IsSecfrac, OptionalSecfrac, IsPartialTime, IsNumOffset, IsTimeOffset, IsDateTime}
+use Rattle.ixdtf_grammar.specs.language.DateTimes.{FullDateText, IsFullDate, IsSecfrac, OptionalSecfrac, IsPartialTime, IsNumOffset, IsTimeOffset}
 use Rattle.ixdtf_grammar.specs.table.{Faults.Fault.InvalidEnd, Lines.always, DateTimeFronts.Through}
 use Rattle.ixdtf_grammar.specs.table.{Faults.Fault, LineNames.{DateTimeLine, LineName.of_date_time}, Lines.{date_time_line, line_of, range_fault, NoMonth, Past}}
 use Rattle.ixdtf_grammar.specs.table.DateTimeFronts.{Field, point, UntilMonth, UntilDay, UntilHour, UntilMinute, UntilSecond, ThroughSecond, ThroughTime}

@@ -4,10 +4,10 @@
 use Rattle.std.proofs.Common.{◌≡◌, ◌⊎◌, List, ◌++◌, inl, inr, sym, ap, ◌∙◌, subst, append_assoc}
 use Rattle.ixdtf_grammar.specs.{declared.profile.Profile.Profile, language.{Letters.Text, Shapes.some, Times.Clock.{Time, Offset, MinuteOffset}}}
 use Rattle.ixdtf_grammar.specs.language.{Months.IsMonthDay, Brackets.{Pair, ReadsAsName, ReadsAsPair}, Cores.{BeginsWith, IsCore}}
-use Rattle.ixdtf_grammar.specs.language.Readers.{Reader, CoreKind, has_brackets, CoreKind.{date_time, year_month, month_day, time_of_day}}
+use Rattle.ixdtf_grammar.specs.language.Readers.{Reader, CoreKind, has_brackets, CoreKind.{date_time, internet_date_time, year_month, month_day, time_of_day}}
 use Rattle.ixdtf_grammar.specs.language.Readers.Reader.{bracketed, parse_rfc3339, parse_offset, parse_identifier, parse_iana_identifier, parse_duration}
 use Rattle.ixdtf_grammar.specs.table.Before.{DateAndSeparator, BeforeDate, BeforeYearMonth, BeforeMonthDay, AtCoreEnd, ReadsAsTime, InTimeAlone}
-use Rattle.ixdtf_grammar.specs.table.Before.{BeforeTimeAlone, BeforeCore, InMonthDay, BeforeTime, BeforeOffset, BeforeOffsetLine, Opened, Bracketed}
+use Rattle.ixdtf_grammar.specs.table.Before.{BeforeTimeAlone, BeforeCore, InMonthDay, BeforeTime, BeforeOffset, BeforeOffsetLine, BeforeInternetDateTime, Opened, Bracketed}
 use Rattle.ixdtf_grammar.specs.table.Before.{BeforeKey, BeforeBracketed, InRfc3339, InOffset, InIdentifier, InIanaIdentifier, InDuration, Before}
 use Rattle.ixdtf_grammar.specs.table.LineNames.{DateLine, MonthDayLine, TimeLine, CoreLine, ClockLine, OffsetLine, LineName}
 use Rattle.ixdtf_grammar.specs.table.LineNames.DateLine.{year_start, year_digits, extended_year_digits, minus_zero_year, month_digits, month_range}
@@ -15,7 +15,7 @@ use Rattle.ixdtf_grammar.specs.table.LineNames.MonthDayLine.{month_day_range, af
 use Rattle.ixdtf_grammar.specs.table.LineNames.TimeLine.{time_start, time_reads_as_month_day, time_reads_as_year_month}
 use Rattle.ixdtf_grammar.specs.table.LineNames.{CoreLine.{dates, year_months, month_days, times}, ClockLine.hour_start, OffsetLine.{offset_start, after_zulu}}
 use Rattle.ixdtf_grammar.specs.table.LineNames.ZoneLine.{identifier_start, zone_name_start}
-use Rattle.ixdtf_grammar.specs.table.LineNames.BracketLine.{first_bracket_start, first_critical_start, first_bracket_scan, after_bracket}
+use Rattle.ixdtf_grammar.specs.table.LineNames.BracketLine.{first_bracket_start, first_critical_start, first_bracket_scan, first_name_form, first_offset_form, after_bracket}
 use Rattle.ixdtf_grammar.specs.table.LineNames.PairLine.{key_start, critical_key_start}
 use Rattle.ixdtf_grammar.specs.table.{LineNames.LineName.{of_core, of_clock, of_offset, of_date_time, of_zone, of_bracket, of_pair, of_duration}, Rows.{Row, Fits, left_at}}
 use Rattle.ixdtf_grammar.proofs.{parts.CoreLetters.core_ends, widths.PlainTexts.{IsPlain, plain_append, PlainShape, plain_nowhere, plain_nothing, plain_one}}
@@ -107,6 +107,10 @@ before_offset_line : (kind : CoreKind) (line : OffsetLine) → PlainShape (Befor
 before_offset_line kind offset_start = plain_nowhere
 before_offset_line kind after_zulu = before_offset kind
 
+before_internet_date_time : (kind : CoreKind) → PlainShape (BeforeInternetDateTime kind)
+before_internet_date_time internet_date_time = plain_nothing
+before_internet_date_time kind = plain_nowhere
+
 -- ---- lines of brackets
 
 plain_core : (kind : CoreKind) → PlainShape (some (IsCore kind))
@@ -116,7 +120,7 @@ plain_opened : (kind : CoreKind) → PlainShape (Opened kind)
 plain_opened kind = plain_core kind and_then plain_some opens_plain
 
 plain_bracketed : (kind : CoreKind) (pairs : List Pair) → PlainShape (Bracketed kind pairs)
-plain_bracketed kind pairs = record { plain = λ before h. rw h.2 (plain_append h.0 h.1 ((plain_core kind).plain h.0 h.3) (tail_plain h.1 h.4 pairs h.5)) }
+plain_bracketed kind pairs = record { plain = λ before h. rw h.2 (plain_append h.0 h.1 ((plain_core kind).plain h.0 h.3) (tail_plain _ h.1 h.4 pairs h.5)) }
 
 moves_name : Moves ReadsAsName
 moves_name = moves_either (moves_then plain_one moves_anything) (moves_then plain_one moves_first)
@@ -133,13 +137,15 @@ before_bracketed kind (of_clock Time line) pairs = besides (alone (before_time k
 before_bracketed kind (of_clock Offset line) pairs = besides (alone (before_offset kind and_then plain_one))
 before_bracketed kind (of_clock MinuteOffset line) pairs = besides (alone (plain_opened kind and_then plain_one))
 before_bracketed kind (of_offset line) pairs = besides (alone (before_offset_line kind line))
-before_bracketed kind (of_date_time line) pairs = never
+before_bracketed kind (of_date_time line) pairs = besides (alone (before_internet_date_time kind))
 before_bracketed kind (of_zone identifier_start) pairs = never
 before_bracketed kind (of_zone zone_name_start) pairs = never
 before_bracketed kind (of_zone line) pairs = besides (ahead (plain_opened kind) moves_name)
 before_bracketed kind (of_bracket first_bracket_start) pairs = besides (alone (plain_core kind))
 before_bracketed kind (of_bracket first_critical_start) pairs = besides (alone (plain_core kind))
 before_bracketed kind (of_bracket first_bracket_scan) pairs = besides (alone (plain_opened kind))
+before_bracketed kind (of_bracket first_name_form) pairs = besides (alone (plain_with (plain_core kind)))
+before_bracketed kind (of_bracket first_offset_form) pairs = besides (alone (plain_with (plain_core kind)))
 before_bracketed kind (of_bracket after_bracket) pairs = alone (plain_bracketed kind pairs)
 before_bracketed kind (of_pair key_start) pairs = alone (plain_bracketed kind pairs)
 before_bracketed kind (of_pair critical_key_start) pairs = alone (plain_bracketed kind pairs)

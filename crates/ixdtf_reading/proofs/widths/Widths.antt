@@ -48,7 +48,7 @@ sees_where_not_shared numbers some = elim (sees_or_shared numbers) [
 -- what a reader derives something from is plain
 derived_plain : (reader : Reader) (text : Text) (found : Found) (pairs : List Pair) → Derives reader text found pairs → IsPlain text
 derived_plain reader text found pairs (as_parsed h) =
-    rw h.is (plain_append h.cores h.brackets (core_plain _ h.cores h.core h.is_core) (tail_plain h.brackets h.zone pairs h.is_tail))
+    rw h.is (plain_append h.cores h.brackets (core_plain _ h.cores h.core h.is_core) (tail_plain _ h.brackets h.zone pairs h.is_tail))
 derived_plain reader text found pairs (as_dated h) = date_time_plain text h.0 h.1
 derived_plain reader text found pairs (as_shifted h) = signed_plain _ _ text _ h
 derived_plain reader text found pairs (as_identified h) = zone_plain text _ h

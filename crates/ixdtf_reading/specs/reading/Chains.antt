@@ -3,9 +3,9 @@
 use Rattle.std.specs.Prelude.{◌≡◌, ◌⊎◌, true, ℕ, ◌+◌, ◌-◌, ◌*◌, length, Bool, List, ◌++◌, Option, Result, Ok, Err, [], Some, None, ◌∷◌}
 use Rattle.ixdtf_grammar.specs.{declared.records.Annotation.Annotation}
 use Rattle.ixdtf_grammar.specs.language.{Letters.Text, Shapes.some, Brackets.{Pair, ArePairs, Opens}, Cores.Core, Languages.{Parsed, Derives, Found.parsed}}
-use Rattle.ixdtf_grammar.specs.{language.Readers.{Reader, CoreKind, Reader.bracketed}, table.LineNames.{LineName, PairLine}}
+use Rattle.ixdtf_grammar.specs.{language.Readers.{Reader, CoreKind, has_exact_zones, Reader.bracketed}, table.LineNames.{LineName, PairLine}}
 use Rattle.ixdtf_grammar.specs.table.LineNames.LineName.{of_core, of_clock, of_offset, of_date_time, of_zone, of_bracket, of_pair, of_duration}
-use Rattle.ixdtf_grammar.specs.table.LineNames.BracketLine.{first_bracket_start, first_critical_start, first_bracket_scan, after_bracket}
+use Rattle.ixdtf_grammar.specs.table.LineNames.BracketLine.{first_bracket_start, first_critical_start, first_bracket_scan, first_name_form, first_offset_form, after_bracket}
 use Rattle.ixdtf_grammar.specs.table.LineNames.PairLine.{key_start, critical_key_start, in_key, value_start, in_value, after_value_hyphen}
 use Rattle.ixdtf_grammar.specs.table.Rows.{Row, Fits, FitsHere}
 use Rattle.ixdtf_grammar.specs.Handlers.{Reply, first_calendar, GivesRecord, NoneRefused, LastRefused, Calls, handed, replies_of, Step, IsChain}
@@ -27,6 +27,8 @@ AfterBrackets (of_bracket after_bracket) before = before ≡ []
 AfterBrackets (of_bracket first_bracket_start) before = ⊥
 AfterBrackets (of_bracket first_critical_start) before = ⊥
 AfterBrackets (of_bracket first_bracket_scan) before = ⊥
+AfterBrackets (of_bracket first_name_form) before = ⊥
+AfterBrackets (of_bracket first_offset_form) before = ⊥
 AfterBrackets (of_core line) before = ⊥
 AfterBrackets (of_clock clock line) before = ⊥
 AfterBrackets (of_offset line) before = ⊥
@@ -87,10 +89,11 @@ module _ {T U F : Type 0} (number : U → ℕ) (step : Step T U F) (handler last
     pub chain : IsChain step handler calls last
     pub gives : TextGives reader text (handed number calls) (replies_of number calls) result
 
-  -- For any text of which this core was read, with a bracket after it or none, and this rest is left.
-  abbrev pub TextReadAfter : Core → Bool → Text → Result Parsed Placed → Type 0
-  TextReadAfter core has_bracket rest result =
-      (kind : CoreKind) (text : Text) → core_at error_of kind text ≡ Ok ((core, has_bracket), rest) → TextRead (bracketed kind) text result
+  -- For any text of which this core was read, with a bracket after it or none, and this rest is left, where a zone may have to
+  -- be exact.
+  abbrev pub TextReadAfter : Bool → Core → Bool → Text → Result Parsed Placed → Type 0
+  TextReadAfter exact core has_bracket rest result =
+      (kind : CoreKind) (text : Text) → has_exact_zones kind ≡ exact → core_at error_of kind text ≡ Ok ((core, has_bracket), rest) → TextRead (bracketed kind) text result
 
   -- For what was returned for a whole text: a fault stands behind so many code units.
   abbrev pub TextReadTo : {X : Type 0} → (X → Parsed) → Reader → Text → Result X StopAt → Type 0

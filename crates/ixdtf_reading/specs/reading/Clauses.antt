@@ -8,7 +8,7 @@ use Rattle.ixdtf_grammar.specs.language.{Times.{Clock as clocks}, Cores.{Core, c
 use Rattle.ixdtf_grammar.specs.table.{Faults.{Fault, Fault as faults}, Outcomes.NoRowFits, Lines.{abrupt_digit, abrupt_date, abrupt_month_day}}
 use Rattle.ixdtf_grammar.specs.table.Lines.{abrupt_bracket, abrupt_offset, abrupt_zone, abrupt_duration_start, abrupt_duration_designator, abrupt_duration}
 use Rattle.ixdtf_grammar.specs.{table.Lines.{abrupt_date_designator, abrupt_time_designator}, Views.Unread}
-use Rattle.ixdtf_grammar.specs.{Handlers.{UnhandledRecord, UnhandledFault, UnhandledOnlyFault}, Laws.{IsTextReader, InNoOther}}
+use Rattle.ixdtf_grammar.specs.{Handlers.{UnhandledRecord, UnhandledFault, UnhandledOnlyFault}, Laws.InNoOther}
 use Rattle.ixdtf_reading.specs.{declared.stop.{Stop.Stop, StopAt.StopAt}, reading.Looks.{Read, Look, Placed, before, look_for, ◌>>=◌, error_of, digit_run}}
 use Rattle.ixdtf_reading.specs.reading.{Times.clock_at, Cores.{ClosedCore, after_time_at}}
 
@@ -118,7 +118,7 @@ pub record UnhandledForm (reader : Reader) (text : Text) (result : Result Parsed
   pub ok : (found : Parsed) → (result ≡ Ok found) ↔ UnhandledRecord reader text found
   pub err : IfErr result (λ fault. UnhandledFault reader text fault)
   pub no_row : OnOk result (NoRowFits reader text)
-  pub no_other_reader : OnOk result ((profile : Profile) → IsTextReader profile reader → InNoOther profile reader text)
+  pub no_other_reader : OnOk result ((profile : Profile) → InNoOther profile reader text)
   pub only : IfErr result (λ fault. UnhandledOnlyFault reader text fault)
 
 -- a test held of a number that was handed back, or else the stop came

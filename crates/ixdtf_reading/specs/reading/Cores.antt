@@ -4,13 +4,13 @@ use Rattle.ixdtf_grammar.specs.declared.{profile.Profile.Profile, records.{DateR
 use Rattle.ixdtf_grammar.specs.declared.records.UtcOffsetRecordOrZ.TheVariants.{Offset, Z}
 use Rattle.ixdtf_grammar.specs.language.Letters.{Text, digit, sign, zulu, opening, date_time_separator, time_letter}
 use Rattle.ixdtf_grammar.specs.language.{Times.{Clock as clocks, writes_seconds}, Offsets.offset_of, Cores.{Core, core_of}, Readers.CoreKind}
-use Rattle.ixdtf_grammar.specs.language.Readers.CoreKind.{date_time, year_month, month_day, time_of_day}
+use Rattle.ixdtf_grammar.specs.language.Readers.CoreKind.{date_time, internet_date_time, year_month, month_day, time_of_day}
 use Rattle.ixdtf_grammar.specs.table.Faults.Fault.{NonAsciiCodePoint, InvalidEnd, TimeHour, AmbiguousTimeMonthDay, AmbiguousTimeYearMonth}
 use Rattle.ixdtf_grammar.specs.table.LineNames.{LineName, of_date, of_year_month, of_month_day, of_time, YearMonthLine.after_year_month}
 use Rattle.ixdtf_grammar.specs.table.LineNames.{MonthDayLine.after_month_day, TimeLine.{time_start, time_reads_as_month_day, time_reads_as_year_month}}
 use Rattle.ixdtf_grammar.specs.table.{LineNames.{LineName.of_offset, DateLine.after_date, OffsetLine.after_zulu}, Lines.abrupt_digit, Rows.Row}
 use Rattle.ixdtf_grammar.specs.table.Rows.Place.{end, other, bad, anywhere}
-use Rattle.ixdtf_reading.specs.reading.{Looks.{Read, Look, ◌>>=◌, row_of, error_of, next_by, peek_by, on_next}, Dates.date_at}
+use Rattle.ixdtf_reading.specs.reading.{Looks.{Read, Look, ◌>>=◌, row_of, error_of, next_by, peek_by, on_next}, Dates.date_at, DateTimes.date_time_by}
 use Rattle.ixdtf_reading.specs.reading.Months.{year_month_at, month_day_at, month_day_begins, year_month_begins, left_by}
 use Rattle.ixdtf_reading.specs.reading.Times.{OpenTime, line_after, bad_after, after_second_at, hour_from, clock_at}
 
@@ -83,6 +83,10 @@ date_time_core_at fault text = do
   date ← date_at fault text
   after_date_at fault date.0 date.1
 
+-- a date-time of RFC 3339
+abbrev pub internet_date_time_core_at : {E : Type 0} → (Row → E) → Text → Read E ClosedCore
+internet_date_time_core_at fault text = date_time_by fault (core_end_at fault) text
+
 -- a date that was read, alone, and the end of the core, which stops at the line
 abbrev pub date_alone_at : {E : Type 0} → (Row → E) → LineName → Read E DateRecord → Read E ClosedCore
 date_alone_at fault name date = date >>= λ date. core_end_at fault name (core_of (Some date.0) None None) date.1
@@ -125,6 +129,7 @@ time_alone_core_at fault profile text = do
 -- a core of the kind
 abbrev pub core_at : {E : Type 0} → (Row → E) → CoreKind → Text → Read E ClosedCore
 core_at fault date_time text = date_time_core_at fault text
+core_at fault internet_date_time text = internet_date_time_core_at fault text
 core_at fault year_month text = date_alone_at fault (of_year_month after_year_month) (year_month_at fault text)
 core_at fault (month_day profile) text = date_alone_at fault (of_month_day (after_month_day profile)) (month_day_at fault profile text)
 core_at fault (time_of_day profile) text = time_alone_core_at fault profile text

@@ -52,6 +52,10 @@ utc_core date time = core_of (Some date) (Some time) (Some Z)
 abbrev pub Finish : Type 0 → Type 0 → Type 0
 Finish E A = LineName → Core → Text → Read E A
 
+-- nothing is read behind it
+abbrev pub open_end : {E : Type 0} → Finish E Core
+open_end name core text = Ok (core, text)
+
 -- after a time, a sign, an hour and its colon
 unfoldable pub offset_minute_at : {E A : Type 0} → (Row → E) → Finish E A → DateRecord → TimeRecord → ℕ → ℕ → Text → Read E A
 offset_minute_at fault finish date time c hour text = do

@@ -1,11 +1,11 @@
 -- Reading a whole text.
-use Rattle.std.specs.Prelude.{None, Ok, Err, List, [], suc, length, if◌then◌else◌}
-use Rattle.ixdtf_grammar.specs.language.{Letters.Text, Cores.Core, Brackets.Pair, Readers.{Reader, CoreKind}}
+use Rattle.std.specs.Prelude.{Bool, None, Ok, Err, List, [], suc, length, if◌then◌else◌}
+use Rattle.ixdtf_grammar.specs.language.{Letters.Text, Cores.Core, Brackets.Pair, Readers.{Reader, CoreKind, has_exact_zones}}
 use Rattle.ixdtf_grammar.specs.language.Readers.Reader.{bracketed, parse_rfc3339, parse_offset, parse_identifier, parse_iana_identifier, parse_duration}
 use Rattle.ixdtf_grammar.specs.{language.Languages.{Parsed, parsed_with, Found, Found.{parsed, dated, shifted, identified, named, lasting}}, table.Rows.Row}
 use Rattle.ixdtf_grammar.specs.table.Outcomes.{Outcome, Outcome.{derived, refused}}
 use Rattle.ixdtf_reading.specs.reading.{Looks.{Read, ◌>>=◌}, Durations.duration_at, Zones.{offset_at, identifier_at, iana_identifier_at}, Pairs.pairs_at}
-use Rattle.ixdtf_reading.specs.reading.{DateTimes.rfc_3339_at, Cores.{ClosedCore, core_at}, Brackets.{Bracket, zone_in, pairs_in, bracket_at}}
+use Rattle.ixdtf_reading.specs.reading.{DateTimes.rfc_3339_at, Cores.{ClosedCore, core_at}, Brackets.{Bracket, zone_in, pairs_in}, ExactZones.bracket_by}
 
 -- after a core and a first bracket
 unfoldable pub bracketed_at : {E : Type 0} → (List Pair → Row → E) → Core → Bracket → Text → Read E (Parsed × List Pair)
@@ -13,21 +13,21 @@ bracketed_at fault core bracket text = do
   pairs ← pairs_at fault (suc (length text)) (pairs_in bracket) text
   Ok ((parsed_with core (zone_in bracket), pairs.0), pairs.1)
 
--- after a core and `[`
-unfoldable pub annotated_at : {E : Type 0} → (List Pair → Row → E) → Core → Text → Read E (Parsed × List Pair)
-annotated_at fault core text = do
-  bracket ← bracket_at (fault []) text
+-- after a core and `[`, where a zone may have to be exact
+unfoldable pub annotated_at : {E : Type 0} → (List Pair → Row → E) → Bool → Core → Text → Read E (Parsed × List Pair)
+annotated_at fault exact core text = do
+  bracket ← bracket_by (fault []) exact text
   bracketed_at fault core bracket.0 bracket.1
 
 -- after a core, and its `[` where there is one
-abbrev pub tail_at : {E : Type 0} → (List Pair → Row → E) → ClosedCore → Text → Read E (Parsed × List Pair)
-tail_at fault core text = if core.1 then annotated_at fault core.0 text else Ok ((parsed_with core.0 None, []), text)
+abbrev pub tail_at : {E : Type 0} → (List Pair → Row → E) → Bool → ClosedCore → Text → Read E (Parsed × List Pair)
+tail_at fault exact core text = if core.1 then annotated_at fault exact core.0 text else Ok ((parsed_with core.0 None, []), text)
 
 -- a core of the kind, a zone bracket and pairs where there are, and the end
 unfoldable pub bracketed_text_at : {E : Type 0} → (List Pair → Row → E) → CoreKind → Text → Read E (Parsed × List Pair)
 bracketed_text_at fault kind text = do
   core ← core_at (fault []) kind text
-  tail_at fault core.0 core.1
+  tail_at fault (has_exact_zones kind) core.0 core.1
 
 -- what was read, as what a reader finds, with the pairs
 abbrev pub with_pairs : {E : Type 0} → Read E (Parsed × List Pair) → Read E (Found × List Pair)

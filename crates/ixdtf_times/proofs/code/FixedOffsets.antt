@@ -7,8 +7,8 @@ use Rattle.ixdtf_grammar.specs.language.{Offsets.minutes_of, ZoneNames.Zone, Tim
 use Rattle.ixdtf_grammar.specs.language.Times.TimeShape.{colon_minutes}
 use Rattle.ixdtf_reading.specs.reading.{Looks.{error_of, look_at, peek_by}, FixedPlaces.{letter_place, number_place, hour_place, minute_place}}
 use Rattle.ixdtf_reading.specs.reading.{Times.{time_of, line_after, clock_at}, Zones.{signed_alone_at, offset_alone_at, minute_offset_alone_at}}
-use Rattle.ixdtf_grammar.specs.language.{Digits.decimal, Languages.parsed_with}
-use Rattle.ixdtf_reading.{specs.reading.DateTimes.{num_offset_at, date_time_ends, numeric_core}, proofs.to_reading.DateTimes.{over_offset_hour, over_offset_minute}}
+use Rattle.ixdtf_grammar.specs.language.Digits.decimal
+use Rattle.ixdtf_reading.{specs.reading.DateTimes.{num_offset_at, open_end, numeric_core}, proofs.to_reading.DateTimes.{over_offset_hour, over_offset_minute}}
 use Rattle.ixdtf_reading.specs.reading.Cores.{with_offset, offset_core_at, core_end_at}
 use Rattle.ixdtf_reading.proofs.{parts.Looks.onto, code.FixedPlaces.{then_some, then_held, Number, number_at_place, mark_at_place, two, two_digits, over_two}}
 use Rattle.ixdtf_reading.proofs.to_reading.{Times.{Closed, time_takes}, ClockRows.clock_starts}
@@ -67,21 +67,20 @@ module _ (c : ℕ) (text : Text) (hour minute : ℕ) (hours : hour_place text �
       ap (clock_at error_of clock) there.is ∙ time_takes error_of clock _ (clock_starts error_of clock) colon_minutes there.letters _
       (drop 5 text) there.minutes closed
 
+  -- so it is read behind the time of a date-time
+  pub is_numeric_offset : (date : DateRecord) (time : TimeRecord)
+      → num_offset_at error_of open_end date time c text ≡ Ok (numeric_core date time offset, drop 5 text)
+  is_numeric_offset date time =
+      let m = there.minutes in
+      ap (num_offset_at error_of open_end date time c) (there.is ∙ rw m.is (simp append_assoc))
+      ∙ (over_offset_hour error_of open_end date time c m.hs 58 hour m.hour refl).over (m.ms ++ drop 5 text)
+      ∙ over_offset_minute error_of open_end date time c (decimal m.hs) m.ms (drop 5 text) minute m.minute
+      ∙ rw (← m.hour.1, ← m.minute.1) refl
+
   module _ (is : drop 5 text ≡ []) where
     pub ends_the_text : offset_alone_at error_of c text ≡ Ok (MinutePrecision offset, [])
     unfolding signed_alone_at peek_by look_at
     ends_the_text = rw (is_read Offset (rw is (tt, tt)), is) refl
-
-    -- and so is one that ends a date-time
-    pub ends_a_date_time : (date : DateRecord) (time : TimeRecord)
-        → num_offset_at error_of (date_time_ends error_of) date time c text ≡ Ok (parsed_with (numeric_core date time offset) None, [])
-    unfolding date_time_ends peek_by look_at
-    ends_a_date_time date time =
-        let m = there.minutes in
-        ap (num_offset_at error_of (date_time_ends error_of) date time c) (there.is ∙ rw m.is (simp append_assoc))
-        ∙ (over_offset_hour error_of (date_time_ends error_of) date time c m.hs 58 hour m.hour refl).over (m.ms ++ drop 5 text)
-        ∙ over_offset_minute error_of (date_time_ends error_of) date time c (decimal m.hs) m.ms (drop 5 text) minute m.minute
-        ∙ rw (is, ← m.hour.1, ← m.minute.1) refl
 
     pub ends_a_zone : minute_offset_alone_at error_of c text ≡ Ok (Zone.Offset offset, [])
     unfolding signed_alone_at peek_by look_at

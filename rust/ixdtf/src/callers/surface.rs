@@ -212,6 +212,33 @@ fn has_the_readers_of_date_times() {
     check(&rt, "date-times", reads_date_times());
 }
 
+// Whether the readers of exactly RFC 9557 are there, and read a text each.
+fn reads_extended() -> bool {
+    IxdtfParser::from_str("2020-01-01T00:00:00Z[UTC]")
+        .parse_rfc9557()
+        .is_ok()
+        && IxdtfParser::from_str("2020-01-01T00:00:00Z[UTC]")
+            .parse_rfc9557_located()
+            .is_ok()
+}
+
+// Whether their forms with a handler are there, and read a text each.
+fn reads_extended_with_handler() -> bool {
+    IxdtfParser::from_str("2020-01-01T00:00:00Z[a=b]")
+        .parse_rfc9557_with_annotation_handler(|annotation| Some(annotation))
+        .is_ok()
+        && IxdtfParser::from_str("2020-01-01T00:00:00Z[a=b]")
+            .parse_rfc9557_with_annotation_handler_located(|annotation| Some(annotation))
+            .is_ok()
+}
+
+#[test]
+fn has_the_readers_of_extended_date_times() {
+    let rt = HostRuntime;
+    check(&rt, "extended", reads_extended());
+    check(&rt, "with handler", reads_extended_with_handler());
+}
+
 // Whether the located readers of zones are there, and read a text each.
 fn reads_located_zones() -> bool {
     TimeZoneParser::from_str("+01")

@@ -17,6 +17,7 @@ use crate::parsers::months::{
     parse_month_day_date, parse_month_day_parts, parse_year_month_date, parse_year_month_parts,
 };
 use crate::parsers::offsets::{AfterCore, offset_from, take_fixed_offset};
+use crate::parsers::rfc3339::parse_internet_date_time;
 use crate::parsers::time::{Clock, TimeShape, WholeTime, parse_after_second, parse_clock};
 
 /// A type that reads cores of one kind.
@@ -29,6 +30,9 @@ pub trait CoreReader {
         profile: Profile,
         found: &mut IxdtfParseRecord<'a, T>,
     ) -> Result<AfterCore, Stop>;
+
+    /// Returns whether a zone behind the core has to be exactly one of RFC 9557.
+    fn has_exact_zones() -> bool;
 }
 
 /// The reader of a date, with a time and an offset if the text has them.
@@ -42,6 +46,32 @@ impl CoreReader for DateTimes {
         found: &mut IxdtfParseRecord<'a, T>,
     ) -> Result<AfterCore, Stop> {
         parse_date_time(cursor, found)
+    }
+
+    #[inline(always)]
+    fn has_exact_zones() -> bool {
+        false
+    }
+}
+
+/// The reader of a date-time of RFC 3339: a date, a time and an offset.
+pub struct InternetDateTimes;
+
+impl CoreReader for InternetDateTimes {
+    #[inline(always)]
+    fn parse_core<'a, T: EncodingType>(
+        cursor: &mut Cursor<'a, T>,
+        _profile: Profile,
+        found: &mut IxdtfParseRecord<'a, T>,
+    ) -> Result<AfterCore, Stop> {
+        let read = parse_internet_date_time(cursor)?;
+        read.place(found);
+        close_core(cursor)
+    }
+
+    #[inline(always)]
+    fn has_exact_zones() -> bool {
+        true
     }
 }
 
@@ -59,6 +89,11 @@ impl CoreReader for YearMonths {
         found.date = Some(date);
         close_core(cursor)
     }
+
+    #[inline(always)]
+    fn has_exact_zones() -> bool {
+        false
+    }
 }
 
 /// The reader of a month and a day. The record has the year 0.
@@ -74,6 +109,11 @@ impl CoreReader for MonthDays {
         let date = parse_month_day_date(cursor, profile)?;
         found.date = Some(date);
         close_core(cursor)
+    }
+
+    #[inline(always)]
+    fn has_exact_zones() -> bool {
+        false
     }
 }
 
@@ -99,6 +139,11 @@ impl CoreReader for Times {
                 Ok(after)
             }
         }
+    }
+
+    #[inline(always)]
+    fn has_exact_zones() -> bool {
+        false
     }
 }
 

@@ -3,7 +3,9 @@
 //! The readers of [`IxdtfParser`] with a handler.
 
 use crate::parsers::replies::keep_first_calendar;
-use crate::parsers::{CoreReader, DateTimes, FromStop, IxdtfParser, MonthDays, Times, YearMonths};
+use crate::parsers::{
+    CoreReader, DateTimes, FromStop, InternetDateTimes, IxdtfParser, MonthDays, Times, YearMonths,
+};
 use crate::{LocatedError, ParseError, ParserResult};
 use crate::encoding::EncodingType;
 use crate::records::{Annotation, IxdtfParseRecord};
@@ -93,6 +95,37 @@ impl<'a, T: EncodingType> IxdtfParser<'a, T> {
         F: FnMut(Annotation<'a, T>) -> Option<Annotation<'a, T>>,
     {
         self.read_as::<ParseError, DateTimes, F>(handler)
+    }
+
+    /// Parses the remaining input as RFC 9557 has it, like [`parse_rfc9557`](Self::parse_rfc9557), and lets a handler
+    /// decide about each annotation.
+    ///
+    /// [`parse_with_annotation_handler`](Self::parse_with_annotation_handler) describes the handler.
+    ///
+    /// # Examples
+    ///
+    /// ```rust
+    /// use ixdtf::parsers::IxdtfParser;
+    ///
+    /// let text = "2024-03-02T08:48:00Z[!a=b][u-ca=hebrew]";
+    /// let record = IxdtfParser::from_str(text).parse_rfc9557_with_annotation_handler(|annotation| {
+    ///     if annotation.key == b"u-ca" { Some(annotation) } else { None }
+    /// });
+    /// assert_eq!(record.unwrap().calendar, Some(b"hebrew".as_slice()));
+    /// ```
+    ///
+    /// # Errors
+    ///
+    /// The errors of [`parse_rfc9557`](Self::parse_rfc9557). `CriticalDuplicateCalendar` and `UnrecognizedCritical`
+    /// are about the annotations that the handler returns.
+    pub fn parse_rfc9557_with_annotation_handler<F>(
+        &mut self,
+        handler: F,
+    ) -> ParserResult<IxdtfParseRecord<'a, T>>
+    where
+        F: FnMut(Annotation<'a, T>) -> Option<Annotation<'a, T>>,
+    {
+        self.read_as::<ParseError, InternetDateTimes, F>(handler)
     }
 
     /// Parses the remaining input as a year and a month, like [`parse_year_month`](Self::parse_year_month), and lets a
@@ -212,6 +245,35 @@ impl<'a, T: EncodingType> IxdtfParser<'a, T> {
         F: FnMut(Annotation<'a, T>) -> Option<Annotation<'a, T>>,
     {
         self.read_as::<LocatedError, DateTimes, F>(handler)
+    }
+
+    /// Parses the remaining input as RFC 9557 has it, with a handler. An error has its position.
+    ///
+    /// This is [`parse_rfc9557_with_annotation_handler`](Self::parse_rfc9557_with_annotation_handler) with positions as
+    /// in [`parse_rfc9557_located`](Self::parse_rfc9557_located).
+    ///
+    /// # Examples
+    ///
+    /// ```rust
+    /// use ixdtf::ParseError;
+    /// use ixdtf::parsers::IxdtfParser;
+    ///
+    /// let located = IxdtfParser::from_str("2024-03-02T08:48:00Z[!a=b]").parse_rfc9557_with_annotation_handler_located(Some).unwrap_err();
+    /// assert_eq!((located.error, located.at), (ParseError::UnrecognizedCritical, 26));
+    /// ```
+    ///
+    /// # Errors
+    ///
+    /// The errors of [`parse_rfc9557_with_annotation_handler`](Self::parse_rfc9557_with_annotation_handler), each with
+    /// its position. If a reply is refused, the position is after the bracket of its annotation.
+    pub fn parse_rfc9557_with_annotation_handler_located<F>(
+        &mut self,
+        handler: F,
+    ) -> Result<IxdtfParseRecord<'a, T>, LocatedError>
+    where
+        F: FnMut(Annotation<'a, T>) -> Option<Annotation<'a, T>>,
+    {
+        self.read_as::<LocatedError, InternetDateTimes, F>(handler)
     }
 
     /// Parses the remaining input as a year and a month, with a handler. An error has its position.

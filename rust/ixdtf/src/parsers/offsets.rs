@@ -132,6 +132,28 @@ pub fn take_last_offset<'a, T: EncodingType>(
     Some(offset)
 }
 
+/// Consumes an offset `HH:MM` after its sign, whatever follows it.
+///
+/// Returns `None`, and consumes nothing, if the input has another form, or if a number is out of range.
+#[inline(always)]
+pub fn take_numeric_offset<'a, T: EncodingType>(
+    cursor: &mut Cursor<'a, T>,
+    sign: u8,
+) -> Option<MinutePrecisionOffset> {
+    if cursor.remaining() < 5 {
+        return None;
+    }
+    let hour = fixed_hour(cursor)?;
+    let minute = fixed_minute(cursor)?;
+    let offset = MinutePrecisionOffset {
+        sign: sign_from(sign),
+        hour,
+        minute,
+    };
+    cursor.advance_by(5);
+    Some(offset)
+}
+
 /// Returns the record of an offset: a `FullPrecisionOffset` if it has seconds, and otherwise a `MinutePrecision`.
 #[inline(always)]
 pub fn offset_from(sign: u8, shape: TimeShape, time: TimeRecord) -> UtcOffsetRecord {

@@ -1,10 +1,12 @@
 // Made by tools/to_rust.py of crates/ixdtf_times/src/rfc3339.rt. Do not edit.
 
 //! Reading date-times of RFC 3339: at their fixed places, and number by number where these do not fit, which is an error.
+//!
+//! What may follow a date-time depends on the reader. So only [`parse_rfc3339_text`] reads the end.
 
 use crate::parsers::date_times::take_fixed_date_time;
 use crate::parsers::dates::{check_month, has_day};
-use crate::parsers::offsets::{sign_from, take_last_offset};
+use crate::parsers::offsets::{sign_from, take_numeric_offset};
 use crate::parsers::time::{WholeTime, next_number, parse_fraction};
 use crate::encoding::EncodingType;
 use crate::records::{
@@ -17,6 +19,36 @@ use crate::classes::{
 };
 use crate::cursor::Cursor;
 use crate::stop::Stop;
+
+/// A date-time: its date, its time and its offset.
+#[derive(Clone, Copy)]
+pub struct DateTime {
+    pub date: DateRecord,
+    pub time: TimeRecord,
+    pub offset: UtcOffsetRecordOrZ,
+}
+
+impl DateTime {
+    /// Returns the record of the parts, without a zone and without a calendar.
+    #[inline(always)]
+    pub fn record<'a, T: EncodingType>(self) -> IxdtfParseRecord<'a, T> {
+        IxdtfParseRecord {
+            date: Some(self.date),
+            time: Some(self.time),
+            offset: Some(self.offset),
+            tz: None,
+            calendar: None,
+        }
+    }
+
+    /// Writes the parts into a record.
+    #[inline(always)]
+    pub fn place<'a, T: EncodingType>(self, found: &mut IxdtfParseRecord<'a, T>) {
+        found.date = Some(self.date);
+        found.time = Some(self.time);
+        found.offset = Some(self.offset);
+    }
+}
 
 /// Takes a colon off. The end and any other code unit are this stop.
 #[inline(always)]
@@ -94,52 +126,21 @@ fn parse_day<'a, T: EncodingType>(
     Ok(day)
 }
 
-/// Returns the record of a date, a time and an offset.
-#[inline(always)]
-fn date_time_record<'a, T: EncodingType>(
-    date: DateRecord,
-    time: TimeRecord,
-    offset: UtcOffsetRecordOrZ,
-) -> IxdtfParseRecord<'a, T> {
-    IxdtfParseRecord {
-        date: Some(date),
-        time: Some(time),
-        offset: Some(offset),
-        tz: None,
-        calendar: None,
-    }
-}
-
-/// Returns the record of a date, a time and an offset of hours and minutes.
-#[inline(always)]
-fn numeric_record<'a, T: EncodingType>(
-    date: DateRecord,
-    time: TimeRecord,
-    offset: MinutePrecisionOffset,
-) -> IxdtfParseRecord<'a, T> {
-    date_time_record(
-        date,
-        time,
-        UtcOffsetRecordOrZ::Offset(UtcOffsetRecord::MinutePrecision(offset)),
-    )
-}
-
-/// Reads a time offset after its first code unit, and expects the end.
-///
-/// An offset in its fixed columns is read there. Any other offset is an error, which is found number by number.
+/// Reads a time offset after its first code unit.
 #[inline(always)]
 fn parse_time_offset<'a, T: EncodingType>(
     cursor: &mut Cursor<'a, T>,
     date: DateRecord,
     time: TimeRecord,
     lead: u8,
-) -> Result<IxdtfParseRecord<'a, T>, Stop> {
+) -> Result<DateTime, Stop> {
     if is_utc_designator(lead) {
-        cursor.close()?;
-        return Ok(date_time_record(date, time, UtcOffsetRecordOrZ::Z));
+        let offset = UtcOffsetRecordOrZ::Z;
+        return Ok(DateTime { date, time, offset });
     }
-    if let Some(offset) = take_last_offset(cursor, lead) {
-        return Ok(numeric_record(date, time, offset));
+    if let Some(minutes) = take_numeric_offset(cursor, lead) {
+        let offset = UtcOffsetRecordOrZ::Offset(UtcOffsetRecord::MinutePrecision(minutes));
+        return Ok(DateTime { date, time, offset });
     }
     parse_offset_by_numbers(cursor, date, time, lead)
 }
@@ -163,26 +164,26 @@ fn parse_secfrac<'a, T: EncodingType>(cursor: &mut Cursor<'a, T>) -> Result<Frac
     parse_fraction(cursor)
 }
 
-/// Reads a fraction after its point and an offset after it, and wants the end.
+/// Reads a fraction after its point and an offset after it.
 #[inline(always)]
 fn parse_fractional<'a, T: EncodingType>(
     cursor: &mut Cursor<'a, T>,
     date: DateRecord,
     whole: WholeTime,
-) -> Result<IxdtfParseRecord<'a, T>, Stop> {
+) -> Result<DateTime, Stop> {
     let fraction = parse_secfrac(cursor)?;
     let lead = take_lead(cursor)?;
     let time = whole.with_fraction(Some(fraction));
     parse_time_offset(cursor, date, time, lead)
 }
 
-/// Reads what follows the seconds, and wants the end: a fraction where there is one, and an offset.
+/// Reads what follows the seconds: a fraction where there is one, and an offset.
 #[inline(always)]
 fn parse_after_seconds<'a, T: EncodingType>(
     cursor: &mut Cursor<'a, T>,
     date: DateRecord,
     whole: WholeTime,
-) -> Result<IxdtfParseRecord<'a, T>, Stop> {
+) -> Result<DateTime, Stop> {
     match cursor.look()? {
         None => Err(Stop::AbruptOffset),
         Some(byte) if byte == b'.' => {
@@ -205,7 +206,7 @@ fn parse_after_seconds<'a, T: EncodingType>(
 fn take_fixed_rfc3339<'a, T: EncodingType>(
     cursor: &mut Cursor<'a, T>,
 ) -> Option<(DateRecord, WholeTime)> {
-    if !is_time_designator(cursor.byte_at(10)) {
+    if cursor.remaining() < 19 || !is_time_designator(cursor.byte_at(10)) {
         return None;
     }
     take_fixed_date_time(cursor)
@@ -213,32 +214,32 @@ fn take_fixed_rfc3339<'a, T: EncodingType>(
 
 // ==== Number by number ====
 
-/// Reads an offset after its sign, and expects the end.
+/// Reads an offset after its sign.
 #[inline(always)]
 fn parse_offset_by_numbers<'a, T: EncodingType>(
     cursor: &mut Cursor<'a, T>,
     date: DateRecord,
     time: TimeRecord,
     sign: u8,
-) -> Result<IxdtfParseRecord<'a, T>, Stop> {
+) -> Result<DateTime, Stop> {
     let offset_hour = next_number(cursor, 23, Stop::TimeHour)?;
     take_colon(cursor, Stop::UtcTimeSeparator)?;
     let offset_minute = next_number(cursor, 59, Stop::TimeMinuteSecond)?;
-    cursor.close()?;
-    let offset = MinutePrecisionOffset {
+    let minutes = MinutePrecisionOffset {
         sign: sign_from(sign),
         hour: offset_hour,
         minute: offset_minute,
     };
-    Ok(numeric_record(date, time, offset))
+    let offset = UtcOffsetRecordOrZ::Offset(UtcOffsetRecord::MinutePrecision(minutes));
+    Ok(DateTime { date, time, offset })
 }
 
-/// Reads the time after a date and its letter, and wants the end.
+/// Reads the time after a date and its letter.
 #[inline(always)]
 fn parse_time_by_numbers<'a, T: EncodingType>(
     cursor: &mut Cursor<'a, T>,
     date: DateRecord,
-) -> Result<IxdtfParseRecord<'a, T>, Stop> {
+) -> Result<DateTime, Stop> {
     let hour = next_number(cursor, 23, Stop::TimeHour)?;
     take_colon(cursor, Stop::TimeSeparator)?;
     let minute = next_number(cursor, 59, Stop::TimeMinuteSecond)?;
@@ -252,13 +253,13 @@ fn parse_time_by_numbers<'a, T: EncodingType>(
     parse_after_seconds(cursor, date, whole)
 }
 
-/// Reads the day after a month and its hyphen, and what follows, and wants the end.
+/// Reads the day after a month and its hyphen, and what follows.
 #[inline(always)]
 fn parse_day_by_numbers<'a, T: EncodingType>(
     cursor: &mut Cursor<'a, T>,
     year: u16,
     month: u8,
-) -> Result<IxdtfParseRecord<'a, T>, Stop> {
+) -> Result<DateTime, Stop> {
     let day = parse_day(cursor, year, month)?;
     take_time_letter(cursor)?;
     let date = DateRecord {
@@ -269,34 +270,53 @@ fn parse_day_by_numbers<'a, T: EncodingType>(
     parse_time_by_numbers(cursor, date)
 }
 
-/// Reads the month after a year and its hyphen, and what follows, and wants the end.
+/// Reads the month after a year and its hyphen, and what follows.
 #[inline(always)]
 fn parse_month_by_numbers<'a, T: EncodingType>(
     cursor: &mut Cursor<'a, T>,
     year: u16,
-) -> Result<IxdtfParseRecord<'a, T>, Stop> {
+) -> Result<DateTime, Stop> {
     let month = parse_month(cursor)?;
     take_date_hyphen(cursor, Stop::DateSeparator)?;
     parse_day_by_numbers(cursor, year, month)
 }
 
-/// Reads a date-time number by number, and wants the end. It is not inlined: no text is read so that has no error.
+/// Reads a date-time number by number. It is not inlined: no text is read so that has no error.
 #[inline(never)]
-fn parse_by_numbers<'a, T: EncodingType>(
-    cursor: &mut Cursor<'a, T>,
-) -> Result<IxdtfParseRecord<'a, T>, Stop> {
+fn parse_by_numbers<'a, T: EncodingType>(cursor: &mut Cursor<'a, T>) -> Result<DateTime, Stop> {
     let year = parse_year(cursor)?;
     take_date_hyphen(cursor, Stop::AbruptDate)?;
     parse_month_by_numbers(cursor, year)
 }
 
+/// Reads a date-time of RFC 3339.
+#[inline(always)]
+pub fn parse_internet_date_time<'a, T: EncodingType>(
+    cursor: &mut Cursor<'a, T>,
+) -> Result<DateTime, Stop> {
+    match take_fixed_rfc3339(cursor) {
+        Some((date, whole)) => parse_after_seconds(cursor, date, whole),
+        None => parse_by_numbers(cursor),
+    }
+}
+
 /// Reads a date-time of RFC 3339, and wants the end.
+///
+/// Each way to read it has an end of its own. So the record is made where its parts are read.
 #[inline(always)]
 pub fn parse_rfc3339_text<'a, T: EncodingType>(
     cursor: &mut Cursor<'a, T>,
 ) -> Result<IxdtfParseRecord<'a, T>, Stop> {
     match take_fixed_rfc3339(cursor) {
-        Some((date, whole)) => parse_after_seconds(cursor, date, whole),
-        None => parse_by_numbers(cursor),
+        Some((date, whole)) => {
+            let read = parse_after_seconds(cursor, date, whole)?;
+            cursor.close()?;
+            Ok(read.record())
+        }
+        None => {
+            let read = parse_by_numbers(cursor)?;
+            cursor.close()?;
+            Ok(read.record())
+        }
     }
 }

@@ -5,7 +5,8 @@
 use crate::parsers::IxdtfParser;
 use crate::parsers::cores::CoreReader;
 use crate::parsers::replies::parse_annotations;
-use crate::parsers::brackets::{Bracket, parse_first_bracket};
+use crate::parsers::brackets::Bracket;
+use crate::parsers::exact_zones::parse_bracket_by;
 use crate::encoding::EncodingType;
 use crate::parsers::profile::Profile;
 use crate::records::{Annotation, IxdtfParseRecord};
@@ -57,16 +58,17 @@ where
     let read = C::parse_core(&mut here, profile, found);
     *cursor = here;
     if read?.opens_bracket() {
-        return parse_brackets(cursor, found, handler);
+        return parse_brackets(cursor, C::has_exact_zones(), found, handler);
     }
     Ok(())
 }
 
 /// Reads the brackets after a core and the first `[`, up to the end of the input: the first bracket, and the
-/// annotations after it.
+/// annotations after it. If `is_exact`, a zone in the first bracket has to be exactly one of RFC 9557.
 #[inline(never)]
 fn parse_brackets<'a, T: EncodingType, F>(
     cursor: &mut Cursor<'a, T>,
+    is_exact: bool,
     found: &mut IxdtfParseRecord<'a, T>,
     handler: &mut F,
 ) -> Result<(), Stop>
@@ -74,7 +76,7 @@ where
     F: FnMut(Annotation<'a, T>) -> Option<Annotation<'a, T>>,
 {
     let mut here = cursor.fork();
-    let bracket = parse_first_bracket(&mut here);
+    let bracket = parse_bracket_by(&mut here, is_exact);
     *cursor = here;
     let first = place_bracket(bracket?, found);
     let mut here = cursor.fork();

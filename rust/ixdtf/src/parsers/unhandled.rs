@@ -2,7 +2,9 @@
 
 //! The readers of [`IxdtfParser`] without a handler.
 
-use crate::parsers::{CoreReader, DateTimes, IxdtfParser, MonthDays, Times, YearMonths};
+use crate::parsers::{
+    CoreReader, DateTimes, InternetDateTimes, IxdtfParser, MonthDays, Times, YearMonths,
+};
 use crate::{LocatedError, ParserResult};
 use crate::encoding::EncodingType;
 use crate::records::IxdtfParseRecord;
@@ -112,6 +114,58 @@ impl<'a, T: EncodingType> IxdtfParser<'a, T> {
         // would read all its fields before it knows whether there is a record (docs/PERF.md).
         let mut found = IxdtfParseRecord::default();
         match self.read_unhandled::<DateTimes>(&mut found) {
+            Ok(()) => Ok(found),
+            Err(why) => return Err(why.stop.error()),
+        }
+    }
+
+    /// Parses the remaining input as RFC 9557 has it (`date-time-ext` of section 4.1), and accepts no other text.
+    ///
+    /// So this method can validate a text that has to be in the Internet Extended Date/Time Format, such as
+    /// `2024-03-02T08:48:00-05:00[America/New_York][u-ca=hebrew]`. Such a text is a date-time of RFC 3339, as in
+    /// [`parse_rfc3339`](Self::parse_rfc3339), and brackets after it (`suffix`): at most one with a time zone, which is the
+    /// first, and any number of annotations.
+    ///
+    /// [`parse`](Self::parse) accepts each of these texts too, and returns an equal record. Each text that
+    /// [`parse_rfc3339`](Self::parse_rfc3339) accepts is one of them. The record has `date`, `time` and `offset`. The
+    /// fields `tz` and `calendar` are as in [`parse`](Self::parse). The profile does not matter.
+    ///
+    /// If the call succeeds, no input remains, and a second call returns the error of the empty text. If it fails, the
+    /// input is unchanged, and a second call returns the same error.
+    ///
+    /// # Examples
+    ///
+    /// ```rust
+    /// use ixdtf::ParseError;
+    /// use ixdtf::parsers::IxdtfParser;
+    ///
+    /// let text = "2024-03-02T08:48:00-05:00[America/New_York][u-ca=hebrew]";
+    /// let record = IxdtfParser::from_str(text).parse_rfc9557()?;
+    /// assert_eq!(record, IxdtfParser::from_str(text).parse()?);
+    /// assert_eq!(record.calendar, Some(b"hebrew".as_slice()));
+    ///
+    /// for (text, error) in [
+    ///     ("2024-03-02[America/New_York]", ParseError::TimeSeparator),
+    ///     ("2024-03-02T08:48-05:00[America/New_York]", ParseError::TimeSeparator),
+    ///     ("2024-03-02T08:48:00[America/New_York]", ParseError::OffsetNeedsSign),
+    ///     ("2024-03-02T08:48:00Z[u-ca=hebrew][UTC]", ParseError::AnnotationKeyLeadingChar),
+    ///     ("2024-03-02T08:48:00Z[!a=b]", ParseError::UnrecognizedCritical),
+    /// ] {
+    ///     assert_eq!(IxdtfParser::from_str(text).parse_rfc9557(), Err(error));
+    /// }
+    /// # Ok::<(), ParseError>(())
+    /// ```
+    ///
+    /// # Errors
+    ///
+    /// The first part that is wrong decides. To get the position of the error, call
+    /// [`parse_rfc9557_located`](Self::parse_rfc9557_located). The date-time has the errors that it has in
+    /// [`parse_rfc3339`](Self::parse_rfc3339), and `InvalidEnd` at any character after the offset other than a `[`.
+    /// Brackets have the errors that they have in [`parse`](Self::parse).
+    #[inline(always)]
+    pub fn parse_rfc9557(&mut self) -> ParserResult<IxdtfParseRecord<'a, T>> {
+        let mut found = IxdtfParseRecord::default();
+        match self.read_unhandled::<InternetDateTimes>(&mut found) {
             Ok(()) => Ok(found),
             Err(why) => return Err(why.stop.error()),
         }
@@ -329,6 +383,45 @@ impl<'a, T: EncodingType> IxdtfParser<'a, T> {
     pub fn parse_located(&mut self) -> Result<IxdtfParseRecord<'a, T>, LocatedError> {
         let mut parsed = IxdtfParseRecord::default();
         match self.read_unhandled::<DateTimes>(&mut parsed) {
+            Ok(()) => Ok(parsed),
+            Err(why) => return Err(LocatedError {
+                error: why.stop.error(),
+                at: why.at,
+            }),
+        }
+    }
+
+    /// Parses the remaining input as RFC 9557 has it, like [`parse_rfc9557`](Self::parse_rfc9557). An error has its
+    /// position.
+    ///
+    /// The position is the number of code units before the error. It is the index of the code unit that does not fit,
+    /// or the end of the input if the input ends too early. For a number out of its range, the position is after the
+    /// number. For a refused annotation, it is after its bracket.
+    ///
+    /// # Examples
+    ///
+    /// ```rust
+    /// use ixdtf::ParseError;
+    /// use ixdtf::parsers::IxdtfParser;
+    ///
+    /// for (text, error, at) in [
+    ///     ("2024-03-02 08:48:00Z", ParseError::TimeSeparator, 10), // where the space stands
+    ///     ("2024-03-02T08:48:00[UTC]", ParseError::OffsetNeedsSign, 19), // at the bracket
+    ///     ("2024-03-02T08:48:00Z[UTC", ParseError::AnnotationClose, 24), // the end
+    ///     ("2024-03-02T08:48:00Z[!a=b]", ParseError::UnrecognizedCritical, 26), // after the bracket
+    /// ] {
+    ///     let located = IxdtfParser::from_str(text).parse_rfc9557_located().unwrap_err();
+    ///     assert_eq!((located.error, located.at), (error, at));
+    /// }
+    /// ```
+    ///
+    /// # Errors
+    ///
+    /// The errors of [`parse_rfc9557`](Self::parse_rfc9557), each with its position.
+    #[inline(always)]
+    pub fn parse_rfc9557_located(&mut self) -> Result<IxdtfParseRecord<'a, T>, LocatedError> {
+        let mut parsed = IxdtfParseRecord::default();
+        match self.read_unhandled::<InternetDateTimes>(&mut parsed) {
             Ok(()) => Ok(parsed),
             Err(why) => return Err(LocatedError {
                 error: why.stop.error(),

@@ -1,16 +1,16 @@
 use Rattle.ixdtf_times.proofs.rfc3339.take_fixed_rfc3339.Goals as goal
 use Rattle.std.proofs.Common.{◌≡◌, IsTrue, IfSome, Option, Some, None, map, sym, ap, ◌∙◌}
 use Rattle.ixdtf_grammar.specs.{declared.records.DateRecord.DateRecord, language.{Letters.{Text, time_letter}, FixedPlaces.FixedDateTime}}
-use Rattle.ixdtf_reading.specs.reading.{Looks.error_of, FixedPlaces.byte_place, DateTimes.{after_whole_second_at, date_time_ends, rfc_3339_at}}
+use Rattle.ixdtf_reading.specs.reading.{Looks.error_of, FixedPlaces.byte_place, DateTimes.{after_whole_second_at, open_end, date_time_by}}
 use Rattle.ixdtf_reading.proofs.code.FixedDateTimes.{fixed_date_time}
 use Rattle.ixdtf_times.specs.{declared.time.WholeTime.WholeTime, TimeTypes.time_to_second}
 
 -- what is found is read, behind a letter
 found_read : (text rest : Text) (found : Option (DateRecord × WholeTime)) → IsTrue (time_letter (byte_place 10 text))
     → IfSome found (λ x. FixedDateTime text x.0 (time_to_second x.1) rest)
-    → IfSome found (λ x. rfc_3339_at error_of text ≡ after_whole_second_at error_of (date_time_ends error_of) x.0 x.1.hour x.1.minute x.1.second rest)
+    → IfSome found (λ x. date_time_by error_of open_end text ≡ after_whole_second_at error_of open_end x.0 x.1.hour x.1.minute x.1.second rest)
 found_read text rest None letter there = tt
-found_read text rest (Some x) letter there = fixed_date_time (date_time_ends error_of) text x.0 (time_to_second x.1) rest letter there
+found_read text rest (Some x) letter there = fixed_date_time open_end text x.0 (time_to_second x.1) rest letter there
 
 pub returns-clause-read : goal.returns-clause-read
 returns-clause-read g c =

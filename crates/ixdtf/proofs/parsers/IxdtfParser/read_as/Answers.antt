@@ -2,9 +2,9 @@ use Rattle.ixdtf.proofs.parsers.IxdtfParser.read_as.Goals as goal
 use Rattle.ixdtf.proofs.code.Promised.{handles_ok, handles_err, handles_ok_at, handles_err_at}
 
 pub returns : goal.returns
-returns g c = let is = g.met.C.CoreReader.is_under _ in record {
-  handles = handles_ok _ _ _ _ _ _ _ _ _ _ is _ c.in-Ok.ensures.reads;
-  places = handles_ok_at _ _ _ _ _ _ _ _ _ _ _ is _ c.in-Ok.ensures.reads;
+returns g c = record {
+  handles = handles_ok _ _ _ _ _ _ _ _ _ _ _ c.in-Ok.ensures.reads;
+  places = handles_ok_at _ _ _ _ _ _ _ _ _ _ _ _ c.in-Ok.ensures.reads;
 }
 
 pub returns-in-Err : goal.returns-in-Err

@@ -2,7 +2,7 @@ use Rattle.ixdtf.proofs.parsers.IxdtfParser.read_lending_handler.Goals as goal
 use Rattle.ixdtf.proofs.code.Promised.{handles_ok_to, handles_err_to}
 
 pub returns : goal.returns
-returns g c = record { handles = handles_ok_to _ _ _ _ _ _ _ _ _ _ _ (g.met.C.CoreReader.is_under _) _ c.in-Ok.ensures.reads }
+returns g c = record { handles = handles_ok_to _ _ _ _ _ _ _ _ _ _ _ _ c.in-Ok.ensures.reads }
 
 pub returns-in-Err : goal.returns-in-Err
 returns-in-Err g c = record {

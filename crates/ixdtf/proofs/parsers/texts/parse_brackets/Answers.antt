@@ -9,7 +9,7 @@ returns-in_err-bracket-clause-replied g c =
     let looks = c.in_err-bracket.ensures.looks in
     rw (p.1, p.2, ← c.fork-here.ensures.same) (
       0,
-      first_refused _ _ _ _ _ _ c.in_err-bracket.ensures.bracket,
+      first_refused _ _ _ _ _ _ _ c.in_err-bracket.ensures.bracket,
       (omega (arith, looks), omega (arith, looks)),
     )
 
@@ -17,7 +17,7 @@ pub returns-in_err-calendar-clause-replied : goal.returns-in_err-calendar-clause
 returns-in_err-calendar-clause-replied g c =
     let p = err_from_is_err_and c.from_residual-in_err-calendar.result c.from_residual-in_err-calendar.ensures.1 in
     let pairs = rw c.fork-here-2.ensures.same at c.in_err-calendar.ensures.pairs in
-    let shorter = bracket_shortens g.T.EncodingType.letter _ _ _ c.in_ok-bracket.ensures.bracket in
+    let shorter = bracket_shortens _ g.T.EncodingType.letter _ _ _ c.in_ok-bracket.ensures.bracket in
     let looks = c.in_ok-bracket.ensures.looks in
     rw (p.1, p.2, ← c.fork-here.ensures.same) (
       pairs.0,
@@ -30,7 +30,7 @@ returns-clause-replied g c =
     let pairs = rw c.fork-here-2.ensures.same at c.in_ok-calendar.ensures.pairs in
     let calendar = calendar_value (option_map (pair_of g.T.EncodingType.number) c.in_ok-calendar.field-0) in
     let found = c.place_calendar.ensures ∙ ap (λ (p : Parsed). with_calendar p calendar) c.place_bracket-first.ensures.zone in
-    let shorter = bracket_shortens g.T.EncodingType.letter _ _ _ c.in_ok-bracket.ensures.bracket in
+    let shorter = bracket_shortens _ g.T.EncodingType.letter _ _ _ c.in_ok-bracket.ensures.bracket in
     let looks = c.in_ok-bracket.ensures.looks in
     rw (← c.fork-here.ensures.same) (
       pairs.0,

@@ -11,7 +11,7 @@ returns-in-Ok g c =
     let groups = c.parse_groups.ensures.groups in
     let gives = exact _ _ (parse_duration c.self.inside.profile) lasting (λ x y e. cc) tt _ c.fork-here.result groups.left refl _ _ _
     (reads_whole _ _ _ c.fork-here.result c.parse_opening.new.cursor _ _ (c.in-Ok.ensures.sign _) groups.reads) groups.settled in
-    let no_other_reader = gives.no_other_reader c.self.inside.profile refl in
+    let no_other_reader = gives.no_other_reader c.self.inside.profile in
     let empty = gives.empty _ groups.ended in
     rw (← c.self.view_is, ← c.fork-here.ensures.same) (record {
       reads = record { ok = gives.ok; err = gives.err; no_row = gives.no_row; only = gives.only; leaves = search rules };

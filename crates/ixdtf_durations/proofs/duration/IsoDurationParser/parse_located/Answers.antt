@@ -13,7 +13,7 @@ returns-in-Ok g c =
     (duration_read error_of _ _) _ (c.fork-here.ensures.rest ∙ ap (λ (u : Unread). u.rest) (sym c.fork-here.ensures.same)) _ _
     (reads_whole _ _ _ c.fork-here.result c.parse_opening.new.cursor _ _ (c.in-Ok.ensures.sign _) groups.reads) groups.settled groups.place in
     let plain = gives.plain in
-    let no_other_reader = plain.no_other_reader c.self.inside.profile refl in
+    let no_other_reader = plain.no_other_reader c.self.inside.profile in
     let empty = plain.empty _ groups.ended in
     rw (← c.self.view_is, ← c.fork-here.ensures.same) (record {
       reads = record { ok = plain.ok; err = gives.err; place = gives.place; no_row = plain.no_row; only = plain.only; leaves = search rules };

@@ -1,0 +1,140 @@
+//! Functions that test whether the zone of a first bracket is exactly one of RFC 9557, section 4.1.
+
+#![tactic(auto)]
+
+ghost use Rattle.std.specs.Prelude.{◌≡◌, ◌≤◌, ◌+◌, ◌*◌, map, length, option_map, Ok, IsTrue};
+ghost use Rattle.ixdtf_grammar.specs.language.Letters.{Text};
+ghost use Rattle.ixdtf_reading.specs.reading.Clauses.{Reads, Spends, SpendsOr, fault_of_stop};
+ghost use Rattle.ixdtf_reading.specs.reading.Looks.{error_of};
+ghost use Rattle.ixdtf_reading.specs.reading.ExactZones.{form_after, may_end, has_parts, is_exact as exact_zone, behind_flag, form_row, bracket_by};
+ghost use Rattle.ixdtf_reading.specs.reading.ExactZones.PartForm.{part_start};
+ghost use Rattle.ixdtf_grammar.specs.Views.{note_of};
+ghost use Rattle.ixdtf_brackets.specs.BracketTypes.{bracket_of, part_form_of, exact_looks};
+
+use crate::brackets::{Bracket, parse_first_bracket};
+use ixdtf_grammar::encoding::EncodingType;
+use ixdtf_grammar::records::{TimeZoneAnnotation, TimeZoneRecord};
+use ixdtf_reading::classes::{
+    is_annotation_close, is_time_separator, is_tz_char, is_tz_leading_char, is_tz_name_separator,
+};
+use ixdtf_reading::cursor::Cursor;
+use ixdtf_reading::stop::Stop;
+
+/// What was read of a part of a name.
+#[derive(Clone, Copy)]
+pub enum PartForm {
+    /// Nothing yet.
+    Start,
+    /// A `.` alone.
+    OneDot,
+    /// `..` alone.
+    TwoDots,
+    /// What a part may be.
+    Whole,
+}
+
+impl PartForm {
+    /// What is read of a part with one more code unit, or `None` if it does not continue the name.
+    #[inline(always)]
+    fn after(self, byte: u8) -> Option<PartForm>
+        ensures { option_map part_form_of result ≡ form_after (part_form_of self) byte }
+    {
+        match self {
+            PartForm::Start if byte == b'.' => Some(PartForm::OneDot),
+            PartForm::Start if is_tz_leading_char(byte) => Some(PartForm::Whole),
+            PartForm::Start => None,
+            PartForm::OneDot if byte == b'.' => Some(PartForm::TwoDots),
+            PartForm::Whole if is_tz_name_separator(byte) => Some(PartForm::Start),
+            _ if is_tz_char(byte) => Some(PartForm::Whole),
+            _ => None,
+        }
+    }
+
+    /// Returns whether the part can end here.
+    #[inline(always)]
+    fn may_end(self) -> bool
+        ensures { result ≡ may_end (part_form_of self) }
+    {
+        matches!(self, PartForm::Whole)
+    }
+}
+
+/// Tests the parts of a name up to its `]`: no part begins with a digit, `-` or `+`, and none is `.` or `..`.
+fn has_exact_parts<'a, T: EncodingType>(cursor: &mut Cursor<'a, T>) -> bool
+    ensures parts { result ≡ has_parts part_start (map T.letter cursor.old.rest) }
+    ensures looks { Spends 1 cursor.old cursor.new }
+{
+    let mut form = PartForm::Start;
+    loop {
+        let byte = match cursor.look() {
+            Ok(Some(byte)) => byte,
+            Ok(None) => return false,
+            Err(_) => return false,
+        };
+        match form.after(byte) {
+            Some(next) => form = next,
+            None => return form.may_end() && is_annotation_close(byte),
+        }
+        cursor.advance();
+    }
+}
+
+/// Tests whether the zone of a first bracket is exactly one of RFC 9557. `start` is the input after the `[`.
+///
+/// The position of the cursor does not change. It is not inlined, because the bracket has been read without it.
+#[inline(never)]
+fn is_exact_zone<'a, T: EncodingType>(
+    cursor: &mut Cursor<'a, T>,
+    start: &'a [T::CodeUnit],
+    zone: &TimeZoneAnnotation<'a, T>,
+) -> bool
+    ensures exact { result ≡ exact_zone (note_of T.number zone.now).zone
+        (behind_flag zone.now.critical (map T.letter (map T.number start.now))) }
+    ensures rest { cursor.new.rest ≡ cursor.old.rest }
+    ensures few { cursor.new.looks ≤ cursor.old.looks + (length start.now + 1) }
+    ensures counted { cursor.old.looks ≤ cursor.new.looks }
+{
+    let mut again = cursor.fork_at(start);
+    if zone.critical {
+        again.advance();
+    }
+    let is_exact = match &zone.tz {
+        TimeZoneRecord::Name(_) => has_exact_parts(&mut again),
+        TimeZoneRecord::Offset(_) => is_time_separator(again.byte_at(3)),
+    };
+    cursor.keep_looks(again);
+    is_exact
+}
+
+/// Returns the error of a zone that is not exactly one of RFC 9557.
+#[inline(always)]
+fn zone_stop<'a, T: EncodingType>(zone: &TimeZoneAnnotation<'a, T>) -> Stop
+    ensures { (rest : Text) → error_of (form_row (note_of T.number zone.now).zone rest) ≡ (fault_of_stop result, rest) }
+{
+    match &zone.tz {
+        TimeZoneRecord::Name(_) => Stop::IanaChar,
+        TimeZoneRecord::Offset(_) => Stop::InvalidMinutePrecisionOffset,
+    }
+}
+
+/// Reads a first bracket after its `[`. If `is_exact`, its zone has to be exactly one of RFC 9557.
+#[inline(always)]
+pub fn parse_bracket_by<'a, T: EncodingType>(
+    cursor: &mut Cursor<'a, T>,
+    is_exact: bool,
+) -> Result<Bracket<'a, T>, Stop>
+    ensures bracket { Reads T.letter (bracket_of T.number) cursor.old result cursor.new
+        (bracket_by error_of is_exact) }
+    ensures looks { SpendsOr (2 * length cursor.old.rest + 18) (exact_looks is_exact (length cursor.old.rest) + 16) cursor.old result cursor.new }
+{
+    let start = cursor.rest();
+    let bracket = parse_first_bracket(cursor)?;
+    if is_exact {
+        if let Bracket::Zone(zone) = &bracket {
+            if !is_exact_zone(cursor, start, zone) {
+                return Err(zone_stop(zone));
+            }
+        }
+    }
+    Ok(bracket)
+}
