@@ -133,13 +133,14 @@ opening_long : (text : Text) (critical : Bool) → Opens text critical → lengt
 opening_long text true (first, second, is, (c, one, _), (d, two, _)) = rw (is, one, two) refl
 opening_long text false (c, is, _) = rw is refl
 
-pub of_bracket : (text : Text) (note : Option ZoneNote) → OptionalBracket text note → HasZone note × (length (bracket_text note) ≤ length text + 3)
-of_bracket text None h = (tt, omega arith)
-of_bracket text (Some note) h =
-    let whole = of_zone h.inside note.zone h.zone in
-    let opening = opening_long h.start note.critical h.opens in (
+pub of_bracket : (exact : Bool) (text : Text) (note : Option ZoneNote) → OptionalBracket exact text note → HasZone note × (length (bracket_text note) ≤ length text + 3)
+of_bracket exact text None h = (tt, omega arith)
+of_bracket exact text (Some note) h =
+    let bracket = h.0 in
+    let whole = of_zone bracket.inside note.zone bracket.zone in
+    let opening = opening_long bracket.start note.critical bracket.opens in (
       whole.0,
-      rw h.is (omega (arith, whole.1, opening, length-append {A = Letter})),
+      rw bracket.is (omega (arith, whole.1, opening, length-append {A = Letter})),
     )
 
 -- ---- calendars

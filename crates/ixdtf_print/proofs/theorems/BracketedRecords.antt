@@ -1,7 +1,7 @@
 -- What holds of the records of a reader of texts with brackets, whatever stands before the brackets.
-use Rattle.std.proofs.Common.{ℕ, ◌+◌, ◌≤◌, ◌≡◌, ◌↔◌, Bool, IsTrue, ◌++◌, length, map, Option, sym, arith, subst}
+use Rattle.std.proofs.Common.{ℕ, ◌+◌, ◌≤◌, ◌≡◌, ◌↔◌, Bool, false, IsTrue, ◌++◌, length, map, Option, sym, arith, subst}
 use Rattle.std.proofs.lemmas.List.{length-append}
-use Rattle.ixdtf.specs.language.{Letters.{Text, Letter.Plain}, Cores.{Core, IsCore}, Languages.Parsed, Readers.{CoreKind, Reader.bracketed}}
+use Rattle.ixdtf.specs.language.{Letters.{Text, Letter.Plain}, Cores.{Core, IsCore}, Languages.Parsed, Readers.{CoreKind, has_exact_zones, Reader.bracketed}}
 use Rattle.ixdtf.specs.Handlers.{UnhandledRecord}
 use Rattle.ixdtf_grammar.specs.declared.records.{DateRecord.DateRecord, TimeRecord.TimeRecord, UtcOffsetRecordOrZ.UtcOffsetRecordOrZ}
 use Rattle.ixdtf_print.specs.{Canonical.brackets_text, Printing.{HasText, EachIsReadBack, FitsWithin}, Shown.bytes_of, SpelledCores.IsSpelledAs}
@@ -15,6 +15,7 @@ pub record Written : Type 1 where
   pub core_text : Core → Text
   pub text_of : Parsed → Text
   pub more : ℕ
+  pub any_zone : has_exact_zones kind ≡ false
   pub whole : (found : Parsed) → text_of found ≡ core_text (core_in found) ++ brackets_text found
   pub is_core : (core : Core) → has_core core.date core.time core.offset → IsCore kind (core_text core) core
   pub of_core : (text : Text) (core : Core) → IsCore kind text core → has_core core.date core.time core.offset × (length (core_text core) ≤ length text + more)
@@ -25,7 +26,7 @@ Stands w text found = UnhandledRecord (bracketed w.kind) text found
 
 pub reads : (w : Written) (found : Parsed) → IsSpelledAs w.has_core found → Stands w (w.text_of found) found
 reads w found s =
-    let parts = brackets_read_back w.kind (w.core_text (core_in found)) found (w.is_core (core_in found) s.0) s.1 in
+    let parts = brackets_read_back w.kind (w.core_text (core_in found)) found w.any_zone (w.is_core (core_in found) s.0) s.1 in
     subst (λ text. Stands w text found) (sym (w.whole found)) (of_parts (w.core_text (core_in found) ++ brackets_text found) found parts)
 
 pub spelled : (w : Written) (text : Text) (found : Parsed) → Stands w text found

@@ -1,7 +1,7 @@
 -- The records that have a text are those whose fields have texts, and the canonical text is one of these texts.
 use Rattle.std.proofs.Common.{ℕ, ◌+◌, ◌<◌, ◌≤◌, ◌↔◌, Bool, IsTrue, List, ◌++◌, length, map, Option, Some, None, sym, ap, inl, inr, arith, append-nil, subst}
 use Rattle.std.proofs.lemmas.List.{length-append, length-map}
-use Rattle.ixdtf.specs.language.{Letters.{Letter, Text, byte_letter}, Cores.{Core, core_of, OptionalOffset, IsDateTimeCore, IsCore}, Languages.Parsed, Readers.{parse, CoreKind, CoreKind.date_time}}
+use Rattle.ixdtf.specs.language.{Letters.{Letter, Text, byte_letter}, Cores.{Core, core_of, OptionalOffset, IsDateTimeCore, IsCore}, Languages.Parsed, Readers.{parse, CoreKind, has_exact_zones, CoreKind.date_time}}
 use Rattle.ixdtf.specs.Handlers.{UnhandledRecord}
 use Rattle.ixdtf_grammar.specs.declared.records.{TimeRecord.TimeRecord, UtcOffsetRecordOrZ.UtcOffsetRecordOrZ}
 use Rattle.ixdtf_print.specs.Canonical.{date_text, time_text, offset_text, brackets_text, optional_date_text, core_text, canonical_text}
@@ -46,8 +46,8 @@ of_core text core (inr h) =
 -- the brackets of a record that a text gives: they have texts, which are not much longer
 pub of_brackets : {kind : CoreKind} (text : Text) (found : Parsed) (h : HasParts kind text found)
     → HasBrackets found × (length h.cores + length (brackets_text found) ≤ length text + 3)
-of_brackets text found h =
-    let zone = of_bracket h.zones h.zone h.is_bracket in
+of_brackets {kind = kind} text found h =
+    let zone = of_bracket (has_exact_zones kind) h.zones h.zone h.is_bracket in
     let calendar = of_pairs h.pair_texts h.pairs h.are_pairs in
     subst (λ read. HasBrackets read × (length h.cores + length (brackets_text read) ≤ length text + 3)) (sym h.has)
     ((zone.0, calendar.0), rw h.is (omega (arith, zone.1, calendar.1, length-append {A = Letter})))
