@@ -4,7 +4,7 @@ use Rattle.ixdtf.specs.{table.{ErrorTexts.message_of, Faults.Fault}, Widths.{Has
 use Rattle.ixdtf.specs.language.{Languages.Found, Letters.{Text, byte_letter}, Readers.Reader}
 use Rattle.ixdtf_answers.specs.{Fields.{fields_of, canonical_field_of}, Word.{name_of, reader_of, IsNoWord}, declared.word.Word.{Word, TheVariants.Parse}}
 use Rattle.ixdtf_answers.specs.declared.word.Word.TheVariants.{YearMonth, MonthDay, Time, Offset, Zone, Iana, Duration, StrictMonthDay, StrictTime}
-use Rattle.ixdtf_answers.specs.declared.word.Word.TheVariants.{StrictDuration, Canonical, Rfc3339, ZoneName}
+use Rattle.ixdtf_answers.specs.declared.word.Word.TheVariants.{StrictDuration, Canonical, Rfc3339, ZoneName, Rfc9557}
 
 -- the longest line that is read
 abbrev pub line_limit : ℕ
@@ -39,6 +39,7 @@ shown_of StrictDuration found = fields_of found
 shown_of Canonical found = canonical_field_of found
 shown_of Rfc3339 found = fields_of found
 shown_of ZoneName found = fields_of found
+shown_of Rfc9557 found = fields_of found
 
 -- the answer to a text that is read
 abbrev pub ok_answer_of : Word → Found → List ℕ

@@ -1,10 +1,10 @@
 -- The words, and the readers that they name.
 use Rattle.std.specs.Prelude.{◌≡◌, ◌≢◌, ℕ, List, Option, Some, None, codes}
 use Rattle.ixdtf_grammar.specs.declared.profile.Profile.TheVariants.{Crate, Strict}
-use Rattle.ixdtf.specs.language.Readers.{Reader, parse, parse_year_month, parse_month_day, parse_time}
+use Rattle.ixdtf.specs.language.Readers.{Reader, parse, parse_rfc9557, parse_year_month, parse_month_day, parse_time}
 use Rattle.ixdtf.specs.language.Readers.Reader.{parse_rfc3339, parse_offset, parse_identifier, parse_iana_identifier, parse_duration}
 use Rattle.ixdtf_answers.specs.declared.word.Word.{Word, TheVariants.{Parse, YearMonth, MonthDay, Time, Offset, Zone, Iana, Duration, StrictMonthDay}}
-use Rattle.ixdtf_answers.specs.declared.word.Word.TheVariants.{StrictTime, StrictDuration, Canonical, Rfc3339, ZoneName}
+use Rattle.ixdtf_answers.specs.declared.word.Word.TheVariants.{StrictTime, StrictDuration, Canonical, Rfc3339, ZoneName, Rfc9557}
 
 abbrev pub name_of : Word → List ℕ
 name_of Parse = codes "parse"
@@ -21,6 +21,7 @@ name_of StrictDuration = codes "strict-duration"
 name_of Canonical = codes "canonical"
 name_of Rfc3339 = codes "rfc3339"
 name_of ZoneName = codes "zone-name"
+name_of Rfc9557 = codes "rfc9557"
 
 abbrev pub reader_of : Word → Reader
 reader_of Parse = parse
@@ -37,6 +38,7 @@ reader_of StrictDuration = parse_duration Strict
 reader_of Canonical = parse
 reader_of Rfc3339 = parse_rfc3339
 reader_of ZoneName = parse_iana_identifier
+reader_of Rfc9557 = parse_rfc9557
 
 -- no word has the name
 abbrev pub IsNoWord : List ℕ → Type 0

@@ -20,7 +20,7 @@ Reports the lines of the files, or of standard input, that are no valid dates an
 \n\
 What is read:\n\
 \x20 --kind KIND      the kind of the texts: date-time (the default), year-month, month-day,\n\
-\x20                  time, offset, zone, zone-name or iana, duration, rfc3339\n\
+\x20                  time, offset, zone, zone-name or iana, duration, rfc3339, rfc9557\n\
 \x20 --strict         stricter rules: a month-day does not have the day 00,\n\
 \x20                  and a duration does not repeat a unit\n\
 \x20 ixdtf_check --kind rfc3339 times.txt\n\

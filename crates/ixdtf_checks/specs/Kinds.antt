@@ -1,8 +1,8 @@
 -- The names of the kinds, and the readers of what is asked for.
 use Rattle.std.specs.Prelude.{◌≡◌, ◌≢◌, ℕ, List, Option, Some, None, codes}
-use Rattle.ixdtf_grammar.specs.{declared.profile.Profile.Profile, language.Readers.{Reader, parse, parse_year_month, parse_month_day, parse_time}}
+use Rattle.ixdtf_grammar.specs.{declared.profile.Profile.Profile, language.Readers.{Reader, parse, parse_rfc9557, parse_year_month, parse_month_day, parse_time}}
 use Rattle.ixdtf_grammar.specs.language.Readers.Reader.{parse_rfc3339, parse_offset, parse_identifier, parse_iana_identifier, parse_duration}
-use Rattle.ixdtf_checks.specs.declared.kind.Kind.{Kind, TheVariants.{DateTime, YearMonth, MonthDay, Time, Offset, Zone, ZoneName, Duration, Rfc3339, Iana}}
+use Rattle.ixdtf_checks.specs.declared.kind.Kind.{Kind, TheVariants.{DateTime, YearMonth, MonthDay, Time, Offset, Zone, ZoneName, Duration, Rfc3339, Iana, Rfc9557}}
 
 abbrev pub name_of : Kind → List ℕ
 name_of DateTime = codes "date-time"
@@ -15,6 +15,7 @@ name_of ZoneName = codes "zone-name"
 name_of Duration = codes "duration"
 name_of Rfc3339 = codes "rfc3339"
 name_of Iana = codes "iana"
+name_of Rfc9557 = codes "rfc9557"
 
 -- the kind that has the name, where there is one
 abbrev pub IsNamed : List ℕ → Option Kind → Type 0
@@ -33,3 +34,4 @@ reader_of ZoneName profile = parse_iana_identifier
 reader_of Duration profile = parse_duration profile
 reader_of Rfc3339 profile = parse_rfc3339
 reader_of Iana profile = parse_iana_identifier
+reader_of Rfc9557 profile = parse_rfc9557

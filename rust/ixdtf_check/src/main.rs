@@ -34,7 +34,7 @@ Reports the lines of the files, or of standard input, that are no valid dates an
 
 What is read:
   --kind KIND      the kind of the texts: date-time (the default), year-month, month-day,
-                   time, offset, zone, zone-name or iana, duration, rfc3339
+                   time, offset, zone, zone-name or iana, duration, rfc3339, rfc9557
   --strict         stricter rules: a month-day does not have the day 00,
                    and a duration does not repeat a unit
   ixdtf_check --kind rfc3339 times.txt

@@ -44,6 +44,10 @@ const TEXTS: &[(Kind, &str)] = &[
     (Kind::Iana, "America/Chicago"),
     (Kind::Duration, "P1Y2M"),
     (Kind::Rfc3339, "1996-12-19T16:39:57-08:00"),
+    (
+        Kind::Rfc9557,
+        "1996-12-19T16:39:57-08:00[America/Los_Angeles]",
+    ),
 ];
 
 /// A text that is refused as one of the kind, under the profile, and what is written of it.
@@ -53,6 +57,7 @@ const REFUSED: &[(Kind, Profile, &str, &str)] = &[
     (Kind::ZoneName, Profile::Crate, "America/", "f:1:9: Expected time zone character after '/'.\nAmerica/\n        ^\n"),
     (Kind::Iana, Profile::Crate, "+05:30", "f:1:1: Invalid time zone leading character.\n+05:30\n^\n"),
     (Kind::Rfc3339, Profile::Crate, "1996-12-19T16:39-08:00", "f:1:17: Invalid character while parsing time separator.\n1996-12-19T16:39-08:00\n                ^\n"),
+    (Kind::Rfc9557, Profile::Crate, "1996-12-19", "f:1:11: Invalid character while parsing time separator.\n1996-12-19\n          ^\n"),
     (Kind::MonthDay, Profile::Strict, "11-00", "f:1:6: MonthDay was not valid.\n11-00\n     ^\n"),
 ];
 

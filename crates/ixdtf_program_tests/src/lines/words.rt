@@ -81,6 +81,23 @@ fn answers_zones(rt: HostRuntime) -> Result<(), Fail> {
     check_answers(&rt, rt.alloc(), ZONES)
 }
 
+/// Examples of RFC 9557, sections 1.1 and 4.2, and texts of other formats.
+#[rattlefmt::skip]
+const RFC_9557: &[(&str, &str)] = &[
+    ("rfc9557 1996-12-19T16:39:57-08:00[America/Los_Angeles]", "ok date=1996,12,19 time=16,39,57 offset=-8,0 tz=America/Los_Angeles"),
+    ("rfc9557 1996-12-19T16:39:57-08:00", "ok date=1996,12,19 time=16,39,57 offset=-8,0"),
+    ("rfc9557 1996-12-19T16:39:57-08:00[America/Los_Angeles][u-ca=hebrew]", "ok date=1996,12,19 time=16,39,57 offset=-8,0 tz=America/Los_Angeles calendar=hebrew"),
+    ("rfc9557 2022-07-08T00:14:07+01:00[!Europe/Paris]", "ok date=2022,7,8 time=0,14,7 offset=+1,0 tz=!Europe/Paris"),
+    ("rfc9557 2022-07-08T00:14:07Z[+01:00]", "ok date=2022,7,8 time=0,14,7 offset=Z tz=+1,0"),
+    ("rfc9557 2022-07-08", "error Invalid character while parsing time separator."),
+    ("rfc9557 2022-07-08T00:14:07[Europe/Paris]", "error UTC offset needs a sign"),
+];
+
+#[test]
+fn answers_date_times_of_rfc_9557(rt: HostRuntime) -> Result<(), Fail> {
+    check_answers(&rt, rt.alloc(), RFC_9557)
+}
+
 /// The examples of RFC 3339, section 5.8, and texts of other formats.
 #[rattlefmt::skip]
 const RFC_3339: &[(&str, &str)] = &[
