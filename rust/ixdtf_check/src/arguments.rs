@@ -63,7 +63,7 @@ impl Wrong {
             Wrong::UnexpectedValue => "this option has no value",
             Wrong::MissingValue => "the last word is an option that needs a value",
             Wrong::UnknownKind => {
-                "there is no such kind; the kinds are date-time, year-month, month-day, time, offset, zone, zone-name, iana, duration and rfc3339"
+                "there is no such kind; the kinds are date-time, year-month, month-day, time, offset, zone, zone-name, iana, duration, rfc3339 and rfc9557"
             }
             Wrong::InvalidField => "expected the number of a field, which is 1 or more",
             Wrong::InvalidSeparator => "expected a separator of one byte",

@@ -25,6 +25,8 @@ pub enum Kind {
     Rfc3339,
     /// `iana`: as `zone-name`.
     Iana,
+    /// `rfc9557`: a date-time of RFC 9557, section 4.1, with a zone and a calendar.
+    Rfc9557,
 }
 
 impl Kind {
@@ -50,6 +52,8 @@ impl Kind {
             Some(Kind::Rfc3339)
         } else if name == b"iana".as_slice() {
             Some(Kind::Iana)
+        } else if name == b"rfc9557".as_slice() {
+            Some(Kind::Rfc9557)
         } else {
             None
         }

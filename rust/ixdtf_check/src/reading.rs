@@ -40,6 +40,10 @@ pub fn read(kind: Kind, profile: Profile, text: &[u8]) -> Result<(), LocatedErro
         },
         Kind::ZoneName => read_zone_name(text),
         Kind::Iana => read_zone_name(text),
+        Kind::Rfc9557 => match IxdtfParser::from_utf8(text).parse_rfc9557_located() {
+            Ok(_record) => Ok(()),
+            Err(error) => Err(error),
+        },
         Kind::Rfc3339 => match IxdtfParser::from_utf8(text).parse_rfc3339_located() {
             Ok(_record) => Ok(()),
             Err(error) => Err(error),

@@ -41,6 +41,7 @@ pub fn answer_text<K: Sink>(
         Word::Canonical => answer_canonical(output, printed, text),
         Word::Rfc3339 => answer_rfc3339(output, text),
         Word::ZoneName => answer_zone_name(output, word, text),
+        Word::Rfc9557 => answer_rfc9557(output, text),
     }
 }
 
@@ -136,6 +137,13 @@ fn answer_rfc3339<K: Sink>(output: &mut Output<'_, K>, text: &[u8]) -> Result<()
         Ok(date_time) => put_record(output, date_time),
         Err(error) => put_error(output, *error),
     }
+}
+
+/// Puts the answer of `rfc9557`.
+#[inline(never)]
+fn answer_rfc9557<K: Sink>(output: &mut Output<'_, K>, text: &[u8]) -> Result<(), RunError> {
+    let outcome = IxdtfParser::from_utf8(text).parse_rfc9557();
+    put_found(output, Word::Rfc9557, text, &outcome)
 }
 
 /// Puts the answer of `duration`, or of `strict-duration`.

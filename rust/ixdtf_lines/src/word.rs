@@ -33,6 +33,8 @@ pub enum Word {
     Rfc3339,
     /// `zone-name`: as `iana`.
     ZoneName,
+    /// `rfc9557`: a date-time of RFC 9557, section 4.1, with a zone and a calendar.
+    Rfc9557,
 }
 
 impl Word {
@@ -66,6 +68,8 @@ impl Word {
             Some(Word::Rfc3339)
         } else if name == b"zone-name".as_slice() {
             Some(Word::ZoneName)
+        } else if name == b"rfc9557".as_slice() {
+            Some(Word::Rfc9557)
         } else {
             None
         }
