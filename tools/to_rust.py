@@ -112,7 +112,7 @@ CRATES = [
     Crate('crates/ixdtf/src', 'rust/ixdtf/src', ['laws'], ends=LIBRARY),
     *(Crate(f'crates/{layer}/src', 'rust/ixdtf/src', ['lib', 'looks'], layer=layer) for layer in LAYERS),
     Crate('crates/ixdtf_callers/src', 'rust/ixdtf/src', ['lib'], root='callers', tests=True),
-    Crate('crates/ixdtf_tests/src', 'rust/ixdtf/src', ['lib', 'tests/laws', 'tests/printing', 'tests/printed_durations'], root='tests', tests=True),
+    Crate('crates/ixdtf_tests/src', 'rust/ixdtf/src', ['lib', 'tests/laws', 'tests/printing', 'tests/printed_durations', 'tests/printed_kinds'], root='tests', tests=True),
     Crate('crates/ixdtf_print/src', 'rust/ixdtf_print/src', ['laws'], ends=PRINTER, above=True),
     Crate('crates/ixdtf_buffers/src', 'rust/ixdtf_buffers/src', ['memory', 'place'], ends=PROGRAM, above=True),
     Crate('crates/ixdtf_answers/src', 'rust/ixdtf_lines/src', ['laws', 'lib'], ends=PROGRAM, above=True),

@@ -47,6 +47,7 @@ fn is_minute_clock(offset: MinutePrecisionOffset) -> bool
 }
 
 /// Returns whether the offset has a text. `Z` has one.
+#[inline(always)]
 pub fn is_shift(offset: UtcOffsetRecordOrZ) -> bool
     ensures { IsTrue result ↔ IsShift offset }
 {
@@ -79,6 +80,7 @@ fn has_day(date: Option<DateRecord>) -> bool
 }
 
 /// Returns whether the time and the offset have texts. An offset without a time has none.
+#[inline(always)]
 pub fn has_time(time: Option<TimeRecord>, offset: Option<UtcOffsetRecordOrZ>) -> bool
     ensures { IsTrue result ↔ HasTime time offset }
 {
@@ -100,6 +102,7 @@ fn is_name(name: &[u8]) -> bool
 }
 
 /// Returns whether the zone has a text.
+#[inline(always)]
 pub fn is_zone(zone: &TimeZoneRecord<'_, Utf8>) -> bool
     ensures { IsTrue result ↔ IsZoneText (zone_of (λ byte. byte) zone.now) }
 {
@@ -110,6 +113,7 @@ pub fn is_zone(zone: &TimeZoneRecord<'_, Utf8>) -> bool
 }
 
 /// Returns whether there is no zone, or the zone has a text.
+#[inline(always)]
 fn has_zone(note: &Option<TimeZoneAnnotation<'_, Utf8>>) -> bool
     ensures { IsTrue result ↔ HasZone (option_map (note_of (λ byte. byte)) note.now) }
 {
@@ -137,6 +141,7 @@ fn is_value(bytes: &[u8]) -> bool
 }
 
 /// Returns whether there is no calendar, or the calendar has a text.
+#[inline(always)]
 fn has_calendar(calendar: Option<&[u8]>) -> bool
     ensures { IsTrue result ↔
         HasCalendar (option_map (λ units. map (λ byte. byte) units.now) calendar.entry) }

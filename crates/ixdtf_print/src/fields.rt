@@ -24,6 +24,7 @@ fn distance_of(date: DateRecord) -> u64
 }
 
 /// Writes the year at index `at`. Returns the index after it.
+#[inline(always)]
 #[tactic(auto, using(crate::proofs::code::PutBytes::putting, crate::proofs::code::YearSigns::years))]
 pub fn put_year(out: &mut [u8], at: usize, date: DateRecord) -> usize
     requires { HasRoom out.old at (year_text date.year) }
@@ -83,6 +84,7 @@ fn put_optional_date(out: &mut [u8], at: usize, date: Option<DateRecord>) -> usi
 }
 
 /// Writes a separator, an hour and a minute at index `at`. Returns the index after them.
+#[inline(always)]
 pub fn put_minutes(out: &mut [u8], at: usize, mark: u8, hour: u8, minute: u8) -> usize
     requires { HasRoom out.old at (Plain mark ∷ minutes_text hour minute) }
     ensures { Prints out.old out.new at result (Plain mark ∷ minutes_text hour minute) }
@@ -178,6 +180,7 @@ pub fn put_minute_offset(out: &mut [u8], at: usize, offset: MinutePrecisionOffse
 }
 
 /// Writes the offset at index `at`, if there is one. Returns the index after it.
+#[inline(always)]
 pub fn put_offset(out: &mut [u8], at: usize, offset: Option<UtcOffsetRecordOrZ>) -> usize
     requires { HasRoom out.old at (offset_text offset) }
     ensures { Prints out.old out.new at result (offset_text offset) }
@@ -227,6 +230,7 @@ fn put_opening(out: &mut [u8], at: usize, critical: bool) -> usize
 }
 
 /// Writes the zone at index `at`. Returns the index after it.
+#[inline(always)]
 pub fn put_zone(out: &mut [u8], at: usize, zone: &TimeZoneRecord<'_, Utf8>) -> usize
     requires { HasRoom out.old at (zone_text (zone_of (λ byte. byte) zone.now)) }
     ensures { Prints out.old out.new at result (zone_text (zone_of (λ byte. byte) zone.now)) }
@@ -238,6 +242,7 @@ pub fn put_zone(out: &mut [u8], at: usize, zone: &TimeZoneRecord<'_, Utf8>) -> u
 }
 
 /// Writes the zone in its bracket at index `at`, if there is one. Returns the index after it.
+#[inline(always)]
 #[tactic(auto, using(crate::proofs::code::PutBytes::putting))]
 fn put_bracket(out: &mut [u8], at: usize, note: &Option<TimeZoneAnnotation<'_, Utf8>>) -> usize
     requires { HasRoom out.old at (bracket_text (option_map (note_of (λ byte. byte)) note.now)) }
@@ -255,6 +260,7 @@ fn put_bracket(out: &mut [u8], at: usize, note: &Option<TimeZoneAnnotation<'_, U
 }
 
 /// Writes the calendar in its bracket at index `at`, if there is one. Returns the index after it.
+#[inline(always)]
 fn put_calendar(out: &mut [u8], at: usize, calendar: Option<&[u8]>) -> usize
     requires { HasRoom out.old at
         (calendar_text (option_map (λ units. map (λ byte. byte) units.now) calendar)) }

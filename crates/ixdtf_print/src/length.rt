@@ -58,6 +58,7 @@ fn time_length(time: Option<TimeRecord>) -> u16
 }
 
 /// Returns the number of bytes of the offset.
+#[inline(always)]
 pub fn shift_length(offset: Option<UtcOffsetRecordOrZ>) -> u16
     ensures length { result ≡ length (offset_text offset) }
     ensures small { result ≤ 265 }
@@ -73,6 +74,7 @@ pub fn shift_length(offset: Option<UtcOffsetRecordOrZ>) -> u16
 }
 
 /// Returns the number of bytes of the zone, without its bracket.
+#[inline(always)]
 pub fn length_of_zone(zone: &TimeZoneRecord<'_, Utf8>) -> u128
     ensures length { result ≡ length (zone_text (zone_of (λ byte. byte) zone.now)) }
     ensures small { result < 2 ^ 64 }
@@ -84,6 +86,7 @@ pub fn length_of_zone(zone: &TimeZoneRecord<'_, Utf8>) -> u128
 }
 
 /// Returns the number of bytes of the bracket with the zone.
+#[inline(always)]
 fn bracket_length(note: &Option<TimeZoneAnnotation<'_, Utf8>>) -> u128
     ensures length { result ≡ length (bracket_text (option_map (note_of (λ byte. byte)) note.now)) }
     ensures small { result < 2 ^ 65 }
@@ -101,6 +104,7 @@ fn bracket_length(note: &Option<TimeZoneAnnotation<'_, Utf8>>) -> u128
 }
 
 /// Returns the number of bytes of the bracket with the calendar.
+#[inline(always)]
 fn calendar_length(calendar: Option<&[u8]>) -> u128
     ensures length { result ≡ length
         (calendar_text (option_map (λ units. map (λ byte. byte) units.now) calendar.entry)) }

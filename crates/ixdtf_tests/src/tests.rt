@@ -18,6 +18,7 @@ mod months;
 mod odd;
 mod offsets;
 mod printed_durations;
+mod printed_kinds;
 mod printing;
 mod profiles;
 mod records;

@@ -33,6 +33,7 @@ fn is_minute_clock(offset: MinutePrecisionOffset) -> bool {
 }
 
 /// Returns whether the offset has a text. `Z` has one.
+#[inline(always)]
 pub fn is_shift(offset: UtcOffsetRecordOrZ) -> bool {
     match offset {
         UtcOffsetRecordOrZ::Z => true,
@@ -62,6 +63,7 @@ fn has_day(date: Option<DateRecord>) -> bool {
 }
 
 /// Returns whether the time and the offset have texts. An offset without a time has none.
+#[inline(always)]
 pub fn has_time(time: Option<TimeRecord>, offset: Option<UtcOffsetRecordOrZ>) -> bool {
     match (time, offset) {
         (None, None) => true,
@@ -79,6 +81,7 @@ fn is_name(name: &[u8]) -> bool {
 }
 
 /// Returns whether the zone has a text.
+#[inline(always)]
 pub fn is_zone(zone: &TimeZoneRecord<'_, Utf8>) -> bool {
     match zone {
         TimeZoneRecord::Name(name) => is_name(name),
@@ -88,6 +91,7 @@ pub fn is_zone(zone: &TimeZoneRecord<'_, Utf8>) -> bool {
 }
 
 /// Returns whether there is no zone, or the zone has a text.
+#[inline(always)]
 fn has_zone(note: &Option<TimeZoneAnnotation<'_, Utf8>>) -> bool {
     match note {
         None => true,
@@ -111,6 +115,7 @@ fn is_value(bytes: &[u8]) -> bool {
 }
 
 /// Returns whether there is no calendar, or the calendar has a text.
+#[inline(always)]
 fn has_calendar(calendar: Option<&[u8]>) -> bool {
     match calendar {
         None => true,

@@ -5,7 +5,7 @@
 use core::error::Error;
 use core::fmt;
 
-/// The reason why [`print`](crate::print) wrote nothing.
+/// The reason why [`print`](crate::print), or a printer of another kind of record, wrote nothing.
 ///
 /// `Display` writes a message.
 ///
@@ -19,11 +19,12 @@ use core::fmt;
 /// ```
 #[derive(Clone, Copy, Debug, PartialEq)]
 pub enum PrintError {
-    /// The record has no canonical text: it has no date, or an offset without a time, or a part that no text has.
+    /// The record has no canonical text. For [`print`](crate::print), this is a record that has no date, or an offset
+    /// without a time, or a part that no text has. Each other printer says which records it refuses.
     NotPrintable,
     /// The canonical text of the record is longer than the slice. [`printed_length`](crate::printed_length) returns its
     /// length. If `parse` returned the record, the canonical text has at most 14 bytes more than the text that was
-    /// parsed.
+    /// parsed. Each other printer has a function for the length too, and a number of bytes of its own.
     TooShort,
 }
 

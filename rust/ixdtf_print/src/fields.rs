@@ -16,6 +16,7 @@ fn distance_of(date: DateRecord) -> u64 {
 }
 
 /// Writes the year at index `at`. Returns the index after it.
+#[inline(always)]
 pub fn put_year(out: &mut [u8], at: usize, date: DateRecord) -> usize {
     let distance = distance_of(date);
     if date.year < 0 {
@@ -60,6 +61,7 @@ fn put_optional_date(out: &mut [u8], at: usize, date: Option<DateRecord>) -> usi
 }
 
 /// Writes a separator, an hour and a minute at index `at`. Returns the index after them.
+#[inline(always)]
 pub fn put_minutes(out: &mut [u8], at: usize, mark: u8, hour: u8, minute: u8) -> usize {
     put(
         out,
@@ -138,6 +140,7 @@ pub fn put_minute_offset(out: &mut [u8], at: usize, offset: MinutePrecisionOffse
 }
 
 /// Writes the offset at index `at`, if there is one. Returns the index after it.
+#[inline(always)]
 pub fn put_offset(out: &mut [u8], at: usize, offset: Option<UtcOffsetRecordOrZ>) -> usize {
     match offset {
         None => at,
@@ -180,6 +183,7 @@ fn put_opening(out: &mut [u8], at: usize, critical: bool) -> usize {
 }
 
 /// Writes the zone at index `at`. Returns the index after it.
+#[inline(always)]
 pub fn put_zone(out: &mut [u8], at: usize, zone: &TimeZoneRecord<'_, Utf8>) -> usize {
     match zone {
         TimeZoneRecord::Name(name) => put_each(out, at, name),
@@ -189,6 +193,7 @@ pub fn put_zone(out: &mut [u8], at: usize, zone: &TimeZoneRecord<'_, Utf8>) -> u
 }
 
 /// Writes the zone in its bracket at index `at`, if there is one. Returns the index after it.
+#[inline(always)]
 fn put_bracket(out: &mut [u8], at: usize, note: &Option<TimeZoneAnnotation<'_, Utf8>>) -> usize {
     match note {
         None => at,
@@ -201,6 +206,7 @@ fn put_bracket(out: &mut [u8], at: usize, note: &Option<TimeZoneAnnotation<'_, U
 }
 
 /// Writes the calendar in its bracket at index `at`, if there is one. Returns the index after it.
+#[inline(always)]
 fn put_calendar(out: &mut [u8], at: usize, calendar: Option<&[u8]>) -> usize {
     match calendar {
         None => at,

@@ -45,6 +45,7 @@ fn time_length(time: Option<TimeRecord>) -> u16 {
 }
 
 /// Returns the number of bytes of the offset.
+#[inline(always)]
 #[must_use]
 pub fn shift_length(offset: Option<UtcOffsetRecordOrZ>) -> u16 {
     match offset {
@@ -59,6 +60,7 @@ pub fn shift_length(offset: Option<UtcOffsetRecordOrZ>) -> u16 {
 }
 
 /// Returns the number of bytes of the zone, without its bracket.
+#[inline(always)]
 #[must_use]
 pub fn length_of_zone(zone: &TimeZoneRecord<'_, Utf8>) -> u128 {
     match zone {
@@ -69,6 +71,7 @@ pub fn length_of_zone(zone: &TimeZoneRecord<'_, Utf8>) -> u128 {
 }
 
 /// Returns the number of bytes of the bracket with the zone.
+#[inline(always)]
 fn bracket_length(note: &Option<TimeZoneAnnotation<'_, Utf8>>) -> u128 {
     match note {
         None => 0,
@@ -83,6 +86,7 @@ fn bracket_length(note: &Option<TimeZoneAnnotation<'_, Utf8>>) -> u128 {
 }
 
 /// Returns the number of bytes of the bracket with the calendar.
+#[inline(always)]
 fn calendar_length(calendar: Option<&[u8]>) -> u128 {
     match calendar {
         None => 0,

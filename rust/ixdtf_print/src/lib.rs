@@ -56,7 +56,8 @@ pub use zones::{CanonicalZone, print_zone, zone_length};
 /// fraction after the first 18 are written as zeros.
 ///
 /// A record of a year and a month has the first day of the month, and a record of a month and a day has the year 0.
-/// Their canonical texts are these dates. A record of `parse_time` has no date, and no canonical text.
+/// Their canonical texts are these dates. A record of `parse_time` has no date, and no canonical text. To write what
+/// these readers read, call [`print_year_month`], [`print_month_day`] and [`print_time`].
 ///
 /// Returns the number of bytes that were written.
 ///

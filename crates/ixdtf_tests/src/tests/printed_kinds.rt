@@ -1,0 +1,255 @@
+//! Offsets, zones, times, year-months and month-days printed as their canonical texts, and these read back.
+
+use super::{check, check_displayed};
+use ixdtf::encoding::Utf8;
+use ixdtf::parsers::{IxdtfParser, Profile, TimeZoneParser};
+use ixdtf::records::IxdtfParseRecord;
+use ixdtf_print::{
+    CanonicalMonthDay, CanonicalOffset, CanonicalTime, CanonicalYearMonth, CanonicalZone,
+    PrintError, month_day_length, offset_length, print_month_day, print_offset, print_time,
+    print_year_month, print_zone, time_length, year_month_length, zone_length,
+};
+use std::alloc::Global;
+use std::process::Abort;
+use std::test::Fail;
+
+/// Bytes that are not printed to.
+const UNTOUCHED: [u8; 64] = [7; 64];
+
+fn is_untouched(bytes: &[u8]) -> bool {
+    bytes.iter().all(|byte| *byte == 7)
+}
+
+/// How many bytes are one too few for the text.
+fn too_few(canonical: &str) -> usize {
+    canonical.len().min(64).saturating_sub(1)
+}
+
+/// The text was printed and counted so, and what follows it is unchanged.
+fn check_printed(
+    rt: &impl Abort,
+    canonical: &str,
+    printed: Result<usize, PrintError>,
+    out: &[u8; 64],
+    length: Option<usize>,
+) {
+    let count = canonical.len().min(64);
+    let is_counted = printed == Ok(canonical.len()) && length == Some(canonical.len());
+    let is_printed = &out[..count] == canonical.as_bytes() && is_untouched(&out[count..]);
+    check(rt, canonical, is_counted && is_printed);
+}
+
+/// Nothing was printed, for this reason.
+fn check_refused(
+    rt: &impl Abort,
+    what: &str,
+    printed: Result<usize, PrintError>,
+    why: PrintError,
+    out: &[u8; 64],
+) {
+    check(rt, what, printed == Err(why) && is_untouched(out));
+}
+
+fn check_offset(rt: &impl Abort, alloc: Global, text: &str, canonical: &str) -> Result<(), Fail> {
+    let Ok(offset) = TimeZoneParser::from_str(text).parse_offset() else {
+        check(rt, text, false);
+        return Ok(());
+    };
+    let mut out = UNTOUCHED;
+    let printed = print_offset(&offset, &mut out);
+    check_printed(rt, canonical, printed, &out, offset_length(&offset));
+    let mut out = UNTOUCHED;
+    let printed = print_offset(&offset, &mut out[..too_few(canonical)]);
+    check_refused(rt, canonical, printed, PrintError::TooShort, &out);
+    let again = TimeZoneParser::from_str(canonical).parse_offset();
+    check(rt, canonical, again == Ok(offset));
+    let Some(shown) = CanonicalOffset::of(&offset) else {
+        check(rt, text, false);
+        return Ok(());
+    };
+    check_displayed(rt, alloc, &shown, canonical)
+}
+
+fn check_zone(rt: &impl Abort, alloc: Global, text: &str, canonical: &str) -> Result<(), Fail> {
+    let Ok(zone) = TimeZoneParser::from_str(text).parse_identifier() else {
+        check(rt, text, false);
+        return Ok(());
+    };
+    let mut out = UNTOUCHED;
+    let printed = print_zone(&zone, &mut out);
+    check_printed(rt, canonical, printed, &out, zone_length(&zone));
+    let mut out = UNTOUCHED;
+    let printed = print_zone(&zone, &mut out[..too_few(canonical)]);
+    check_refused(rt, canonical, printed, PrintError::TooShort, &out);
+    let Some(shown) = CanonicalZone::of(&zone) else {
+        check(rt, text, false);
+        return Ok(());
+    };
+    check_displayed(rt, alloc, &shown, canonical)?;
+    let again = TimeZoneParser::from_str(canonical).parse_identifier();
+    check(rt, canonical, again == Ok(zone));
+    Ok(())
+}
+
+fn check_time(rt: &impl Abort, alloc: Global, text: &str, canonical: &str) -> Result<(), Fail> {
+    let Ok(record) = IxdtfParser::from_str(text).parse_time() else {
+        check(rt, text, false);
+        return Ok(());
+    };
+    let mut out = UNTOUCHED;
+    let printed = print_time(&record, &mut out);
+    check_printed(rt, canonical, printed, &out, time_length(&record));
+    let mut out = UNTOUCHED;
+    let printed = print_time(&record, &mut out[..too_few(canonical)]);
+    check_refused(rt, canonical, printed, PrintError::TooShort, &out);
+    let Some(shown) = CanonicalTime::of(&record) else {
+        check(rt, text, false);
+        return Ok(());
+    };
+    check_displayed(rt, alloc, &shown, canonical)?;
+    let again = IxdtfParser::from_str(canonical)
+        .with_profile(Profile::Strict)
+        .parse_time();
+    check(rt, canonical, again == Ok(record));
+    Ok(())
+}
+
+fn check_year_month(
+    rt: &impl Abort,
+    alloc: Global,
+    text: &str,
+    canonical: &str,
+) -> Result<(), Fail> {
+    let Ok(record) = IxdtfParser::from_str(text).parse_year_month() else {
+        check(rt, text, false);
+        return Ok(());
+    };
+    let mut out = UNTOUCHED;
+    let printed = print_year_month(&record, &mut out);
+    check_printed(rt, canonical, printed, &out, year_month_length(&record));
+    let mut out = UNTOUCHED;
+    let printed = print_year_month(&record, &mut out[..too_few(canonical)]);
+    check_refused(rt, canonical, printed, PrintError::TooShort, &out);
+    let Some(shown) = CanonicalYearMonth::of(&record) else {
+        check(rt, text, false);
+        return Ok(());
+    };
+    check_displayed(rt, alloc, &shown, canonical)?;
+    let again = IxdtfParser::from_str(canonical).parse_year_month();
+    check(rt, canonical, again == Ok(record));
+    Ok(())
+}
+
+fn check_month_day(
+    rt: &impl Abort,
+    alloc: Global,
+    text: &str,
+    canonical: &str,
+) -> Result<(), Fail> {
+    let Ok(record) = IxdtfParser::from_str(text).parse_month_day() else {
+        check(rt, text, false);
+        return Ok(());
+    };
+    let mut out = UNTOUCHED;
+    let printed = print_month_day(&record, &mut out);
+    check_printed(rt, canonical, printed, &out, month_day_length(&record));
+    let mut out = UNTOUCHED;
+    let printed = print_month_day(&record, &mut out[..too_few(canonical)]);
+    check_refused(rt, canonical, printed, PrintError::TooShort, &out);
+    let Some(shown) = CanonicalMonthDay::of(&record) else {
+        check(rt, text, false);
+        return Ok(());
+    };
+    check_displayed(rt, alloc, &shown, canonical)?;
+    let again = IxdtfParser::from_str(canonical).parse_month_day();
+    check(rt, canonical, again == Ok(record));
+    Ok(())
+}
+
+#[rattlefmt::skip]
+const CANONICAL_OFFSETS: &[(&str, &str)] = &[
+    ("+01", "+01:00"),
+    ("-0530", "-05:30"),
+    ("-00:00", "-00:00"),
+    ("+00:00:00", "+00:00:00"),
+    ("-235959,50", "-23:59:59.50"),
+];
+
+#[rattlefmt::skip]
+const CANONICAL_ZONES: &[(&str, &str)] = &[
+    ("+01", "+01:00"),
+    ("-0530", "-05:30"),
+    ("America/New_York", "America/New_York"),
+    ("z", "z"),
+];
+
+#[rattlefmt::skip]
+const CANONICAL_TIMES: &[(&str, &str)] = &[
+    ("12+01[+01]", "12:00:00+01:00[+01:00]"),
+    ("T1214", "12:14:00"),
+    ("t2359z[!u-ca=hebrew][a=b]", "23:59:00Z[u-ca=hebrew]"),
+    ("235960,0-00:00:00.10[!cet]", "23:59:60.0-00:00:00.10[!cet]"),
+];
+
+#[rattlefmt::skip]
+const CANONICAL_YEAR_MONTHS: &[(&str, &str)] = &[
+    ("202011[+01]", "2020-11[+01:00]"),
+    ("+002020-11", "2020-11"),
+    ("-00000112[!cet][u-ca=hebrew]", "-000001-12[!cet][u-ca=hebrew]"),
+    ("+010000-01", "+010000-01"),
+];
+
+#[rattlefmt::skip]
+const CANONICAL_MONTH_DAYS: &[(&str, &str)] = &[
+    ("1107[+01]", "11-07[+01:00]"),
+    ("--02-29", "02-29"),
+    ("--1100[!u-ca=hebrew]", "11-00[u-ca=hebrew]"),
+];
+
+#[test]
+fn prints_canonical_offsets_and_zones(rt: HostRuntime) -> Result<(), Fail> {
+    for (text, canonical) in CANONICAL_OFFSETS {
+        check_offset(&rt, rt.alloc(), text, canonical)?;
+    }
+    for (text, canonical) in CANONICAL_ZONES {
+        check_zone(&rt, rt.alloc(), text, canonical)?;
+    }
+    Ok(())
+}
+
+#[test]
+fn prints_canonical_times_and_months(rt: HostRuntime) -> Result<(), Fail> {
+    for (text, canonical) in CANONICAL_TIMES {
+        check_time(&rt, rt.alloc(), text, canonical)?;
+    }
+    for (text, canonical) in CANONICAL_YEAR_MONTHS {
+        check_year_month(&rt, rt.alloc(), text, canonical)?;
+    }
+    for (text, canonical) in CANONICAL_MONTH_DAYS {
+        check_month_day(&rt, rt.alloc(), text, canonical)?;
+    }
+    Ok(())
+}
+
+/// No printer but `print` prints the record of a date and a time.
+fn check_other_printers(rt: &impl Abort, record: &IxdtfParseRecord<'_, Utf8>) {
+    let mut out = UNTOUCHED;
+    let printed = print_time(record, &mut out);
+    check_refused(rt, "a time", printed, PrintError::NotPrintable, &out);
+    let printed = print_year_month(record, &mut out);
+    check_refused(rt, "a year-month", printed, PrintError::NotPrintable, &out);
+    let printed = print_month_day(record, &mut out);
+    check_refused(rt, "a month-day", printed, PrintError::NotPrintable, &out);
+    let is_counted = time_length(record).is_some()
+        || year_month_length(record).is_some()
+        || month_day_length(record).is_some();
+    check(rt, "a length", !is_counted);
+}
+
+#[test]
+fn refuses_a_date_and_a_time(rt: HostRuntime) {
+    match IxdtfParser::from_str("2020-11-08T12:00Z[cet]").parse() {
+        Ok(record) => check_other_printers(&rt, &record),
+        Err(_) => check(&rt, "a date and a time", false),
+    }
+}
