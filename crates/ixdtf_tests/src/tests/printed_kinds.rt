@@ -1,5 +1,7 @@
 //! Offsets, zones, times, year-months and month-days printed as their canonical texts, and these read back.
 
+ghost use Rattle.std.specs.Prelude.{◌≤◌};
+
 use super::{check, check_displayed};
 use ixdtf::encoding::Utf8;
 use ixdtf::parsers::{IxdtfParser, Profile, TimeZoneParser};
@@ -21,7 +23,9 @@ fn is_untouched(bytes: &[u8]) -> bool {
 }
 
 /// How many bytes are one too few for the text.
-fn too_few(canonical: &str) -> usize {
+fn too_few(canonical: &str) -> usize
+    ensures { result ≤ 63 }
+{
     canonical.len().min(64).saturating_sub(1)
 }
 
