@@ -337,7 +337,6 @@ def rows_of_examples(path: str, source: str) -> Iterator[Row]:
 # ---------------------------------------------------------------------------------------------------------------------------------
 # Rows for C
 
-C_WORDS = {**places.WORDS, 'rfc3339': 'parse_rfc3339'}
 C_TABLE = re.compile(r'^static const struct \w+ (\w+)\[\] = \{\n(.*?)^\};', re.M | re.S)
 C_ROW = re.compile(r'\{ "(?P<word>[\w-]+)", (?:"(?P<handler>\w+)", )?TEXT\("(?P<text>(?:[^"\\]|\\.)*)"\), '
                    r'"(?:ok|error (?:AE )?(?P<error>\S+) at (?P<place>\d+))')
@@ -356,7 +355,7 @@ def rows_for_c(path: str, source: str) -> Iterator[Row]:
             text, wide = c_text(it['text']), table == 'wide_rows'
             units = tuple(places.units_of(text) if wide else map(ord, text))
             error = it['error'] and (Error('AbruptEnd', it['error']) if 'error AE ' in it[0] else Error(it['error']))
-            yield Row(path, C_WORDS[it['word']], table == 'strict_rows', wide, units, error, it['place'] and int(it['place']),
+            yield Row(path, places.WORDS[it['word']], table == 'strict_rows', wide, units, error, it['place'] and int(it['place']),
                       it['handler'] and C_HANDLERS[it['handler']])
 
 
