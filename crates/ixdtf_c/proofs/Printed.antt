@@ -7,7 +7,7 @@ use Rattle.ixdtf_grammar.specs.declared.records.DurationParseRecord.{DurationPar
 use Rattle.ixdtf_grammar.specs.declared.{profile.Profile.{Profile, TheVariants.Crate}, records.{DateRecord.DateRecord, MinutePrecisionOffset.MinutePrecisionOffset, Sign.Sign}}
 use Rattle.ixdtf_grammar.specs.declared.records.{Sign.TheVariants.{Positive, Negative}, TimeDurationRecord.TimeDurationRecord, TimeRecord.TimeRecord}
 use Rattle.ixdtf_grammar.specs.declared.records.UtcOffsetRecordOrZ.{UtcOffsetRecordOrZ}
-use Rattle.ixdtf.specs.language.{Brackets.ZoneNote, Fractions.FractionParts, Languages.Parsed, Letters.Text, OffsetRecords.sign_for, Readers.parse}
+use Rattle.ixdtf.specs.language.{Brackets.ZoneNote, Fractions.FractionParts, Languages.Parsed, Letters.Text, OffsetRecords.sign_for, Readers.{parse, CoreKind.date_time}}
 use Rattle.ixdtf.specs.{language.ZoneNames.{Zone as SomeZone, Zone.{Name, Offset as ByOffset}}, Handlers.UnhandledRecord}
 use Rattle.ixdtf_c.specs.Crossing.{Contents, DurationContents, digits_for, value_for, is_negative, date_for, time_for, offset_for, area_for, zone_for, units_for, is_there}
 use Rattle.ixdtf_c.specs.{Crossing.record_for, Instants.shift_fraction, Outcomes.GivesRecord}
@@ -146,7 +146,7 @@ pub read_fits : (profile : Profile) (text : Text) (number : ℕ) (old new : Cont
     → IsSomeAnd (record_by new) (λ found. length (canonical_text found) ≤ length text + 14)
 read_fits profile text number old new read zeroed =
     let (found, gives, is) = read_back profile text number old new read zeroed in
-    rw is (of_record text found (to_parts text found gives)).1
+    rw is (of_record text found (to_parts date_time text found gives)).1
 
 -- a duration that is printable has a time that is, where it has one
 pub printed_units : (d : DurationContents) (time : Option (Option TimeDurationRecord)) → IsSomeAnd (lasting_by d time) IsPrintableDuration
