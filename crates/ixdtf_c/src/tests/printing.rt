@@ -195,11 +195,14 @@ fn prints_an_offset_and_a_zone(rt: HostRuntime) {
     assert_eq!(rt; ixdtf_parse_offset(b"-0530", &mut record), 0);
     assert_eq!(rt; ixdtf_printed_offset_length(&record.offset), 6);
     assert_eq!(rt; ixdtf_print_offset(&record.offset, &mut out, &mut count), 0);
-    assert_eq!(rt; out[..count.min(16)], *b"-05:30");
+    assert_eq!(rt; &out[..count.min(16)], b"-05:30".as_slice());
     assert_eq!(rt; ixdtf_print_zone(&record.zone, &mut out, &mut count), 101);
     assert_eq!(rt; ixdtf_parse_identifier(b"Etc/UTC", &mut record), 0);
     assert_eq!(rt; ixdtf_printed_zone_length(&record.zone), 7);
     assert_eq!(rt; ixdtf_print_zone(&record.zone, &mut out, &mut count), 0);
-    assert_eq!(rt; out[..count.min(16)], *b"Etc/UTC");
-    assert_eq!(rt; ixdtf_print_offset(&record.offset, &mut out, &mut count), 101);
+    assert_eq!(rt; &out[..count.min(16)], b"Etc/UTC".as_slice());
+    assert_eq!(rt;
+        ixdtf_print_offset(&record.offset, &mut out, &mut count),
+        101
+    );
 }
