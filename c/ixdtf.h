@@ -391,6 +391,19 @@ IXDTF_CHECKED_ uint32_t ixdtf_print(const ixdtf_record *record, uint8_t *out, si
 IXDTF_CHECKED_ uint32_t ixdtf_print_duration(const ixdtf_duration *duration, uint8_t *out,
     size_t room, size_t *count);
 
+/* Prints an offset, or a time zone without its brackets and its !, as its one canonical text in
+ * ASCII, such as -05:00, +05:30:10.5 or Europe/Berlin. What the functions return and write is what
+ * ixdtf_print returns and writes. ixdtf_parse_offset reads the text as the same offset, and
+ * ixdtf_parse_identifier as the same zone. If one of them wrote the offset or the zone for a text of
+ * n bytes, it is always printed if `room` is at least n + 3.
+ * IXDTF_NOT_PRINTABLE says that the `form` of the offset is neither IXDTF_MINUTES nor IXDTF_SECONDS,
+ * that the `form` of the zone is neither IXDTF_NAME nor IXDTF_ZONE_OFFSET, that a number is out of its
+ * range, or that the name is no name of a time zone. */
+IXDTF_CHECKED_ uint32_t ixdtf_print_offset(const ixdtf_offset *offset, uint8_t *out, size_t room,
+    size_t *count);
+IXDTF_CHECKED_ uint32_t ixdtf_print_zone(const ixdtf_zone *zone, uint8_t *out, size_t room,
+    size_t *count);
+
 /* The same functions for 16-bit text. There is no such function for a printer. A code unit outside
  * 1 to 126 stands for no character. If a reader needs a character and comes to such a code unit, the
  * error is IXDTF_NON_ASCII_CODE_POINT. */
@@ -489,9 +502,11 @@ void ixdtf16_keep_calendar(ixdtf16_record *record, const ixdtf16_calendar *calen
  * if the record is not printable, or if its text is longer than SIZE_MAX. */
 IXDTF_CHECKED_ size_t ixdtf_printed_length(const ixdtf_record *record);
 
-/* Returns how many bytes ixdtf_print_duration writes for the duration if there is enough room. The
- * result is 0 if the duration is not printable. */
+/* Return how many bytes ixdtf_print_duration, ixdtf_print_offset and ixdtf_print_zone write if there
+ * is enough room. The result is 0 if the duration, the offset or the zone is not printable. */
 IXDTF_CHECKED_ size_t ixdtf_printed_duration_length(const ixdtf_duration *duration);
+IXDTF_CHECKED_ size_t ixdtf_printed_offset_length(const ixdtf_offset *offset);
+IXDTF_CHECKED_ size_t ixdtf_printed_zone_length(const ixdtf_zone *zone);
 
 /* Returns the version of the interface that the library has. */
 IXDTF_CHECKED_ uint32_t ixdtf_interface_version(void);

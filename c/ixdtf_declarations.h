@@ -40,6 +40,8 @@ uint32_t ixdtf_parse_time_with_annotations_strict(const uint8_t *text, size_t le
 uint32_t ixdtf_reply(ixdtf_calendar *calendar, const ixdtf_annotation *reply);
 uint32_t ixdtf_print(const ixdtf_record *record, uint8_t *out, size_t room, size_t *count);
 uint32_t ixdtf_print_duration(const ixdtf_duration *duration, uint8_t *out, size_t room, size_t *count);
+uint32_t ixdtf_print_offset(const ixdtf_offset *offset, uint8_t *out, size_t room, size_t *count);
+uint32_t ixdtf_print_zone(const ixdtf_zone *zone, uint8_t *out, size_t room, size_t *count);
 uint32_t ixdtf16_parse(const uint16_t *text, size_t length, ixdtf16_record *out);
 uint32_t ixdtf16_parse_year_month(const uint16_t *text, size_t length, ixdtf16_record *out);
 uint32_t ixdtf16_parse_month_day(const uint16_t *text, size_t length, ixdtf16_record *out);
@@ -70,4 +72,6 @@ void ixdtf_keep_calendar(ixdtf_record *record, const ixdtf_calendar *calendar);
 void ixdtf16_keep_calendar(ixdtf16_record *record, const ixdtf16_calendar *calendar);
 size_t ixdtf_printed_length(const ixdtf_record *record);
 size_t ixdtf_printed_duration_length(const ixdtf_duration *duration);
+size_t ixdtf_printed_offset_length(const ixdtf_offset *offset);
+size_t ixdtf_printed_zone_length(const ixdtf_zone *zone);
 uint32_t ixdtf_interface_version(void);

@@ -648,6 +648,70 @@ static void test_durations(void) {
     row_shown = "";
 }
 
+/* What a printer gives of a part, which has a length, for every room up to one more than the text takes. */
+#define TEST_PRINTED_PART(printer, printed_length, part, wanted, canonical) do { \
+        size_t length_ = strlen(canonical), places_; \
+        for (places_ = 0; places_ <= length_ + 1; places_++) { \
+            uint8_t *out_ = room + ROOM - places_; \
+            size_t count_ = 7; \
+            uint32_t error_; \
+            memset(room, 0xa5, ROOM); \
+            error_ = printer(part, out_, places_, &count_); \
+            check(error_ == ((uint32_t)(wanted) == 0 && places_ < length_ ? (uint32_t)IXDTF_TOO_SHORT : (uint32_t)(wanted)), "what printing a part returns"); \
+            check(count_ == ((uint32_t)(wanted) == 0 ? length_ : 7), "the count of what is printed"); \
+            check(error_ != IXDTF_OK || !memcmp(out_, canonical, length_), "the canonical text of a part"); \
+            check(places_ <= length_ || error_ != IXDTF_OK || out_[length_] == 0xa5, "the other bytes stay"); \
+        } \
+        check(printed_length(part) == length_, "the length of what is printed, and 0 where nothing is"); \
+    } while (0)
+#define TEST_OFFSET(wanted, canonical) TEST_PRINTED_PART(ixdtf_print_offset, ixdtf_printed_offset_length, &record.offset, wanted, canonical)
+#define TEST_ZONE(wanted, canonical) TEST_PRINTED_PART(ixdtf_print_zone, ixdtf_printed_zone_length, &record.zone, wanted, canonical)
+
+/* Offsets and zones, and their canonical texts, written out by the rules of docs/GRAMMAR.md. */
+static void test_parts(void) {
+    static const struct { const char *text, *canonical; } offsets[] = {
+        { "+05", "+05:00" }, { "-0530", "-05:30" }, { "-00:00", "-00:00" }, { "+053010", "+05:30:10" }, { "-23:59:59,50", "-23:59:59.50" },
+        { "+00:00:00.1234567890123456789", "+00:00:00.1234567890123456780" },
+    };
+    static const struct { const char *text, *canonical; } zones[] = {
+        { "Europe/Berlin", "Europe/Berlin" }, { "etc/utc", "etc/utc" }, { "+05", "+05:00" }, { "-0000", "-00:00" }, { "../_a-b+1", "../_a-b+1" },
+    };
+    ixdtf_record record = narrow_used_record();
+    size_t i;
+    for (i = 0; i < COUNT(offsets); i++) {
+        row_shown = offsets[i].text;
+        check(ixdtf_parse_offset_text(offsets[i].text, &record) == IXDTF_OK, "an offset that is printed");
+        TEST_OFFSET(IXDTF_OK, offsets[i].canonical);
+    }
+    for (i = 0; i < COUNT(zones); i++) {
+        row_shown = zones[i].text;
+        check(ixdtf_parse_identifier_text(zones[i].text, &record) == IXDTF_OK, "a zone that is printed");
+        TEST_ZONE(IXDTF_OK, zones[i].canonical);
+        record.zone.is_critical = true;
+        TEST_ZONE(IXDTF_OK, zones[i].canonical);
+    }
+    row_shown = "";
+    memset(&record, 0, sizeof record);
+    TEST_OFFSET(IXDTF_NOT_PRINTABLE, "");
+    TEST_ZONE(IXDTF_NOT_PRINTABLE, "");
+    record.offset.form = IXDTF_UTC;
+    TEST_OFFSET(IXDTF_NOT_PRINTABLE, "");
+    record.offset.form = 4;
+    TEST_OFFSET(IXDTF_NOT_PRINTABLE, "");
+    record.offset.form = IXDTF_MINUTES;
+    TEST_OFFSET(IXDTF_OK, "+00:00");
+    record.offset.hour = 24;
+    TEST_OFFSET(IXDTF_NOT_PRINTABLE, "");
+    record.zone.form = IXDTF_NAME;
+    TEST_ZONE(IXDTF_NOT_PRINTABLE, "");
+    record.zone.form = IXDTF_ZONE_OFFSET;
+    TEST_ZONE(IXDTF_OK, "+00:00");
+    record.zone.minute = 60;
+    TEST_ZONE(IXDTF_NOT_PRINTABLE, "");
+    record.zone.form = 3;
+    TEST_ZONE(IXDTF_NOT_PRINTABLE, "");
+}
+
 /* Durations, and their fractions in seconds and nanoseconds, which were reckoned by hand. */
 static void test_last_fractions(void) {
     static const struct { const char *text; uint32_t result, seconds, nanoseconds; } texts[] = {
@@ -894,6 +958,7 @@ int main(int count, char **arguments) {
     test_zeros();
     test_durations();
     test_last_fractions();
+    test_parts();
     test_met();
     printf("%lu checks, %lu failed\n", checks, failures);
     return failures == 0 ? 0 : 1;

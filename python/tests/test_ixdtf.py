@@ -436,6 +436,21 @@ class Calls(unittest.TestCase):
         self.assertEqual(ixdtf.parse_zone("+05:30"), Zone(None, Offset(1, 5, 30)))
         self.assertEqual(ixdtf.parse_zone_name("Europe/Berlin"), Zone("Europe/Berlin"))
 
+    def test_canonical_parts(self):
+        for text, printed in (("+05", "+05:00"), ("-053010,50", "-05:30:10.50"), ("-00", "-00:00")):
+            self.assertEqual(ixdtf.canonical(ixdtf.parse_offset(text)), printed)
+            self.assertEqual(ixdtf.parse_offset(printed), ixdtf.parse_offset(text))
+        for text, printed in (("Europe/Berlin", "Europe/Berlin"), ("-0530", "-05:30"), ("A" * 1000, "A" * 1000)):
+            self.assertEqual(ixdtf.canonical(ixdtf.parse_zone(text)), printed)
+            self.assertEqual(ixdtf.parse_zone(printed), ixdtf.parse_zone(text))
+        self.assertEqual(ixdtf.canonical(Zone("Etc/UTC", None, True)), "Etc/UTC")
+        for wrong in (Offset(1, 24, 0), Offset(0, 1, 0), Offset(1, 1, 1, 1, Fraction(1, 10)), Zone("a b"), Zone(""), Zone("\u00e9"), Zone(None, Offset(1, 0, 60))):
+            with self.assertRaises(ValueError):
+                ixdtf.canonical(wrong)
+        for wrong in (Z, "+05", Zone()):
+            with self.assertRaises((TypeError, ValueError)):
+                ixdtf.canonical(wrong)
+
     def test_error(self):
         error = refusal(ixdtf.parse, "2024-03-02T8:48")
         self.assertIsInstance(error, ValueError)
@@ -461,6 +476,7 @@ class Runs(unittest.TestCase):
                 refusal(ixdtf.parse, text)
             refusal(ixdtf.parse, "2024-03-02[!b=c]", handler=lambda it: it)
             ixdtf.canonical(ixdtf.parse_duration("P1DT1.5H"))
+            ixdtf.canonical(record.offset), ixdtf.canonical(record.zone)
             ixdtf.parse_duration("P1DT1.5H").to_timedelta()
             ixdtf.is_valid("P1D", "duration")
 

@@ -7,15 +7,15 @@ use Rattle.ixdtf_grammar.specs.declared.records.DurationParseRecord.{DurationPar
 use Rattle.ixdtf_grammar.specs.declared.{profile.Profile.{Profile, TheVariants.Crate}, records.{DateRecord.DateRecord, MinutePrecisionOffset.MinutePrecisionOffset, Sign.Sign}}
 use Rattle.ixdtf_grammar.specs.declared.records.{Sign.TheVariants.{Positive, Negative}, TimeDurationRecord.TimeDurationRecord, TimeRecord.TimeRecord}
 use Rattle.ixdtf_grammar.specs.declared.records.UtcOffsetRecordOrZ.{UtcOffsetRecordOrZ}
-use Rattle.ixdtf.specs.language.{Brackets.ZoneNote, Fractions.FractionParts, Languages.Parsed, Letters.Text, OffsetRecords.sign_for, Readers.parse}
+use Rattle.ixdtf.specs.language.{Brackets.ZoneNote, Fractions.FractionParts, Languages.Parsed, Letters.Text, OffsetRecords.sign_for, Readers.{parse, CoreKind.date_time}}
 use Rattle.ixdtf.specs.{language.ZoneNames.{Zone as SomeZone, Zone.{Name, Offset as ByOffset}}, Handlers.UnhandledRecord}
 use Rattle.ixdtf_c.specs.Crossing.{Contents, DurationContents, digits_for, value_for, is_negative, date_for, time_for, offset_for, area_for, zone_for, units_for, is_there}
 use Rattle.ixdtf_c.specs.{Crossing.record_for, Instants.shift_fraction, Outcomes.GivesRecord}
-use Rattle.ixdtf_c.specs.Standing.{where_there, fraction_by, date_by, time_by, minutes_by, offset_by, zone_by, parsed_by, record_by, lasting_by}
+use Rattle.ixdtf_c.specs.Standing.{where_there, fraction_by, date_by, time_by, minutes_by, offset_by, zone_by, parsed_by, record_by, lasting_by, shift_alone}
 use Rattle.ixdtf_c.proofs.Numbers.{number_some}
 use Rattle.ixdtf_print.specs.{Canonical.canonical_text, Durations.{duration_text, IsPrintableDuration, IsDurationReadBack}, Printable.IsPrintable, Spelled.{HasTime, HasDigits, IsDayTime, IsShift}}
-use Rattle.ixdtf_print.specs.SpelledDurations.{HasTimeUnits}
-use Rattle.ixdtf_print.proofs.{parts.ParsedParts.to_parts, theorems.{PrintableDurations.printable_duration, PrintableRecords.{printable_iff, of_record}}}
+use Rattle.ixdtf_print.specs.{Offsets.IsPrintableOffset, Printing.{HasText, HasOneText}, SpelledDurations.HasTimeUnits}
+use Rattle.ixdtf_print.proofs.{parts.ParsedParts.to_parts, theorems.{PrintableDurations.printable_duration, PrintableOffsets.printable_offset, PrintableRecords.{printable_iff, of_record}}}
 
 time_of_both : (time : Option TimeRecord) (offset : Option UtcOffsetRecordOrZ) → HasTime time offset → IfSome time IsDayTime
 time_of_both None offset has = tt
@@ -146,7 +146,7 @@ pub read_fits : (profile : Profile) (text : Text) (number : ℕ) (old new : Cont
     → IsSomeAnd (record_by new) (λ found. length (canonical_text found) ≤ length text + 14)
 read_fits profile text number old new read zeroed =
     let (found, gives, is) = read_back profile text number old new read zeroed in
-    rw is (of_record text found (to_parts text found gives)).1
+    rw is (of_record text found (to_parts date_time text found gives)).1
 
 -- a duration that is printable has a time that is, where it has one
 pub printed_units : (d : DurationContents) (time : Option (Option TimeDurationRecord)) → IsSomeAnd (lasting_by d time) IsPrintableDuration
@@ -159,3 +159,17 @@ pub read_is_duration : {E : Type 0} (duration : DurationParseRecord) (result : R
     → OnOk result (IsDurationReadBack duration) → OnOk result (IsPrintableDuration duration)
 read_is_duration duration (Ok n) back = (duration_text duration, (back Crate).same)
 read_is_duration duration (Err e) back = tt
+
+-- an offset that is printable has a fraction that is one, where it has one
+pub printed_shift : (offset : Option (Option UtcOffsetRecordOrZ)) → IsSomeAnd (shift_alone offset) IsPrintableOffset
+    → IsSomeAnd offset (λ it. IfSome it (λ shift. HasDigits (shift_fraction shift)))
+printed_shift (Some (Some (shifts.Offset it))) is = digits_of_offset (Some (shifts.Offset it)) ((printable_offset it).0 is)
+printed_shift (Some (Some shifts.Z)) is = absurd is
+printed_shift (Some None) is = absurd is
+printed_shift None is = absurd is
+
+-- what is read back from its canonical text has a text
+pub read_is_text : {E R : Type 0} (stands : Text → R → Type 0) (text_of : R → Text) (found : R) (result : Result ℕ E)
+    → OnOk result (HasOneText stands text_of found) → OnOk result (HasText stands found)
+read_is_text stands text_of found (Ok n) back = (text_of found, back.same)
+read_is_text stands text_of found (Err e) back = tt

@@ -5,9 +5,9 @@ use Rattle.ixdtf_grammar.specs.declared.records.UtcOffsetRecordOrZ.TheVariants a
 use Rattle.std.specs.Prelude.{ℕ, Bool, true, false, not, nat_eq, if◌then◌else◌, List, [], Option, Some, None}
 use Rattle.ixdtf_grammar.specs.declared.records.{DateRecord.DateRecord, TimeRecord.TimeRecord, MinutePrecisionOffset.MinutePrecisionOffset}
 use Rattle.ixdtf_grammar.specs.declared.records.{DateDurationRecord.DateDurationRecord, DurationParseRecord.DurationParseRecord}
-use Rattle.ixdtf_grammar.specs.declared.records.{TimeDurationRecord.TimeDurationRecord, UtcOffsetRecordOrZ.UtcOffsetRecordOrZ}
+use Rattle.ixdtf_grammar.specs.declared.records.{TimeDurationRecord.TimeDurationRecord, UtcOffsetRecord.UtcOffsetRecord, UtcOffsetRecordOrZ.UtcOffsetRecordOrZ}
 use Rattle.ixdtf.specs.language.{Brackets.ZoneNote, Fractions.FractionParts, Languages.Parsed, OffsetRecords.sign_for}
-use Rattle.ixdtf.specs.language.ZoneNames.Zone.{Name, Offset as ByOffset}
+use Rattle.ixdtf.specs.language.ZoneNames.{Zone as Area, Zone.{Name, Offset as ByOffset}}
 use Rattle.ixdtf_c.specs.{declared.forms.{Date.Date, Time.Time, Offset.Offset}, Crossing.{Contents, ZoneContents, DurationContents}}
 
 -- a value, where it is there
@@ -64,6 +64,25 @@ parsed_by r None _ = None
 
 abbrev pub record_by : Contents → Option Parsed
 record_by r = parsed_by r (offset_by r.offset) (zone_by r.zone)
+
+-- an offset by numbers, and neither none nor Z
+abbrev pub shift_alone : Option (Option UtcOffsetRecordOrZ) → Option UtcOffsetRecord
+shift_alone (Some (Some (shifts.Offset it))) = Some it
+shift_alone (Some (Some shifts.Z)) = None
+shift_alone (Some None) = None
+shift_alone None = None
+
+abbrev pub shift_by : Offset → Option UtcOffsetRecord
+shift_by o = shift_alone (offset_by o)
+
+-- a zone without its `!`, where there is one
+abbrev pub area_alone : Option (Option ZoneNote) → Option Area
+area_alone (Some (Some note)) = Some note.zone
+area_alone (Some None) = None
+area_alone None = None
+
+abbrev pub area_by : ZoneContents → Option Area
+area_by z = area_alone (zone_by z)
 
 -- units, where they are there, and else none
 abbrev pub units_where : Bool → List ℕ → List ℕ

@@ -117,7 +117,7 @@ pub fn offset_of(offset: &Offset) -> Option<Option<UtcOffsetRecordOrZ>>
 }
 
 /// The time zone, where its form has a name.
-fn zone_of<'a>(zone: &Zone<'a>) -> Option<Option<TimeZoneAnnotation<'a, Utf8>>>
+pub fn zone_of<'a>(zone: &Zone<'a>) -> Option<Option<TimeZoneAnnotation<'a, Utf8>>>
     ensures found { IfSome result (λ found.
         zone_by (zone_contents zone.now) ≡ Some (option_map (note_of (λ unit. unit)) found)) }
     ensures none { IfNone result (zone_by (zone_contents zone.now) ≡ None) }

@@ -4,10 +4,17 @@ ghost use Rattle.std.specs.Prelude.{◌≡◌, ◌≤◌, length, None, IfSome, 
 ghost use Rattle.ixdtf.specs.language.Letters.{Text};
 ghost use Rattle.ixdtf_c.specs.Printing.{GivesText};
 ghost use Rattle.ixdtf_print.specs.Durations.{duration_text, IsPrintableDuration, IsDurationReadBack};
+ghost use Rattle.ixdtf_print.specs.Canonical.{zone_text};
+ghost use Rattle.ixdtf_print.specs.Offsets.{utc_offset_text, IsPrintableOffset, IsOffsetReadBack};
 ghost use Rattle.ixdtf_print.specs.Printing.{PrintsOrRefuses};
+ghost use Rattle.ixdtf_print.specs.Zones.{IsPrintableZone, IsZoneReadBack, zone_in};
 
-use ixdtf::records::DurationParseRecord;
-use ixdtf_print::{PrintError, duration_length, print_duration};
+use ixdtf::encoding::Utf8;
+use ixdtf::records::{DurationParseRecord, TimeZoneRecord, UtcOffsetRecord};
+use ixdtf_print::{
+    PrintError, duration_length, offset_length, print_duration, print_offset, print_zone,
+    zone_length,
+};
 
 /// What one of the printers of the library prints.
 pub trait HasText {
@@ -48,6 +55,42 @@ impl HasText for DurationParseRecord {
     #[inline(always)]
     fn needs(&self) -> Option<usize> {
         duration_length(self)
+    }
+}
+
+impl HasText for UtcOffsetRecord {
+    ghost printable = { IsPrintableOffset };
+
+    ghost canonical = { utc_offset_text };
+
+    ghost reads_back = { IsOffsetReadBack };
+
+    #[inline(always)]
+    fn print(&self, out: &mut [u8]) -> Result<usize, PrintError> {
+        print_offset(self, out)
+    }
+
+    #[inline(always)]
+    fn needs(&self) -> Option<usize> {
+        offset_length(self)
+    }
+}
+
+impl<'a> HasText for TimeZoneRecord<'a, Utf8> {
+    ghost printable = { λ zone. IsPrintableZone (zone_in zone) };
+
+    ghost canonical = { λ zone. zone_text (zone_in zone) };
+
+    ghost reads_back = { λ zone. IsZoneReadBack (zone_in zone) };
+
+    #[inline(always)]
+    fn print(&self, out: &mut [u8]) -> Result<usize, PrintError> {
+        print_zone(self, out)
+    }
+
+    #[inline(always)]
+    fn needs(&self) -> Option<usize> {
+        zone_length(self)
     }
 }
 

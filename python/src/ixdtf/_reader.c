@@ -25,7 +25,9 @@ typedef struct {
     PyObject *make_zone;
     PyObject *make_duration;
     PyObject *make_instant;
-    PyObject *duration_type; /* Duration, of _records.py */
+    PyObject *duration_type; /* Duration, Offset and Zone, of _records.py */
+    PyObject *offset_type;
+    PyObject *zone_type;
     PyObject *to_datetime; /* of _datetimes.py */
     PyObject *describe;    /* of _records.py: what repr() shows */
     PyObject *record_type;
@@ -1001,6 +1003,40 @@ static PyObject *canonical_record(const ixdtf_record *fields) {
     return made;
 }
 
+static PyObject *canonical_offset(PyObject *offset) {
+    ixdtf_record fields = IXDTF_RECORD;
+    uint8_t text[512]; /* it has at most 265 bytes */
+    size_t count = 0;
+    if (set_offset(&fields, offset) < 0) {
+        return NULL;
+    }
+    if (ixdtf_print_offset(&fields.offset, text, sizeof text, &count) != IXDTF_OK) {
+        PyErr_SetString(PyExc_ValueError, "no text that parse_offset() accepts gives this offset, so it has no canonical text");
+        return NULL;
+    }
+    return PyUnicode_DecodeASCII((const char *)text, (Py_ssize_t)count, NULL);
+}
+
+static PyObject *canonical_zone(PyObject *zone) {
+    ixdtf_record fields = IXDTF_RECORD;
+    PyObject *name = NULL, *source = NULL, *made = NULL;
+    size_t count = 0;
+    if (set_zone(&fields, zone, &name) == 0) {
+        source = joined_names(&fields, name, Py_None);
+    }
+    if (source != NULL) {
+        size_t length = ixdtf_printed_zone_length(&fields.zone);
+        made = length == 0 ? NULL : PyUnicode_New((Py_ssize_t)length, 127);
+        if (length == 0 || (made != NULL && ixdtf_print_zone(&fields.zone, PyUnicode_1BYTE_DATA(made), length, &count) != IXDTF_OK)) {
+            Py_CLEAR(made);
+            PyErr_SetString(PyExc_ValueError, "no text that parse_zone() accepts gives this zone, so it has no canonical text");
+        }
+        Py_DECREF(source);
+    }
+    Py_XDECREF(name);
+    return made;
+}
+
 static PyObject *canonical(PyObject *module, PyObject *record) {
     module_state *state = state_of(module);
     if (PyObject_TypeCheck(record, (PyTypeObject *)state->record_type)) {
@@ -1009,7 +1045,13 @@ static PyObject *canonical(PyObject *module, PyObject *record) {
     if (PyObject_TypeCheck(record, (PyTypeObject *)state->duration_type)) {
         return canonical_duration(record);
     }
-    return PyErr_Format(PyExc_TypeError, "canonical() takes a Record or a Duration, and not %.100s", Py_TYPE(record)->tp_name);
+    if (PyObject_TypeCheck(record, (PyTypeObject *)state->offset_type)) {
+        return canonical_offset(record);
+    }
+    if (PyObject_TypeCheck(record, (PyTypeObject *)state->zone_type)) {
+        return canonical_zone(record);
+    }
+    return PyErr_Format(PyExc_TypeError, "canonical() takes a Record, a Duration, an Offset or a Zone, and not %.100s", Py_TYPE(record)->tp_name);
 }
 
 static PyObject *instant(PyObject *module, PyObject *record) {
@@ -1056,8 +1098,9 @@ static PyMethodDef module_methods[] = {
       "is_valid(text, /, kind='date-time', *, strict=False)\n--\n\n"
       "Returns whether a text is accepted. The kinds are date-time, year-month, month-day, time, rfc3339, offset, zone, zone-name and duration." },
     { "canonical", canonical, METH_O,
-      "canonical(record, /)\n--\n\nReturns the one canonical text of a Record or of a Duration. parse() reads it back as an equal Record, and parse_duration() as an\n"
-      "equal Duration. ValueError is raised if they return this value for no text." },
+      "canonical(record, /)\n--\n\nReturns the one canonical text of a Record, a Duration, an Offset or a Zone. parse(), parse_duration(), parse_offset() and\n"
+      "parse_zone() read it back as an equal value. The text of a Zone does not say whether it is critical. ValueError is raised if\n"
+      "they return this value for no text." },
     { "instant", instant, METH_O,
       "instant(record, /)\n--\n\nReturns the Instant of a Record: the seconds since 1970-01-01T00:00:00Z, rounded down, and the nanoseconds after them.\n\n"
       "ValueError is raised if the record has no date, no time or no offset. The zone does not count. The second 60 is the same\n"
@@ -1086,9 +1129,9 @@ static int take_names(PyObject *module, const char *from, const char *const *nam
 static int execute(PyObject *module) {
     module_state *state = state_of(module);
     static const char *const records[] = { "make_date", "make_time", "make_offset", "make_zone", "make_duration", "make_instant", "describe",
-                                          "Duration" };
+                                          "Duration", "Offset", "Zone" };
     PyObject **places[] = { &state->make_date, &state->make_time, &state->make_offset, &state->make_zone, &state->make_duration, &state->make_instant,
-                             &state->describe, &state->duration_type };
+                             &state->describe, &state->duration_type, &state->offset_type, &state->zone_type };
     static const char *const errors[] = { "IxdtfError" };
     static const char *const datetimes[] = { "to_datetime" };
     if (ixdtf_interface_version() != IXDTF_INTERFACE_VERSION) {
@@ -1129,6 +1172,8 @@ static int traverse(PyObject *module, visitproc visit, void *arg) {
     Py_VISIT(state->make_duration);
     Py_VISIT(state->make_instant);
     Py_VISIT(state->duration_type);
+    Py_VISIT(state->offset_type);
+    Py_VISIT(state->zone_type);
     Py_VISIT(state->to_datetime);
     Py_VISIT(state->describe);
     Py_VISIT(state->record_type);
@@ -1146,6 +1191,8 @@ static int clear(PyObject *module) {
     Py_CLEAR(state->make_duration);
     Py_CLEAR(state->make_instant);
     Py_CLEAR(state->duration_type);
+    Py_CLEAR(state->offset_type);
+    Py_CLEAR(state->zone_type);
     Py_CLEAR(state->to_datetime);
     Py_CLEAR(state->describe);
     Py_CLEAR(state->record_type);

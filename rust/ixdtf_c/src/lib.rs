@@ -15,6 +15,7 @@ mod last_fractions;
 mod names;
 pub mod narrow;
 mod narrow_annotations;
+mod part_texts;
 mod printing;
 mod readers;
 mod slices;

@@ -90,7 +90,7 @@ pub fn offset_of(offset: &Offset) -> Option<Option<UtcOffsetRecordOrZ>> {
 }
 
 /// The time zone, where its form has a name.
-fn zone_of<'a>(zone: &Zone<'a>) -> Option<Option<TimeZoneAnnotation<'a, Utf8>>> {
+pub fn zone_of<'a>(zone: &Zone<'a>) -> Option<Option<TimeZoneAnnotation<'a, Utf8>>> {
     if zone.form == 0 {
         return Some(None);
     }

@@ -2,8 +2,12 @@
 
 //! Printing of what the library's other printers print than records of dates.
 
-use ixdtf::records::DurationParseRecord;
-use ixdtf_print::{PrintError, duration_length, print_duration};
+use ixdtf::encoding::Utf8;
+use ixdtf::records::{DurationParseRecord, TimeZoneRecord, UtcOffsetRecord};
+use ixdtf_print::{
+    PrintError, duration_length, offset_length, print_duration, print_offset, print_zone,
+    zone_length,
+};
 
 /// What one of the printers of the library prints.
 pub trait HasText {
@@ -23,6 +27,30 @@ impl HasText for DurationParseRecord {
     #[inline(always)]
     fn needs(&self) -> Option<usize> {
         duration_length(self)
+    }
+}
+
+impl HasText for UtcOffsetRecord {
+    #[inline(always)]
+    fn print(&self, out: &mut [u8]) -> Result<usize, PrintError> {
+        print_offset(self, out)
+    }
+
+    #[inline(always)]
+    fn needs(&self) -> Option<usize> {
+        offset_length(self)
+    }
+}
+
+impl<'a> HasText for TimeZoneRecord<'a, Utf8> {
+    #[inline(always)]
+    fn print(&self, out: &mut [u8]) -> Result<usize, PrintError> {
+        print_zone(self, out)
+    }
+
+    #[inline(always)]
+    fn needs(&self) -> Option<usize> {
+        zone_length(self)
     }
 }
 

@@ -3,9 +3,14 @@
 use super::narrow::RECORD;
 use super::rows::DURATION;
 use crate::duration_texts::{ixdtf_print_duration, ixdtf_printed_duration_length};
-use crate::exports::{ixdtf_parse, ixdtf_parse_duration};
+use crate::exports::{
+    ixdtf_parse, ixdtf_parse_duration, ixdtf_parse_identifier, ixdtf_parse_offset,
+};
 use crate::forms::{Date, Offset, Time};
 use crate::narrow::Record;
+use crate::part_texts::{
+    ixdtf_print_offset, ixdtf_print_zone, ixdtf_printed_offset_length, ixdtf_printed_zone_length,
+};
 use crate::printing::ixdtf_print;
 use std::process::Abort;
 
@@ -180,4 +185,24 @@ fn prints_no_duration_of_an_unknown_form(rt: HostRuntime) {
     assert_eq!(rt; ixdtf_print_duration(&DURATION, &mut out, &mut count), 101);
     assert_eq!(rt; (count, out[0]), (9, 7));
     assert_eq!(rt; ixdtf_printed_duration_length(&DURATION), 0);
+}
+
+#[test]
+fn prints_an_offset_and_a_zone(rt: HostRuntime) {
+    let mut record = RECORD;
+    let mut out = [7; 16];
+    let mut count = 9;
+    assert_eq!(rt; ixdtf_parse_offset(b"-0530", &mut record), 0);
+    assert_eq!(rt; ixdtf_printed_offset_length(&record.offset), 6);
+    assert_eq!(rt; ixdtf_print_offset(&record.offset, &mut out, &mut count), 0);
+    assert_eq!(rt; &out[..count.min(16)], b"-05:30".as_slice());
+    assert_eq!(rt; ixdtf_print_zone(&record.zone, &mut out, &mut count), 101);
+    assert_eq!(rt; ixdtf_parse_identifier(b"Etc/UTC", &mut record), 0);
+    assert_eq!(rt; ixdtf_printed_zone_length(&record.zone), 7);
+    assert_eq!(rt; ixdtf_print_zone(&record.zone, &mut out, &mut count), 0);
+    assert_eq!(rt; &out[..count.min(16)], b"Etc/UTC".as_slice());
+    assert_eq!(rt;
+        ixdtf_print_offset(&record.offset, &mut out, &mut count),
+        101
+    );
 }
