@@ -12,20 +12,15 @@ use super::{
 use ixdtf::ParseError::{
     AnnotationClose, AnnotationKeyLeadingChar, AnnotationKeyValueSeparator, AnnotationValueChar,
     CriticalDuplicateCalendar, DateSeparator, DateYear, FractionPart, IanaChar, InvalidDayRange,
-    InvalidEnd, InvalidMinutePrecisionOffset,
-    OffsetNeedsSign, TimeHour, TimeSeparator, TzLeadingChar, UnrecognizedCritical,
-    UtcTimeSeparator,
+    InvalidEnd, InvalidMinutePrecisionOffset, OffsetNeedsSign, TimeHour, TimeSeparator,
+    TzLeadingChar, UnrecognizedCritical, UtcTimeSeparator,
 };
 use ixdtf::records::UtcOffsetRecordOrZ;
 
 #[test]
 fn reads_the_calendar() {
     let rt = HostRuntime;
-    let wanted = Found::Parts(morning(
-        Some(UtcOffsetRecordOrZ::Z),
-        None,
-        Some("hebrew"),
-    ));
+    let wanted = Found::Parts(morning(Some(UtcOffsetRecordOrZ::Z), None, Some("hebrew")));
     check_found(
         &rt,
         Reader::Rfc9557,
