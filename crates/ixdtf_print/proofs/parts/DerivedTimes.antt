@@ -133,9 +133,9 @@ opening_long : (text : Text) (critical : Bool) → Opens text critical → lengt
 opening_long text true (first, second, is, (c, one, _), (d, two, _)) = rw (is, one, two) refl
 opening_long text false (c, is, _) = rw is refl
 
-pub of_bracket : (text : Text) (note : Option ZoneNote) → OptionalBracket text note → HasZone note × (length (bracket_text note) ≤ length text + 3)
-of_bracket text None h = (tt, omega arith)
-of_bracket text (Some note) h =
+pub of_bracket : (exact : Bool) (text : Text) (note : Option ZoneNote) → OptionalBracket exact text note → HasZone note × (length (bracket_text note) ≤ length text + 3)
+of_bracket exact text None h = (tt, omega arith)
+of_bracket exact text (Some note) (h, stands) =
     let whole = of_zone h.inside note.zone h.zone in
     let opening = opening_long h.start note.critical h.opens in (
       whole.0,

@@ -2,7 +2,7 @@
 -- parts, and not of readers.
 use Rattle.std.proofs.Common.{◌≡◌, ◌++◌, List, Option, refl, ◌∙◌, ap}
 use Rattle.ixdtf.specs.language.{Letters.Text, Brackets.{ZoneNote, Pair, OptionalBracket, ArePairs}, Cores.{Core, IsCore}}
-use Rattle.ixdtf.specs.language.{Languages.{Parsed, parsed_with, IsBracketed, Derives, Derives.as_parsed, Found.parsed}, Readers.{CoreKind, Reader.bracketed}}
+use Rattle.ixdtf.specs.language.{Languages.{Parsed, parsed_with, IsBracketed, Derives, Derives.as_parsed, Found.parsed}, Readers.{CoreKind, has_exact_zones, Reader.bracketed}}
 use Rattle.ixdtf.specs.{Handlers.{UnhandledRecord, NoneRefused, own_replies, calendar_value, first_calendar, with_calendar}, Widths.UnhandledOutcome.read_as}
 use Rattle.ixdtf_reading.proofs.theorems.OneUnhandledOutcome.{one_unhandled_outcome}
 use Rattle.ixdtf_print.proofs.theorems.OneTexts.{StandsForOne}
@@ -27,7 +27,7 @@ pub record HasParts (kind : CoreKind) (text : Text) (found : Parsed) : Type 0 wh
   pub pairs : List Pair
   pub is : text ≡ cores ++ (zones ++ pair_texts)
   pub is_core : IsCore kind cores core
-  pub is_bracket : OptionalBracket zones zone
+  pub is_bracket : OptionalBracket (has_exact_zones kind) zones zone
   pub are_pairs : ArePairs pair_texts pairs
   pub accepted : NoneRefused (own_replies pairs)
   pub has : found ≡ joined core zone pairs

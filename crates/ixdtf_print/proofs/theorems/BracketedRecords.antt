@@ -1,7 +1,7 @@
 -- What holds of the records of a reader of texts with brackets, whatever stands before the brackets.
-use Rattle.std.proofs.Common.{ℕ, ◌+◌, ◌≤◌, ◌≡◌, ◌↔◌, Bool, IsTrue, ◌++◌, length, map, Option, sym, arith, subst}
+use Rattle.std.proofs.Common.{ℕ, ◌+◌, ◌≤◌, ◌≡◌, ◌↔◌, Bool, false, IsTrue, ◌++◌, length, map, Option, sym, arith, subst}
 use Rattle.std.proofs.lemmas.List.{length-append}
-use Rattle.ixdtf.specs.language.{Letters.{Text, Letter.Plain}, Cores.{Core, IsCore}, Languages.Parsed, Readers.{CoreKind, Reader.bracketed}}
+use Rattle.ixdtf.specs.language.{Letters.{Text, Letter.Plain}, Cores.{Core, IsCore}, Languages.Parsed, Readers.{CoreKind, has_exact_zones, Reader.bracketed}}
 use Rattle.ixdtf.specs.Handlers.{UnhandledRecord}
 use Rattle.ixdtf_grammar.specs.declared.records.{DateRecord.DateRecord, TimeRecord.TimeRecord, UtcOffsetRecordOrZ.UtcOffsetRecordOrZ}
 use Rattle.ixdtf_print.specs.{Canonical.brackets_text, Printing.{HasText, EachIsReadBack, FitsWithin}, Shown.bytes_of, SpelledCores.IsSpelledAs}
@@ -11,6 +11,7 @@ use Rattle.ixdtf_print.proofs.theorems.{PrintableRecords.{core_in, core_of_parts
 -- the cores of a reader: which of them have a text, which text, and by how much it is longer at most
 pub record Written : Type 1 where
   pub kind : CoreKind
+  pub any_zones : has_exact_zones kind ≡ false
   pub has_core : Option DateRecord → Option TimeRecord → Option UtcOffsetRecordOrZ → Type 0
   pub core_text : Core → Text
   pub text_of : Parsed → Text
@@ -25,7 +26,7 @@ Stands w text found = UnhandledRecord (bracketed w.kind) text found
 
 pub reads : (w : Written) (found : Parsed) → IsSpelledAs w.has_core found → Stands w (w.text_of found) found
 reads w found s =
-    let parts = brackets_read_back w.kind (w.core_text (core_in found)) found (w.is_core (core_in found) s.0) s.1 in
+    let parts = brackets_read_back w.kind w.any_zones (w.core_text (core_in found)) found (w.is_core (core_in found) s.0) s.1 in
     subst (λ text. Stands w text found) (sym (w.whole found)) (of_parts (w.core_text (core_in found) ++ brackets_text found) found parts)
 
 pub spelled : (w : Written) (text : Text) (found : Parsed) → Stands w text found

@@ -1,7 +1,7 @@
 -- The canonical text of a record that has a text is ASCII, so it is displayed as it is.
 use Rattle.std.proofs.Common.{◌≡◌, List, ℕ, [], ◌∷◌, ◌++◌, map, refl, ◌∙◌, ap, arith}
 use Rattle.std.proofs.lemmas.{Str.encode_ascii, Bool.Decides.nat_tests}
-use Rattle.ixdtf.specs.language.{Letters.{Text, Letter.{Plain, Bad}}, Readers.{CoreKind, CoreKind.date_time}, Languages.Parsed}
+use Rattle.ixdtf.specs.language.{Letters.{Text, Letter.{Plain, Bad}}, Readers.{CoreKind, has_exact_zones, CoreKind.date_time}, Languages.Parsed}
 use Rattle.ixdtf_grammar.proofs.parts.Classes.{ascii, AllOf, all_append, all_within}
 use Rattle.ixdtf_grammar.proofs.{theorems.CoreEnds.core_inside, widths.PlainTexts.{core_ascii, tail_ascii}}
 use Rattle.ixdtf_print.specs.{Canonical.canonical_text, Shown.{bytes_of, shown_text}, Spelled.IsSpelled}
@@ -10,7 +10,7 @@ use Rattle.ixdtf_print.proofs.{parts.ParsedParts.HasParts, theorems.ReadBack.can
 pub ascii_of : (kind : CoreKind) (text : Text) (found : Parsed) → HasParts kind text found → AllOf ascii text
 ascii_of kind text found h =
     let core = all_within core_ascii h.cores (core_inside kind h.cores h.core h.is_core) in
-    let tail = tail_ascii (h.zones ++ h.pair_texts) h.zone h.pairs (h.zones, h.pair_texts, refl, h.is_bracket, h.are_pairs) in
+    let tail = tail_ascii (has_exact_zones kind) (h.zones ++ h.pair_texts) h.zone h.pairs (h.zones, h.pair_texts, refl, h.is_bracket, h.are_pairs) in
     rw h.is (all_append ascii h.cores _ core tail)
 
 pub shown_as_it_is : (text : Text) → AllOf ascii text → map Plain (bytes_of text) ≡ text

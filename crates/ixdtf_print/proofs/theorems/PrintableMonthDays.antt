@@ -58,6 +58,7 @@ is_whole found = refl
 abbrev lone_day : Profile → Written
 lone_day profile = record {
   kind = month_day profile;
+  any_zones = refl;
   has_core = HasLoneDay profile;
   core_text = λ core. optional_day_text core.date;
   text_of = month_day_text;

@@ -47,7 +47,7 @@ of_core text core (inr h) =
 pub of_brackets : {kind : CoreKind} (text : Text) (found : Parsed) (h : HasParts kind text found)
     → HasBrackets found × (length h.cores + length (brackets_text found) ≤ length text + 3)
 of_brackets text found h =
-    let zone = of_bracket h.zones h.zone h.is_bracket in
+    let zone = of_bracket _ h.zones h.zone h.is_bracket in
     let calendar = of_pairs h.pair_texts h.pairs h.are_pairs in
     subst (λ read. HasBrackets read × (length h.cores + length (brackets_text read) ≤ length text + 3)) (sym h.has)
     ((zone.0, calendar.0), rw h.is (omega (arith, zone.1, calendar.1, length-append {A = Letter})))

@@ -57,6 +57,7 @@ is_whole found = refl
 abbrev lone_time : Profile → Written
 lone_time profile = record {
   kind = time_of_day profile;
+  any_zones = refl;
   has_core = HasLoneTime;
   core_text = text_of;
   text_of = lone_time_text;

@@ -53,6 +53,7 @@ is_whole found = refl
 abbrev lone_month : Written
 lone_month = record {
   kind = year_month;
+  any_zones = refl;
   has_core = HasLoneMonth;
   core_text = λ core. optional_month_text core.date;
   text_of = year_month_text;

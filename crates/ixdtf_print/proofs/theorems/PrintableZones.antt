@@ -50,7 +50,7 @@ all_front class (c ∷ a) b h = (h.0, all_front class a b h.1)
 zone_ascii : (zone : Zone) → IsZoneText zone → AllOf ascii (zone_text zone)
 zone_ascii zone h =
     let note : ZoneNote = record { critical = false; zone = zone } in
-    let whole = tail_ascii (bracket_text (Some note)) (Some note) [] (bracket_text (Some note), [], sym (append-nil (bracket_text (Some note))), is_bracket (Some note) h, refl) in
+    let whole = tail_ascii false (bracket_text (Some note)) (Some note) [] (bracket_text (Some note), [], sym (append-nil (bracket_text (Some note))), is_bracket (Some note) h, refl) in
     all_front ascii (zone_text zone) (Plain 93 ∷ []) whole.1
 
 pub zone_is_shown : (zone : Zone) → IsPrintableZone zone → map Plain (bytes_of (zone_text zone)) ≡ zone_text zone

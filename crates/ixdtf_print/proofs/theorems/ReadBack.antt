@@ -17,7 +17,7 @@ use Rattle.ixdtf.specs.language.Offsets.{IsSigned, IsOffset, IsOffsetOrZ, IsMinu
 use Rattle.ixdtf_reading.proofs.theorems.Replies.{NoneRefused-nothing, NoneRefused-more}
 use Rattle.ixdtf.specs.language.ZoneNames.{Zone, IsZone, Zone.{Name, Offset}}
 use Rattle.ixdtf.specs.language.Brackets.{ZoneNote, Opens, OptionalBracket, Pair, Key, Value, IsPair, ArePairs}
-use Rattle.ixdtf.specs.{language.{Cores.{core_of, OptionalOffset, IsDateTimeCore, IsCore}, Languages.Parsed, Readers.{CoreKind, CoreKind.date_time}}, table.Faults.{Fault, Fault.UnrecognizedCritical}}
+use Rattle.ixdtf.specs.{language.{Cores.{core_of, OptionalOffset, IsDateTimeCore, IsCore}, Languages.Parsed, Readers.{CoreKind, has_exact_zones, CoreKind.date_time}}, table.Faults.{Fault, Fault.UnrecognizedCritical}}
 use Rattle.ixdtf.specs.Handlers.{RefusedBeside, NoneRefused, own_replies, calendar_key, calendar_value, first_calendar}
 use Rattle.ixdtf_print.specs.Canonical.{two_digits, year_text, date_text, minutes_text, seconds_text, fraction_digits, clock_text, time_text, mark_of}
 use Rattle.ixdtf_print.specs.Canonical.{minute_offset_text, offset_text, zone_text, opening_text, bracket_text, calendar_text, brackets_text, optional_date_text, core_text}
@@ -205,15 +205,10 @@ opens : (critical : Bool) → Opens (opening_text critical) critical
 opens true = (Plain 91 ∷ [], Plain 33 ∷ [], refl, (91, refl, refl), (33, refl, refl))
 opens false = (91, refl, refl)
 
-pub is_bracket : (note : Option ZoneNote) → HasZone note → OptionalBracket (bracket_text note) note
+pub is_bracket : (note : Option ZoneNote) → HasZone note → OptionalBracket false (bracket_text note) note
 is_bracket None h = refl
-is_bracket (Some note) h = record {
-  start = opening_text note.critical;
-  inside = zone_text note.zone;
-  is = refl;
-  opens = opens note.critical;
-  zone = is_zone note.zone h;
-}
+is_bracket (Some note) h =
+    (record { start = opening_text note.critical; inside = zone_text note.zone; is = refl; opens = opens note.critical; zone = is_zone note.zone h }, tt)
 
 -- the pair of a calendar
 abbrev calendar_pair : List ℕ → Pair
@@ -299,9 +294,9 @@ is_core (Some date) (Some time) offset d h = inr (record {
 -- ---- records
 
 -- a core, and then the canonical brackets of a record, has the parts of the record
-pub brackets_read_back : (kind : CoreKind) (cores : Text) (found : Parsed) → IsCore kind cores (core_of found.date found.time found.offset) → HasBrackets found
+pub brackets_read_back : (kind : CoreKind) → has_exact_zones kind ≡ false → (cores : Text) (found : Parsed) → IsCore kind cores (core_of found.date found.time found.offset) → HasBrackets found
     → HasParts kind (cores ++ brackets_text found) found
-brackets_read_back kind cores found is_core h = record {
+brackets_read_back kind inexact cores found is_core h = record {
   cores = cores;
   zones = bracket_text found.zone;
   pair_texts = calendar_text found.calendar;
@@ -310,7 +305,7 @@ brackets_read_back kind cores found is_core h = record {
   pairs = calendar_pairs found.calendar;
   is = refl;
   is_core = is_core;
-  is_bracket = is_bracket found.zone h.0;
+  is_bracket = rw inexact (is_bracket found.zone h.0);
   are_pairs = are_pairs found.calendar h.1;
   accepted = none_refused found.calendar;
   has = λ i. record found { calendar = gives_calendar found.calendar i };
@@ -320,4 +315,4 @@ brackets_read_back kind cores found is_core h = record {
 pub canonical_reads_back : (found : Parsed) → IsSpelled found → HasParts date_time (canonical_text found) found
 unfolding canonical_text core_text
 canonical_reads_back found s =
-    brackets_read_back date_time (core_text found) found (is_core found.date found.time found.offset s.date s.time) (s.zone, s.calendar)
+    brackets_read_back date_time refl (core_text found) found (is_core found.date found.time found.offset s.date s.time) (s.zone, s.calendar)
