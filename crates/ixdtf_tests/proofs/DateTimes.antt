@@ -6,6 +6,7 @@ use Rattle.ixdtf_grammar.specs.declared.records.UtcOffsetRecordOrZ.{UtcOffsetRec
 use Rattle.ixdtf_grammar.specs.declared.records.UtcOffsetRecordOrZ.TheVariants.{Offset, Z}
 use Rattle.ixdtf.specs.language.Fractions.{FractionParts}
 use Rattle.ixdtf.specs.language.Cores.{core_of}
+use Rattle.ixdtf.specs.language.Readers.{parse_rfc9557}
 use Rattle.ixdtf.specs.language.Readers.Reader.{parse_rfc3339}
 use Rattle.ixdtf.specs.language.Languages.{parsed_with}
 use Rattle.ixdtf.specs.language.Languages.Found.{dated}
@@ -13,9 +14,11 @@ use Rattle.ixdtf.specs.table.DateTimeFronts.{Field}
 use Rattle.ixdtf.specs.table.DateTimeFronts.Field.{month_field, day_field, hour_field, minute_field, second_field, offset_hour_field}
 use Rattle.ixdtf.specs.table.DateTimeFronts.Field.{offset_minute_field}
 use Rattle.ixdtf.specs.table.Faults.Fault.{DateYear, DateMonth, DateDay, DateSeparator, InvalidMonthRange, InvalidDayRange, TimeSeparator, TimeHour}
-use Rattle.ixdtf.specs.table.Faults.Fault.{TimeMinuteSecond, TimeSecond, FractionPart, OffsetNeedsSign, UtcTimeSeparator, InvalidEnd}
+use Rattle.ixdtf.specs.table.Faults.Fault.{TimeMinuteSecond, TimeSecond, FractionPart, OffsetNeedsSign, UtcTimeSeparator, InvalidEnd, IanaChar}
+use Rattle.ixdtf.specs.table.Faults.Fault.{InvalidMinutePrecisionOffset}
 use Rattle.ixdtf.specs.table.LineNames.{LineName}
-use Rattle.ixdtf.specs.table.LineNames.LineName.{of_date_time}
+use Rattle.ixdtf.specs.table.LineNames.LineName.{of_date_time, of_bracket}
+use Rattle.ixdtf.specs.table.LineNames.BracketLine.{first_name_form, first_offset_form}
 use Rattle.ixdtf.specs.table.LineNames.DateTimeLine.{four_digits, after_four_digits, field_digits, field_range, after_field, after_point}
 use Rattle.ixdtf.specs.table.LineNames.DateTimeLine.{after_secfrac, after_utc}
 use Rattle.ixdtf.specs.table.Lines.{abrupt_digit, abrupt_date, abrupt_offset}
@@ -43,8 +46,9 @@ date_time_lines =
     ++ number_lines offset_minute_field
     ++ map of_date_time (after_utc ∷ [])
 
-abbrev date_time_rows : List Example
-date_time_rows =
+-- the rows up to those of what may follow a date-time
+abbrev rows_up_to_the_end : List Example
+rows_up_to_the_end =
     three (of_date_time four_digits) (codes "202") abrupt_digit (codes "-06") DateYear
     ++ three (of_date_time after_four_digits) (codes "2024") abrupt_date (codes "0302") DateSeparator
     ++ three (of_date_time (field_digits month_field)) (codes "2024-0") abrupt_digit (codes "x") DateMonth
@@ -69,12 +73,38 @@ date_time_rows =
     ++ three (of_date_time (after_field offset_hour_field)) (codes "2024-03-02T08:48:00-05") UtcTimeSeparator (codes "00") UtcTimeSeparator
     ++ three (of_date_time (field_digits offset_minute_field)) (codes "2024-03-02T08:48:00-05:0") abrupt_digit (codes "x") TimeMinuteSecond
     ++ one (of_date_time (field_range offset_minute_field)) (codes "2024-03-02T08:48:00-05:60") TimeMinuteSecond
+
+abbrev date_time_rows : List Example
+date_time_rows =
+    rows_up_to_the_end
     ++ two (of_date_time (after_field offset_minute_field)) (codes "2024-03-02T08:48:00-05:00") (codes ":30.5") InvalidEnd
     ++ two (of_date_time after_utc) (codes "2024-03-02T08:48:00Z") (codes "[UTC]") InvalidEnd
+
+-- the same where brackets may follow
+abbrev extended_rows : List Example
+extended_rows =
+    rows_up_to_the_end
+    ++ two (of_date_time (after_field offset_minute_field)) (codes "2024-03-02T08:48:00-05:00") (codes ":30[UTC]") InvalidEnd
+    ++ two (of_date_time after_utc) (codes "2024-03-02T08:48:00Z") (codes "(UTC)") InvalidEnd
 
 each_row_of_date_times : ShowEachRow parse_rfc3339 date_time_lines date_time_rows
 unfolding all_readings date_time_line_readings
 each_row_of_date_times = (refl, refl)
+
+each_row_of_extended_date_times : ShowEachRow parse_rfc9557 date_time_lines extended_rows
+unfolding all_readings date_time_line_readings
+each_row_of_extended_date_times = (refl, refl)
+
+-- zones that are not exactly as RFC 9557 has them
+inexact_zones : Compute parse_rfc9557 (
+    stands (of_bracket first_name_form) IanaChar (codes "2024-03-02T08:48:00Z[a/1]|")
+    ∷ stands (of_bracket first_name_form) IanaChar (codes "2024-03-02T08:48:00Z[.]|x")
+    ∷ stands (of_bracket first_name_form) IanaChar (codes "2024-03-02T08:48:00Z[!Europe/..]|[u-ca=hebrew]")
+    ∷ stands (of_bracket first_offset_form) InvalidMinutePrecisionOffset (codes "2024-03-02T08:48:00Z[+05]|[")
+    ∷ stands (of_bracket first_offset_form) InvalidMinutePrecisionOffset (codes "2024-03-02T08:48:00Z[!-0530]|")
+    ∷ [])
+unfolding all_readings date_time_line_readings
+inexact_zones = refl
 
 -- 2 March 2024 at 8:48, with an offset
 abbrev at_offset : UtcOffsetRecordOrZ → Outcome

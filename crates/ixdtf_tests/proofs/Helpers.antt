@@ -33,6 +33,7 @@ use Rattle.ixdtf_reading.specs.reading.Cores.{core_end_at, offset_core_at, after
 use Rattle.ixdtf_reading.specs.reading.Cores.{lone_time_at, marked_time_at, marked_core_at, time_alone_core_at}
 use Rattle.ixdtf.specs.language.Durations.{greatest_value}
 use Rattle.ixdtf_reading.specs.reading.Durations.{step as duration_step, run as duration_run}
+use Rattle.ixdtf_reading.specs.reading.ExactZones.{has_parts}
 use Rattle.ixdtf_reading.specs.reading.Wholes.{bracketed_at, annotated_at, bracketed_text_at, outcome}
 
 -- unfolding this unfolds every reading
@@ -41,7 +42,7 @@ unfolding date_readings month_readings time_readings zone_readings pair_readings
     core_end_at offset_core_at after_time_at time_core_at after_date_at date_time_core_at
     lone_time_at marked_time_at marked_core_at time_alone_core_at
     greatest_value duration_step duration_run
-    look_at number_by name_run key_run value_run pairs_at sight_at name_or_pair_at bracketed_at annotated_at bracketed_text_at
+    look_at number_by name_run key_run value_run pairs_at sight_at name_or_pair_at bracketed_at annotated_at bracketed_text_at has_parts
 all_readings = 0
 
 -- ---- texts and their outcomes

@@ -13,12 +13,12 @@ ghost use Rattle.ixdtf_grammar.specs.language.Letters.{hyphen, colon, time_lette
 ghost use Rattle.ixdtf_grammar.specs.table.Faults.Fault.{DateYear};
 ghost use Rattle.ixdtf_grammar.specs.table.DateTimeFronts.Field.{month_field, day_field};
 ghost use Rattle.ixdtf_grammar.specs.table.LineNames.LineName.{of_date_time};
-ghost use Rattle.ixdtf_grammar.specs.table.LineNames.DateTimeLine.{after_secfrac};
+ghost use Rattle.ixdtf_grammar.specs.table.LineNames.DateTimeLine.{after_secfrac, after_utc};
 ghost use Rattle.ixdtf_reading.specs.reading.Clauses.{Reads, Spends, SpendsOr, KeepsBrackets, core_in, fault_of_stop};
 ghost use Rattle.ixdtf_reading.specs.reading.Looks.{error_of, as_number, digit_look, digits_by, look_for, next_by, letter_at};
 ghost use Rattle.ixdtf_reading.specs.reading.DateTimes.{field_at, is_month, is_day, secfrac_digits_at, num_offset_at, time_offset_at, secfrac_at, after_whole_second_at};
 ghost use Rattle.ixdtf_reading.specs.reading.DateTimes.{full_time_at, full_day_at, full_month_at};
-ghost use Rattle.ixdtf_reading.specs.reading.DateTimes.{open_end, date_time_by, rfc_3339_at};
+ghost use Rattle.ixdtf_reading.specs.reading.DateTimes.{open_end, date_time_by, date_time_ends, rfc_3339_at};
 ghost use Rattle.ixdtf_times.specs.TimeTypes.{core_read};
 
 use crate::date_times::take_fixed_date_time;
@@ -396,6 +396,20 @@ pub fn parse_internet_date_time<'a, T: EncodingType>(
     }
 }
 
+/// Expects the end after a date-time, and returns its record.
+#[inline(always)]
+fn close_record<'a, T: EncodingType>(
+    cursor: &mut Cursor<'a, T>,
+    read: DateTime,
+) -> Result<IxdtfParseRecord<'a, T>, Stop>
+    ensures end { Reads T.letter (parsed_of T.number) cursor.old result cursor.new
+        (date_time_ends error_of (of_date_time after_utc) (core_read read)) }
+    ensures looks { Spends 1 cursor.old cursor.new }
+{
+    cursor.close()?;
+    Ok(read.record())
+}
+
 /// Reads a date-time of RFC 3339, and wants the end.
 ///
 /// Each way to read it has an end of its own. So the record is made where its parts are read.
@@ -411,13 +425,11 @@ pub fn parse_rfc3339_text<'a, T: EncodingType>(
     match take_fixed_rfc3339(cursor) {
         Some((date, whole)) => {
             let read = parse_after_seconds(cursor, date, whole)?;
-            cursor.close()?;
-            Ok(read.record())
+            close_record(cursor, read)
         }
         None => {
             let read = parse_by_numbers(cursor)?;
-            cursor.close()?;
-            Ok(read.record())
+            close_record(cursor, read)
         }
     }
 }

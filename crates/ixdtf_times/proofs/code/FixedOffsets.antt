@@ -7,7 +7,7 @@ use Rattle.ixdtf_grammar.specs.language.{Offsets.minutes_of, ZoneNames.Zone, Tim
 use Rattle.ixdtf_grammar.specs.language.Times.TimeShape.{colon_minutes}
 use Rattle.ixdtf_reading.specs.reading.{Looks.{error_of, look_at, peek_by}, FixedPlaces.{letter_place, number_place, hour_place, minute_place}}
 use Rattle.ixdtf_reading.specs.reading.{Times.{time_of, line_after, clock_at}, Zones.{signed_alone_at, offset_alone_at, minute_offset_alone_at}}
-use Rattle.ixdtf_grammar.specs.language.Digits.decimal
+use Rattle.ixdtf_grammar.specs.language.Digits.{decimal}
 use Rattle.ixdtf_reading.{specs.reading.DateTimes.{num_offset_at, open_end, numeric_core}, proofs.to_reading.DateTimes.{over_offset_hour, over_offset_minute}}
 use Rattle.ixdtf_reading.specs.reading.Cores.{with_offset, offset_core_at, core_end_at}
 use Rattle.ixdtf_reading.proofs.{parts.Looks.onto, code.FixedPlaces.{then_some, then_held, Number, number_at_place, mark_at_place, two, two_digits, over_two}}

@@ -300,6 +300,16 @@ pub fn parse_internet_date_time<'a, T: EncodingType>(
     }
 }
 
+/// Expects the end after a date-time, and returns its record.
+#[inline(always)]
+fn close_record<'a, T: EncodingType>(
+    cursor: &mut Cursor<'a, T>,
+    read: DateTime,
+) -> Result<IxdtfParseRecord<'a, T>, Stop> {
+    cursor.close()?;
+    Ok(read.record())
+}
+
 /// Reads a date-time of RFC 3339, and wants the end.
 ///
 /// Each way to read it has an end of its own. So the record is made where its parts are read.
@@ -310,13 +320,11 @@ pub fn parse_rfc3339_text<'a, T: EncodingType>(
     match take_fixed_rfc3339(cursor) {
         Some((date, whole)) => {
             let read = parse_after_seconds(cursor, date, whole)?;
-            cursor.close()?;
-            Ok(read.record())
+            close_record(cursor, read)
         }
         None => {
             let read = parse_by_numbers(cursor)?;
-            cursor.close()?;
-            Ok(read.record())
+            close_record(cursor, read)
         }
     }
 }
