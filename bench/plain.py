@@ -32,7 +32,7 @@ BENCHMARK = to_rust.Crate('crates/ixdtf_bench/src', '', root='main', tests=True,
 USES = {'use crate::runtime::{AllocError, Global, String};': 'use crate::runtime::{AllocError, Global, TryToVec, Vec};',
         'use std::env;': 'use crate::runtime::{HostRuntime, env};', '.to_vec(alloc)': '.try_to_vec(alloc)'}
 # The later fields of `Request` in the workloads, and their values. A checkout may be older than such a field.
-LATER_FIELDS = {'skips': 'None'}
+LATER_FIELDS = {'skips': 'None', 'most_reports': 'u64::MAX'}
 # A loop has a label if a proof names it. Rust needs no label there.
 HEAD = '#![forbid(unsafe_code)]\n#![allow(unused_imports, unused_labels)]\n\n#[macro_use]\nmod runtime;\n'
 

@@ -16,6 +16,7 @@ pub const DATE_TIMES: Request<'static> = Request {
     profile: Profile::Crate,
     field: None,
     skips: None,
+    most_reports: u64::MAX,
     is_quiet: false,
 };
 
@@ -26,6 +27,7 @@ pub const PRINTED: Request<'static> = Request {
     profile: Profile::Crate,
     field: None,
     skips: None,
+    most_reports: u64::MAX,
     is_quiet: false,
 };
 
@@ -39,6 +41,7 @@ const THIRD_FIELD: Request<'static> = Request {
         separator: b',',
     }),
     skips: None,
+    most_reports: u64::MAX,
     is_quiet: false,
 };
 

@@ -6,6 +6,7 @@ mod watched;
 use ixdtf_buffers::error::RunError;
 use ixdtf_checks::arguments::{Options, Word, Wrong, meant_by};
 use ixdtf_checks::checker::check_lines;
+use ixdtf_checks::request::Request;
 use ixdtf_checks::status::status_of;
 use ixdtf_checks::tally::Tally;
 use std::fs::File;
@@ -39,6 +40,7 @@ Which part of a line is read:\n\
 \n\
 What is written:\n\
 \x20 --canonical      the canonical text of each date-time that is accepted\n\
+\x20 --max-reports N  at most N reports, and the number of the others\n\
 \x20 --quiet          nothing about lines that are refused\n\
 \x20 ixdtf_check --canonical --quiet dates.txt\n\
 \n\
@@ -58,10 +60,32 @@ const VERSION: &str = "ixdtf_check 0.6.7+rattle";
 struct Outcome {
     total: Tally,
     has_failed: bool,
+    /// The most reports of all files together.
+    most_reports: u64,
+    /// Whether lines that are refused are reported.
+    shows_refusals: bool,
     /// Whether standard output accepts no more bytes.
     is_closed: bool,
     /// Whether standard output is a pipe that nobody reads. The program then writes nothing more, also to standard error.
     is_quiet: bool,
+}
+
+impl Outcome {
+    /// Allows the next file only the reports that the files before it have left.
+    fn limit_reports(&mut self, request: &mut Request<'_>) {
+        self.most_reports = request.most_reports;
+        self.shows_refusals = !request.is_quiet;
+        request.most_reports = request.most_reports.saturating_sub(self.total.refused);
+    }
+
+    /// Returns how many refused lines have no report because there are too many of them.
+    fn unreported(&self) -> u64 {
+        if self.shows_refusals {
+            self.total.refused.saturating_sub(self.most_reports)
+        } else {
+            0
+        }
+    }
 }
 
 fn main(rt: HostRuntime) -> ExitCode {
@@ -83,6 +107,8 @@ fn main(rt: HostRuntime) -> ExitCode {
         total: Tally::new(),
         has_failed: false,
         is_closed: false,
+        most_reports: u64::MAX,
+        shows_refusals: false,
         is_quiet: false,
     };
     if let Some(wrong) = options.wrong() {
@@ -99,6 +125,10 @@ fn main(rt: HostRuntime) -> ExitCode {
         bytes,
     } = outcome.total;
     if !outcome.is_quiet {
+        let more = outcome.unreported();
+        if more > 0 {
+            let _ = eprintln!(rt; "{more} more refused lines");
+        }
         let _ = eprintln!(rt; "{lines} lines, {refused} refused, {bytes} bytes");
     }
     ExitCode::from(status_of(outcome.has_failed, refused))
@@ -166,9 +196,10 @@ fn check_reader<R: Read>(
     name: &str,
     outcome: &mut Outcome,
 ) {
-    let Some(request) = options.request(name) else {
+    let Some(mut request) = options.request(name) else {
         return;
     };
+    outcome.limit_reports(&mut request);
     let mut watched = Watched::new(reader);
     let mut output = rt.stdout();
     let mut watched_output = Watched::new(&mut output);

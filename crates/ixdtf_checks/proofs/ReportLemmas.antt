@@ -27,7 +27,7 @@ Checks old line bytes new = (new.request ≡ old.request) × ReportsLine old.req
 record AllReported (request : Request) (old new : Tally) (lines : List (List ℕ)) (bytes : List ℕ) : Type 0 where
   verdicts : List Verdict
   are : AreVerdicts request (old.lines == 0) lines verdicts
-  reports : bytes ≡ reports_of request (old.lines + 1) verdicts
+  reports : bytes ≡ reports_of request (old.lines + 1) old.refused verdicts
   count : new.lines ≡ old.lines + length verdicts
   refusals : new.refused ≡ old.refused + refusals_of verdicts
 
@@ -45,13 +45,15 @@ one_more : {request asked : Request} {old next new : Tally} {line put : List ℕ
     → next.refused ≡ old.refused + refusal_count one.verdict → AllReported asked next new lines others → AllReported request old new (line ∷ lines) bytes
 one_more {request = request} {asked = asked} {old = old} {next = next} {put = put} {lines = lines} whole same one number count more =
     let first = one.verdict in
+    let before = old.refused + refusal_count first in
     let rest = more.verdicts in
     record {
       verdicts = first ∷ rest;
       are = (one.is, subst (λ b. AreVerdicts request b lines rest) (behind_first next.lines old.lines number) (subst (λ r. AreVerdicts r (next.lines == 0) lines rest) same more.are));
-      reports = whole ∙ ap (λ t. put ++ t) more.reports ∙ ap (λ t. t ++ reports_of asked (next.lines + 1) rest) one.report
-          ∙ ap (λ n. report_of request n first ++ reports_of asked (n + 1) rest) number
-          ∙ ap (λ r. report_of request (old.lines + 1) first ++ reports_of r (old.lines + 1 + 1) rest) same;
+      reports = whole ∙ ap (λ t. put ++ t) more.reports ∙ ap (λ t. t ++ reports_of asked (next.lines + 1) next.refused rest) one.report
+          ∙ ap (λ n. report_of request n next.refused first ++ reports_of asked (n + 1) next.refused rest) number
+          ∙ ap (λ k. report_of request (old.lines + 1) k first ++ reports_of asked (old.lines + 1 + 1) k rest) count
+          ∙ ap (λ r. report_of request (old.lines + 1) before first ++ reports_of r (old.lines + 1 + 1) before rest) same;
       count = omega (arith, more.count, number);
       refusals = omega (arith, more.refusals, count);
     }
@@ -71,14 +73,15 @@ module _ (old new : Checking) (request : Request) (tally : Tally) (lines : List 
     (refusals : tally.refused ≡ new.tally.refused) where
   -- all that was put of some of the lines
   some_reported : (first : List (List ℕ)) (bytes : List ℕ) → length first ≤ length lines → Steps Checks old first bytes new
-      → (verdicts : List Verdict) × AreVerdicts request true first verdicts × (bytes ≡ reports_of request 1 verdicts) × Counts tally verdicts
+      → (verdicts : List Verdict) × AreVerdicts request true first verdicts × (bytes ≡ reports_of request 1 0 verdicts) × Counts tally verdicts
   some_reported first bytes fewer steps =
       let all = all_reported old new first bytes (omega (arith, none, few, fewer), omega (arith, zero, few, fewer)) steps in
       let one : old.tally.lines + 1 ≡ 1 = omega (arith, none) in (
         all.verdicts,
         subst (λ b. AreVerdicts request b first all.verdicts) (eq-eqb old.tally.lines 0 none)
             (subst (λ r. AreVerdicts r (old.tally.lines == 0) first all.verdicts) asked all.are),
-        all.reports ∙ ap (λ k. reports_of old.request k all.verdicts) one ∙ ap (λ r. reports_of r 1 all.verdicts) asked,
+        all.reports ∙ ap (λ k. reports_of old.request k old.tally.refused all.verdicts) one
+            ∙ ap (λ k. reports_of old.request 1 k all.verdicts) zero ∙ ap (λ r. reports_of r 1 0 all.verdicts) asked,
         record { lines = omega (arith, count, all.count, none); refused = omega (arith, refusals, all.refusals, zero) },
       )
 

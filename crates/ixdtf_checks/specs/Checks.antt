@@ -13,7 +13,7 @@ pub record Counts (tally : Tally) (verdicts : List Verdict) : Type 0 where
 pub record Reports (old new : Option (List ℕ)) (request : Request) (tally : Tally) (lines : List (List ℕ)) : Type 0 where
   pub verdicts : List Verdict
   pub are : AreVerdicts request true lines verdicts
-  pub appended : Appends old new (reports_of request 1 verdicts)
+  pub appended : Appends old new (reports_of request 1 0 verdicts)
   pub counts : Counts tally verdicts
 
 -- the first of the lines were counted, and what was written is a prefix of their reports
@@ -23,7 +23,7 @@ pub record ReportsFront (old new : Option (List ℕ)) (request : Request) (tally
   pub whole : lines ≡ first ++ others
   pub verdicts : List Verdict
   pub are : AreVerdicts request true first verdicts
-  pub front : AppendsFront old new (reports_of request 1 verdicts)
+  pub front : AppendsFront old new (reports_of request 1 0 verdicts)
   pub counts : Counts tally verdicts
 
 -- the bytes are the reports of the lines, and they were counted
@@ -36,4 +36,4 @@ pub record ReportsLine (request : Request) (old new : Tally) (line bytes : List 
   pub is : IsVerdict request (old.lines == 0) line verdict
   pub lines : new.lines ≡ min (old.lines + 1) (2 ^ 64 - 1)
   pub refused : new.refused ≡ min (old.refused + refusal_count verdict) (2 ^ 64 - 1)
-  pub report : bytes ≡ report_of request new.lines verdict
+  pub report : bytes ≡ report_of request new.lines new.refused verdict

@@ -72,6 +72,7 @@ impl LineTask<LINE_LIMIT> for Checking<'_> {
             &mut self.room,
             &self.request,
             number,
+            self.tally.refused,
             &self.printed,
             &verdict,
         )

@@ -19,7 +19,8 @@ use ixdtf_print::error_parts;
 /// The most bytes of a line that are put at once.
 const MOST_AT_ONCE: usize = 4096;
 
-/// Puts the report of the line with this number, where this is the canonical text that was printed last.
+/// Puts the report of the line with this number, where this is the canonical text that was printed last, and so many lines up to it
+/// are refused.
 ///
 /// It is inlined, since most lines are read and have none.
 #[inline(always)]
@@ -28,17 +29,18 @@ pub fn put_report<K: Sink>(
     room: &mut [u8; ROOM],
     request: &Request<'_>,
     number: u64,
+    refusals: u64,
     printed: &PrintedText,
     verdict: &Verdict<'_>,
 ) -> Result<(), RunError>
     ensures { Puts K.contents K.failed output.old output.new result
-        (report_of request.now number (seen printed.now verdict.now)) }
+        (report_of request.now number refusals (seen printed.now verdict.now)) }
 {
     match verdict {
         Verdict::Accepted | Verdict::Skipped => Ok(()),
         Verdict::Printed => put_printed(output, printed.as_line()),
         Verdict::Refused(refusal) => {
-            if request.is_quiet {
+            if request.is_quiet || refusals > request.most_reports {
                 return Ok(());
             }
             put_refusal(output, room, request.name, number, refusal)

@@ -45,6 +45,8 @@ pub struct Request<'n> {
     pub field: Option<Field>,
     /// Which lines are skipped; `None` if no line is.
     pub skips: Option<Skips>,
+    /// How many of the lines that are refused have a report: the first ones.
+    pub most_reports: u64,
     /// Whether nothing is written of a line that is refused.
     pub is_quiet: bool,
 }

@@ -20,6 +20,7 @@ const DATE_TIMES: Request<'static> = Request {
     profile: Profile::Crate,
     field: None,
     skips: None,
+    most_reports: u64::MAX,
     is_quiet: false,
 };
 

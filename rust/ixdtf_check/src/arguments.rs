@@ -49,6 +49,8 @@ pub enum Wrong {
     InvalidSeparator,
     /// The value of `--comment` is not one byte.
     InvalidComment,
+    /// The value of `--max-reports` is not a number.
+    InvalidCount,
     /// There is a separator, but no field.
     SeparatorWithoutField,
     /// There is another kind than `date-time`, and `--canonical`.
@@ -68,6 +70,7 @@ impl Wrong {
             Wrong::InvalidField => "expected the number of a field, which is 1 or more",
             Wrong::InvalidSeparator => "expected a separator of one byte",
             Wrong::InvalidComment => "expected the one byte with which comments begin",
+            Wrong::InvalidCount => "expected a number of reports",
             Wrong::SeparatorWithoutField => "--separator needs --field",
             Wrong::CanonicalKind => "--canonical is only for the kind date-time",
         }
@@ -88,6 +91,7 @@ pub fn meant_by(word: &str, wrong: Wrong) -> Option<&'static str> {
         | Wrong::InvalidField
         | Wrong::InvalidSeparator
         | Wrong::InvalidComment
+        | Wrong::InvalidCount
         | Wrong::SeparatorWithoutField
         | Wrong::CanonicalKind => None,
     }
@@ -101,6 +105,7 @@ enum Awaited {
     Field,
     Separator,
     Comment,
+    MaxReports,
     File,
 }
 
@@ -114,6 +119,7 @@ pub struct Options {
     before: Option<usize>,
     separator: Option<u8>,
     skips: Skips,
+    most_reports: Option<u64>,
     is_canonical: bool,
     is_quiet: bool,
 }
@@ -128,6 +134,7 @@ impl Options {
             before: None,
             separator: None,
             skips: NOTHING_SKIPPED,
+            most_reports: None,
             is_canonical: false,
             is_quiet: false,
         }
@@ -137,9 +144,11 @@ impl Options {
     pub fn take(&mut self, word: &str) -> Word {
         match self.awaited {
             Awaited::Anything => self.take_any(word),
-            Awaited::Kind | Awaited::Field | Awaited::Separator | Awaited::Comment => {
-                self.take_value(word)
-            }
+            Awaited::Kind
+            | Awaited::Field
+            | Awaited::Separator
+            | Awaited::Comment
+            | Awaited::MaxReports => self.take_value(word),
             Awaited::File => Word::File,
         }
     }
@@ -151,6 +160,7 @@ impl Options {
             Awaited::Field => self.take_field(value),
             Awaited::Separator => self.take_separator(value),
             Awaited::Comment => self.take_comment(value),
+            Awaited::MaxReports => self.take_count(value),
             Awaited::Anything | Awaited::File => Word::Wrong(Wrong::UnexpectedValue),
         }
     }
@@ -202,6 +212,8 @@ impl Options {
             self.awaited = Awaited::Separator;
         } else if option == "--comment" {
             self.awaited = Awaited::Comment;
+        } else if option == "--max-reports" {
+            self.awaited = Awaited::MaxReports;
         } else {
             return false;
         }
@@ -266,13 +278,27 @@ impl Options {
         }
     }
 
+    /// Takes the number of reports.
+    fn take_count(&mut self, word: &str) -> Word {
+        self.awaited = Awaited::Anything;
+        match word.parse::<u64>() {
+            Ok(number) => {
+                self.most_reports = Some(number);
+                Word::Option
+            }
+            Err(_) => Word::Wrong(Wrong::InvalidCount),
+        }
+    }
+
     /// Returns why the words do not go together. Returns `None` if they do.
     pub fn wrong(&self) -> Option<Wrong> {
         let kind = self.kind.unwrap_or(Kind::DateTime);
         match self.awaited {
-            Awaited::Kind | Awaited::Field | Awaited::Separator | Awaited::Comment => {
-                Some(Wrong::MissingValue)
-            }
+            Awaited::Kind
+            | Awaited::Field
+            | Awaited::Separator
+            | Awaited::Comment
+            | Awaited::MaxReports => Some(Wrong::MissingValue),
             Awaited::Anything | Awaited::File => {
                 if self.separator.is_some() && self.before.is_none() {
                     Some(Wrong::SeparatorWithoutField)
@@ -301,6 +327,7 @@ impl Options {
             },
             field: self.before.map(|before| Field { before, separator }),
             skips: self.skips(),
+            most_reports: self.most_reports.unwrap_or(u64::MAX),
             is_quiet: self.is_quiet,
         })
     }

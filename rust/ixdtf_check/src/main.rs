@@ -21,6 +21,7 @@ mod verdict;
 use arguments::{Options, Word, Wrong, meant_by};
 use checker::check;
 use ixdtf_buffers::error::RunError;
+use request::Request;
 use status::status_of;
 use std::fmt::Display;
 use std::fs::File;
@@ -53,6 +54,7 @@ Which part of a line is read:
 
 What is written:
   --canonical      the canonical text of each date-time that is accepted
+  --max-reports N  at most N reports, and the number of the others
   --quiet          nothing about lines that are refused
   ixdtf_check --canonical --quiet dates.txt
 
@@ -71,10 +73,28 @@ const VERSION: &str = concat!("ixdtf_check ", env!("CARGO_PKG_VERSION"));
 struct Outcome {
     total: Tally,
     has_failed: bool,
+    /// The most reports of all files together.
+    most_reports: u64,
+    /// Whether lines that are refused are reported.
+    shows_refusals: bool,
     /// Whether standard output takes nothing more.
     is_closed: bool,
     /// Whether standard output is a pipe that nobody reads. The program then writes nothing more, also to standard error.
     is_quiet: bool,
+}
+
+impl Outcome {
+    /// Allows the next file only the reports that the files before it have left.
+    fn limit_reports(&mut self, request: &mut Request<'_>) {
+        self.most_reports = request.most_reports;
+        self.shows_refusals = !request.is_quiet;
+        request.most_reports = request.most_reports.saturating_sub(self.total.refused);
+    }
+
+    /// Returns how many refused lines have no report because there are too many of them.
+    fn unreported(&self) -> u64 {
+        if self.shows_refusals { self.total.refused.saturating_sub(self.most_reports) } else { 0 }
+    }
 }
 
 fn main() -> ExitCode {
@@ -103,7 +123,7 @@ fn main() -> ExitCode {
         files.push("-");
     }
     let mut output = standard_output();
-    let mut outcome = Outcome { total: Tally::new(), has_failed: false, is_closed: false, is_quiet: false };
+    let mut outcome = Outcome { total: Tally::new(), has_failed: false, most_reports: u64::MAX, shows_refusals: false, is_closed: false, is_quiet: false };
     for name in files {
         if !outcome.is_closed {
             check_file(&options, name, &mut output, &mut outcome);
@@ -111,6 +131,10 @@ fn main() -> ExitCode {
     }
     let Tally { lines, refused, bytes } = outcome.total;
     if !outcome.is_quiet {
+        let more = outcome.unreported();
+        if more > 0 {
+            eprintln!("{more} more refused lines");
+        }
         eprintln!("{lines} lines, {refused} refused, {bytes} bytes");
     }
     ExitCode::from(status_of(outcome.has_failed, refused))
@@ -170,9 +194,10 @@ fn check_file<W: Write>(options: &Options, name: &str, output: &mut W, outcome: 
 
 /// Checks what the reader gives, under this name.
 fn check_reader<R: Read, W: Write>(reader: &mut R, options: &Options, name: &str, output: &mut W, outcome: &mut Outcome) {
-    let Some(request) = options.request(name) else {
+    let Some(mut request) = options.request(name) else {
         return;
     };
+    outcome.limit_reports(&mut request);
     let mut watched = Watched { inner: reader, error: None };
     let mut watched_output = Watched { inner: output, error: None };
     let checked = check(&mut watched, &mut watched_output, &request);

@@ -28,6 +28,7 @@ fn takes_options(rt: HostRuntime) {
         ";",
         "--header",
         "--comment=#",
+        "--max-reports=20",
         "--quiet",
     ];
     let options = options_of(&rt, &words);
@@ -44,6 +45,7 @@ fn takes_options(rt: HostRuntime) {
             separator: b';'
         })
     );
+    assert_eq!(rt; request.most_reports, 20);
     assert_eq!(rt;
         request.skips,
         Some(Skips {
@@ -64,6 +66,7 @@ fn asks_for_date_times_where_nothing_is_said(rt: HostRuntime) {
     assert_eq!(rt; request.profile, Profile::Crate);
     assert_eq!(rt; request.field, None);
     assert_eq!(rt; request.skips, None);
+    assert_eq!(rt; request.most_reports, u64::MAX);
     assert!(rt; !request.is_quiet);
 }
 
@@ -108,6 +111,7 @@ const WITHOUT_VALUES: &[(&str, &str, Wrong)] = &[
     ("--kind", "date", Wrong::UnknownKind),
     ("--separator", ",,", Wrong::InvalidSeparator),
     ("--comment", "//", Wrong::InvalidComment),
+    ("--max-reports", "-1", Wrong::InvalidCount),
 ];
 
 /// Words that are refused, each with the word that was probably meant.

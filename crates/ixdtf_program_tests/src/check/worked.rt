@@ -31,6 +31,18 @@ fn counts_in_quiet(rt: HostRuntime) -> Result<(), Fail> {
     check_written(&rt, rt.alloc(), &request, MIXED, b"", (6, 4))
 }
 
+#[test]
+fn reports_no_more_lines_than_asked(rt: HostRuntime) -> Result<(), Fail> {
+    let mut request = DATE_TIMES;
+    request.most_reports = 4;
+    check_written(&rt, rt.alloc(), &request, MIXED, MIXED_REPORTS, (6, 4))?;
+    request.most_reports = 1;
+    let first = b"f:2:6: Invalid character while parsing month value.\n2020-W01-1\n     ^\n";
+    check_written(&rt, rt.alloc(), &request, MIXED, first, (6, 4))?;
+    request.most_reports = 0;
+    check_written(&rt, rt.alloc(), &request, MIXED, b"", (6, 4))
+}
+
 /// A text of each kind.
 const TEXTS: &[(Kind, &str)] = &[
     (Kind::DateTime, "2020-01-01"),

@@ -9,7 +9,7 @@ returns-clause-takes g c = λ text is.
     let printed = c.judge.new.printed in
     let verdict = seen printed c.judge.new.verdict in
     record {
-      bytes = report_of c.args.self.now.request c.add_line.new.self.lines verdict;
+      bytes = report_of c.args.self.now.request c.add_line.new.self.lines c.add_line.new.self.refused verdict;
       steps = (
         refl,
         record {
