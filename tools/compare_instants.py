@@ -2,8 +2,8 @@
 """compare_instants.py [COUNT [SEED]]: compares the instants of random texts with those of Python's `datetime`.
 
 It makes COUNT texts (100000, if none is given) with a date, a time and an offset or `Z`, and has the example `instants` of `rust/ixdtf` write
-the instant of each. A date before the year 1 or after 9999, where `datetime` does not reach, is moved by whole cycles of 400 years, which
-have 146097 days each. It prints how many texts there were, and ends with status 1 at the first difference."""
+the instant of each, and its text. A date before the year 1 or after 9999, where `datetime` does not reach, is moved by whole cycles of 400
+years, which have 146097 days each. It prints how many texts there were, and ends with status 1 at the first difference."""
 import datetime
 import os
 import random
@@ -37,6 +37,24 @@ def offset(rng: random.Random) -> tuple[str, int]:
     return text, count if sign == '+' else -count
 
 
+def year_text(year: int) -> str:
+    """A year as `Display` of an instant writes it."""
+    if 0 <= year <= 9999:
+        return f'{year:04}'
+    return f'{"-" if year < 0 else "+"}{abs(year):0{6 if abs(year) <= 999999 else 12}}'
+
+
+def text_of(count: int) -> str:
+    """The date and the time in UTC, so many nanoseconds after 1970-01-01T00:00:00Z."""
+    seconds, nanoseconds = divmod(count, SECOND)
+    days, second = divmod(seconds, 86400)
+    cycles, rest = divmod(days, DAYS_OF_A_CYCLE)
+    date = EPOCH + datetime.timedelta(days=rest)
+    time = datetime.time(second // 3600, second // 60 % 60, second % 60)
+    digits = f'.{nanoseconds:09}'.rstrip('0').rstrip('.')
+    return f'{year_text(date.year + 400 * cycles)}-{date.month:02}-{date.day:02}T{time}{digits}Z'
+
+
 def example(rng: random.Random) -> tuple[str, str]:
     """A text, and what the example has to write for it."""
     year = rng.randint(1, 9999) if rng.random() < 0.5 else rng.randint(-999999, 999999)
@@ -52,10 +70,11 @@ def example(rng: random.Random) -> tuple[str, str]:
     hour, minute, second = rng.randint(0, 23), rng.randint(0, 59), rng.randint(0, 60)
     digits, nanoseconds = fraction(rng)
     written, ahead = offset(rng)
-    years = f'{year:04}' if 0 <= year <= 9999 else f'{"-" if year < 0 else "+"}{abs(year):06}'
+    years = year_text(year)
     count = (((days * 24 + hour) * 60 + minute) * 60 + min(second, 59)) * SECOND + nanoseconds - ahead
     seconds, rest = divmod(count, SECOND)
-    return f'{years}-{date.month:02}-{date.day:02}T{hour:02}:{minute:02}:{second:02}{digits}{written}', f'{seconds} {rest}'
+    text = f'{years}-{date.month:02}-{date.day:02}T{hour:02}:{minute:02}:{second:02}{digits}{written}'
+    return text, f'{seconds} {rest} {text_of(count)}'
 
 
 def main() -> int:

@@ -1,4 +1,4 @@
-//! Writes the instant of each line: its seconds and its nanoseconds, or `none`. `tools/compare_instants.py` runs it.
+//! Writes the instant of each line: its seconds, its nanoseconds and its text, or `none`. `tools/compare_instants.py` runs it.
 
 use ixdtf::parsers::IxdtfParser;
 use std::io::{BufRead, BufWriter, Write, stdin, stdout};
@@ -8,7 +8,7 @@ fn main() -> std::io::Result<()> {
     for line in stdin().lock().lines() {
         let instant = IxdtfParser::from_str(&line?).parse().ok().and_then(|record| record.instant());
         match instant {
-            Some(instant) => writeln!(out, "{} {}", instant.seconds, instant.nanoseconds)?,
+            Some(instant) => writeln!(out, "{} {} {instant}", instant.seconds, instant.nanoseconds)?,
             None => writeln!(out, "none")?,
         }
     }

@@ -1,7 +1,9 @@
-//! The instant of each day, beside a walk that counts day after day.
+//! The instant of each day and its text, beside a walk that counts day after day.
 
+use ixdtf::Instant;
 use ixdtf::encoding::Utf8;
 use ixdtf::records::{DateRecord, IxdtfParseRecord, TimeRecord, UtcOffsetRecordOrZ};
+use std::fmt::Write;
 
 const DAY: i64 = 86_400;
 
@@ -25,14 +27,29 @@ fn midnight(year: i32, month: u8, day: u8) -> i64 {
     record.instant().unwrap().seconds
 }
 
+/// Writes midnight of a date as `Display` of an instant has to write it.
+fn write_midnight(text: &mut String, year: i32, month: u8, day: u8) {
+    let written = match year {
+        0..=9999 => write!(text, "{year:04}-{month:02}-{day:02}T00:00:00Z"),
+        _ => write!(text, "{year:+07}-{month:02}-{day:02}T00:00:00Z"),
+    };
+    written.unwrap();
+}
+
 /// Walks from 1 January of a year to 31 December of another one. `seconds` is that of the first day. Returns the seconds after the
 /// last day, and how many days there were.
 fn walk(first: i32, last: i32, mut seconds: i64) -> (i64, u32) {
     let mut days = 0;
+    let (mut found, mut wanted) = (String::new(), String::new());
     for year in first..=last {
         for month in 1..=12 {
             for day in 1..=month_length(year, month) {
                 assert_eq!(midnight(year, month, day), seconds, "{year} {month} {day}");
+                found.clear();
+                wanted.clear();
+                write!(found, "{}", Instant { seconds, nanoseconds: 0 }).unwrap();
+                write_midnight(&mut wanted, year, month, day);
+                assert_eq!(found, wanted);
                 seconds += DAY;
                 days += 1;
             }
@@ -57,7 +74,27 @@ fn days_before_1970() {
     assert_eq!(walk(-2000, 1969, first_of(-2000)).0, 0);
 }
 
-/// 730 million days: `cargo test --release --test each_day -- --ignored`.
+/// The texts are those of a count of years in Python, and of the last second of 64 bits that other programs name.
+#[test]
+fn texts_of_instants() {
+    for (seconds, nanoseconds, text) in [
+        (0, 0, "1970-01-01T00:00:00Z"),
+        (-1, 999_999_999, "1969-12-31T23:59:59.999999999Z"),
+        (1_709_369_280, 250_000_000, "2024-03-02T08:48:00.25Z"),
+        (951_782_400, 100_000_000, "2000-02-29T00:00:00.1Z"),
+        (253_402_300_800, 0, "+010000-01-01T00:00:00Z"),
+        (-62_167_219_201, 0, "-000001-12-31T23:59:59Z"),
+        (31_494_784_780_799, 0, "+999999-12-31T23:59:59Z"),
+        (31_494_784_780_800, 0, "+000001000000-01-01T00:00:00Z"),
+        (i64::MAX, 0, "+292277026596-12-04T15:30:07Z"),
+        (i64::MIN, 0, "-292277022657-01-27T08:29:52Z"),
+        (59, 1_250_000_000, "1970-01-01T00:01:00.25Z"),
+    ] {
+        assert_eq!(Instant { seconds, nanoseconds }.to_string(), text);
+    }
+}
+
+/// 730 million days, in minutes: `cargo test --release --test each_day -- --ignored`.
 #[test]
 #[ignore]
 fn each_day_that_a_reader_returns() {
