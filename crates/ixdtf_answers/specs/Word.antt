@@ -4,7 +4,7 @@ use Rattle.ixdtf_grammar.specs.declared.profile.Profile.TheVariants.{Crate, Stri
 use Rattle.ixdtf.specs.language.Readers.{Reader, parse, parse_year_month, parse_month_day, parse_time}
 use Rattle.ixdtf.specs.language.Readers.Reader.{parse_rfc3339, parse_offset, parse_identifier, parse_iana_identifier, parse_duration}
 use Rattle.ixdtf_answers.specs.declared.word.Word.{Word, TheVariants.{Parse, YearMonth, MonthDay, Time, Offset, Zone, Iana, Duration, StrictMonthDay}}
-use Rattle.ixdtf_answers.specs.declared.word.Word.TheVariants.{StrictTime, StrictDuration, Canonical, Rfc3339, ZoneName}
+use Rattle.ixdtf_answers.specs.declared.word.Word.TheVariants.{StrictTime, StrictDuration, Canonical, Rfc3339, ZoneName, CanonicalOffset, CanonicalZone, CanonicalDuration}
 
 abbrev pub name_of : Word → List ℕ
 name_of Parse = codes "parse"
@@ -21,6 +21,9 @@ name_of StrictDuration = codes "strict-duration"
 name_of Canonical = codes "canonical"
 name_of Rfc3339 = codes "rfc3339"
 name_of ZoneName = codes "zone-name"
+name_of CanonicalOffset = codes "canonical-offset"
+name_of CanonicalZone = codes "canonical-zone"
+name_of CanonicalDuration = codes "canonical-duration"
 
 abbrev pub reader_of : Word → Reader
 reader_of Parse = parse
@@ -37,6 +40,9 @@ reader_of StrictDuration = parse_duration Strict
 reader_of Canonical = parse
 reader_of Rfc3339 = parse_rfc3339
 reader_of ZoneName = parse_iana_identifier
+reader_of CanonicalOffset = parse_offset
+reader_of CanonicalZone = parse_identifier
+reader_of CanonicalDuration = parse_duration Crate
 
 -- no word has the name
 abbrev pub IsNoWord : List ℕ → Type 0

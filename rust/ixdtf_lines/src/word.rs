@@ -33,6 +33,12 @@ pub enum Word {
     Rfc3339,
     /// `zone-name`: as `iana`.
     ZoneName,
+    /// `canonical-offset`: as `offset`, to be printed as its canonical text.
+    CanonicalOffset,
+    /// `canonical-zone`: as `zone`, to be printed as its canonical text.
+    CanonicalZone,
+    /// `canonical-duration`: as `duration`, to be printed as its canonical text.
+    CanonicalDuration,
 }
 
 impl Word {
@@ -66,6 +72,12 @@ impl Word {
             Some(Word::Rfc3339)
         } else if name == b"zone-name".as_slice() {
             Some(Word::ZoneName)
+        } else if name == b"canonical-offset".as_slice() {
+            Some(Word::CanonicalOffset)
+        } else if name == b"canonical-zone".as_slice() {
+            Some(Word::CanonicalZone)
+        } else if name == b"canonical-duration".as_slice() {
+            Some(Word::CanonicalDuration)
         } else {
             None
         }
