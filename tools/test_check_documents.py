@@ -173,7 +173,7 @@ class Clauses(InATree):
             self.assertEqual([it.what for it in check.findings_in_contracts_to_read(document)], what)
 
     def test_each_reader_of_a_group(self):
-        self.assertEqual(len(check.members('each reader')), 26)
+        self.assertEqual(len(check.members('each reader')), 30)
         self.assertEqual(check.members('part located')[-1], 'IsoDurationParser::parse_located')
         self.assertEqual(len(self.clauses('*handler located*: `handled`')), 4)
 
@@ -238,8 +238,8 @@ class Repository(unittest.TestCase):
 
     def test_the_table_of_errors(self):
         self.assertIn('OffsetNeedsSign has a different text in the code or in the model', self.faults('UTC offset needs a sign |', 'UTC offset needs a sign. |'))
-        self.assertIn('in the model, OffsetNeedsSign is returned by parse_offset, parse_rfc3339',
-                      self.faults('UTC offset needs a sign | `parse_rfc3339`, `parse_offset`', 'UTC offset needs a sign | `parse_time`'))
+        self.assertIn('in the model, OffsetNeedsSign is returned by parse_offset, parse_rfc3339, parse_rfc9557',
+                      self.faults('UTC offset needs a sign | `parse_rfc3339`, `parse_rfc9557`, `parse_offset`', 'UTC offset needs a sign | `parse_time`'))
 
     def test_counts(self):
         self.assertEqual(self.found('docs/FAULTS.md', '46 variants', '45 variants', check.findings_in_counts),
