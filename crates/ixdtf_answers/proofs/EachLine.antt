@@ -7,7 +7,7 @@ use Rattle.ixdtf_reading.proofs.theorems.OneUnhandledOutcome.{one_unhandled_outc
 use Rattle.ixdtf_answers.specs.Answer.{line_limit, too_long, unknown_reader, is_space, letters, ok_answer_of, error_answer_of, IsOutcome}
 use Rattle.ixdtf_answers.specs.{Answer.{IsReaderAnswer, IsAnswer}, Run.AreAnswers, Word.{name_of, reader_of, IsNoWord}, declared.word.Word.Word}
 use Rattle.ixdtf_answers.specs.declared.word.Word.TheVariants.{Parse, YearMonth, MonthDay, Time, Offset, Zone, Iana, Duration, StrictMonthDay, StrictTime}
-use Rattle.ixdtf_answers.specs.declared.word.Word.TheVariants.{StrictDuration, Canonical, Rfc3339, ZoneName, Rfc9557}
+use Rattle.ixdtf_answers.specs.declared.word.Word.TheVariants.{StrictDuration, Canonical, Rfc3339, ZoneName, Rfc9557, CanonicalOffset, CanonicalZone, CanonicalDuration}
 use Rattle.ixdtf_buffers.specs.Lines.{newline}
 
 -- each text has an outcome
@@ -39,7 +39,7 @@ word_among name (word ∷ words) = elim (same_bytes name (name_of word)) [
 ]
 
 abbrev all_words : List Word
-all_words = Parse ∷ YearMonth ∷ MonthDay ∷ Time ∷ Offset ∷ Zone ∷ Iana ∷ Duration ∷ StrictMonthDay ∷ StrictTime ∷ StrictDuration ∷ Canonical ∷ Rfc3339 ∷ ZoneName ∷ Rfc9557 ∷ []
+all_words = Parse ∷ YearMonth ∷ MonthDay ∷ Time ∷ Offset ∷ Zone ∷ Iana ∷ Duration ∷ StrictMonthDay ∷ StrictTime ∷ StrictDuration ∷ Canonical ∷ Rfc3339 ∷ ZoneName ∷ Rfc9557 ∷ CanonicalOffset ∷ CanonicalZone ∷ CanonicalDuration ∷ []
 
 no_word : (name : List ℕ) → NoneOf name all_words → IsNoWord name
 no_word name none word is = grind arith

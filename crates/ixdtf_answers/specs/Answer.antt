@@ -4,7 +4,7 @@ use Rattle.ixdtf.specs.{table.{ErrorTexts.message_of, Faults.Fault}, Widths.{Has
 use Rattle.ixdtf.specs.language.{Languages.Found, Letters.{Text, byte_letter}, Readers.Reader}
 use Rattle.ixdtf_answers.specs.{Fields.{fields_of, canonical_field_of}, Word.{name_of, reader_of, IsNoWord}, declared.word.Word.{Word, TheVariants.Parse}}
 use Rattle.ixdtf_answers.specs.declared.word.Word.TheVariants.{YearMonth, MonthDay, Time, Offset, Zone, Iana, Duration, StrictMonthDay, StrictTime}
-use Rattle.ixdtf_answers.specs.declared.word.Word.TheVariants.{StrictDuration, Canonical, Rfc3339, ZoneName, Rfc9557}
+use Rattle.ixdtf_answers.specs.declared.word.Word.TheVariants.{StrictDuration, Canonical, Rfc3339, ZoneName, Rfc9557, CanonicalOffset, CanonicalZone, CanonicalDuration}
 
 -- the longest line that is read
 abbrev pub line_limit : ℕ
@@ -23,7 +23,7 @@ is_space byte = byte == 32
 abbrev pub letters : List ℕ → Text
 letters bytes = map byte_letter bytes
 
--- what is shown of a value of a reader: its fields, and for `canonical` the canonical text
+-- what is shown of a value of a reader: its fields, and for `canonical` and the words that begin so the canonical text
 abbrev pub shown_of : Word → Found → List ℕ
 shown_of Parse found = fields_of found
 shown_of YearMonth found = fields_of found
@@ -40,6 +40,9 @@ shown_of Canonical found = canonical_field_of found
 shown_of Rfc3339 found = fields_of found
 shown_of ZoneName found = fields_of found
 shown_of Rfc9557 found = fields_of found
+shown_of CanonicalOffset found = canonical_field_of found
+shown_of CanonicalZone found = canonical_field_of found
+shown_of CanonicalDuration found = canonical_field_of found
 
 -- the answer to a text that is read
 abbrev pub ok_answer_of : Word → Found → List ℕ

@@ -9,7 +9,7 @@ use Rattle.ixdtf_grammar.specs.declared.records.{TimeDurationRecord.TheVariants.
 use Rattle.ixdtf_grammar.specs.declared.records.{UtcOffsetRecord.UtcOffsetRecord, UtcOffsetRecordOrZ.UtcOffsetRecordOrZ}
 use Rattle.ixdtf.specs.language.{Digits.padded_digits, Fractions.{FractionParts, nanoseconds_of}, Brackets.ZoneNote}
 use Rattle.ixdtf.specs.language.{Languages.{Parsed, Found, Found.{parsed, dated, shifted, identified, named, lasting}}, ZoneNames.{Zone, Zone.{Name, Offset}}}
-use Rattle.ixdtf_print.specs.{Canonical.canonical_text, Shown.code_point}
+use Rattle.ixdtf_print.specs.{Canonical.{canonical_text, zone_text}, Durations.duration_text, Offsets.utc_offset_text, Shown.code_point}
 
 -- `,`
 abbrev pub comma : ℕ
@@ -170,7 +170,7 @@ fields_of (lasting duration) = duration_text_of duration
 abbrev pub canonical_field_of : Found → List ℕ
 canonical_field_of (parsed found) = codes " " ++ map code_point (canonical_text found)
 canonical_field_of (dated found) = codes " " ++ map code_point (canonical_text found)
-canonical_field_of (shifted offset) = []
-canonical_field_of (identified zone) = []
+canonical_field_of (shifted offset) = codes " " ++ map code_point (utc_offset_text offset)
+canonical_field_of (identified zone) = codes " " ++ map code_point (zone_text zone)
 canonical_field_of (named name) = []
-canonical_field_of (lasting duration) = []
+canonical_field_of (lasting duration) = codes " " ++ map code_point (duration_text duration)

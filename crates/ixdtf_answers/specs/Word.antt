@@ -4,7 +4,7 @@ use Rattle.ixdtf_grammar.specs.declared.profile.Profile.TheVariants.{Crate, Stri
 use Rattle.ixdtf.specs.language.Readers.{Reader, parse, parse_rfc9557, parse_year_month, parse_month_day, parse_time}
 use Rattle.ixdtf.specs.language.Readers.Reader.{parse_rfc3339, parse_offset, parse_identifier, parse_iana_identifier, parse_duration}
 use Rattle.ixdtf_answers.specs.declared.word.Word.{Word, TheVariants.{Parse, YearMonth, MonthDay, Time, Offset, Zone, Iana, Duration, StrictMonthDay}}
-use Rattle.ixdtf_answers.specs.declared.word.Word.TheVariants.{StrictTime, StrictDuration, Canonical, Rfc3339, ZoneName, Rfc9557}
+use Rattle.ixdtf_answers.specs.declared.word.Word.TheVariants.{StrictTime, StrictDuration, Canonical, Rfc3339, ZoneName, Rfc9557, CanonicalOffset, CanonicalZone, CanonicalDuration}
 
 abbrev pub name_of : Word → List ℕ
 name_of Parse = codes "parse"
@@ -22,6 +22,9 @@ name_of Canonical = codes "canonical"
 name_of Rfc3339 = codes "rfc3339"
 name_of ZoneName = codes "zone-name"
 name_of Rfc9557 = codes "rfc9557"
+name_of CanonicalOffset = codes "canonical-offset"
+name_of CanonicalZone = codes "canonical-zone"
+name_of CanonicalDuration = codes "canonical-duration"
 
 abbrev pub reader_of : Word → Reader
 reader_of Parse = parse
@@ -39,6 +42,9 @@ reader_of Canonical = parse
 reader_of Rfc3339 = parse_rfc3339
 reader_of ZoneName = parse_iana_identifier
 reader_of Rfc9557 = parse_rfc9557
+reader_of CanonicalOffset = parse_offset
+reader_of CanonicalZone = parse_identifier
+reader_of CanonicalDuration = parse_duration Crate
 
 -- no word has the name
 abbrev pub IsNoWord : List ℕ → Type 0

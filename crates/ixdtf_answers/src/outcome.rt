@@ -1,11 +1,15 @@
 //! What is put for what a reader found, or for why it refuses a text.
-ghost use Rattle.std.specs.Prelude.{◌≡◌, ◌+◌, ◌≤◌, false, [], ◌∷◌, ◌++◌, codes, length, option_map, take};
+ghost use Rattle.std.specs.Prelude.{◌≡◌, ◌+◌, ◌≤◌, ◌<◌, false, [], ◌∷◌, ◌++◌, codes, length, option_map, take};
 ghost use Rattle.ixdtf.specs.Views.{parsed_of, note_of, zone_of};
-ghost use Rattle.ixdtf.specs.language.Languages.Found.{parsed};
+ghost use Rattle.ixdtf.specs.language.Languages.Found.{parsed, shifted, identified, lasting};
 ghost use Rattle.ixdtf.specs.table.ErrorTexts.{message_of};
 ghost use Rattle.ixdtf.specs.table.Faults.{fault_of};
+ghost use Rattle.ixdtf_print.specs.Canonical.{zone_text};
+ghost use Rattle.ixdtf_print.specs.Durations.{IsPrintableDuration, duration_text};
+ghost use Rattle.ixdtf_print.specs.Offsets.{IsPrintableOffset, utc_offset_text};
 ghost use Rattle.ixdtf_print.specs.Printable.{record_of};
 ghost use Rattle.ixdtf_print.specs.Printed.{FitsArray};
+ghost use Rattle.ixdtf_print.specs.Zones.{IsPrintableZone, zone_in};
 ghost use Rattle.ixdtf_buffers.specs.Adding.{Adds};
 ghost use Rattle.ixdtf_answers.specs.Answer.{error_answer_of};
 ghost use Rattle.ixdtf_answers.specs.Fields.{canonical_field_of, record_fields_of, date_field_of, time_field_of};
@@ -170,6 +174,62 @@ pub fn put_canonical<K: Sink, const SIZE: usize>(
         (codes "ok" ++ canonical_field_of (parsed (record_of parts.now)) ++ newline ∷ []) }
 {
     printed.print(parts);
+    put_printed(output, printed)
+}
+
+/// Prints the canonical text of the offset, and puts it.
+pub fn put_canonical_offset<K: Sink, const SIZE: usize>(
+    output: &mut Output<'_, K>,
+    printed: &mut PrintedText<SIZE>,
+    offset: &UtcOffsetRecord,
+) -> Result<(), RunError>
+    requires printable { IsPrintableOffset offset.now }
+    requires fits { length (utc_offset_text offset.now) < SIZE }
+    ensures { Puts K.contents K.failed output.old output.new result
+        (codes "ok" ++ canonical_field_of (shifted offset.now) ++ newline ∷ []) }
+{
+    printed.print_offset(offset);
+    put_printed(output, printed)
+}
+
+/// Prints the canonical text of the zone, and puts it.
+pub fn put_canonical_zone<K: Sink, const SIZE: usize>(
+    output: &mut Output<'_, K>,
+    printed: &mut PrintedText<SIZE>,
+    zone: &TimeZoneRecord<'_, Utf8>,
+) -> Result<(), RunError>
+    requires printable { IsPrintableZone (zone_in zone.now) }
+    requires fits { length (zone_text (zone_in zone.now)) < SIZE }
+    ensures { Puts K.contents K.failed output.old output.new result
+        (codes "ok" ++ canonical_field_of (identified (zone_in zone.now)) ++ newline ∷ []) }
+{
+    printed.print_zone(zone);
+    put_printed(output, printed)
+}
+
+/// Prints the canonical text of the duration, and puts it.
+pub fn put_canonical_duration<K: Sink, const SIZE: usize>(
+    output: &mut Output<'_, K>,
+    printed: &mut PrintedText<SIZE>,
+    duration: &DurationParseRecord,
+) -> Result<(), RunError>
+    requires printable { IsPrintableDuration duration.now }
+    requires fits { length (duration_text duration.now) < SIZE }
+    ensures { Puts K.contents K.failed output.old output.new result
+        (codes "ok" ++ canonical_field_of (lasting duration.now) ++ newline ∷ []) }
+{
+    printed.print_duration(duration);
+    put_printed(output, printed)
+}
+
+/// Puts a canonical text that was printed.
+fn put_printed<K: Sink, const SIZE: usize>(
+    output: &mut Output<'_, K>,
+    printed: &PrintedText<SIZE>,
+) -> Result<(), RunError>
+    ensures { Puts K.contents K.failed output.old output.new result
+        (codes "ok " ++ printed.now ++ newline ∷ []) }
+{
     output.put(b"ok ")?;
     output.put(printed.as_line())
 }

@@ -34,6 +34,12 @@ pub enum Word {
     ZoneName,
     /// `rfc9557`: a date-time of RFC 9557, section 4.1, with a zone and a calendar.
     Rfc9557,
+    /// `canonical-offset`: as `offset`, to be printed as its canonical text.
+    CanonicalOffset,
+    /// `canonical-zone`: as `zone`, to be printed as its canonical text.
+    CanonicalZone,
+    /// `canonical-duration`: as `duration`, to be printed as its canonical text.
+    CanonicalDuration,
 }
 
 impl Word {
@@ -71,6 +77,12 @@ impl Word {
             Some(Word::ZoneName)
         } else if name == b"rfc9557".as_slice() {
             Some(Word::Rfc9557)
+        } else if name == b"canonical-offset".as_slice() {
+            Some(Word::CanonicalOffset)
+        } else if name == b"canonical-zone".as_slice() {
+            Some(Word::CanonicalZone)
+        } else if name == b"canonical-duration".as_slice() {
+            Some(Word::CanonicalDuration)
         } else {
             None
         }

@@ -3,5 +3,6 @@ pub mod CoreEnds
 pub mod CoreSizes
 pub mod Disjoint
 pub mod FewPairs
+pub mod InstantTexts
 pub mod Instants
 pub mod NoRow

@@ -1,7 +1,8 @@
 -- What holds of the instants of dates, times and offsets.
-use Rattle.std.specs.Prelude.{◌≡◌, ◌↔◌, ◌⊎◌, ℕ, ◌+◌, ◌*◌, ◌<◌, ◌≤◌, ◌^◌, min, ℤ, pos, ◌+ℤ◌, ◌-ℤ◌, ◌<ℤ◌}
-use Rattle.ixdtf_instants.specs.{declared.instant.Instant.{Instant}, Calendar.{IsCivilDate, month_length, day_number_of}, Counts.count_of}
-use Rattle.ixdtf_grammar.specs.declared.records.{DateRecord.DateRecord, TimeRecord.TimeRecord, UtcOffsetRecordOrZ.UtcOffsetRecordOrZ}
+use Rattle.std.specs.Prelude.{◌≡◌, ◌↔◌, ◌⊎◌, ℕ, ◌+◌, ◌*◌, ◌<◌, ◌≤◌, ◌^◌, min, map, Some, None, ℤ, pos, neg_ℤ, ◌+ℤ◌, ◌-ℤ◌, ◌<ℤ◌, ◌≤ℤ◌}
+use Rattle.ixdtf_instants.specs.{declared.instant.Instant.{Instant}, Calendar.{IsCivilDate, month_length, day_number_of}, Counts.count_of, Texts.instant_text}
+use Rattle.ixdtf_grammar.specs.declared.records.{DateRecord.DateRecord, TimeRecord.TimeRecord, UtcOffsetRecordOrZ.{UtcOffsetRecordOrZ, TheVariants.{Z}}}
+use Rattle.ixdtf_grammar.specs.{Handlers.UnhandledRecord, language.{Letters.Letter.Plain, Languages.Parsed, Readers.parse}}
 use Rattle.ixdtf_grammar.specs.Instants.{fraction_nanoseconds, clock_count, offset_count, instant_count}
 
 -- the calendar has the date
@@ -89,3 +90,19 @@ OffsetsMakeUp = (date other_date : DateRecord) (time other_time : TimeRecord) (o
 abbrev pub Second60Is59 : Type 0
 Second60Is59 = (date : DateRecord) (time : TimeRecord) (offset : UtcOffsetRecordOrZ) → time.second ≡ 60
     → instant_count date time offset ≡ instant_count date (record time { second = 59 }) offset
+
+-- ---- texts
+
+-- the instant is from -999999-01-01T00:00:00Z on, and before +1000000-01-01T00:00:00Z
+abbrev pub HasSixDigitYear : Instant → Type 0
+HasSixDigitYear instant =
+    (neg_ℤ (pos (31_619_087_596_800 * 10 ^ 9)) ≤ℤ count_of instant) × (count_of instant <ℤ pos (31_494_784_780_800 * 10 ^ 9))
+
+-- a date, a time and `Z`
+abbrev pub in_utc : DateRecord → TimeRecord → Parsed
+in_utc date time = record { date = Some date; time = Some time; offset = Some Z; zone = None; calendar = None }
+
+-- `parse` reads the text of an instant, and the record has this instant
+abbrev pub TextIsReadBack : Type 0
+TextIsReadBack = (instant : Instant) → HasSixDigitYear instant → (date : DateRecord) × (time : TimeRecord)
+    × UnhandledRecord parse (map Plain (instant_text instant)) (in_utc date time) × (instant_count date time Z ≡ count_of instant)

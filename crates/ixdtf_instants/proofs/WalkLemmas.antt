@@ -19,7 +19,7 @@ pub record IsDay (date : Civil) (number : ℤ) : Type 0 where
 month_length-some : (y : ℤ) (m : ℕ) → 28 ≤ month_length y m
 month_length-some y m = grind arith
 
-month_length-most : (y : ℤ) (m : ℕ) → month_length y m ≤ 31
+pub month_length-most : (y : ℤ) (m : ℕ) → month_length y m ≤ 31
 month_length-most y m = grind arith
 
 less : (a b : ℕ) → nat_lt a b ≡ true → a < b

@@ -1,13 +1,19 @@
 //! The canonical text that a program printed last.
-ghost use Rattle.std.specs.Prelude.{◌≡◌, ◌<◌, ◌^◌, ◌++◌, ◌∷◌, ℕ, List, [], map, take, slice_index};
+ghost use Rattle.std.specs.Prelude.{◌≡◌, ◌<◌, ◌^◌, ◌++◌, ◌∷◌, ℕ, List, [], length, map, take, slice_index};
 ghost use Rattle.ixdtf.specs.language.Letters.{byte_letter};
-ghost use Rattle.ixdtf_print.specs.Canonical.{canonical_text};
+ghost use Rattle.ixdtf_print.specs.Canonical.{canonical_text, zone_text};
+ghost use Rattle.ixdtf_print.specs.Durations.{IsPrintableDuration, duration_text};
+ghost use Rattle.ixdtf_print.specs.Offsets.{IsPrintableOffset, utc_offset_text};
 ghost use Rattle.ixdtf_print.specs.Printable.{record_of};
 ghost use Rattle.ixdtf_print.specs.Printed.{FitsArray};
+ghost use Rattle.ixdtf_print.specs.Zones.{IsPrintableZone, zone_in};
 
+use crate::durations::print_duration;
+use crate::offsets::print_offset;
 use crate::print_with_room;
+use crate::zones::print_zone;
 use ixdtf::encoding::Utf8;
-use ixdtf::records::IxdtfParseRecord;
+use ixdtf::records::{DurationParseRecord, IxdtfParseRecord, TimeZoneRecord, UtcOffsetRecord};
 use std::marker::Model;
 
 /// A canonical text and a newline after it, in an array of `SIZE` bytes.
@@ -47,6 +53,42 @@ impl<const SIZE: usize> PrintedText<SIZE> {
         let count = print_with_room(parts, &mut self.bytes);
         self.bytes[count] = b'\n';
         self.count = count;
+    }
+
+    /// Prints a duration that was read. It replaces what was printed before.
+    pub fn print_duration(&mut self, duration: &DurationParseRecord)
+        requires printable { IsPrintableDuration duration.now }
+        requires fits { length (duration_text duration.now) < SIZE }
+        ensures { map byte_letter self.new ≡ duration_text duration.now }
+    {
+        if let Ok(count) = print_duration(duration, &mut self.bytes) {
+            self.bytes[count] = b'\n';
+            self.count = count;
+        }
+    }
+
+    /// Prints an offset that was read. It replaces what was printed before.
+    pub fn print_offset(&mut self, offset: &UtcOffsetRecord)
+        requires printable { IsPrintableOffset offset.now }
+        requires fits { length (utc_offset_text offset.now) < SIZE }
+        ensures { map byte_letter self.new ≡ utc_offset_text offset.now }
+    {
+        if let Ok(count) = print_offset(offset, &mut self.bytes) {
+            self.bytes[count] = b'\n';
+            self.count = count;
+        }
+    }
+
+    /// Prints a zone that was read. It replaces what was printed before.
+    pub fn print_zone(&mut self, zone: &TimeZoneRecord<'_, Utf8>)
+        requires printable { IsPrintableZone (zone_in zone.now) }
+        requires fits { length (zone_text (zone_in zone.now)) < SIZE }
+        ensures { map byte_letter self.new ≡ zone_text (zone_in zone.now) }
+    {
+        if let Ok(count) = print_zone(zone, &mut self.bytes) {
+            self.bytes[count] = b'\n';
+            self.count = count;
+        }
     }
 
     /// Returns the bytes of the text, and the newline.

@@ -74,6 +74,26 @@ fn days_before_1970() {
     assert_eq!(walk(-2000, 1969, first_of(-2000)).0, 0);
 }
 
+/// The texts are those of a count of years in Python, and of the last second of 64 bits that other programs name.
+#[test]
+fn texts_of_instants() {
+    for (seconds, nanoseconds, text) in [
+        (0, 0, "1970-01-01T00:00:00Z"),
+        (-1, 999_999_999, "1969-12-31T23:59:59.999999999Z"),
+        (1_709_369_280, 250_000_000, "2024-03-02T08:48:00.25Z"),
+        (951_782_400, 100_000_000, "2000-02-29T00:00:00.1Z"),
+        (253_402_300_800, 0, "+010000-01-01T00:00:00Z"),
+        (-62_167_219_201, 0, "-000001-12-31T23:59:59Z"),
+        (31_494_784_780_799, 0, "+999999-12-31T23:59:59Z"),
+        (31_494_784_780_800, 0, "+000001000000-01-01T00:00:00Z"),
+        (i64::MAX, 0, "+292277026596-12-04T15:30:07Z"),
+        (i64::MIN, 0, "-292277022657-01-27T08:29:52Z"),
+        (59, 1_250_000_000, "1970-01-01T00:01:00.25Z"),
+    ] {
+        assert_eq!(Instant { seconds, nanoseconds }.to_string(), text);
+    }
+}
+
 /// 730 million days, in minutes: `cargo test --release --test each_day -- --ignored`.
 #[test]
 #[ignore]

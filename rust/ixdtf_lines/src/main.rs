@@ -43,7 +43,8 @@ fn standard_output() -> Box<dyn Write> {
 /// What a line of the input is, for whoever gave arguments in its place.
 const USAGE: &str = "usage: a line of standard input is a word, a space and a text, and the words are \
     parse, year-month, month-day, time, offset, zone, iana, duration, strict-month-day, \
-    strict-time, strict-duration, canonical";
+    strict-time, strict-duration, canonical, rfc3339, zone-name, canonical-offset, canonical-zone, \
+    canonical-duration";
 
 fn failed(what: &str) -> ExitCode {
     eprintln!("ixdtf_lines: {what} failed");

@@ -127,6 +127,44 @@ pub fn put_canonical<K: Sink, const SIZE: usize>(
     parts: &IxdtfParseRecord<'_, Utf8>,
 ) -> Result<(), RunError> {
     printed.print(parts);
+    put_printed(output, printed)
+}
+
+/// Prints the canonical text of the offset, and puts it.
+pub fn put_canonical_offset<K: Sink, const SIZE: usize>(
+    output: &mut Output<'_, K>,
+    printed: &mut PrintedText<SIZE>,
+    offset: &UtcOffsetRecord,
+) -> Result<(), RunError> {
+    printed.print_offset(offset);
+    put_printed(output, printed)
+}
+
+/// Prints the canonical text of the zone, and puts it.
+pub fn put_canonical_zone<K: Sink, const SIZE: usize>(
+    output: &mut Output<'_, K>,
+    printed: &mut PrintedText<SIZE>,
+    zone: &TimeZoneRecord<'_, Utf8>,
+) -> Result<(), RunError> {
+    printed.print_zone(zone);
+    put_printed(output, printed)
+}
+
+/// Prints the canonical text of the duration, and puts it.
+pub fn put_canonical_duration<K: Sink, const SIZE: usize>(
+    output: &mut Output<'_, K>,
+    printed: &mut PrintedText<SIZE>,
+    duration: &DurationParseRecord,
+) -> Result<(), RunError> {
+    printed.print_duration(duration);
+    put_printed(output, printed)
+}
+
+/// Puts a canonical text that was printed.
+fn put_printed<K: Sink, const SIZE: usize>(
+    output: &mut Output<'_, K>,
+    printed: &PrintedText<SIZE>,
+) -> Result<(), RunError> {
     output.put(b"ok ")?;
     output.put(printed.as_line())
 }

@@ -5,7 +5,10 @@
 //! Each reads the text and puts its answer. None is inlined: what a reader finds stays in the frame of its own function, and no
 //! other's is cleared for a line. A record is looked at where its reader returned it, and is not moved.
 
-use crate::outcome::{put_canonical, put_duration, put_error, put_offset, put_record, put_zone};
+use crate::outcome::{
+    put_canonical, put_canonical_duration, put_canonical_offset, put_canonical_zone, put_duration,
+    put_error, put_offset, put_record, put_zone,
+};
 use crate::word::Word;
 use ixdtf::ParserResult;
 use ixdtf::encoding::Utf8;
@@ -42,6 +45,9 @@ pub fn answer_text<K: Sink>(
         Word::Rfc3339 => answer_rfc3339(output, text),
         Word::ZoneName => answer_zone_name(output, word, text),
         Word::Rfc9557 => answer_rfc9557(output, text),
+        Word::CanonicalOffset => answer_canonical_offset(output, printed, text),
+        Word::CanonicalZone => answer_canonical_zone(output, printed, text),
+        Word::CanonicalDuration => answer_canonical_duration(output, printed, text),
     }
 }
 
@@ -171,6 +177,48 @@ fn answer_canonical<K: Sink>(
     let read = IxdtfParser::from_utf8(text).parse();
     match &read {
         Ok(parts) => put_canonical(output, printed, parts),
+        Err(error) => put_error(output, *error),
+    }
+}
+
+/// Puts the answer of `canonical-offset`.
+#[inline(never)]
+fn answer_canonical_offset<K: Sink>(
+    output: &mut Output<'_, K>,
+    printed: &mut PrintedText<MOST_PRINTED>,
+    text: &[u8],
+) -> Result<(), RunError> {
+    let read = TimeZoneParser::from_utf8(text).parse_offset();
+    match &read {
+        Ok(offset) => put_canonical_offset(output, printed, offset),
+        Err(error) => put_error(output, *error),
+    }
+}
+
+/// Puts the answer of `canonical-zone`.
+#[inline(never)]
+fn answer_canonical_zone<K: Sink>(
+    output: &mut Output<'_, K>,
+    printed: &mut PrintedText<MOST_PRINTED>,
+    text: &[u8],
+) -> Result<(), RunError> {
+    let read = TimeZoneParser::from_utf8(text).parse_identifier();
+    match &read {
+        Ok(zone) => put_canonical_zone(output, printed, zone),
+        Err(error) => put_error(output, *error),
+    }
+}
+
+/// Puts the answer of `canonical-duration`.
+#[inline(never)]
+fn answer_canonical_duration<K: Sink>(
+    output: &mut Output<'_, K>,
+    printed: &mut PrintedText<MOST_PRINTED>,
+    text: &[u8],
+) -> Result<(), RunError> {
+    let read = IsoDurationParser::<Utf8>::from_utf8(text).parse();
+    match &read {
+        Ok(duration) => put_canonical_duration(output, printed, duration),
         Err(error) => put_error(output, *error),
     }
 }

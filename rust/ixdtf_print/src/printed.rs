@@ -2,9 +2,12 @@
 
 //! The canonical text that a program printed last.
 
+use crate::durations::print_duration;
+use crate::offsets::print_offset;
 use crate::print_with_room;
+use crate::zones::print_zone;
 use ixdtf::encoding::Utf8;
-use ixdtf::records::IxdtfParseRecord;
+use ixdtf::records::{DurationParseRecord, IxdtfParseRecord, TimeZoneRecord, UtcOffsetRecord};
 
 /// A canonical text and a newline after it, in an array of `SIZE` bytes.
 ///
@@ -27,6 +30,30 @@ impl<const SIZE: usize> PrintedText<SIZE> {
         let count = print_with_room(parts, &mut self.bytes);
         self.bytes[count] = b'\n';
         self.count = count;
+    }
+
+    /// Prints a duration that was read. It replaces what was printed before.
+    pub fn print_duration(&mut self, duration: &DurationParseRecord) {
+        if let Ok(count) = print_duration(duration, &mut self.bytes) {
+            self.bytes[count] = b'\n';
+            self.count = count;
+        }
+    }
+
+    /// Prints an offset that was read. It replaces what was printed before.
+    pub fn print_offset(&mut self, offset: &UtcOffsetRecord) {
+        if let Ok(count) = print_offset(offset, &mut self.bytes) {
+            self.bytes[count] = b'\n';
+            self.count = count;
+        }
+    }
+
+    /// Prints a zone that was read. It replaces what was printed before.
+    pub fn print_zone(&mut self, zone: &TimeZoneRecord<'_, Utf8>) {
+        if let Ok(count) = print_zone(zone, &mut self.bytes) {
+            self.bytes[count] = b'\n';
+            self.count = count;
+        }
     }
 
     /// Returns the bytes of the text, and the newline.

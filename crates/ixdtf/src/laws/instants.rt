@@ -3,7 +3,7 @@
 //!
 //! They speak of dates, times and offsets, and of the count of an instant: the nanoseconds from 1970-01-01T00:00:00Z to it.
 
-ghost use Rattle.ixdtf_grammar.specs.InstantLaws.{CountsAreInOrder, CountsBeginIn1970, InstantsAreInOrder, NextDayIsADayLater, OffsetsMakeUp, Second60Is59};
+ghost use Rattle.ixdtf_grammar.specs.InstantLaws.{CountsAreInOrder, CountsBeginIn1970, InstantsAreInOrder, NextDayIsADayLater, OffsetsMakeUp, Second60Is59, TextIsReadBack};
 
 /// The next day of a date, at the same time and offset, is 86,400 seconds later, and 1 January 1970 is day 0. So every day has its
 /// number by counting, day after day.
@@ -30,4 +30,13 @@ pub fn offsets_make_up()
 /// Second 60 is the same instant as second 59, with the same fraction.
 pub fn second_60_is_59()
     ensures { Second60Is59 }
+{}
+
+/// `parse` reads what `Display` writes of an instant, and the record has this instant.
+///
+/// The law is about the instants from -999999-01-01T00:00:00Z on and before +1000000-01-01T00:00:00Z. What it states about the
+/// text is the right side of the clause `ok` of [`IxdtfParser::parse`](crate::parsers::IxdtfParser::parse). The record has a
+/// date, a time and `Z`, and nothing else.
+pub fn text_is_read_back()
+    ensures { TextIsReadBack }
 {}

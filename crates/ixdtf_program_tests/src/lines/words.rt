@@ -184,6 +184,27 @@ fn answers_canonical_texts(rt: HostRuntime) -> Result<(), Fail> {
     check_answers(&rt, rt.alloc(), CANONICAL_TEXTS)
 }
 
+#[rattlefmt::skip]
+const CANONICAL_TEXTS_OF_PARTS: &[(&str, &str)] = &[
+    ("canonical-offset -05", "ok -05:00"),
+    ("canonical-offset +0530", "ok +05:30"),
+    ("canonical-offset -050030,50", "ok -05:00:30.50"),
+    ("canonical-offset Z", "error UTC offset needs a sign"),
+    ("canonical-zone America/New_York", "ok America/New_York"),
+    ("canonical-zone -08", "ok -08:00"),
+    ("canonical-zone 5", "error Invalid time zone leading character."),
+    ("canonical-duration +p01y", "ok P1Y"),
+    ("canonical-duration P0Y0D", "ok P0D"),
+    ("canonical-duration -pt0h30,5m", "ok -PT30.5M"),
+    ("canonical-duration PT0H0M0S", "ok PT0S"),
+    ("canonical-duration P1D1Y", "error Invalid date duration part order."),
+];
+
+#[test]
+fn answers_canonical_texts_of_parts(rt: HostRuntime) -> Result<(), Fail> {
+    check_answers(&rt, rt.alloc(), CANONICAL_TEXTS_OF_PARTS)
+}
+
 /// A line of 4,096 bytes, its text a first part, the byte again and again, and a last part, is answered by a canonical text
 /// with other such parts, and the byte between them as often, but at most so many times.
 fn check_longest(

@@ -1,10 +1,6 @@
--- The front, and the canonical text with its newline.
+-- The canonical text, as bytes.
 use Rattle.ixdtf_answers.proofs.outcome.put_canonical.Goals as goal
-use Rattle.ixdtf_buffers.proofs.OutputLemmas.{Puts-after, Puts-exit}
 use Rattle.ixdtf_answers.proofs.PrintedLemmas.{spelled_bytes}
 
-pub returns-in_err-put : goal.returns-in_err-put
-returns-in_err-put g c = Puts-exit _ c.in_err-put.ensures c.from_residual.ensures.1
-
 pub returns : goal.returns
-returns g c = rw (spelled_bytes _ _ c.print.ensures) (Puts-after c.in_ok-put.ensures (rw c.as_line.ensures at c.put-2.ensures))
+returns g c = rw (spelled_bytes _ _ c.print.ensures) c.put_printed.ensures
