@@ -9,6 +9,7 @@ ghost use Rattle.ixdtf_grammar.specs.language.Letters.{Letter, Plain, byte_lette
 ghost use Rattle.ixdtf_grammar.specs.Views.{Returns, ascii_at};
 
 use crate::{ParseError, ParserResult};
+use std::hash::Hash;
 
 mod private {
     /// Only the encodings of this crate can implement this trait.
@@ -31,7 +32,7 @@ mod private {
 /// ```
 pub trait EncodingType: private::Sealed {
     /// The type of a code unit: `u8` or `u16`.
-    type CodeUnit: PartialEq + std::fmt::Debug + Clone;
+    type CodeUnit: Eq + Hash + std::fmt::Debug + Copy + Into<u32>;
 
     /// The number of a code unit.
     ghost number: { Self.CodeUnit → ℕ };

@@ -19,7 +19,7 @@ use std::marker::Model;
 /// assert!(record.time.is_none() && record.offset.is_none() && record.calendar.is_none());
 /// ```
 #[derive(Drop)]
-#[derive_where(Debug, PartialEq)]
+#[derive_where(Clone, Copy, Debug, PartialEq, Eq, Hash)]
 pub struct IxdtfParseRecord<'a, T: EncodingType> {
     /// The date (`full-date` of RFC 3339, section 5.6, or another form of ISO 8601).
     pub date: Option<DateRecord>,
@@ -94,7 +94,7 @@ pub struct TimeRecord {
 /// assert_eq!(core::str::from_utf8(name), Ok("Europe/Paris"));
 /// ```
 #[derive(Drop)]
-#[derive_where(Clone, Debug, PartialEq)]
+#[derive_where(Clone, Copy, Debug, PartialEq, Eq, Hash)]
 pub struct TimeZoneAnnotation<'a, T: EncodingType> {
     /// Whether a `!` follows the opening bracket (`critical-flag`). If it does, an application must process the zone,
     /// or reject the text.
@@ -120,7 +120,7 @@ pub struct TimeZoneAnnotation<'a, T: EncodingType> {
 /// assert_eq!((annotation.critical, annotation.key, annotation.value), (true, b"answer".as_slice(), b"fortytwo".as_slice()));
 /// ```
 #[derive(Drop)]
-#[derive_where(Clone, Debug, PartialEq)]
+#[derive_where(Clone, Copy, Debug, PartialEq, Eq, Hash)]
 pub struct Annotation<'a, T: EncodingType> {
     /// Whether a `!` follows the opening bracket (`critical-flag`). If it does, an application must process the
     /// annotation, or reject the text.
@@ -133,7 +133,7 @@ pub struct Annotation<'a, T: EncodingType> {
 
 /// A time zone: a name such as `Europe/Paris`, or an offset such as `+05:30`.
 #[derive(Drop)]
-#[derive_where(Clone, Debug, PartialEq)]
+#[derive_where(Clone, Copy, Debug, PartialEq, Eq, Hash)]
 pub enum TimeZoneRecord<'a, T: EncodingType> {
     /// The code units of a name (`time-zone-name` of RFC 9557, section 4.1): a slice of the text. It is not checked
     /// that such a zone exists.

@@ -19,11 +19,11 @@ use crate::classes::two_digit_number;
 use crate::looks::Looks;
 use crate::stop::{FromStop, Stop, error_of_stop};
 use ixdtf_grammar::encoding::EncodingType;
+use std::fmt;
 use std::marker::Model;
 
 /// The remaining code units.
 #[derive(Drop)]
-#[derive_where(Debug)]
 pub struct Cursor<'a, T: EncodingType> {
     rest: &'a [T::CodeUnit],
     // The count of accesses to code units. It takes no bytes.
@@ -34,6 +34,29 @@ impl<'a, T: EncodingType> Model for Cursor<'a, T> {
     ghost Value = { Unread };
 
     ghost view = { λ c. record { rest = map T.number c.rest.now; looks = c.looks.count } };
+}
+
+// `Debug` writes the remaining input in quotation marks. A `"` and a `\` have a `\` before them. Any other code unit
+// that is not a printable ASCII character is written by its number, as `\x0a` or `\u{2212}`.
+impl<'a, T: EncodingType> fmt::Debug for Cursor<'a, T> {
+    fn fmt<W: fmt::Write>(&self, f: &mut fmt::Formatter<W>) -> fmt::Result {
+        f.write_str("\"")?;
+        for unit in self.rest.iter() {
+            write_unit(f, (*unit).into())?;
+        }
+        f.write_str("\"")
+    }
+}
+
+/// Writes a code unit: a printable ASCII character as it is, and any other by its number.
+fn write_unit<W: fmt::Write>(f: &mut fmt::Formatter<W>, number: u32) -> fmt::Result {
+    match u8::try_from(number) {
+        Err(_) => write!(f, "\\u{{{:x}}}", number),
+        Ok(b'"') => f.write_str("\\\""),
+        Ok(b'\\') => f.write_str("\\\\"),
+        Ok(byte) if byte.is_ascii_graphic() || byte == b' ' => write!(f, "{}", char::from(byte)),
+        Ok(byte) => write!(f, "\\x{:02x}", byte),
+    }
 }
 
 impl<'a, T: EncodingType> Cursor<'a, T> {

@@ -9,11 +9,34 @@
 use crate::classes::two_digit_number;
 use crate::stop::{FromStop, Stop, error_of_stop};
 use crate::encoding::EncodingType;
+use core::fmt;
 
 /// The remaining code units.
-#[derive(Debug)]
 pub struct Cursor<'a, T: EncodingType> {
     rest: &'a [T::CodeUnit],
+}
+
+// `Debug` writes the remaining input in quotation marks. A `"` and a `\` have a `\` before them. Any other code unit
+// that is not a printable ASCII character is written by its number, as `\x0a` or `\u{2212}`.
+impl<'a, T: EncodingType> fmt::Debug for Cursor<'a, T> {
+    fn fmt(&self, f: &mut fmt::Formatter<'_>) -> fmt::Result {
+        f.write_str("\"")?;
+        for unit in self.rest.iter() {
+            write_unit(f, (*unit).into())?;
+        }
+        f.write_str("\"")
+    }
+}
+
+/// Writes a code unit: a printable ASCII character as it is, and any other by its number.
+fn write_unit(f: &mut fmt::Formatter<'_>, number: u32) -> fmt::Result {
+    match u8::try_from(number) {
+        Err(_) => write!(f, "\\u{{{:x}}}", number),
+        Ok(b'"') => f.write_str("\\\""),
+        Ok(b'\\') => f.write_str("\\\\"),
+        Ok(byte) if byte.is_ascii_graphic() || byte == b' ' => write!(f, "{}", char::from(byte)),
+        Ok(byte) => write!(f, "\\x{:02x}", byte),
+    }
 }
 
 impl<'a, T: EncodingType> Cursor<'a, T> {

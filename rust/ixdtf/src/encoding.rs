@@ -6,6 +6,7 @@
 //! which byte, and the readers see this byte.
 
 use crate::{ParseError, ParserResult};
+use core::hash::Hash;
 
 mod private {
     /// Only the encodings of this crate can implement this trait.
@@ -28,7 +29,7 @@ mod private {
 /// ```
 pub trait EncodingType: private::Sealed {
     /// The type of a code unit: `u8` or `u16`.
-    type CodeUnit: PartialEq + core::fmt::Debug + Clone;
+    type CodeUnit: Eq + Hash + core::fmt::Debug + Copy + Into<u32>;
 
     /// Returns the code units from `start` up to, but not including, `end`.
     ///

@@ -16,7 +16,7 @@ use crate::packed::PackedNumber;
 /// assert!(record.date.is_some() && record.tz.is_some());
 /// assert!(record.time.is_none() && record.offset.is_none() && record.calendar.is_none());
 /// ```
-#[derive(Debug, PartialEq)]
+#[derive(Clone, Copy, Debug, PartialEq, Eq, Hash)]
 #[cfg_attr(not(feature = "open-records"), non_exhaustive)]
 pub struct IxdtfParseRecord<'a, T: EncodingType> {
     /// The date (`full-date` of RFC 3339, section 5.6, or another form of ISO 8601).
@@ -87,7 +87,7 @@ pub struct TimeRecord {
 /// let TimeZoneRecord::Name(name) = zone.tz else { panic!("an offset") };
 /// assert_eq!(core::str::from_utf8(name), Ok("Europe/Paris"));
 /// ```
-#[derive(Clone, Debug, PartialEq)]
+#[derive(Clone, Copy, Debug, PartialEq, Eq, Hash)]
 #[cfg_attr(not(feature = "open-records"), non_exhaustive)]
 pub struct TimeZoneAnnotation<'a, T: EncodingType> {
     /// Whether a `!` follows the opening bracket (`critical-flag`). If it does, an application must process the zone,
@@ -113,7 +113,7 @@ pub struct TimeZoneAnnotation<'a, T: EncodingType> {
 /// let annotation = found.unwrap();
 /// assert_eq!((annotation.critical, annotation.key, annotation.value), (true, b"answer".as_slice(), b"fortytwo".as_slice()));
 /// ```
-#[derive(Clone, Debug, PartialEq)]
+#[derive(Clone, Copy, Debug, PartialEq, Eq, Hash)]
 #[cfg_attr(not(feature = "open-records"), non_exhaustive)]
 pub struct Annotation<'a, T: EncodingType> {
     /// Whether a `!` follows the opening bracket (`critical-flag`). If it does, an application must process the
@@ -126,7 +126,7 @@ pub struct Annotation<'a, T: EncodingType> {
 }
 
 /// A time zone: a name such as `Europe/Paris`, or an offset such as `+05:30`.
-#[derive(Clone, Debug, PartialEq)]
+#[derive(Clone, Copy, Debug, PartialEq, Eq, Hash)]
 #[non_exhaustive]
 pub enum TimeZoneRecord<'a, T: EncodingType> {
     /// The code units of a name (`time-zone-name` of RFC 9557, section 4.1): a slice of the text. It is not checked

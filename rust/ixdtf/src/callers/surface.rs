@@ -27,25 +27,21 @@ fn is_copied<X: Copy + Debug + PartialEq>() {}
 
 fn is_hashed<X: Copy + Debug + Eq + Hash>() {}
 
-fn is_cloned<X: Clone + Debug + PartialEq>() {}
-
-fn is_compared<X: Debug + PartialEq>() {}
-
 fn is_error<X: Copy + Debug + Display + Error + PartialEq>() {}
 
 fn is_displayed<X: Copy + Debug + Display>() {}
 
 // The traits of what an encoding has, and of the encoding.
 fn has_traits<T: EncodingType>() {
-    is_compared::<IxdtfParseRecord<'static, Utf8>>();
+    is_hashed::<IxdtfParseRecord<'static, Utf8>>();
     is_default::<IxdtfParseRecord<'static, Utf16>>();
-    is_cloned::<Annotation<'static, Utf8>>();
-    is_cloned::<TimeZoneAnnotation<'static, Utf16>>();
-    is_cloned::<TimeZoneRecord<'static, Utf8>>();
+    is_hashed::<Annotation<'static, Utf8>>();
+    is_hashed::<TimeZoneAnnotation<'static, Utf16>>();
+    is_hashed::<TimeZoneRecord<'static, Utf8>>();
     is_shown::<IxdtfParser<'static, Utf16>>();
     is_shown::<TimeZoneParser<'static, Utf8>>();
     is_shown::<IsoDurationParser<'static, Utf16>>();
-    is_cloned::<T::CodeUnit>();
+    is_hashed::<T::CodeUnit>();
 }
 
 #[test]

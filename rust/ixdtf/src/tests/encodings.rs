@@ -8,7 +8,37 @@ use crate::runtime::{HostRuntime, TryClone};
 use super::check;
 use super::wide::Wide;
 use ixdtf::encoding::{EncodingType, Utf8, Utf16};
+use ixdtf::parsers::TimeZoneParser;
 use crate::runtime::Abort;
+use crate::runtime::Fail;
+
+// What `Debug` writes of a parser.
+const SHOWN: &[(&str, &str)] = &[
+    ("", "TimeZoneParser { cursor: \"\" }"),
+    ("+01:00 ~", "TimeZoneParser { cursor: \"+01:00 ~\" }"),
+    ("\"\\\"", "TimeZoneParser { cursor: \"\\\"\\\\\\\"\" }"),
+    ("\n\u{7f}", "TimeZoneParser { cursor: \"\\x0a\\x7f\" }"),
+    (
+        "\u{2212}1",
+        "TimeZoneParser { cursor: \"\\xe2\\x88\\x921\" }",
+    ),
+];
+
+#[test]
+fn debug_shows_the_text_of_a_parser() -> Result<(), Fail> {
+    let rt = HostRuntime;
+    for (text, shown) in SHOWN {
+        let parser = TimeZoneParser::from_str(text);
+        let written = format!(in rt.alloc(); "{parser:?}")?;
+        check(&rt, text, written.as_str() == *shown);
+    }
+    let wide = Wide::new("\u{2212}01");
+    let parser = TimeZoneParser::from_utf16(wide.units());
+    let written = format!(in rt.alloc(); "{parser:?}")?;
+    let shown = "TimeZoneParser { cursor: \"\\u{2212}01\" }";
+    check(&rt, "wide", written.as_str() == shown);
+    Ok(())
+}
 
 const UNITS: [u8; 3] = [0, 65, 255];
 
