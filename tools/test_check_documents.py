@@ -175,7 +175,7 @@ class Clauses(InATree):
     def test_each_reader_of_a_group(self):
         self.assertEqual(len(check.members('each reader')), 30)
         self.assertEqual(check.members('part located')[-1], 'IsoDurationParser::parse_located')
-        self.assertEqual(len(self.clauses('*handler located*: `handled`')), 4)
+        self.assertEqual(len(self.clauses("*handler located*: `handled`")), 5)
 
 
 class Tables(InATree):
