@@ -1,8 +1,16 @@
 -- A form with a handler only passes its arguments on to `read_as`, at its error and its kind of cores. Assumes `Logic`.
 use denote.Param.Glue
 use denote.Param.Members as Members
+use denote.Builtin
+use denote.Struct.Field
+use Rattle.std.specs.declared.cmp.Eq as equal
+use Rattle.std.specs.contracts.cmp.Eq.TheBound as equal_bound
 use Rattle.std.specs.declared.cmp.PartialEq as eq
 use Rattle.std.specs.contracts.cmp.PartialEq.TheBound as eq_bound
+use Rattle.std.specs.declared.hash.Hash as hash
+use Rattle.std.specs.contracts.hash.Hash.TheBound as hash_bound
+use Rattle.std.specs.declared.convert.Into as into
+use Rattle.std.specs.contracts.convert.Into.TheBound as into_bound
 use Rattle.std.specs.declared.fmt.Debug as debug
 use Rattle.std.specs.contracts.fmt.Debug.TheBound as debug_bound
 use Rattle.std.specs.declared.clone.Clone as clone
@@ -45,7 +53,7 @@ use denote.Exit.{yes, no}
 use denote.RattleType.{RattleType, Denots}
 use denote.Ref.{NamedLft}
 use denote.Param.{param, arg, layout, bounded}
-use denote.Param.Laws.{Laws, arg_laws}
+use denote.Param.Laws.{Laws, IsCopy, arg_laws}
 use denote.Signature.{Signature, types_at}
 use denote.Triple.Impl.{implements, insides_in, with_fact}
 use denote.Triple.Carry.{insides}
@@ -109,12 +117,14 @@ module _ {M : Type 1} (𝓤 : Ura M) where
   says true handles places = snd∗ 𝓤 handles places
 
 module _ {M : Type 1} (𝓤 : Ura M) (𝓛 : Logic 𝓤) (𝓜 : Model 𝓤 𝓛.H) (𝓡 : Running 𝓤 𝓛.H 𝓜) (X : Error) (K : Kind)
-    (T' U F : RattleType) (LT : Laws T') (LU : Laws U) (LF : Laws F)
-    (g₀ : encoding.Ghosts T'.Denot U.Denot) (d₀ : Dict) (gₛ : sealed.Ghosts T'.Denot) (dₛ : Dict) (g₁ : eq.Ghosts U.Denot) (d₁ : Dict)
-    (g₂ : debug.Ghosts U.Denot) (d₂ : Dict) (g₃ : clone.Ghosts U.Denot) (d₃ d₄ : Dict) (g : R.F-FnMut.Ghosts T' U F) (d d' d'' : Dict) (P : Lfts 5 → Type 0)
-    (b₀ : encoding_bound.Met 𝓛 𝓜 𝓡 𝓡.env T' U g₀ d₀ gₛ dₛ g₁ d₁ g₂ d₂ g₃ d₃) (bₛ : sealed_bound.Met 𝓛 𝓜 𝓡 𝓡.env T' gₛ dₛ)
-    (b₁ : eq_bound.Met 𝓛 𝓜 𝓡 𝓡.env U g₁ d₁) (b₂ : debug_bound.Met 𝓛 𝓜 𝓡 𝓡.env U g₂ d₂)
-    (b₃ : clone_bound.Met 𝓛 𝓜 𝓡 𝓡.env U g₃ d₃) (b₄ : Glue.Met 𝓛 𝓜 𝓡 𝓡.env U d₄)
+    (T' U F : RattleType) (LT : Laws T') (LU : Laws U) (LF : Laws F) (cU : IsCopy U)
+    (g₀ : encoding.Ghosts T'.Denot U.Denot) (d₀ : Dict) (gₛ : sealed.Ghosts T'.Denot) (dₛ : Dict) (gₑ : equal.Ghosts U.Denot) (dₑ : Dict)
+    (g₁ : eq.Ghosts U.Denot) (d₁ : Dict) (gₕ : hash.Ghosts U.Denot) (dₕ : Dict) (g₂ : debug.Ghosts U.Denot) (d₂ : Dict) (g₃ : clone.Ghosts U.Denot) (d₃ : Dict)
+    (gᵢ : into.Ghosts U.Denot (Field.u32-field).Value) (dᵢ : Dict) (g : R.F-FnMut.Ghosts T' U F) (d d' d'' : Dict) (P : Lfts 5 → Type 0)
+    (b₀ : encoding_bound.Met 𝓛 𝓜 𝓡 𝓡.env T' U g₀ d₀ gₛ dₛ gₑ dₑ g₁ d₁ gₕ dₕ g₂ d₂ g₃ d₃ gᵢ dᵢ) (bₛ : sealed_bound.Met 𝓛 𝓜 𝓡 𝓡.env T' gₛ dₛ)
+    (bₑ : equal_bound.Met 𝓛 𝓜 𝓡 𝓡.env U gₑ dₑ g₁ d₁) (b₁ : eq_bound.Met 𝓛 𝓜 𝓡 𝓡.env U g₁ d₁)
+    (bₕ : hash_bound.Met 𝓛 𝓜 𝓡 𝓡.env U gₕ dₕ gₑ dₑ g₁ d₁) (b₂ : debug_bound.Met 𝓛 𝓜 𝓡 𝓡.env U g₂ d₂)
+    (b₃ : clone_bound.Met 𝓛 𝓜 𝓡 𝓡.env U g₃ d₃) (bᵢ : into_bound.Met 𝓛 𝓜 𝓡 𝓡.env U Builtin.u32 gᵢ dᵢ)
     (b : (κs : Lfts 5) → P κs → GM.Met 𝓛 𝓜 𝓡 𝓡.env κs.1.0 T' U (E X) K.row F g d × GM.Lawful T' U (E X) K.row F g)
     (b' : (κs : Lfts 5) → P κs → GO.Met 𝓛 𝓜 𝓡 𝓡.env κs.1.0 T' U (E X) K.row F (Members.once g) d') (b'' : Glue.Met 𝓛 𝓜 𝓡 𝓡.env F d'') where
   abbrev 𝓣 : Tables 𝓤 𝓛.H
@@ -124,37 +134,37 @@ module _ {M : Type 1} (𝓤 : Ura M) (𝓛 : Logic 𝓤) (𝓜 : Model 𝓤 𝓛
   at κs = record { mir = named 1; lft = κs.1.0 }
 
   abbrev S : Signature
-  S = handing (R.signature T' U F g₀ d₀ gₛ dₛ g₁ d₁ g₂ d₂ g₃ d₃ d₄ g d d' d'' P).outlives (λ κs. IxdtfParser.the_row (at κs) (param 0 T') (param 1 U) g₀ g₁ g₂ g₃)
+  S = handing (R.signature T' U F g₀ d₀ gₛ dₛ gₑ dₑ g₁ d₁ gₕ dₕ g₂ d₂ g₃ d₃ gᵢ dᵢ g d d' d'' P).outlives (λ κs. IxdtfParser.the_row (at κs) (param 0 T') (param 1 U) g₀ g₁ gₕ g₂ gᵢ)
       2 F (λ κs. Got X.given (at κs) 0 1 T' U)
 
   abbrev Q : Lfts 7 → Type 0
   Q = Under 5 P
 
   abbrev S' : Signature
-  S' = G.signature T' U (E X) K.row F g₀ d₀ gₛ dₛ g₁ d₁ g₂ d₂ g₃ d₃ d₄ X.ghosts X.dict K.ghosts K.dict g d d' d'' Q
+  S' = G.signature T' U (E X) K.row F g₀ d₀ gₛ dₛ gₑ dₑ g₁ d₁ gₕ dₕ g₂ d₂ g₃ d₃ gᵢ dᵢ X.ghosts X.dict K.ghosts K.dict g d d' d'' Q
 
   abbrev k : Spec 𝓤 S'
-  k = G.spec T' U (E X) K.row F g₀ d₀ gₛ dₛ g₁ d₁ g₂ d₂ g₃ d₃ d₄ X.ghosts X.dict K.ghosts K.dict g d d' d'' Q 𝓛 𝓜.mem 𝓡.returns
+  k = G.spec T' U (E X) K.row F g₀ d₀ gₛ dₛ gₑ dₑ g₁ d₁ gₕ dₕ g₂ d₂ g₃ d₃ gᵢ dᵢ X.ghosts X.dict K.ghosts K.dict g d d' d'' Q 𝓛 𝓜.mem 𝓡.returns
 
   -- neither the error nor the kind names a lifetime, so their tokens may be any
   abbrev f : Lfts 5 → Lfts 7
   f τs = (τs.0, (τs.1.0, (τs.1.1.0, (τs.1.1.1.0, (τs.1.0, (τs.1.0, (τs.1.1.1.1.0, tt)))))))
 
   abbrev asked : (τs : Lfts 5) → Denots (types_at S'.params (f τs)) → SProp 𝓤
-  asked τs a = R.requires-callable T' U F g₀ d₀ gₛ dₛ g₁ d₁ g₂ d₂ g₃ d₃ d₄ g d d' d'' P 𝓛 τs 𝓜.mem 𝓡.returns a.0 a.1.0
+  asked τs a = R.requires-callable T' U F g₀ d₀ gₛ dₛ gₑ dₑ g₁ d₁ gₕ dₕ g₂ d₂ g₃ d₃ gᵢ dᵢ g d d' d'' P 𝓛 τs 𝓜.mem 𝓡.returns a.0 a.1.0
 
   -- what `read_as` runs
   abbrev run : Fun 𝓤
   run = 𝓡.run (𝓡.env (G_key.name (bounded (a_type ∷ a_type ∷ a_type ∷ a_type ∷ a_type ∷ []) (T', (U, (E X, (K.row, (F, tt)))))
-      (dcons d₀ (dcons dₛ (dcons d₁ (dcons d₂ (dcons d₃ (dcons d₄ (dcons X.dict (dcons K.dict (dcons d (dcons d' (dcons d'' dnil))))))))))))))
+      (dcons d₀ (dcons dₛ (dcons dₑ (dcons d₁ (dcons dₕ (dcons d₂ (dcons d₃ (dcons dᵢ (dcons X.dict (dcons K.dict (dcons d (dcons d' (dcons d'' dnil))))))))))))))))
 
   -- what `read_as` ensures without the place and with it, at these values at exit
   abbrev handles : (τs : Lfts 5) (a : Denots (types_at S'.params (f τs))) → Outs (f τs) S'.params (yes, (no, tt)) → Res S' (f τs) → SProp 𝓤
-  handles τs a e = G.ensures-handles T' U (E X) K.row F g₀ d₀ gₛ dₛ g₁ d₁ g₂ d₂ g₃ d₃ d₄ X.ghosts X.dict K.ghosts K.dict g d d' d'' Q 𝓛 (f τs) 𝓜.mem 𝓡.returns
+  handles τs a e = G.ensures-handles T' U (E X) K.row F g₀ d₀ gₛ dₛ gₑ dₑ g₁ d₁ gₕ dₕ g₂ d₂ g₃ d₃ gᵢ dᵢ X.ghosts X.dict K.ghosts K.dict g d d' d'' Q 𝓛 (f τs) 𝓜.mem 𝓡.returns
       a.0 a.1.0 record { entry = a.0; exit = e.0 } record { entry = a.1.0; exit = e.1.0 }
 
   abbrev places : (τs : Lfts 5) (a : Denots (types_at S'.params (f τs))) → Outs (f τs) S'.params (yes, (no, tt)) → Res S' (f τs) → SProp 𝓤
-  places τs a e = G.ensures-places T' U (E X) K.row F g₀ d₀ gₛ dₛ g₁ d₁ g₂ d₂ g₃ d₃ d₄ X.ghosts X.dict K.ghosts K.dict g d d' d'' Q 𝓛 (f τs) 𝓜.mem 𝓡.returns
+  places τs a e = G.ensures-places T' U (E X) K.row F g₀ d₀ gₛ dₛ gₑ dₑ g₁ d₁ gₕ dₕ g₂ d₂ g₃ d₃ gᵢ dᵢ X.ghosts X.dict K.ghosts K.dict g d d' d'' Q 𝓛 (f τs) 𝓜.mem 𝓡.returns
       a.0 a.1.0 record { entry = a.0; exit = e.0 } record { entry = a.1.0; exit = e.1.0 }
 
   -- the contract of the form: one of the two, where the handler may be called
@@ -192,8 +202,8 @@ module _ {M : Type 1} (𝓤 : Ura M) (𝓛 : Logic 𝓤) (𝓜 : Model 𝓤 𝓛
       (insides_in 𝓤 5 (τs.1.1.0, (τs.1.1.1.0, (τs.1.0, (τs.1.0, (τs.1.1.1.1.0, tt))))) (T'.lives, (U.lives, ((E X).lives, (K.row.lives, (F.lives, tt)))))
       (sep 𝓤 (fact 𝓤 (Q (f τs))) (asked τs a)) (h.1.0, (h.1.1.0, (X.static τs.1.0, (K.static τs.1.0, (h.1.1.1.0, tt))))))))
       (λ τs a x r. ensured τs a r)
-      (G_met.met 𝓤 𝓛 𝓜 𝓡 wired T' U (E X) K.row F LT LU (taken_laws X.given X.laws X.is) K.laws LF g₀ d₀ gₛ dₛ g₁ d₁ g₂ d₂ g₃ d₃ d₄ X.ghosts X.dict K.ghosts K.dict g d d' d'' Q
-      b₀ bₛ b₁ b₂ b₃ b₄ raising cored
+      (G_met.met 𝓤 𝓛 𝓜 𝓡 wired T' U (E X) K.row F LT LU (taken_laws X.given X.laws X.is) K.laws LF cU g₀ d₀ gₛ dₛ gₑ dₑ g₁ d₁ gₕ dₕ g₂ d₂ g₃ d₃ gᵢ dᵢ X.ghosts X.dict K.ghosts K.dict g d d' d'' Q
+      b₀ bₛ bₑ b₁ bₕ b₂ b₃ bᵢ raising cored
       (λ κs p. subst (λ (β : Lft). GM.Met 𝓛 𝓜 𝓡 𝓡.env β T' U (E X) K.row F g d × GM.Lawful T' U (E X) K.row F g) p.2 (b p.0 p.1))
       (λ κs p. subst (λ (β : Lft). GO.Met 𝓛 𝓜 𝓡 𝓡.env β T' U (E X) K.row F (Members.once g) d') p.2 (b' p.0 p.1))
       b'')
@@ -203,6 +213,6 @@ module _ {M : Type 1} (𝓤 : Ura M) (𝓛 : Logic 𝓤) (𝓜 : Model 𝓤 𝓛
       → (h : Handing) (here : Callee) → ((κs : Lfts 5) → h.result ≡ layout (Got X.given (at κs) 0 1 T' U)) → run ≡ 𝓣.C h.callee
       → Closed 𝓤 𝓛.H 𝓣.C 𝓣.Λ here (handing_on h (layout F)) → Triple 𝓤 (𝓣.C here) (triple_of 𝓛 S c)
   form wired raising cored h here result_is calls closed =
-      hands_on S.outlives (λ κs. IxdtfParser.the_row (at κs) (param 0 T') (param 1 U) g₀ g₁ g₂ g₃) 2 F (λ κs. Got X.given (at κs) 0 1 T' U) 𝓛 𝓣 c LF h here
+      hands_on S.outlives (λ κs. IxdtfParser.the_row (at κs) (param 0 T') (param 1 U) g₀ g₁ gₕ g₂ gᵢ) 2 F (λ κs. Got X.given (at κs) 0 1 T' U) 𝓛 𝓣 c LF h here
       (λ κs x r is. rw (result_is κs) (lands X.given (at κs) 0 1 T' U X.laws LT LU 𝓛 x r is)) closed
       (rw (← calls) (met wired raising cored))

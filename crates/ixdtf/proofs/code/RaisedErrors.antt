@@ -11,7 +11,7 @@ use mir.Val.{Val, has_ty, WT}
 use denote.Exit.{no}
 use denote.Laws.{Is}
 use denote.Param.{layout, arg}
-use denote.Param.Laws.{Laws, param_laws, arg_laws}
+use denote.Param.Laws.{Laws, param_laws, copied_laws, arg_laws}
 use denote.Enum.Loose.{loose_lawful}
 use types.Logic.{Logic}
 use seplogic.Ra.Ura.{Ura}
@@ -28,7 +28,7 @@ pub use contract.Monad.{fact, fact_use}
 pub use contract.Running.{tables}
 unfoldable pub use contract.Running.{tables_of}
 pub use denote.RattleType.{RattleType, Denots}
-pub use denote.Param.{param}
+pub use denote.Param.{param, copied}
 pub use denote.Ref.{NamedLft}
 pub use denote.Signature.{types_at}
 pub use denote.Triple.Impl.{implements, insides_in, with_fact}
@@ -54,7 +54,7 @@ module _ (Error : RattleType) where
   -- a record, of an encoding and its code units by their numbers among the types, or this error
   module _ (at : NamedLft) (i j : ℕ) (T' U : RattleType) where
     abbrev pub RecordRow : RattleType
-    RecordRow = IxdtfParseRecord.the_row at (param i T') (param j U)
+    RecordRow = IxdtfParseRecord.the_row at (param i T') (copied j U)
 
     abbrev pub Got : RattleType
     Got = Result.the_row RecordRow Error
@@ -62,5 +62,5 @@ module _ (Error : RattleType) where
     pub lands : Laws Error → Laws T' → Laws U → {M : Type 1} {𝓤 : Ura M} (𝓛 : Logic 𝓤) (x : Got.Denot) (r : Val) → Is Got x (r ∷ [])
         → T (has_ty (layout Got) r) × WT r
     lands error_laws LT LU 𝓛 x r is =
-        let record_is = record_laws.the_row_laws at (param i T') (param j U) (param_laws i T' LT) (param_laws j U LU) in
+        let record_is = record_laws.the_row_laws at (param i T') (copied j U) (param_laws i T' LT) (copied_laws j U LU) in
         ((loose_lawful (Result.the_type RecordRow Error) (result_laws.the_loose RecordRow Error record_is error_laws) tt 𝓛).typed x (r ∷ []) is).0

@@ -10,6 +10,6 @@ use Rattle.ixdtf.proofs.code.HandledForms.{tables_of, refl, ⊑_static, kind_of,
 
 pub parse_with_annotation_handler_spec : {M : Type 1} → stated.statement M
 unfolding tables_of
-parse_with_annotation_handler_spec {M} 𝓤 𝓛 𝓜 𝓡 wired T' U F LT LU LF g₀ d₀ gₛ dₛ g₁ d₁ g₂ d₂ g₃ d₃ d₄ g d d' d'' P b₀ bₛ b₁ b₂ b₃ b₄ b b' b'' =
-    form 𝓤 𝓛 𝓜 𝓡 plain (kind_of DateTimes.the_row cores_laws.the_row_laws refl cores.ghosts cores.dict ⊑_static) T' U F LT LU LF g₀ d₀ gₛ dₛ g₁ d₁ g₂ d₂ g₃ d₃ d₄ g d d' d'' P b₀ bₛ b₁ b₂ b₃ b₄ b b' b'' (code.calls-ixdtf::parsers::IxdtfParser::read_as 𝓡.env wired)
-    (error_met.passed 𝓡.env (code.calls-ixdtf_reading::stop::ParseErrorFromStop::of_stop 𝓡.env wired) M 𝓤 𝓛 𝓜 𝓡) (cores_met.passed 𝓡.env (code.calls-ixdtf::parsers::cores::DateTimesCoreReader::parse_core 𝓡.env wired) (code.calls-ixdtf::parsers::cores::DateTimesCoreReader::has_exact_zones 𝓡.env wired) M 𝓤 𝓛 𝓜 𝓡) _ _ (λ κs. refl) refl (code.unfolded 𝓤 𝓛.H 𝓜 𝓡 wired (T', (U, (F, tt))) d₀ dₛ d₁ d₂ d₃ d₄ d d' d'')
+parse_with_annotation_handler_spec {M} 𝓤 𝓛 𝓜 𝓡 wired T' U F LT LU LF cU g₀ d₀ gₛ dₛ gₑ dₑ g₁ d₁ gₕ dₕ g₂ d₂ g₃ d₃ gᵢ dᵢ g d d' d'' P b₀ bₛ bₑ b₁ bₕ b₂ b₃ bᵢ b b' b'' =
+    form 𝓤 𝓛 𝓜 𝓡 plain (kind_of DateTimes.the_row cores_laws.the_row_laws refl cores.ghosts cores.dict ⊑_static) T' U F LT LU LF cU g₀ d₀ gₛ dₛ gₑ dₑ g₁ d₁ gₕ dₕ g₂ d₂ g₃ d₃ gᵢ dᵢ g d d' d'' P b₀ bₛ bₑ b₁ bₕ b₂ b₃ bᵢ b b' b'' (code.calls-ixdtf::parsers::IxdtfParser::read_as 𝓡.env wired)
+    (error_met.passed 𝓡.env (code.calls-ixdtf_reading::stop::ParseErrorFromStop::of_stop 𝓡.env wired) M 𝓤 𝓛 𝓜 𝓡) (cores_met.passed 𝓡.env (code.calls-ixdtf::parsers::cores::DateTimesCoreReader::parse_core 𝓡.env wired) (code.calls-ixdtf::parsers::cores::DateTimesCoreReader::has_exact_zones 𝓡.env wired) M 𝓤 𝓛 𝓜 𝓡) _ _ (λ κs. refl) refl (code.unfolded 𝓤 𝓛.H 𝓜 𝓡 wired (T', (U, (F, tt))) d₀ dₛ dₑ d₁ dₕ d₂ d₃ dᵢ d d' d'')
