@@ -108,7 +108,7 @@ def phrase(text):
     return tokens_of(text)
 
 
-REMOVED = [phrase(t) for t in ['#![tactic(auto)]', '#[rattlefmt::skip]', 'use std::marker::Model;', '#[derive(Drop)]', 'pub mod laws;', 'mod laws;', 'mod printed_durations;',
+REMOVED = [phrase(t) for t in ['#![tactic(auto)]', '#[rattlefmt::skip]', 'use std::marker::Model;', '#[derive(Drop)]', 'pub mod laws;', 'mod laws;', 'mod printed_durations;', 'mod printed_kinds;',
                                '#[cfg(test)] mod tests;', '#[cfg(test)]', 'pub mod turns;', 'pub mod memory;', 'pub use laws::{canonical_fits, canonical_is_read_back, duration_fits, duration_is_read_back};', 'use crate::looks::Looks;', 'looks: Looks,', 'looks: Looks::none(),', 'self.looks.tick();',
                                'let common = left.len().min(right.len());', 'self.looks.tick_by(common);', 'self.looks.tick_by(4);',
                                'looks: std::mem::replace(&mut self.looks, Looks::none()),', 'self.keep_looks(here);', 'self.cursor.keep_looks(here);',
