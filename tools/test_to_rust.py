@@ -131,7 +131,7 @@ ADDED = [phrase(t) for t in [
     'pub type ParserResult<T> = Result<T, ParseError>;',
     '#[non_exhaustive]', '#[cfg_attr(not(feature = "open-records"), non_exhaustive)]', '#[repr(i8)]',
     '#![cfg_attr(not(test), no_std)] extern crate core as std;', '#[cfg(not(test))] mod abort;', 'extern crate core as std;',
-    '#![no_std]', '#![cfg_attr(not(test), no_std)]', '#![forbid(unsafe_code)]', '#[derive(PartialEq)]',
+    '#![no_std]', '#![cfg_attr(not(test), no_std)]', '#![forbid(unsafe_code)]', '#![allow(clippy::let_and_return)]', '#[derive(PartialEq)]',
     '#[inline]', '#[must_use]', '#![doc = include_str!("../README.md")]', '#[cfg(test)] extern crate self as ixdtf;', '#[cfg(test)] #[macro_use] mod runtime; #[cfg(test)] mod callers; #[cfg(test)] mod tests;',
     '#[allow(unused_imports)] use crate::runtime::{HostRuntime, TryClone};', 'let rt = HostRuntime;', '_ => unreachable!(),']]
 

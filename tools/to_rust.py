@@ -58,7 +58,8 @@ TOP = os.path.join(os.path.dirname(os.path.abspath(__file__)), '..')
 MADE = '// Made by tools/to_rust.py of {0}. Do not edit.\n\n'
 # the head of each root file, and its end
 README = '#![doc = include_str!("../README.md")]\n'
-LIBRARY = (README + '#![cfg_attr(not(test), no_std)]\n#![forbid(unsafe_code)]\n\n#[cfg(test)]\nextern crate self as ixdtf;\n',
+# Without the counts of accesses, a function can return what it has bound in the line before (`is_exact_zone`).
+LIBRARY = (README + '#![cfg_attr(not(test), no_std)]\n#![forbid(unsafe_code)]\n#![allow(clippy::let_and_return)]\n\n#[cfg(test)]\nextern crate self as ixdtf;\n',
            '\nmod from_text;\n\n#[cfg(test)]\n#[macro_use]\nmod runtime;\n#[cfg(test)]\nmod callers;\n#[cfg(test)]\nmod tests;\n')
 PRINTER = (README + '#![no_std]\n#![forbid(unsafe_code)]\n', '')
 PROGRAM = ('#![forbid(unsafe_code)]\n', '')

@@ -3,6 +3,7 @@
 #![doc = include_str!("../README.md")]
 #![cfg_attr(not(test), no_std)]
 #![forbid(unsafe_code)]
+#![allow(clippy::let_and_return)]
 
 #[cfg(test)]
 extern crate self as ixdtf;
