@@ -19,14 +19,14 @@ ROOT = os.path.dirname(os.path.dirname(os.path.abspath(__file__)))
 # the file of the example of `ixdtf_check`: the document names it, but does not show it
 MONTHS = '2020-11\n2020\n2021-12\n2021-13\n'
 
-# the word of `ixdtf_lines` for each method of the library; `parse_rfc9557` has none yet, and `parse` accepts its texts too
+# the word of `ixdtf_lines` for each method of the library
 WORDS = {
     'IxdtfParser::parse': 'parse',
     'IxdtfParser::parse_year_month': 'year-month',
     'IxdtfParser::parse_month_day': 'month-day',
     'IxdtfParser::parse_time': 'time',
     'IxdtfParser::parse_rfc3339': 'rfc3339',
-    'IxdtfParser::parse_rfc9557': 'parse',
+    'IxdtfParser::parse_rfc9557': 'rfc9557',
     'TimeZoneParser::parse_offset': 'offset',
     'TimeZoneParser::parse_identifier': 'zone',
     'TimeZoneParser::parse_iana_identifier': 'iana',
