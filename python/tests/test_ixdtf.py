@@ -58,7 +58,8 @@ class Rows(unittest.TestCase):
         seen = 0
         with open(TOP / "tools" / "places.tsv", encoding="utf-8", newline="") as file:
             for row in csv.DictReader(file, delimiter="\t", quoting=csv.QUOTE_NONE):
-                if row["bits"] != "8":
+                # The package has no reader of exactly RFC 9557.
+                if row["bits"] != "8" or row["reader"] == "parse_rfc9557":
                     continue
                 text = row["text"].encode("utf-8").decode("unicode_escape").encode("latin-1")
                 keywords = {"strict": True} if row["profile"] == "strict" and row["reader"] in WITH_PROFILES else {}
