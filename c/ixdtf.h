@@ -73,7 +73,7 @@ extern "C" {
 /* The version of the interface that this header describes. */
 #define IXDTF_INTERFACE_VERSION 2
 /* How many times functions or numbers were added within this version. */
-#define IXDTF_INTERFACE_REVISION 2
+#define IXDTF_INTERFACE_REVISION 3
 
 /* The caller must test the result of a call: if it is an error, there is no new record. */
 #if defined(__cplusplus) && __cplusplus >= 201703L
@@ -300,6 +300,12 @@ IXDTF_CHECKED_ uint32_t ixdtf_parse_time(const uint8_t *text, size_t length, ixd
  * other text. ixdtf_parse accepts each of these texts too, and writes the same record. After 0, the
  * date, the time and the offset are present, and no other part is. */
 IXDTF_CHECKED_ uint32_t ixdtf_parse_rfc3339(const uint8_t *text, size_t length, ixdtf_record *out);
+/* Reads a date-time of RFC 9557, section 4.1, and accepts no other text. It is a date-time of RFC
+ * 3339. A zone and annotations may follow, as in the texts of ixdtf_parse. But each part of the name
+ * of a zone begins as RFC 9557 says, and is neither . nor .., and the offset of a zone has the form
+ * +05:30. ixdtf_parse accepts each of these texts too, and writes the same record. After 0, the
+ * date, the time and the offset are present. */
+IXDTF_CHECKED_ uint32_t ixdtf_parse_rfc9557(const uint8_t *text, size_t length, ixdtf_record *out);
 /* Reads an offset, such as +05:30, into `offset`. After 0, its form is IXDTF_MINUTES or
  * IXDTF_SECONDS, and no other part is present. */
 IXDTF_CHECKED_ uint32_t ixdtf_parse_offset(const uint8_t *text, size_t length, ixdtf_record *out);
@@ -342,6 +348,8 @@ IXDTF_CHECKED_ uint32_t ixdtf_parse_year_month_with_annotations(const uint8_t *t
 IXDTF_CHECKED_ uint32_t ixdtf_parse_month_day_with_annotations(const uint8_t *text, size_t length,
     ixdtf_annotation *annotations, size_t room, size_t *count, ixdtf_record *out);
 IXDTF_CHECKED_ uint32_t ixdtf_parse_time_with_annotations(const uint8_t *text, size_t length,
+    ixdtf_annotation *annotations, size_t room, size_t *count, ixdtf_record *out);
+IXDTF_CHECKED_ uint32_t ixdtf_parse_rfc9557_with_annotations(const uint8_t *text, size_t length,
     ixdtf_annotation *annotations, size_t room, size_t *count, ixdtf_record *out);
 IXDTF_CHECKED_ uint32_t ixdtf_parse_month_day_with_annotations_strict(const uint8_t *text,
     size_t length, ixdtf_annotation *annotations, size_t room, size_t *count, ixdtf_record *out);
@@ -404,6 +412,23 @@ IXDTF_CHECKED_ uint32_t ixdtf_print_offset(const ixdtf_offset *offset, uint8_t *
 IXDTF_CHECKED_ uint32_t ixdtf_print_zone(const ixdtf_zone *zone, uint8_t *out, size_t room,
     size_t *count);
 
+/* Print what ixdtf_parse_time, ixdtf_parse_year_month and ixdtf_parse_month_day write, as its one
+ * canonical text in ASCII, such as 08:48:00Z[u-ca=hebrew], 2024-03[Europe/Berlin] or 03-02. What the
+ * functions return and write is what ixdtf_print returns and writes. The reader of the same name reads
+ * the text as the same record. The fields of a record do not say which reader wrote it: the date of
+ * ixdtf_parse_month_day has the year 0, and that of ixdtf_parse_year_month has the day 1. So call the
+ * function that belongs to the reader.
+ * If the reader wrote the record for a text of n bytes, it is always printed if `room` is at least
+ * n + 12 for a time, and n + 4 for the other two.
+ * IXDTF_NOT_PRINTABLE says that the reader gives this record for no text: a part is missing or is not
+ * allowed, such as a date in a time, or a `form` is not named above, or a number is out of its range. */
+IXDTF_CHECKED_ uint32_t ixdtf_print_time(const ixdtf_record *record, uint8_t *out, size_t room,
+    size_t *count);
+IXDTF_CHECKED_ uint32_t ixdtf_print_year_month(const ixdtf_record *record, uint8_t *out,
+    size_t room, size_t *count);
+IXDTF_CHECKED_ uint32_t ixdtf_print_month_day(const ixdtf_record *record, uint8_t *out, size_t room,
+    size_t *count);
+
 /* The same functions for 16-bit text. There is no such function for a printer. A code unit outside
  * 1 to 126 stands for no character. If a reader needs a character and comes to such a code unit, the
  * error is IXDTF_NON_ASCII_CODE_POINT. */
@@ -415,6 +440,8 @@ IXDTF_CHECKED_ uint32_t ixdtf16_parse_month_day(const uint16_t *text, size_t len
 IXDTF_CHECKED_ uint32_t ixdtf16_parse_time(const uint16_t *text, size_t length,
     ixdtf16_record *out);
 IXDTF_CHECKED_ uint32_t ixdtf16_parse_rfc3339(const uint16_t *text, size_t length,
+    ixdtf16_record *out);
+IXDTF_CHECKED_ uint32_t ixdtf16_parse_rfc9557(const uint16_t *text, size_t length,
     ixdtf16_record *out);
 IXDTF_CHECKED_ uint32_t ixdtf16_parse_offset(const uint16_t *text, size_t length,
     ixdtf16_record *out);
@@ -440,6 +467,9 @@ IXDTF_CHECKED_ uint32_t ixdtf16_parse_month_day_with_annotations(const uint16_t 
     ixdtf16_record *out);
 IXDTF_CHECKED_ uint32_t ixdtf16_parse_time_with_annotations(const uint16_t *text, size_t length,
     ixdtf16_annotation *annotations, size_t room, size_t *count, ixdtf16_record *out);
+IXDTF_CHECKED_ uint32_t ixdtf16_parse_rfc9557_with_annotations(const uint16_t *text,
+    size_t length, ixdtf16_annotation *annotations, size_t room, size_t *count,
+    ixdtf16_record *out);
 IXDTF_CHECKED_ uint32_t ixdtf16_parse_month_day_with_annotations_strict(const uint16_t *text,
     size_t length, ixdtf16_annotation *annotations, size_t room, size_t *count,
     ixdtf16_record *out);
@@ -508,6 +538,13 @@ IXDTF_CHECKED_ size_t ixdtf_printed_duration_length(const ixdtf_duration *durati
 IXDTF_CHECKED_ size_t ixdtf_printed_offset_length(const ixdtf_offset *offset);
 IXDTF_CHECKED_ size_t ixdtf_printed_zone_length(const ixdtf_zone *zone);
 
+/* Return how many bytes ixdtf_print_time, ixdtf_print_year_month and ixdtf_print_month_day write if
+ * there is enough room. The result is 0 if the record is not printable by this function, or if its
+ * text is longer than SIZE_MAX. */
+IXDTF_CHECKED_ size_t ixdtf_printed_time_length(const ixdtf_record *record);
+IXDTF_CHECKED_ size_t ixdtf_printed_year_month_length(const ixdtf_record *record);
+IXDTF_CHECKED_ size_t ixdtf_printed_month_day_length(const ixdtf_record *record);
+
 /* Returns the version of the interface that the library has. */
 IXDTF_CHECKED_ uint32_t ixdtf_interface_version(void);
 
@@ -526,6 +563,7 @@ IXDTF_CHECKED_ uint32_t ixdtf_interface_version(void);
     one(ixdtf_parse_month_day, ixdtf_record) \
     one(ixdtf_parse_time, ixdtf_record) \
     one(ixdtf_parse_rfc3339, ixdtf_record) \
+    one(ixdtf_parse_rfc9557, ixdtf_record) \
     one(ixdtf_parse_offset, ixdtf_record) \
     one(ixdtf_parse_identifier, ixdtf_record) \
     one(ixdtf_parse_iana_identifier, ixdtf_record) \
@@ -538,6 +576,7 @@ IXDTF_CHECKED_ uint32_t ixdtf_interface_version(void);
     one(ixdtf_parse_year_month_with_annotations) \
     one(ixdtf_parse_month_day_with_annotations) \
     one(ixdtf_parse_time_with_annotations) \
+    one(ixdtf_parse_rfc9557_with_annotations) \
     one(ixdtf_parse_month_day_with_annotations_strict) \
     one(ixdtf_parse_time_with_annotations_strict)
 #define IXDTF_OF_TEXT_(reader, type) \

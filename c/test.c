@@ -233,6 +233,7 @@ static const char *reader_word(const char *name) {
     static const char *words[][2] = {
         { "parse_year_month", "year-month" }, { "parse_month_day", "month-day" }, { "parse_time", "time" }, { "parse_offset", "offset" },
         { "parse_identifier", "zone" }, { "parse_iana_identifier", "iana" }, { "parse_rfc3339", "rfc3339" },
+        { "parse_rfc9557", "rfc9557" },
     };
     size_t i;
     for (i = 0; i < COUNT(words); i++) {
@@ -413,6 +414,7 @@ static void test_texts(void) {
         READ_RECORD_ALIKE(ixdtf_parse_month_day);
         READ_RECORD_ALIKE(ixdtf_parse_time);
         READ_RECORD_ALIKE(ixdtf_parse_rfc3339);
+        READ_RECORD_ALIKE(ixdtf_parse_rfc9557);
         READ_RECORD_ALIKE(ixdtf_parse_offset);
         READ_RECORD_ALIKE(ixdtf_parse_identifier);
         READ_RECORD_ALIKE(ixdtf_parse_iana_identifier);
@@ -424,6 +426,7 @@ static void test_texts(void) {
         LISTED_ALIKE(ixdtf_parse_year_month_with_annotations);
         LISTED_ALIKE(ixdtf_parse_month_day_with_annotations);
         LISTED_ALIKE(ixdtf_parse_time_with_annotations);
+        LISTED_ALIKE(ixdtf_parse_rfc9557_with_annotations);
         LISTED_ALIKE(ixdtf_parse_month_day_with_annotations_strict);
         LISTED_ALIKE(ixdtf_parse_time_with_annotations_strict);
     }
@@ -454,9 +457,6 @@ static void test_places(const char *path) {
     while (fgets(line, sizeof line, lines) != NULL) {
         struct place_row row = place_row(line);
         row_shown = row.text;
-        if (strcmp(row.reader, "parse_rfc9557") == 0) {
-            continue; /* no function of this library reads RFC 9557 exactly */
-        }
         if (row.width == 1) {
             narrow_test_place(&row);
         }
@@ -715,6 +715,75 @@ static void test_parts(void) {
     TEST_ZONE(IXDTF_NOT_PRINTABLE, "");
 }
 
+#define TEST_TIME(wanted, canonical) TEST_PRINTED_PART(ixdtf_print_time, ixdtf_printed_time_length, &record, wanted, canonical)
+#define TEST_YEAR_MONTH(wanted, canonical) TEST_PRINTED_PART(ixdtf_print_year_month, ixdtf_printed_year_month_length, &record, wanted, canonical)
+#define TEST_MONTH_DAY(wanted, canonical) TEST_PRINTED_PART(ixdtf_print_month_day, ixdtf_printed_month_day_length, &record, wanted, canonical)
+
+/* Times, year-months and month-days, and their canonical texts, written out by the rules of docs/GRAMMAR.md. */
+static void test_times_and_parts_of_dates(void) {
+    static const struct { const char *text, *canonical; } times[] = {
+        { "T1214", "12:14:00" }, { "084800,25z", "08:48:00.25Z" }, { "12+01[!+01][x=y][u-ca=hebrew]", "12:00:00+01:00[!+01:00][u-ca=hebrew]" },
+    };
+    static const struct { const char *text, *canonical; } year_months[] = {
+        { "202011[+01]", "2020-11[+01:00]" }, { "+00202011", "2020-11" }, { "-000001-12[u-ca=a]", "-000001-12[u-ca=a]" },
+    };
+    static const struct { const char *text, *canonical; } month_days[] = {
+        { "1107[+01]", "11-07[+01:00]" }, { "--0229", "02-29" }, { "--01-00[u-ca=a]", "01-00[u-ca=a]" },
+    };
+    ixdtf_record record = narrow_used_record();
+    size_t i;
+    for (i = 0; i < COUNT(times); i++) {
+        row_shown = times[i].text;
+        check(ixdtf_parse_time_text(times[i].text, &record) == IXDTF_OK, "a time that is printed");
+        TEST_TIME(IXDTF_OK, times[i].canonical);
+        TEST_YEAR_MONTH(IXDTF_NOT_PRINTABLE, "");
+        TEST_MONTH_DAY(IXDTF_NOT_PRINTABLE, "");
+    }
+    for (i = 0; i < COUNT(year_months); i++) {
+        row_shown = year_months[i].text;
+        check(ixdtf_parse_year_month_text(year_months[i].text, &record) == IXDTF_OK, "a year and a month that are printed");
+        TEST_YEAR_MONTH(IXDTF_OK, year_months[i].canonical);
+        TEST_TIME(IXDTF_NOT_PRINTABLE, "");
+        TEST_MONTH_DAY(IXDTF_NOT_PRINTABLE, "");
+    }
+    for (i = 0; i < COUNT(month_days); i++) {
+        row_shown = month_days[i].text;
+        check(ixdtf_parse_month_day_text(month_days[i].text, &record) == IXDTF_OK, "a month and a day that are printed");
+        TEST_MONTH_DAY(IXDTF_OK, month_days[i].canonical);
+        TEST_TIME(IXDTF_NOT_PRINTABLE, "");
+        TEST_YEAR_MONTH(IXDTF_NOT_PRINTABLE, "");
+    }
+    row_shown = "";
+    memset(&record, 0, sizeof record);
+    TEST_TIME(IXDTF_NOT_PRINTABLE, "");
+    TEST_YEAR_MONTH(IXDTF_NOT_PRINTABLE, "");
+    TEST_MONTH_DAY(IXDTF_NOT_PRINTABLE, "");
+    record.time.is_there = true;
+    TEST_TIME(IXDTF_OK, "00:00:00");
+    record.time.fraction = 100;
+    record.time.fraction_digits = 2;
+    TEST_TIME(IXDTF_NOT_PRINTABLE, "");
+    record.time.fraction_digits = 3;
+    TEST_TIME(IXDTF_OK, "00:00:00.100");
+    record.offset.form = 4;
+    TEST_TIME(IXDTF_NOT_PRINTABLE, "");
+    record.offset.form = IXDTF_NO_OFFSET;
+    record.zone.form = 3;
+    TEST_TIME(IXDTF_NOT_PRINTABLE, "");
+    record.zone.form = IXDTF_NO_ZONE;
+    record.date.is_there = true;
+    record.date.month = 2;
+    record.date.day = 1;
+    TEST_TIME(IXDTF_NOT_PRINTABLE, "");
+    TEST_YEAR_MONTH(IXDTF_NOT_PRINTABLE, "");
+    record.time.is_there = false;
+    TEST_YEAR_MONTH(IXDTF_OK, "0000-02");
+    TEST_MONTH_DAY(IXDTF_OK, "02-01");
+    record.date.day = 30;
+    TEST_YEAR_MONTH(IXDTF_NOT_PRINTABLE, "");
+    TEST_MONTH_DAY(IXDTF_NOT_PRINTABLE, "");
+}
+
 /* Durations, and their fractions in seconds and nanoseconds, which were reckoned by hand. */
 static void test_last_fractions(void) {
     static const struct { const char *text; uint32_t result, seconds, nanoseconds; } texts[] = {
@@ -962,6 +1031,7 @@ int main(int count, char **arguments) {
     test_durations();
     test_last_fractions();
     test_parts();
+    test_times_and_parts_of_dates();
     test_met();
     printf("%lu checks, %lu failed\n", checks, failures);
     return failures == 0 ? 0 : 1;

@@ -1,6 +1,6 @@
 /* Rows for test.c: texts, and what the Rust crate ixdtf 0.6.7 answers to them; the texts of the errors are those that were published
- * with the table of faults. That crate has no reader of RFC 3339 alone: the answers of those rows were written by hand from section 5.6 of
- * RFC 3339, whose examples of section 5.8 are among them. The place of an error, behind `at`, is that of tools/places.py, a model of the
+ * with the table of faults. That crate has no reader of exactly RFC 3339 or RFC 9557. The answers of those rows were written by hand from
+ * section 5.6 of RFC 3339, whose examples of section 5.8 are among them, and from sections 3 and 4.1 of RFC 9557. The place of an error, behind `at`, is that of tools/places.py, a model of the
  * readers. None is this library's own output. An answer shows a record part by part: a fraction as .fDIGITS:VALUE, an error by its variant, and AE with the
  * location of AbruptEnd. */
 static const struct error_row error_rows[] = {
@@ -419,6 +419,16 @@ static const struct row rows[] = {
     { "rfc3339", TEXT("2024-03-02T08:48:00+05"), "error UtcTimeSeparator at 22" },
     { "rfc3339", TEXT("2024-03-02T08:48:00Z[UTC]"), "error InvalidEnd at 20" },
     { "rfc3339", TEXT("2024-03-02T08:48:00-05:00:00"), "error InvalidEnd at 25" },
+    { "rfc9557", TEXT("2024-03-02T08:48:00Z"), "ok date=2024,3,2 time=8,48,0 offset=Z" },
+    { "rfc9557", TEXT("1996-12-19T16:39:57-08:00[America/Los_Angeles][u-ca=hebrew]"), "ok date=1996,12,19 time=16,39,57 offset=-8,0 tz=America/Los_Angeles calendar=hebrew" },
+    { "rfc9557", TEXT("1996-12-19T16:39:57-08:00[_foo=bar][_baz=bat]"), "ok date=1996,12,19 time=16,39,57 offset=-8,0" },
+    { "rfc9557", TEXT("2022-07-08T00:14:07+00:00[!+08:45]"), "ok date=2022,7,8 time=0,14,7 offset=+0,0 tz=!+8,45" },
+    { "rfc9557", TEXT(""), "error AE digit at 0" },
+    { "rfc9557", TEXT("2024-03-02[UTC]"), "error TimeSeparator at 10" },
+    { "rfc9557", TEXT("2024-03-02T08:48:00Z[+05]"), "error InvalidMinutePrecisionOffset at 25" },
+    { "rfc9557", TEXT("2024-03-02T08:48:00Z[Europe/../Paris]"), "error IanaChar at 37" },
+    { "rfc9557", TEXT("2024-03-02T08:48:00Z[!x=y]"), "error UnrecognizedCritical at 26" },
+    { "rfc9557", TEXT("2024-03-02T08:48:00Z[x=y][UTC]"), "error AnnotationKeyLeadingChar at 26" },
 };
 
 static const struct row strict_rows[] = {
@@ -561,9 +571,12 @@ static const struct row wide_rows[] = {
     { "parse", TEXT("10\\u000000-05\\u012d19"), "error NonAsciiCodePoint at 2" },
     { "rfc3339", TEXT("2024-03-02\\u301408:48:00Z"), "error NonAsciiCodePoint at 10" },
     { "rfc3339", TEXT("2024-03-02T08:48:00\\u0000"), "error NonAsciiCodePoint at 19" },
+    { "rfc9557", TEXT("2024-03-02T08:48:00Z[\\u0155TC]"), "error NonAsciiCodePoint at 21" },
 };
 
 static const struct handler_row handler_rows[] = {
+    { "rfc9557", "none", TEXT("2024-03-02T08:48:00Z[UTC][!a=b]"), "ok date=2024,3,2 time=8,48,0 offset=Z tz=UTC", "[!a=b]" },
+    { "rfc9557", "none", TEXT("2024-03-02T08:48:00Z[+05][a=b]"), "error InvalidMinutePrecisionOffset at 25", "" },
     { "parse", "id", TEXT("2020-01-01[u-ca=a-bc-d]"), "ok date=2020,1,1 calendar=a-bc-d", "[u-ca=a-bc-d]" },
     { "parse", "none", TEXT("2020-01-01[u-ca=a-bc-d]"), "ok date=2020,1,1", "[u-ca=a-bc-d]" },
     { "parse", "crit", TEXT("2020-01-01[u-ca=a-bc-d]"), "ok date=2020,1,1 calendar=a-bc-d", "[u-ca=a-bc-d]" },

@@ -79,6 +79,8 @@ static uint32_t OWN(read)(const char *reader, int strict, const UNIT *text, size
         return strict ? CALL(parse_time_strict)(text, length, out) : CALL(parse_time)(text, length, out);
     } else if (!strcmp(reader, "rfc3339")) {
         return CALL(parse_rfc3339)(text, length, out);
+    } else if (!strcmp(reader, "rfc9557")) {
+        return CALL(parse_rfc9557)(text, length, out);
     } else if (!strcmp(reader, "offset")) {
         return CALL(parse_offset)(text, length, out);
     } else if (!strcmp(reader, "zone")) {
@@ -97,6 +99,8 @@ static uint32_t OWN(list)(const char *reader, int strict, const UNIT *text, size
         return CALL(parse_with_annotations)(text, length, list, places, count, out);
     } else if (!strcmp(reader, "year-month")) {
         return CALL(parse_year_month_with_annotations)(text, length, list, places, count, out);
+    } else if (!strcmp(reader, "rfc9557")) {
+        return CALL(parse_rfc9557_with_annotations)(text, length, list, places, count, out);
     } else if (!strcmp(reader, "month-day")) {
         return strict ? CALL(parse_month_day_with_annotations_strict)(text, length, list, places, count, out)
                       : CALL(parse_month_day_with_annotations)(text, length, list, places, count, out);
@@ -420,7 +424,7 @@ static void OWN(test_texts)(void) {
 
 /* NULL with length 0 is the text without units, and the list without room. */
 static void OWN(test_null)(void) {
-    static const char *readers[] = { "parse", "year-month", "month-day", "time", "rfc3339", "offset", "zone", "iana", "duration" };
+    static const char *readers[] = { "parse", "year-month", "month-day", "time", "rfc9557", "rfc3339", "offset", "zone", "iana", "duration" };
     static const UNIT nothing[1] = { 0 };
     static const UNIT listed[] = { '2', '0', '2', '4', '-', '0', '3', '-', '0', '2', '[', 'a', '=', 'b', ']', '[', 'c', '=', 'd', ']' };
     size_t i, count;
@@ -435,7 +439,7 @@ static void OWN(test_null)(void) {
             OWN(show_outcome)(&wanted, readers[i], OWN(read)(readers[i], strict, nothing, 0, &record, &duration), &record, &duration);
             OWN(show_outcome)(&line, readers[i], OWN(read)(readers[i], strict, NULL, 0, &zeros, &zero), &zeros, &zero);
             is(line.text, wanted.text, readers[i], "NULL");
-            if (i < 4) {
+            if (i < 5) {
                 count = 7;
                 memset(&zeros, 0, sizeof zeros);
                 OWN(show_outcome)(&line, readers[i], OWN(list)(readers[i], strict, NULL, 0, NULL, 0, &count, &zeros), &zeros, &zero);

@@ -524,11 +524,11 @@ COUNTS = [(re.compile(pattern, re.I), counted) for pattern, counted in [
     (r'the (\d+) errors', lambda tree: len(variants(tree))),
     (rf'{A_COUNT} of the \d+ errors', lambda tree: len(never_come(tree))),
     (rf'the {A_COUNT} with "none"', lambda tree: len(never_come(tree))),
-    (rf'is each of the {A_COUNT}:', lambda tree: len(members('each reader'))),
+    (rf'there are {A_COUNT} readers', lambda tree: len(members('each reader'))),
     (rf'{A_COUNT} mutations of function bodies', lambda tree: len([it for it in edits(tree) if not is_of_a_definition(tree, it)])),
     (rf'mutations of function bodies, and {A_COUNT} of definitions',
      lambda tree: len([it for it in edits(tree) if is_of_a_definition(tree, it)])),
-    (rf'{A_COUNT} edits turn definitions', lambda tree: len([it for it in edits(tree) if is_of_a_definition(tree, it)])),
+    (rf'{A_COUNT} mutations change a definition', lambda tree: len([it for it in edits(tree) if is_of_a_definition(tree, it)])),
     (rf'have {A_COUNT} lines, of which', lambda tree: len(lines_of_definitions(tree))),
     (rf'of which {A_COUNT} are definitions',
      lambda tree: len([it for it in lines_of_definitions(tree) if it and not it.startswith(('use ', '--'))])),
@@ -733,7 +733,7 @@ def said_in(row: Row) -> Iterator[Said]:
     """The examples of a row of any table."""
     if 'Line' in row:
         yield from said_in_row(row)
-    elif 'Place' in row and 'Such as' in row:
+    elif 'What is wrong' in row and 'Such as' in row:
         yield from said_of_places(row)
     elif 'Why' in row:
         yield from said_of_refusals(row)

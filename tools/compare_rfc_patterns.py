@@ -2,10 +2,10 @@
 """compare_rfc_patterns.py [COUNT [SEED]]: compares the readers of exact standards with two models: rfc_patterns.py, the patterns of the
 ABNF, and places.py.
 
-It makes COUNT texts (100000, if none is given) of 8-bit code units, and as many of 16-bit ones. Each is put together from parts that are
-right or nearly right, and half of them are changed in one to three places. The example `units` of `rust/ixdtf` reads them. A reader has to accept
-the texts that fit the patterns, and no other. It has to refuse each other text with the error and at the position that places.py gives. The
-tool prints how many texts there were and how many were accepted, and ends with status 1 at the first difference."""
+For each reader it makes COUNT texts (100000, if none is given) of 8-bit code units, and as many of 16-bit ones. Each is put together from
+parts that are right or nearly right, and half of them are changed in one to three places. The example `units` of `rust/ixdtf` reads them. A
+reader has to accept the texts that fit the patterns, and no other. It has to refuse each other text with the error and at the position that
+places.py gives. The tool prints how many texts there were and how many were accepted, and ends with status 1 at the first difference."""
 import os
 import random
 import subprocess
@@ -18,9 +18,17 @@ sys.path.insert(0, TOOLS)
 import places
 import rfc_patterns
 
-# the readers, by the names that the example knows: the patterns of each, and its name in places.py
-READERS: dict[str, tuple[Callable[[str], bool], str]] = {
-    'rfc3339': (rfc_patterns.is_date_time, 'parse_rfc3339'),
+class Reader(NamedTuple):
+    """A reader: whether a text fits its patterns, its name in places.py, and the share of its texts that have brackets."""
+    fits: Callable[[str], bool]
+    name: str
+    bracketed: float
+
+
+# the readers, by the names that the example knows
+READERS = {
+    'rfc3339': Reader(rfc_patterns.is_date_time, 'parse_rfc3339', 0.15),
+    'rfc9557': Reader(rfc_patterns.is_date_time_to_process, 'parse_rfc9557', 0.9),
 }
 
 
@@ -77,17 +85,30 @@ def offset(rng: random.Random) -> str:
     return choose(rng, rng.choice(('Z', 'Z', 'z', number, number, number)), '', ' ' + number, 'Z' + number, 'UTC')
 
 
+ZONES = ('UTC', 'Europe/Paris', 'Etc/GMT+5', '_', '...', '.a/b-', 'a/..b', '+08:45', '-00:00', '+23:59')
+NO_ZONES = ('.', '..', 'a/..', 'a/.', '../a', 'a/./b', 'a/5', 'a/-', 'a//b', '/a', 'a/', '+0845', '-08', '+24:00', '+08:60', '+08:45:00', '5', '')
+TAGS = ('u-ca=hebrew', 'u-ca=iso8601', 'u-ca=hebrew', 'x=y', 'x=y-z', '_a-=b', 'u-cb=hebrew', 'u-ca=Hebrew', 'u-ca=islamic-civil')
+NO_TAGS = ('x=', '=y', 'X=y', 'x=-y', 'x=y-', 'x=y--z', 'x=y=z', 'x=y_z', 'x', '5=y', '-x=y')
+
+
+def bracket(rng: random.Random, part: str, critical: float) -> str:
+    """A bracket with this inside, right or nearly so. `critical` is the share of those that are critical."""
+    flag = choose(rng, '!' if rng.random() < critical else '', '!!', '! ')
+    return choose(rng, '[', '', ' [') + flag + part + choose(rng, ']', '', '] ')
+
+
 def suffix(rng: random.Random) -> str:
     """Brackets: a zone and annotations, right or nearly so."""
-    parts = [rng.choice(('UTC', 'Europe/Paris', 'Etc/GMT+5', '_', '..', 'a/..', 'a/5', 'a//b', '+08:45', '+0845', '-08', '5', '')),
-             rng.choice(('u-ca=hebrew', 'u-ca=iso8601', 'x=y', 'x=y-z', '_a-=b', 'x=', '=y', 'X=y', 'x=-y', 'x=y=z', 'x'))]
-    chosen = rng.choice((parts[:1], parts[1:], parts, parts[::-1], parts[1:] * 3))
-    return ''.join(choose(rng, '[', '') + choose(rng, '', '!') + part + choose(rng, ']', '') for part in chosen)
+    zone = bracket(rng, rng.choice(NO_ZONES if rng.random() < 0.15 else ZONES), 0.3) if rng.random() < 0.6 else ''
+    critical, kinds = rng.choice((0, 0.2, 0.6)), TAGS[:rng.choice((2, 3, 9))]
+    tags = [bracket(rng, rng.choice(NO_TAGS if rng.random() < 0.05 else kinds), critical) for _ in range(rng.choice((0, 1, 1, 2, 3)))]
+    return ''.join(tags) + zone if rng.random() < 0.03 else zone + ''.join(tags)
 
 
-def made(rng: random.Random) -> str:
-    """A text that is put together from parts."""
-    return date(rng) + choose(rng, rng.choice('TTTt'), ' ', '', '_', '\u3000') + time(rng) + offset(rng) + (suffix(rng) if rng.random() < 0.15 else '')
+def made(rng: random.Random, bracketed: float) -> str:
+    """A text that is put together from parts. `bracketed` is the share of those with brackets."""
+    core = date(rng) + choose(rng, rng.choice('TTTt'), ' ', '', '_', '\u3000') + time(rng) + offset(rng)
+    return core + (suffix(rng) if rng.random() < bracketed else '')
 
 
 LETTERS = '0123456789' * 2 + '-:.+TZtz ,[]!=/_aPW\0\n\x7f'
@@ -111,11 +132,11 @@ def changed(rng: random.Random, text: str, wide: bool) -> str:
                        lambda: before + behind[1:2] + behind[:1] + behind[2:], lambda: before, lambda: behind))()
 
 
-def texts(count: int, seed: int, wide: bool) -> Iterator[str]:
-    """The texts of a width. Each character of a text is one code unit."""
-    rng = random.Random(f'{seed} {wide}')
+def texts(reader: str, count: int, seed: int, wide: bool) -> Iterator[str]:
+    """The texts for a reader of a width. Each character of a text is one code unit."""
+    rng = random.Random(f'{reader} {seed} {wide}')
     for _ in range(count):
-        text = made(rng)
+        text = made(rng, READERS[reader].bracketed)
         for _ in range(rng.choice((0, 0, 0, 0, 1, 1, 2, 3))):
             text = changed(rng, text, wide)
         yield text if wide else ''.join(chr(ord(it) % 256) for it in text)
@@ -136,10 +157,10 @@ class Counts(NamedTuple):
 
 def wanted(reader: str, text: str, wide: bool) -> str:
     """What the example has to write for a text. Raises Difference if the two models differ."""
-    fits, name = READERS[reader]
-    found = places.outcome(name, [ord(it) for it in text], wide)
-    if fits(text) != (found == places.OK):
-        raise Difference(f'{reader} of {ascii(text)}: the patterns say {fits(text)}, and places.py says {found}')
+    fits = READERS[reader].fits(text)
+    found = places.outcome(READERS[reader].name, [ord(it) for it in text], wide)
+    if fits != (found == places.OK):
+        raise Difference(f'{reader} of {ascii(text)}: the patterns say {fits}, and places.py says {found}')
     return places.OK if found == places.OK else f'error {found}'
 
 
@@ -148,13 +169,13 @@ def compared(program: str, reader: str, wide: bool, count: int, seed: int) -> Co
     ran = subprocess.Popen([program], stdin=subprocess.PIPE, stdout=subprocess.PIPE, text=True)
 
     def send() -> None:
-        for text in texts(count, seed, wide):
+        for text in texts(reader, count, seed, wide):
             ran.stdin.write(f'{reader} {16 if wide else 8} {" ".join(f"{ord(it):x}" for it in text)}\n')
         ran.stdin.close()
 
     threading.Thread(target=send, daemon=True).start()
     accepted = 0
-    for text in texts(count, seed, wide):
+    for text in texts(reader, count, seed, wide):
         found, right = ran.stdout.readline().rstrip('\n'), wanted(reader, text, wide)
         if found != right:
             ran.kill()

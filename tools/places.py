@@ -937,7 +937,7 @@ LONGEST_LINE = 4096
 WORDS = {'parse': 'parse', 'year-month': 'parse_year_month', 'month-day': 'parse_month_day', 'time': 'parse_time',
          'offset': 'parse_offset', 'zone': 'parse_identifier', 'iana': 'parse_iana_identifier', 'duration': 'duration',
          'canonical': 'parse', 'rfc3339': 'parse_rfc3339', 'rfc9557': 'parse_rfc9557', 'zone-name': 'parse_iana_identifier',
-         'canonical-offset': 'parse_offset', 'canonical-zone': 'parse_identifier', 'canonical-duration': 'duration'}
+         'canonical-offset': 'parse_offset', 'canonical-zone': 'parse_identifier', 'canonical-duration': 'duration', 'instant': 'parse'}
 STRICT_WORDS = {'strict-month-day': 'parse_month_day', 'strict-time': 'parse_time', 'strict-duration': 'duration'}
 
 

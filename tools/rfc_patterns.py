@@ -87,6 +87,23 @@ def offsets_of(text: str) -> list[tuple[str, str]]:
     return OFFSETS.findall(text, len('1985-04-12'))
 
 
+# A suffix tag of a text of DATE_TIME_EXT. No zone has a `=`.
+SUFFIX_TAGS = re.compile(rf'\[({CRITICAL_FLAG})({SUFFIX_KEY})=({SUFFIX_VALUES})\]')
+
+
+def critical_suffixes_fit(text: str) -> bool:
+    """Whether a reader that processes only the key `u-ca` (RFC 9557, section 5) can do what the critical suffix tags of a text of
+    DATE_TIME_EXT ask for (section 3.3). It has to process each critical suffix tag. Of several suffix tags with one key, it uses the first.
+    So if one with another value follows, neither of the two may be critical."""
+    calendars = []
+    for flag, key, value in SUFFIX_TAGS.findall(text):
+        if key == 'u-ca':
+            calendars.append((flag, value))
+        elif flag:
+            return False
+    return all(value == calendars[0][1] or not (flag or calendars[0][0]) for flag, value in calendars)
+
+
 DATE_TIME_TEXT = re.compile(DATE_TIME)
 DATE_TIME_EXT_TEXT = re.compile(DATE_TIME_EXT)
 
@@ -97,5 +114,10 @@ def is_date_time(text: str) -> bool:
 
 
 def is_date_time_ext(text: str) -> bool:
-    """Whether a text is a `date-time-ext` of RFC 9557. What a critical suffix asks for (section 3.2) is not checked here."""
+    """Whether a text is a `date-time-ext` of RFC 9557. What its critical suffix tags ask for is not checked here."""
     return DATE_TIME_EXT_TEXT.fullmatch(text) is not None and numbers_fit(text)
+
+
+def is_date_time_to_process(text: str) -> bool:
+    """Whether a text is a `date-time-ext` of RFC 9557, and a reader that processes only the key `u-ca` may accept it."""
+    return is_date_time_ext(text) and critical_suffixes_fit(text)

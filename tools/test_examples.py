@@ -18,6 +18,8 @@ ROOT = os.path.dirname(os.path.dirname(os.path.abspath(__file__)))
 
 # the file of the example of `ixdtf_check`: the document names it, but does not show it
 MONTHS = '2020-11\n2020\n2021-12\n2021-13\n'
+# the same for the example of `--ordered`
+LOG = '2024-03-02T09:30:00Z\n2024-03-02T10:00+01:00\n2024-03-02T09:00:00.5Z[Europe/Paris]\n2024-03-02\n'
 
 # the word of `ixdtf_lines` for each method of the library
 WORDS = {
@@ -34,7 +36,7 @@ WORDS = {
 }
 
 # the kind of `ixdtf_check` for each column of the texts of other programs
-KINDS = {'`parse`': 'date-time', '`parse_rfc3339`': 'rfc3339'}
+KINDS = {'`parse`': 'date-time', '`parse_rfc3339`': 'rfc3339', '`parse_rfc9557`': 'rfc9557'}
 
 
 def read(path: str) -> str:
@@ -88,6 +90,28 @@ class Examples(unittest.TestCase):
                 file.write(MONTHS)
             self.assertEqual(printed(name, arguments, '', folder), wanted)
 
+    def test_order(self):
+        """The command on a file whose lines go back prints what the document shows."""
+        command, wanted = next(it for it in blocks('docs/PROGRAM.md') if it.startswith('$ ixdtf_check --ordered')).split('\n', 1)
+        name, *arguments = command.removeprefix('$ ').split()
+        with tempfile.TemporaryDirectory() as folder:
+            with open(os.path.join(folder, arguments[-1]), 'w', encoding='utf-8') as file:
+                file.write(LOG)
+            self.assertEqual(printed(name, arguments, '', folder), wanted)
+
+    @unittest.skipUnless(shutil.which('jq'), 'jq is not installed')
+    def test_lines_of_json(self):
+        """The pipe of PROGRAM reports the line numbers of the file."""
+        command = next(it for it in blocks('docs/PROGRAM.md', 'sh') if it.startswith('jq'))
+        path = os.pathsep.join([os.path.dirname(program('ixdtf_check')), os.environ['PATH']])
+        with tempfile.TemporaryDirectory() as folder:
+            with open(os.path.join(folder, 'log.jsonl'), 'w', encoding='utf-8') as file:
+                file.write('{"time": "2024-03-02T08:48:00Z", "level": 1}\n{"level": 2}\n{"time": "2024-03-02"}\n')
+            ran = subprocess.run(['sh', '-c', command], capture_output=True, text=True, env=os.environ | {'PATH': path}, cwd=folder)
+        reports = [it for it in ran.stdout.splitlines() if it.startswith('-:')]
+        self.assertEqual([it.split(':')[1] for it in reports], ['2', '3'], ran.stdout + ran.stderr)
+        self.assertTrue(ran.stderr.startswith('3 lines, 2 refused'), ran.stderr)
+
     def test_first_example(self):
         """The example of the README prints what the README shows first."""
         ran = subprocess.run(['cargo', 'run', '--quiet', '--offline', '--example', 'first'], cwd=os.path.join(ROOT, 'rust', 'ixdtf'),
@@ -136,7 +160,27 @@ class Examples(unittest.TestCase):
         for head, kind in KINDS.items():
             found = refusals(kind, [row['Text'].strip('`') for row in rows])
             for number, row in enumerate(rows, 1):
-                self.assertEqual(found.get(number), refusal_in(row[head]), (kind, row['Text']))
+                self.assertEqual(found.get(number), reported(refusal_in(row[head]), row['Text'].strip('`')), (kind, row['Text']))
+
+    def test_instants(self):
+        """Each text in the table of docs/GRAMMAR.md has the instant of its row, or none."""
+        rows = [row for _, row in Document(Tree(ROOT), 'docs/GRAMMAR.md').tables() if 'Nanoseconds' in row]
+        self.assertGreater(len(rows), 5)
+        lines = [f'instant {row["`parse` of"].strip("`")}\n' for row in rows]
+        self.assertEqual(printed('ixdtf_lines', [], ''.join(lines), ROOT).splitlines(), [instant_in(row) for row in rows])
+
+
+def reported(refusal: Optional[tuple[int, str]], text: str) -> Optional[tuple[int, str]]:
+    """What `ixdtf_check` reports for a text that is refused. If a space before an offset is the reason, it says so."""
+    is_spaced = refusal is not None and re.match(r' (?:[Zz]|[+-]\d)', text[refusal[0]:])
+    return (refusal[0], 'a space stands before the offset') if is_spaced else refusal
+
+
+def instant_in(row: dict[str, str]) -> str:
+    """What `ixdtf_lines` answers for the instant of a row of docs/GRAMMAR.md."""
+    if row['Seconds'] == 'no instant':
+        return 'error no instant'
+    return f'ok seconds={row["Seconds"]} nanoseconds={row["Nanoseconds"]}'
 
 
 def refusals(kind: str, texts: list[str]) -> dict[int, tuple[int, str]]:

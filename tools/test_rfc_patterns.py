@@ -5,7 +5,7 @@ import sys
 import unittest
 
 sys.path.insert(0, os.path.dirname(os.path.abspath(__file__)))
-from rfc_patterns import days_in, is_date_time, is_date_time_ext
+from rfc_patterns import days_in, is_date_time, is_date_time_ext, is_date_time_to_process
 
 # RFC 3339, section 5.8
 DATE_TIMES = ['1985-04-12T23:20:50.52Z', '1996-12-19T16:39:57-08:00', '1990-12-31T23:59:60Z', '1990-12-31T15:59:60-08:00',
@@ -32,6 +32,12 @@ NO_SUFFIXES = ['[]', '[!]', '[UTC', 'UTC]', '[!!UTC]', '[.]', '[..]', '[Europe/.
                '[u-ca=hebrew][UTC]', '[U-ca=hebrew]', '[5a=b]', '[-a=b]', '[=b]', '[a=]', '[a=-b]', '[a=b-]', '[a=b--c]', '[a=b_c]', '[a=b=c]',
                '[a.b=c]', '[UTC] ', '[UTC]\n']
 
+# RFC 9557, section 3.3: suffix tags that a reader of `u-ca` can process, and such that it cannot
+PROCESSED = ['[u-ca=hebrew]', '[!u-ca=hebrew]', '[u-ca=chinese][u-ca=japanese]', '[!u-ca=chinese][!u-ca=chinese]', '[x=y]', '[!Europe/London]',
+             '[u-ca=chinese][u-ca=japanese][!u-ca=chinese]', '[!UTC][!u-ca=hebrew][x=y]', '']
+NOT_PROCESSED = ['[!u-ca=chinese][u-ca=japanese]', '[u-ca=chinese][!u-ca=japanese]', '[!u-ca=chinese][!u-ca=japanese]', '[!x=y]',
+                 '[u-ca=hebrew][!x=y]', '[UTC][!knort=blargel]', '[u-ca=chinese][u-ca=japanese][!u-ca=japanese]', '[!u-ca=hebrew][u-ca=Hebrew]']
+
 
 class Patterns(unittest.TestCase):
     def test_examples_of_the_standards(self):
@@ -54,6 +60,13 @@ class Patterns(unittest.TestCase):
     def test_names(self):
         for name in ('Etc/GMT+5', '_', '...', '.a', 'a/..b', 'a/b.', 'a-', 'a5'):
             self.assertTrue(is_date_time_ext(f'1985-04-12T23:20:50Z[{name}]'), name)
+
+    def test_critical_suffixes(self):
+        for suffix in PROCESSED + NOT_PROCESSED:
+            self.assertTrue(is_date_time_ext(DATE_TIMES[0] + suffix), suffix)
+            self.assertEqual(is_date_time_to_process(DATE_TIMES[0] + suffix), suffix in PROCESSED, suffix)
+        for suffix in NO_SUFFIXES:
+            self.assertFalse(is_date_time_to_process(DATE_TIMES[0] + suffix), suffix)
 
     def test_days(self):
         for year, wanted in ((0, 29), (1, 28), (4, 29), (1900, 28), (2000, 29), (2023, 28), (2024, 29), (9999, 28)):

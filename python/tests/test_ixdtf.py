@@ -22,6 +22,7 @@ READERS = {
     "parse_month_day": ixdtf.parse_month_day,
     "parse_time": ixdtf.parse_time,
     "parse_rfc3339": ixdtf.parse_rfc3339,
+    "parse_rfc9557": ixdtf.parse_rfc9557,
     "parse_offset": ixdtf.parse_offset,
     "parse_identifier": ixdtf.parse_zone,
     "parse_iana_identifier": ixdtf.parse_zone_name,
@@ -33,6 +34,7 @@ KINDS = {
     "parse_month_day": "month-day",
     "parse_time": "time",
     "parse_rfc3339": "rfc3339",
+    "parse_rfc9557": "rfc9557",
     "parse_offset": "offset",
     "parse_identifier": "zone",
     "parse_iana_identifier": "zone-name",
@@ -58,8 +60,7 @@ class Rows(unittest.TestCase):
         seen = 0
         with open(TOP / "tools" / "places.tsv", encoding="utf-8", newline="") as file:
             for row in csv.DictReader(file, delimiter="\t", quoting=csv.QUOTE_NONE):
-                # The package has no reader of exactly RFC 9557.
-                if row["bits"] != "8" or row["reader"] == "parse_rfc9557":
+                if row["bits"] != "8":
                     continue
                 text = row["text"].encode("utf-8").decode("unicode_escape").encode("latin-1")
                 keywords = {"strict": True} if row["profile"] == "strict" and row["reader"] in WITH_PROFILES else {}
@@ -407,7 +408,8 @@ def changes_of(zone):
 
 class Calls(unittest.TestCase):
     def test_kinds(self):
-        for kind, text in (("date-time", "2024-03-02"), ("year-month", "2020-11"), ("month-day", "11-07"), ("time", "T12"), ("rfc3339", "2024-03-02T08:48:00Z"), ("offset", "+05:30"), ("zone", "+05:30"),
+        for kind, text in (("date-time", "2024-03-02"), ("year-month", "2020-11"), ("month-day", "11-07"), ("time", "T12"), ("rfc3339", "2024-03-02T08:48:00Z"),
+                           ("rfc9557", "2024-03-02T08:48:00Z[UTC]"), ("offset", "+05:30"), ("zone", "+05:30"),
                            ("zone-name", "Europe/Paris"), ("duration", "P1D")):
             self.assertTrue(ixdtf.is_valid(text, kind))
             self.assertTrue(ixdtf.is_valid(text, kind=kind))
@@ -432,6 +434,17 @@ class Calls(unittest.TestCase):
         with self.assertRaises(TypeError):
             ixdtf.parse_rfc3339("1985-04-12T23:20:50.52Z", handler=None)
 
+    def test_rfc9557(self):
+        for text in ("1985-04-12T23:20:50.52Z", "1996-12-19T16:39:57-08:00[America/Los_Angeles][u-ca=hebrew]", "2022-07-08T00:14:07+00:00[!+08:45][x=y]"):
+            self.assertEqual(ixdtf.parse_rfc9557(text), ixdtf.parse(text))
+        for text in ("2024-03-02[u-ca=hebrew]", "2024-03-02T08:48Z[UTC]", "2024-03-02T08:48:00Z[+05]", "2024-03-02T08:48:00Z[Europe/../Paris]", "2024-03-02T08:48:00Z[Etc/5]"):
+            self.assertTrue(ixdtf.is_valid(text))
+            self.assertFalse(ixdtf.is_valid(text, "rfc9557"))
+            refusal(ixdtf.parse_rfc9557, text)
+        kept = ixdtf.parse_rfc9557("2024-03-02T08:48:00Z[!x=y][u-ca=hebrew]", handler=lambda it: None if it.key == "x" else it)
+        self.assertEqual(kept.calendar, "hebrew")
+        self.assertEqual(refusal(ixdtf.parse_rfc9557, "2024-03-02T08:48:00Z[UTC][!x=y]", handler=lambda it: it).position, 31)
+
     def test_parts(self):
         self.assertEqual(ixdtf.parse_offset("-05:00:30.5"), Offset(-1, 5, 0, 30, Fraction(1, 5)))
         self.assertEqual(ixdtf.parse_zone("+05:30"), Zone(None, Offset(1, 5, 30)))
@@ -451,6 +464,27 @@ class Calls(unittest.TestCase):
         for wrong in (Z, "+05", Zone()):
             with self.assertRaises((TypeError, ValueError)):
                 ixdtf.canonical(wrong)
+
+    def test_canonical_kinds(self):
+        rows = (
+            ("time", ixdtf.parse_time, "T1214z[!u-ca=hebrew]", "12:14:00Z[u-ca=hebrew]"),
+            ("time", ixdtf.parse_time, "12+01[+01]", "12:00:00+01:00[+01:00]"),
+            ("year-month", ixdtf.parse_year_month, "+00202011", "2020-11"),
+            ("month-day", ixdtf.parse_month_day, "--11-00[" + "A" * 1000 + "]", "11-00[" + "A" * 1000 + "]"),
+            ("date-time", ixdtf.parse, "20201108", "2020-11-08"),
+        )
+        for kind, reader, text, printed in rows:
+            self.assertEqual(ixdtf.canonical(reader(text), kind), printed)
+            self.assertEqual(ixdtf.canonical(reader(text), kind=kind), printed)
+            self.assertEqual(reader(printed), reader(text))
+        first = ixdtf.parse_month_day("11-01")
+        self.assertEqual([ixdtf.canonical(first, it) for it in ("month-day", "year-month", "date-time")], ["11-01", "0000-11", "0000-11-01"])
+        for record, kind in ((first, "time"), (first, "zone"), (first, ""), (ixdtf.parse("2020-11-08"), "year-month"), (ixdtf.parse_time("12:00"), "month-day")):
+            with self.assertRaises(ValueError):
+                ixdtf.canonical(record, kind)
+        for wrong in ((Offset(1, 1, 0), "time"), (), (first, "time", 1)):
+            with self.assertRaises(TypeError):
+                ixdtf.canonical(*wrong)
 
     def test_error(self):
         error = refusal(ixdtf.parse, "2024-03-02T8:48")

@@ -210,6 +210,8 @@ pub fn defaults_are_zero()
 pub fn clones_are_equal<'a, T: EncodingType>()
 where
     T::CodeUnit: 'a,
+    ensures record { ClonesAreEqual ⟦<IxdtfParseRecord<'a, T> as Clone>⟧.is_clone
+        ⟦<IxdtfParseRecord<'a, T> as Clone>⟧.is_infallible }
     ensures annotation { ClonesAreEqual ⟦<Annotation<'a, T> as Clone>⟧.is_clone
         ⟦<Annotation<'a, T> as Clone>⟧.is_infallible }
     ensures zone_annotation { ClonesAreEqual ⟦<TimeZoneAnnotation<'a, T> as Clone>⟧.is_clone

@@ -4,8 +4,8 @@
 //! A parsing method accepts its complete input, or returns an error:
 //!
 //! - It returns `Ok` exactly if the grammar derives the input, and no annotation is refused.
-//! - It returns an error only if a row of the table of errors with this error fits the input, or an annotation is
-//!   refused with this error.
+//! - It returns an error only for one of two reasons: a row of the table of errors has this error and fits the input, or
+//!   an annotation is refused with this error.
 //!
 //! With a handler, the annotations that can be refused are those that the handler returned. In the repository,
 //! `docs/GRAMMAR.md` describes the grammar, and `docs/FAULTS.md` has the table of errors.

@@ -4,10 +4,10 @@ use Rattle.std.proofs.{Common.{refl, sym, ap, subst, true≢false, ◌∙◌, in
 use Rattle.std.specs.Bool.{MatchBool}
 use Rattle.ixdtf.specs.Widths.{UnhandledOutcome, HasUnhandledOutcome, UnhandledOutcome.{read_as, faulted}}
 use Rattle.ixdtf_reading.proofs.theorems.OneUnhandledOutcome.{one_unhandled_outcome}
-use Rattle.ixdtf_answers.specs.Answer.{line_limit, too_long, unknown_reader, is_space, letters, ok_answer_of, error_answer_of, IsOutcome}
+use Rattle.ixdtf_answers.specs.Answer.{line_limit, too_long, unknown_reader, is_space, letters, read_answer_of, error_answer_of, IsOutcome}
 use Rattle.ixdtf_answers.specs.{Answer.{IsReaderAnswer, IsAnswer}, Run.AreAnswers, Word.{name_of, reader_of, IsNoWord}, declared.word.Word.Word}
 use Rattle.ixdtf_answers.specs.declared.word.Word.TheVariants.{Parse, YearMonth, MonthDay, Time, Offset, Zone, Iana, Duration, StrictMonthDay, StrictTime}
-use Rattle.ixdtf_answers.specs.declared.word.Word.TheVariants.{StrictDuration, Canonical, Rfc3339, ZoneName, Rfc9557, CanonicalOffset, CanonicalZone, CanonicalDuration}
+use Rattle.ixdtf_answers.specs.declared.word.Word.TheVariants.{StrictDuration, Canonical, Rfc3339, ZoneName, Rfc9557, CanonicalOffset, CanonicalZone, CanonicalDuration, Instant, CanonicalTime, CanonicalYearMonth, CanonicalMonthDay}
 use Rattle.ixdtf_buffers.specs.Lines.{newline}
 
 -- each text has an outcome
@@ -15,7 +15,7 @@ outcome_answer : (word : Word) (text : List ℕ) → (answer : List ℕ) × IsOu
 outcome_answer word text = let outcome = one_unhandled_outcome (reader_of word) (letters text) in go outcome.0 outcome.1
   where
     go : (outcome : UnhandledOutcome) → HasUnhandledOutcome (reader_of word) (letters text) outcome → (answer : List ℕ) × IsOutcome word text answer
-    go (read_as found) has = (ok_answer_of word found, inl (found, has, refl))
+    go (read_as found) has = (read_answer_of word found, inl (found, has, refl))
     go (faulted fault) has = (error_answer_of fault, inr (fault, has, refl))
 
 -- two lists of bytes are equal, or not
@@ -39,7 +39,7 @@ word_among name (word ∷ words) = elim (same_bytes name (name_of word)) [
 ]
 
 abbrev all_words : List Word
-all_words = Parse ∷ YearMonth ∷ MonthDay ∷ Time ∷ Offset ∷ Zone ∷ Iana ∷ Duration ∷ StrictMonthDay ∷ StrictTime ∷ StrictDuration ∷ Canonical ∷ Rfc3339 ∷ ZoneName ∷ Rfc9557 ∷ CanonicalOffset ∷ CanonicalZone ∷ CanonicalDuration ∷ []
+all_words = Parse ∷ YearMonth ∷ MonthDay ∷ Time ∷ Offset ∷ Zone ∷ Iana ∷ Duration ∷ StrictMonthDay ∷ StrictTime ∷ StrictDuration ∷ Canonical ∷ Rfc3339 ∷ ZoneName ∷ Rfc9557 ∷ CanonicalOffset ∷ CanonicalZone ∷ CanonicalDuration ∷ Instant ∷ CanonicalTime ∷ CanonicalYearMonth ∷ CanonicalMonthDay ∷ []
 
 no_word : (name : List ℕ) → NoneOf name all_words → IsNoWord name
 no_word name none word is = grind arith

@@ -1,21 +1,21 @@
 -- What answering puts.
-use Rattle.std.proofs.Common.{◌≡◌, ℕ, ◌≤◌, length, Bool, List, [], ◌∷◌, ◌++◌, Option, Some, None, Result, Ok, Err, codes, inl, inr, refl, ap, append_assoc}
+use Rattle.std.proofs.Common.{◌≡◌, ℕ, ◌≤◌, length, take, Bool, List, [], ◌∷◌, ◌++◌, Option, Some, None, Result, Ok, Err, codes, inl, inr, refl, ap, append_assoc}
 use Rattle.std.proofs.lemmas.List.{append-nil}
 use Rattle.ixdtf_grammar.specs.{declared.error.ParseError.ParseError, Views.UnreadUnder, Promises.ReadsText}
 use Rattle.ixdtf.specs.{table.{ErrorTexts.message_of, Faults.{Fault, fault_of}}, language.{Languages.{Parsed, Found, Found.parsed}, Letters.byte_letter}}
 use Rattle.ixdtf.specs.language.{Brackets.ZoneNote, Readers.{CoreKind, Reader.bracketed}, ZoneNames.{Zone, Zone.{Name, Offset}}}
 use Rattle.ixdtf_buffers.specs.declared.{error.RunError.RunError, output.Output.Output}
-use Rattle.ixdtf_buffers.specs.{Lines.newline, Output.Puts}
+use Rattle.ixdtf_buffers.specs.{Adding.Adds, Lines.newline, Output.Puts}
 use Rattle.ixdtf_print.proofs.theorems.ShortErrors.{message_short}
-use Rattle.ixdtf_answers.specs.{Answer.{Gives, Refuses, letters, ok_answer_of, error_answer_of}}
-use Rattle.ixdtf_answers.specs.{Word.{reader_of}, declared.word.Word.Word, Parts.{PutsOutcome, IsReturned, zone_front_of, zone_name_of, zone_field_front_of, zone_field_name_of}}
+use Rattle.ixdtf_answers.specs.{Answer.{Gives, Refuses, letters, read_answer_of, error_answer_of}}
+use Rattle.ixdtf_answers.specs.{Word.{reader_of}, declared.word.Word.Word, Parts.{PutsOutcome, HasPrinted, IsReturned, zone_front_of, zone_name_of, zone_field_front_of, zone_field_name_of}}
 use Rattle.ixdtf_answers.specs.Fields.{zone_text_of, zone_field_of, date_field_of, time_field_of, offset_field_of, calendar_field_of, record_fields_of}
 
 module _ {K : Type 0} {contents : K → Option (List ℕ)} {failed : K → Type 0} {x y : Output K} {r : Result (Unit {0}) RunError} where
   -- the answer to a text that is read
   pub puts_found : (word : Word) (text : List ℕ) (found : Found) → Gives (reader_of word) (letters text) found
-      → Puts contents failed x y r (ok_answer_of word found ++ newline ∷ []) → PutsOutcome contents failed x y r word text
-  puts_found word text found given puts = record { answer = ok_answer_of word found; is = inl (found, given, refl); puts = puts }
+      → Puts contents failed x y r (read_answer_of word found ++ newline ∷ []) → PutsOutcome contents failed x y r word text
+  puts_found word text found given puts = record { answer = read_answer_of word found; is = inl (found, given, refl); puts = puts }
 
   -- the answer to a text that is refused
   pub puts_refused : (word : Word) (text : List ℕ) (fault : Fault) → Refuses (reader_of word) (letters text) fault
@@ -37,6 +37,11 @@ module _ {K : Type 0} {contents : K → Option (List ℕ)} {failed : K → Type 
   -- the same bytes were put
   pub puts_same : {xs ys : List ℕ} → xs ≡ ys → Puts contents failed x y r xs → Puts contents failed x y r ys
   puts_same e puts = rw (← e) puts
+
+-- the answer with a canonical text that was printed to the front of an array, with a newline put behind it
+pub printed_line : {word : Word} {text old new : List ℕ} {count end : ℕ} (has : HasPrinted word text old count) → Adds old new count end (newline ∷ [])
+    → codes "ok " ++ take end new ≡ read_answer_of word has.found ++ newline ∷ []
+printed_line has adds = rw (adds.is, ← has.answer) refl
 
 -- a zone is what stands before its name, and its name
 pub zone_whole : (critical : Bool) (zone : Zone) → zone_front_of critical zone ++ zone_name_of zone ≡ zone_text_of critical zone

@@ -1,10 +1,11 @@
 -- The bytes of a text that was printed.
-use Rattle.std.proofs.Common.{◌≡◌, ◌≤◌, ◌∙◌, ℕ, List, [], ◌∷◌, ◌++◌, length, map, refl, sym, ap, append_assoc}
-use Rattle.ixdtf.specs.language.{Digits.padded_digits, Letters.{Text, byte_letter}}
+use Rattle.std.proofs.Common.{◌≡◌, ◌≤◌, ◌<◌, ◌∙◌, ℕ, List, [], ◌∷◌, ◌++◌, length, map, take, codes, Result, Ok, Err, IfOk, refl, sym, ap, arith, append_assoc}
+use Rattle.ixdtf.specs.language.{Digits.padded_digits, Letters.{Text, byte_letter}, Languages.Found}
 use Rattle.ixdtf_buffers.specs.Adding.{Adds}
-use Rattle.ixdtf_print.specs.{Prints.Prints, Shown.code_point}
+use Rattle.ixdtf_print.specs.declared.error.PrintError.{PrintError, TheVariants.{NotPrintable, TooShort}}
+use Rattle.ixdtf_print.specs.{Printing.PrintsOrRefuses, Prints.Prints, Shown.code_point}
 use Rattle.ixdtf_print.proofs.code.PutBytes.{front_of_new}
-use Rattle.ixdtf_answers.specs.Fields.{nine_digits_of}
+use Rattle.ixdtf_answers.specs.{Answer.{Gives, letters, read_answer_of}, Fields.nine_digits_of, Parts.HasPrinted, Word.reader_of, declared.word.Word.Word}
 
 -- the bytes of a text that bytes spell
 pub spelled_bytes : (bytes : List ℕ) (text : Text) → map byte_letter bytes ≡ text → map code_point text ≡ bytes
@@ -13,6 +14,26 @@ spelled_bytes bytes text e = ap (λ (t : Text). map code_point t) (sym e) ∙ ba
     back : (bytes : List ℕ) → map code_point (map byte_letter bytes) ≡ bytes
     back [] = refl
     back (byte ∷ bytes) = ap (λ (t : List ℕ). byte ∷ t) (back bytes)
+
+-- what a printer returned that printed a text which is shorter than the array
+pub printed_front : {printable : Type 0} {canonical : Text} {old new : List ℕ} {count : ℕ} (result : Result ℕ PrintError)
+    → PrintsOrRefuses printable canonical old new result → printable → length canonical < length old → IfOk result (λ n. count ≡ n)
+    → (count ≡ length canonical) × (take count new ≡ map code_point canonical)
+printed_front {canonical = canonical} {new = new} (Ok n) prints is fits counted =
+    rw counted (prints.count, sym (spelled_bytes (take n new) canonical prints.text))
+printed_front (Err NotPrintable) prints is fits counted = absurd (prints.not_printable.0 refl is)
+printed_front (Err TooShort) prints is fits counted = absurd (omega (arith, (prints.too_short.0 refl).1, fits))
+
+-- what a word's reader read, whose canonical text stands at the front of the array
+pub has_printed : (word : Word) (text : List ℕ) (found : Found) (canonical : Text) (room : List ℕ) (count : ℕ) → Gives (reader_of word) (letters text) found
+    → codes "ok " ++ map code_point canonical ≡ read_answer_of word found → length canonical < 4352
+    → (count ≡ length canonical) × (take count room ≡ map code_point canonical) → HasPrinted word text room count
+has_printed word text found canonical room count gives answer short (counted, front) = record {
+  found = found;
+  gives = gives;
+  fits = omega (arith, counted, short);
+  answer = rw front answer;
+}
 
 -- nine digits that were printed behind what was added
 pub adds_digits : {old mid new : List ℕ} {at from to : ℕ} {first : List ℕ} (number : ℕ) → Adds old mid at from first → from ≤ length mid

@@ -1,10 +1,13 @@
 -- The answer to one line, without its newline.
-use Rattle.std.specs.{Prelude.{◌≡◌, ℕ, ◌+◌, Bool, ◌==◌, ◌⊎◌, List, ◌++◌, map, length, take, drop, nat_lt, MatchOption, position, codes}, Bool.MatchBool}
+use Rattle.std.specs.{Prelude.{◌≡◌, ℕ, ◌+◌, Bool, ◌==◌, ◌⊎◌, List, ◌++◌, map, length, take, drop, nat_lt, Option, Some, None, MatchOption, position, codes}, Bool.MatchBool}
+use Rattle.ixdtf_grammar.specs.declared.records.{DateRecord.DateRecord, TimeRecord.TimeRecord, UtcOffsetRecordOrZ.UtcOffsetRecordOrZ}
+use Rattle.ixdtf_grammar.specs.Instants.{instant_count}
 use Rattle.ixdtf.specs.{table.{ErrorTexts.message_of, Faults.Fault}, Widths.{HasUnhandledOutcome, UnhandledOutcome.{read_as, faulted}}}
-use Rattle.ixdtf.specs.language.{Languages.Found, Letters.{Text, byte_letter}, Readers.Reader}
-use Rattle.ixdtf_answers.specs.{Fields.{fields_of, canonical_field_of}, Word.{name_of, reader_of, IsNoWord}, declared.word.Word.{Word, TheVariants.Parse}}
+use Rattle.ixdtf.specs.language.{Languages.{Parsed, Found, Found.{parsed, dated, shifted, identified, named, lasting}}, Letters.{Text, byte_letter}, Readers.Reader}
+use Rattle.ixdtf_print.specs.{Canonical.canonical_text, Times.lone_time_text, YearMonths.year_month_text, MonthDays.month_day_text}
+use Rattle.ixdtf_answers.specs.{Fields.{fields_of, canonical_field_by, instant_text_of}, Word.{name_of, reader_of, IsNoWord}, declared.word.Word.{Word, TheVariants.Parse}}
 use Rattle.ixdtf_answers.specs.declared.word.Word.TheVariants.{YearMonth, MonthDay, Time, Offset, Zone, Iana, Duration, StrictMonthDay, StrictTime}
-use Rattle.ixdtf_answers.specs.declared.word.Word.TheVariants.{StrictDuration, Canonical, Rfc3339, ZoneName, Rfc9557, CanonicalOffset, CanonicalZone, CanonicalDuration}
+use Rattle.ixdtf_answers.specs.declared.word.Word.TheVariants.{StrictDuration, Canonical, Rfc3339, ZoneName, Rfc9557, CanonicalOffset, CanonicalZone, CanonicalDuration, Instant, CanonicalTime, CanonicalYearMonth, CanonicalMonthDay}
 
 -- the longest line that is read
 abbrev pub line_limit : ℕ
@@ -16,6 +19,9 @@ too_long = codes "error line too long"
 abbrev pub unknown_reader : List ℕ
 unknown_reader = codes "error unknown reader"
 
+abbrev pub no_instant : List ℕ
+no_instant = codes "error no instant"
+
 abbrev pub is_space : ℕ → Bool
 is_space byte = byte == 32
 
@@ -23,30 +29,54 @@ is_space byte = byte == 32
 abbrev pub letters : List ℕ → Text
 letters bytes = map byte_letter bytes
 
--- what is shown of a value of a reader: its fields, and for `canonical` and the words that begin so the canonical text
-abbrev pub shown_of : Word → Found → List ℕ
-shown_of Parse found = fields_of found
-shown_of YearMonth found = fields_of found
-shown_of MonthDay found = fields_of found
-shown_of Time found = fields_of found
-shown_of Offset found = fields_of found
-shown_of Zone found = fields_of found
-shown_of Iana found = fields_of found
-shown_of Duration found = fields_of found
-shown_of StrictMonthDay found = fields_of found
-shown_of StrictTime found = fields_of found
-shown_of StrictDuration found = fields_of found
-shown_of Canonical found = canonical_field_of found
-shown_of Rfc3339 found = fields_of found
-shown_of ZoneName found = fields_of found
-shown_of Rfc9557 found = fields_of found
-shown_of CanonicalOffset found = canonical_field_of found
-shown_of CanonicalZone found = canonical_field_of found
-shown_of CanonicalDuration found = canonical_field_of found
+-- the fields of a value of a reader
+abbrev pub fields_answer_of : Found → List ℕ
+fields_answer_of found = codes "ok" ++ fields_of found
 
--- the answer to a text that is read
-abbrev pub ok_answer_of : Word → Found → List ℕ
-ok_answer_of word found = codes "ok" ++ shown_of word found
+-- its canonical text, where a record of dates and times has this one
+abbrev pub canonical_answer_by : (Parsed → Text) → Found → List ℕ
+canonical_answer_by text_of found = codes "ok" ++ canonical_field_by text_of found
+
+-- the instant of a date, a time and an offset or `Z`, where all three are there (`instant_count` of `Instants.antt`)
+abbrev pub instant_answer_of : Option DateRecord → Option TimeRecord → Option UtcOffsetRecordOrZ → List ℕ
+instant_answer_of (Some date) (Some time) (Some offset) = codes "ok" ++ instant_text_of (instant_count date time offset)
+instant_answer_of (Some date) (Some time) None = no_instant
+instant_answer_of (Some date) None offset = no_instant
+instant_answer_of None time offset = no_instant
+
+-- the instant of a value of a reader: only a record of dates and times can have one
+abbrev pub found_instant_of : Found → List ℕ
+found_instant_of (parsed found) = instant_answer_of found.date found.time found.offset
+found_instant_of (dated found) = instant_answer_of found.date found.time found.offset
+found_instant_of (shifted offset) = no_instant
+found_instant_of (identified zone) = no_instant
+found_instant_of (named name) = no_instant
+found_instant_of (lasting duration) = no_instant
+
+-- the answer to a text that is read: the fields of the value, its canonical text, or its instant
+abbrev pub read_answer_of : Word → Found → List ℕ
+read_answer_of Parse found = fields_answer_of found
+read_answer_of YearMonth found = fields_answer_of found
+read_answer_of MonthDay found = fields_answer_of found
+read_answer_of Time found = fields_answer_of found
+read_answer_of Offset found = fields_answer_of found
+read_answer_of Zone found = fields_answer_of found
+read_answer_of Iana found = fields_answer_of found
+read_answer_of Duration found = fields_answer_of found
+read_answer_of StrictMonthDay found = fields_answer_of found
+read_answer_of StrictTime found = fields_answer_of found
+read_answer_of StrictDuration found = fields_answer_of found
+read_answer_of Canonical found = canonical_answer_by canonical_text found
+read_answer_of Rfc3339 found = fields_answer_of found
+read_answer_of ZoneName found = fields_answer_of found
+read_answer_of Rfc9557 found = fields_answer_of found
+read_answer_of CanonicalOffset found = canonical_answer_by canonical_text found
+read_answer_of CanonicalZone found = canonical_answer_by canonical_text found
+read_answer_of CanonicalDuration found = canonical_answer_by canonical_text found
+read_answer_of Instant found = found_instant_of found
+read_answer_of CanonicalTime found = canonical_answer_by lone_time_text found
+read_answer_of CanonicalYearMonth found = canonical_answer_by year_month_text found
+read_answer_of CanonicalMonthDay found = canonical_answer_by month_day_text found
 
 -- the answer to a text that is refused
 abbrev pub error_answer_of : Fault → List ℕ
@@ -65,7 +95,7 @@ Refuses reader text fault = HasUnhandledOutcome reader text (faulted fault)
 -- the answer of the word's reader, to which the text gives a value, or which refuses the text
 abbrev pub IsOutcome : Word → List ℕ → List ℕ → Type 0
 IsOutcome word text answer =
-    ((found : Found) × Gives (reader_of word) (letters text) found × (answer ≡ ok_answer_of word found))
+    ((found : Found) × Gives (reader_of word) (letters text) found × (answer ≡ read_answer_of word found))
     ⊎ ((fault : Fault) × Refuses (reader_of word) (letters text) fault × (answer ≡ error_answer_of fault))
 
 -- the answer of the reader that the name names, where there is one

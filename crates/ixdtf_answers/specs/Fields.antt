@@ -1,15 +1,16 @@
 -- The fields of what a reader derives, each after a space.
 use Rattle.ixdtf_grammar.specs.declared.records.UtcOffsetRecord.TheVariants as offsets
 use Rattle.ixdtf_grammar.specs.declared.records.UtcOffsetRecordOrZ.TheVariants as shifts
-use Rattle.std.specs.{Prelude.{ℕ, Bool, true, false, List, [], ◌∷◌, ◌++◌, map, Option, Some, None, codes}, Fmt.{decimal, signed_decimal}}
+use Rattle.std.specs.{Prelude.{ℕ, ◌^◌, ℤ, pos, nat_abs, Bool, true, false, List, [], ◌∷◌, ◌++◌, map, Option, Some, None, codes}, Fmt.{decimal, signed_decimal}, Int.int_rem_euclid}
+use Rattle.ixdtf_instants.specs.Texts.{seconds_of}
 use Rattle.ixdtf_grammar.specs.declared.records.{DateDurationRecord.DateDurationRecord, DateRecord.DateRecord, DurationParseRecord.DurationParseRecord}
 use Rattle.ixdtf_grammar.specs.declared.records.{FullPrecisionOffset.FullPrecisionOffset, MinutePrecisionOffset.MinutePrecisionOffset, Sign.Sign}
 use Rattle.ixdtf_grammar.specs.declared.records.{Sign.TheVariants.{Negative, Positive}, TimeDurationRecord.TimeDurationRecord}
 use Rattle.ixdtf_grammar.specs.declared.records.{TimeDurationRecord.TheVariants.{Hours, Minutes, Seconds}, TimeRecord.TimeRecord}
 use Rattle.ixdtf_grammar.specs.declared.records.{UtcOffsetRecord.UtcOffsetRecord, UtcOffsetRecordOrZ.UtcOffsetRecordOrZ}
-use Rattle.ixdtf.specs.language.{Digits.padded_digits, Fractions.{FractionParts, nanoseconds_of}, Brackets.ZoneNote}
+use Rattle.ixdtf.specs.language.{Letters.Text, Digits.padded_digits, Fractions.{FractionParts, nanoseconds_of}, Brackets.ZoneNote}
 use Rattle.ixdtf.specs.language.{Languages.{Parsed, Found, Found.{parsed, dated, shifted, identified, named, lasting}}, ZoneNames.{Zone, Zone.{Name, Offset}}}
-use Rattle.ixdtf_print.specs.{Canonical.{canonical_text, zone_text}, Durations.duration_text, Offsets.utc_offset_text, Shown.code_point}
+use Rattle.ixdtf_print.specs.{Canonical.zone_text, Durations.duration_text, Offsets.utc_offset_text, Shown.code_point}
 
 -- `,`
 abbrev pub comma : ℕ
@@ -119,6 +120,14 @@ abbrev pub record_fields_of : Parsed → List ℕ
 record_fields_of found =
     date_field_of found.date ++ (time_field_of found.time ++ (offset_field_of found.offset ++ (zone_field_of found.zone ++ calendar_field_of found.calendar)))
 
+-- whole seconds, and nanoseconds after them
+abbrev pub seconds_text_of : ℤ → ℕ → List ℕ
+seconds_text_of seconds nanoseconds = codes " seconds=" ++ (signed_decimal seconds ++ (codes " nanoseconds=" ++ decimal nanoseconds))
+
+-- the seconds, rounded down, and the other nanoseconds of an instant so many nanoseconds after 1970-01-01T00:00:00Z
+abbrev pub instant_text_of : ℤ → List ℕ
+instant_text_of count = seconds_text_of (seconds_of count) (nat_abs (int_rem_euclid count (pos (10 ^ 9))))
+
 -- the sign of a duration, which always stands
 abbrev pub sign_field_of : Sign → List ℕ
 sign_field_of sign = codes " sign=" ++ sign_text_of sign
@@ -166,11 +175,11 @@ fields_of (identified zone) = zone_text_of false zone
 fields_of (named name) = zone_text_of false (Name name)
 fields_of (lasting duration) = duration_text_of duration
 
--- a space, and the bytes of the canonical text of a record; nothing else has one
-abbrev pub canonical_field_of : Found → List ℕ
-canonical_field_of (parsed found) = codes " " ++ map code_point (canonical_text found)
-canonical_field_of (dated found) = codes " " ++ map code_point (canonical_text found)
-canonical_field_of (shifted offset) = codes " " ++ map code_point (utc_offset_text offset)
-canonical_field_of (identified zone) = codes " " ++ map code_point (zone_text zone)
-canonical_field_of (named name) = []
-canonical_field_of (lasting duration) = codes " " ++ map code_point (duration_text duration)
+-- a space, and the bytes of the canonical text of what a reader derives, where a record of dates and times has this one; a name has none
+abbrev pub canonical_field_by : (Parsed → Text) → Found → List ℕ
+canonical_field_by text_of (parsed found) = codes " " ++ map code_point (text_of found)
+canonical_field_by text_of (dated found) = codes " " ++ map code_point (text_of found)
+canonical_field_by text_of (shifted offset) = codes " " ++ map code_point (utc_offset_text offset)
+canonical_field_by text_of (identified zone) = codes " " ++ map code_point (zone_text zone)
+canonical_field_by text_of (named name) = []
+canonical_field_by text_of (lasting duration) = codes " " ++ map code_point (duration_text duration)

@@ -4,7 +4,7 @@ use Rattle.ixdtf_grammar.specs.declared.profile.Profile.TheVariants.{Crate, Stri
 use Rattle.ixdtf.specs.language.Readers.{Reader, parse, parse_rfc9557, parse_year_month, parse_month_day, parse_time}
 use Rattle.ixdtf.specs.language.Readers.Reader.{parse_rfc3339, parse_offset, parse_identifier, parse_iana_identifier, parse_duration}
 use Rattle.ixdtf_answers.specs.declared.word.Word.{Word, TheVariants.{Parse, YearMonth, MonthDay, Time, Offset, Zone, Iana, Duration, StrictMonthDay}}
-use Rattle.ixdtf_answers.specs.declared.word.Word.TheVariants.{StrictTime, StrictDuration, Canonical, Rfc3339, ZoneName, Rfc9557, CanonicalOffset, CanonicalZone, CanonicalDuration}
+use Rattle.ixdtf_answers.specs.declared.word.Word.TheVariants.{StrictTime, StrictDuration, Canonical, Rfc3339, ZoneName, Rfc9557, CanonicalOffset, CanonicalZone, CanonicalDuration, Instant, CanonicalTime, CanonicalYearMonth, CanonicalMonthDay}
 
 abbrev pub name_of : Word → List ℕ
 name_of Parse = codes "parse"
@@ -25,6 +25,10 @@ name_of Rfc9557 = codes "rfc9557"
 name_of CanonicalOffset = codes "canonical-offset"
 name_of CanonicalZone = codes "canonical-zone"
 name_of CanonicalDuration = codes "canonical-duration"
+name_of Instant = codes "instant"
+name_of CanonicalTime = codes "canonical-time"
+name_of CanonicalYearMonth = codes "canonical-year-month"
+name_of CanonicalMonthDay = codes "canonical-month-day"
 
 abbrev pub reader_of : Word → Reader
 reader_of Parse = parse
@@ -45,6 +49,10 @@ reader_of Rfc9557 = parse_rfc9557
 reader_of CanonicalOffset = parse_offset
 reader_of CanonicalZone = parse_identifier
 reader_of CanonicalDuration = parse_duration Crate
+reader_of Instant = parse
+reader_of CanonicalTime = parse_time Crate
+reader_of CanonicalYearMonth = parse_year_month
+reader_of CanonicalMonthDay = parse_month_day Crate
 
 -- no word has the name
 abbrev pub IsNoWord : List ℕ → Type 0

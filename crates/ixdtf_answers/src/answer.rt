@@ -5,14 +5,14 @@ ghost use Rattle.ixdtf_answers.specs.Parts.{PutsAnswer};
 ghost use Rattle.ixdtf_buffers.specs.Lines.{newline};
 ghost use Rattle.ixdtf_buffers.specs.Output.{Puts};
 
-use crate::readers::{MOST_PRINTED, answer_text};
+use crate::canonical::MOST_PRINTED;
+use crate::readers::answer_text;
 use crate::word::Word;
 use ixdtf_buffers::driver::LineTask;
 use ixdtf_buffers::error::RunError;
 use ixdtf_buffers::output::Output;
 use ixdtf_buffers::place::place_of;
 use ixdtf_buffers::sink::Sink;
-use ixdtf_print::PrintedText;
 
 /// The longest line that is read, in bytes.
 pub const LINE_LIMIT: usize = 4096;
@@ -20,17 +20,15 @@ pub const LINE_LIMIT: usize = 4096;
 /// What is kept from one line to the next.
 #[derive(Drop)]
 pub struct Answering {
-    /// The canonical text that was printed last.
-    printed: PrintedText<MOST_PRINTED>,
+    /// An array for canonical texts. To clear one for each line would take longer than to fill it.
+    room: [u8; MOST_PRINTED],
 }
 
 impl Answering {
     /// No line was answered.
-    pub fn new() -> Answering
-        ensures { result.printed ≡ [] }
-    {
+    pub fn new() -> Answering {
         Answering {
-            printed: PrintedText::empty(),
+            room: [0; MOST_PRINTED],
         }
     }
 }
@@ -48,7 +46,7 @@ impl LineTask<LINE_LIMIT> for Answering {
     ) -> Result<(), RunError> {
         match line {
             None => put_too_long(output),
-            Some(line) => answer_short(output, &mut self.printed, line),
+            Some(line) => answer_short(output, &mut self.room, line),
         }
     }
 }
@@ -56,7 +54,7 @@ impl LineTask<LINE_LIMIT> for Answering {
 /// Puts the answer to a line that is not too long.
 fn answer_short<K: Sink>(
     output: &mut Output<'_, K>,
-    printed: &mut PrintedText<MOST_PRINTED>,
+    room: &mut [u8; MOST_PRINTED],
     line: &[u8],
 ) -> Result<(), RunError>
     requires { length line.now ≤ LINE_LIMIT }
@@ -68,7 +66,7 @@ fn answer_short<K: Sink>(
     let Some(word) = Word::named(&line[..place]) else {
         return put_no_such_reader(output);
     };
-    answer_text(output, printed, word, &line[place + 1..])
+    answer_text(output, room, word, &line[place + 1..])
 }
 
 /// Puts the answer to a line that is too long to be read.

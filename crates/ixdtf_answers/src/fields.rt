@@ -9,8 +9,10 @@ ghost use Rattle.ixdtf_answers.specs.Fields.{zone_label_of, sign_field_of};
 ghost use Rattle.ixdtf_answers.specs.Fields.{date_duration_field_of, time_numbers_of};
 ghost use Rattle.ixdtf_answers.specs.Fields.{last_fraction_of, time_duration_field_of, duration_text_of};
 ghost use Rattle.ixdtf_answers.specs.Parts.{zone_front_of, zone_field_front_of};
-ghost use Rattle.std.specs.Fmt.{decimal};
+ghost use Rattle.ixdtf_answers.specs.Fields.{seconds_text_of};
+ghost use Rattle.std.specs.Fmt.{decimal, signed_decimal};
 
+use ixdtf::Instant;
 use ixdtf::encoding::Utf8;
 use ixdtf::records::{
     DateDurationRecord, DateRecord, DurationParseRecord, Fraction, FullPrecisionOffset,
@@ -197,6 +199,33 @@ fn add_zone_label(room: &mut [u8; ROOM], at: usize, critical: bool) -> usize
         add_bytes(room, at, b" tz=!")
     } else {
         add_bytes(room, at, b" tz=")
+    }
+}
+
+/// Adds the seconds and the nanoseconds of an instant.
+pub fn add_instant(room: &mut [u8; ROOM], at: usize, instant: Instant) -> usize
+    requires { at + 63 ≤ ROOM }
+    ensures place { result ≤ at + 63 }
+    ensures text { Adds room.old room.new at result (seconds_text_of instant.seconds instant.nanoseconds) }
+{
+    let seconds = add_bytes(room, at, b" seconds=");
+    let label = add_seconds(room, seconds, instant.seconds);
+    let nanoseconds = add_bytes(room, label, b" nanoseconds=");
+    add_number(room, nanoseconds, u64::from(instant.nanoseconds))
+}
+
+/// Adds a number of seconds, with a sign where it is below zero.
+fn add_seconds(room: &mut [u8; ROOM], at: usize, seconds: i64) -> usize
+    requires { at + 21 ≤ ROOM }
+    ensures place { result ≤ at + 21 }
+    ensures text { Adds room.old room.new at result (signed_decimal seconds) }
+{
+    let number = seconds.unsigned_abs();
+    if seconds < 0 {
+        let magnitude = add_byte(room, at, b'-');
+        add_number(room, magnitude, number)
+    } else {
+        add_number(room, at, number)
     }
 }
 

@@ -6,6 +6,7 @@
 
 mod answer;
 pub mod arguments;
+mod canonical;
 mod fields;
 pub mod laws;
 mod outcome;

@@ -1,25 +1,19 @@
 //! What is put for what a reader found, or for why it refuses a text.
-ghost use Rattle.std.specs.Prelude.{◌≡◌, ◌+◌, ◌≤◌, ◌<◌, false, [], ◌∷◌, ◌++◌, codes, length, option_map, take};
+ghost use Rattle.std.specs.Prelude.{◌≡◌, ◌+◌, ◌≤◌, false, [], ◌∷◌, ◌++◌, codes, length, option_map, take};
 ghost use Rattle.ixdtf.specs.Views.{parsed_of, note_of, zone_of};
-ghost use Rattle.ixdtf.specs.language.Languages.Found.{parsed, shifted, identified, lasting};
 ghost use Rattle.ixdtf.specs.table.ErrorTexts.{message_of};
 ghost use Rattle.ixdtf.specs.table.Faults.{fault_of};
-ghost use Rattle.ixdtf_print.specs.Canonical.{zone_text};
-ghost use Rattle.ixdtf_print.specs.Durations.{IsPrintableDuration, duration_text};
-ghost use Rattle.ixdtf_print.specs.Offsets.{IsPrintableOffset, utc_offset_text};
-ghost use Rattle.ixdtf_print.specs.Printable.{record_of};
-ghost use Rattle.ixdtf_print.specs.Printed.{FitsArray};
-ghost use Rattle.ixdtf_print.specs.Zones.{IsPrintableZone, zone_in};
+ghost use Rattle.ixdtf_print.specs.Printable.{IsPrintable, record_of};
 ghost use Rattle.ixdtf_buffers.specs.Adding.{Adds};
-ghost use Rattle.ixdtf_answers.specs.Answer.{error_answer_of};
-ghost use Rattle.ixdtf_answers.specs.Fields.{canonical_field_of, record_fields_of, date_field_of, time_field_of};
+ghost use Rattle.ixdtf_answers.specs.Answer.{error_answer_of, instant_answer_of};
+ghost use Rattle.ixdtf_answers.specs.Fields.{record_fields_of, date_field_of, time_field_of};
 ghost use Rattle.ixdtf_answers.specs.Fields.{offset_field_of, offset_text_of, zone_text_of, calendar_text_of, duration_text_of};
 ghost use Rattle.ixdtf_answers.specs.Parts.{zone_field_front_of, zone_name_of, zone_field_name_of};
 ghost use Rattle.ixdtf_buffers.specs.Lines.{newline};
 ghost use Rattle.ixdtf_buffers.specs.Output.{Puts};
 
 use crate::fields::{
-    add_date_field, add_duration, add_offset, add_offset_field, add_time_field,
+    add_date_field, add_duration, add_instant, add_offset, add_offset_field, add_time_field,
     add_zone_field_front, add_zone_front,
 };
 use ixdtf::ParseError;
@@ -31,7 +25,7 @@ use ixdtf_buffers::adding::{ROOM, add_byte, add_bytes};
 use ixdtf_buffers::error::RunError;
 use ixdtf_buffers::output::Output;
 use ixdtf_buffers::sink::Sink;
-use ixdtf_print::{PrintedText, error_parts};
+use ixdtf_print::error_parts;
 
 /// Puts each field that the record has.
 pub fn put_record<K: Sink>(
@@ -163,75 +157,23 @@ pub fn put_duration<K: Sink>(
     output.put(&room[..end])
 }
 
-/// Prints the canonical text of the record, and puts it.
-pub fn put_canonical<K: Sink, const SIZE: usize>(
+/// Puts the instant of a record that `parse` returned, or that it has none.
+pub fn put_instant<K: Sink>(
     output: &mut Output<'_, K>,
-    printed: &mut PrintedText<SIZE>,
     parts: &IxdtfParseRecord<'_, Utf8>,
 ) -> Result<(), RunError>
-    requires { FitsArray SIZE (record_of parts.now) }
+    requires { IsPrintable (record_of parts.now) }
     ensures { Puts K.contents K.failed output.old output.new result
-        (codes "ok" ++ canonical_field_of (parsed (record_of parts.now)) ++ newline ∷ []) }
+        (instant_answer_of parts.now.date parts.now.time parts.now.offset ++ newline ∷ []) }
 {
-    printed.print(parts);
-    put_printed(output, printed)
-}
-
-/// Prints the canonical text of the offset, and puts it.
-pub fn put_canonical_offset<K: Sink, const SIZE: usize>(
-    output: &mut Output<'_, K>,
-    printed: &mut PrintedText<SIZE>,
-    offset: &UtcOffsetRecord,
-) -> Result<(), RunError>
-    requires printable { IsPrintableOffset offset.now }
-    requires fits { length (utc_offset_text offset.now) < SIZE }
-    ensures { Puts K.contents K.failed output.old output.new result
-        (codes "ok" ++ canonical_field_of (shifted offset.now) ++ newline ∷ []) }
-{
-    printed.print_offset(offset);
-    put_printed(output, printed)
-}
-
-/// Prints the canonical text of the zone, and puts it.
-pub fn put_canonical_zone<K: Sink, const SIZE: usize>(
-    output: &mut Output<'_, K>,
-    printed: &mut PrintedText<SIZE>,
-    zone: &TimeZoneRecord<'_, Utf8>,
-) -> Result<(), RunError>
-    requires printable { IsPrintableZone (zone_in zone.now) }
-    requires fits { length (zone_text (zone_in zone.now)) < SIZE }
-    ensures { Puts K.contents K.failed output.old output.new result
-        (codes "ok" ++ canonical_field_of (identified (zone_in zone.now)) ++ newline ∷ []) }
-{
-    printed.print_zone(zone);
-    put_printed(output, printed)
-}
-
-/// Prints the canonical text of the duration, and puts it.
-pub fn put_canonical_duration<K: Sink, const SIZE: usize>(
-    output: &mut Output<'_, K>,
-    printed: &mut PrintedText<SIZE>,
-    duration: &DurationParseRecord,
-) -> Result<(), RunError>
-    requires printable { IsPrintableDuration duration.now }
-    requires fits { length (duration_text duration.now) < SIZE }
-    ensures { Puts K.contents K.failed output.old output.new result
-        (codes "ok" ++ canonical_field_of (lasting duration.now) ++ newline ∷ []) }
-{
-    printed.print_duration(duration);
-    put_printed(output, printed)
-}
-
-/// Puts a canonical text that was printed.
-fn put_printed<K: Sink, const SIZE: usize>(
-    output: &mut Output<'_, K>,
-    printed: &PrintedText<SIZE>,
-) -> Result<(), RunError>
-    ensures { Puts K.contents K.failed output.old output.new result
-        (codes "ok " ++ printed.now ++ newline ∷ []) }
-{
-    output.put(b"ok ")?;
-    output.put(printed.as_line())
+    let Some(instant) = parts.instant() else {
+        return output.put(b"error no instant\n");
+    };
+    let mut room = [0; ROOM];
+    let field = add_bytes(&mut room, 0, b"ok");
+    let front = add_instant(&mut room, field, instant);
+    let end = add_byte(&mut room, front, b'\n');
+    output.put(&room[..end])
 }
 
 /// Puts the answer to a text that is refused, and a newline.

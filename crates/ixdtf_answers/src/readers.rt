@@ -8,29 +8,27 @@ ghost use Rattle.ixdtf.specs.language.Languages.Found.{parsed};
 ghost use Rattle.ixdtf.specs.language.Readers.{parse_month_day, parse_time};
 ghost use Rattle.ixdtf.specs.language.Readers.Reader.{parse_iana_identifier, parse_duration};
 ghost use Rattle.ixdtf_answers.specs.Word.{reader_of};
-ghost use Rattle.ixdtf_answers.specs.Parts.{IsReturned, PutsOutcome, ShowsFields};
+ghost use Rattle.ixdtf_answers.specs.Parts.{IsPrinted, IsReturned, PutsOutcome, ShowsFields};
 
-use crate::outcome::{
-    put_canonical, put_canonical_duration, put_canonical_offset, put_canonical_zone, put_duration,
-    put_error, put_offset, put_record, put_zone,
+use crate::canonical::{
+    MOST_PRINTED, canonical_duration, canonical_month_day, canonical_offset, canonical_record,
+    canonical_time, canonical_year_month, canonical_zone,
 };
+use crate::outcome::{put_duration, put_error, put_instant, put_offset, put_record, put_zone};
 use crate::word::Word;
 use ixdtf::ParserResult;
 use ixdtf::encoding::Utf8;
 use ixdtf::parsers::{IsoDurationParser, IxdtfParser, Profile, TimeZoneParser};
 use ixdtf::records::{IxdtfParseRecord, TimeZoneRecord};
+use ixdtf_buffers::adding::add_byte;
 use ixdtf_buffers::error::RunError;
 use ixdtf_buffers::output::Output;
 use ixdtf_buffers::sink::Sink;
-use ixdtf_print::PrintedText;
-
-/// More bytes than the canonical text of a record that was read from a line has.
-pub const MOST_PRINTED: usize = 4352;
 
 /// Puts the answer to the text by the reader that the word names.
 pub fn answer_text<K: Sink>(
     output: &mut Output<'_, K>,
-    printed: &mut PrintedText<MOST_PRINTED>,
+    room: &mut [u8; MOST_PRINTED],
     word: Word,
     text: &[u8],
 ) -> Result<(), RunError>
@@ -49,13 +47,41 @@ pub fn answer_text<K: Sink>(
         Word::StrictMonthDay => answer_month_day(output, word, Profile::Strict, text),
         Word::StrictTime => answer_time(output, word, Profile::Strict, text),
         Word::StrictDuration => answer_duration(output, word, Profile::Strict, text),
-        Word::Canonical => answer_canonical(output, printed, text),
+        Word::Canonical => put_canonical(output, word, text, canonical_record(text, room), room),
         Word::Rfc3339 => answer_rfc3339(output, text),
         Word::ZoneName => answer_zone_name(output, word, text),
         Word::Rfc9557 => answer_rfc9557(output, text),
-        Word::CanonicalOffset => answer_canonical_offset(output, printed, text),
-        Word::CanonicalZone => answer_canonical_zone(output, printed, text),
-        Word::CanonicalDuration => answer_canonical_duration(output, printed, text),
+        Word::CanonicalOffset => put_canonical(
+            output,
+            word,
+            text,
+            canonical_offset(text, room),
+            room,
+        ),
+        Word::CanonicalZone => put_canonical(output, word, text, canonical_zone(text, room), room),
+        Word::CanonicalDuration => put_canonical(
+            output,
+            word,
+            text,
+            canonical_duration(text, room),
+            room,
+        ),
+        Word::Instant => answer_instant(output, text),
+        Word::CanonicalTime => put_canonical(output, word, text, canonical_time(text, room), room),
+        Word::CanonicalYearMonth => put_canonical(
+            output,
+            word,
+            text,
+            canonical_year_month(text, room),
+            room,
+        ),
+        Word::CanonicalMonthDay => put_canonical(
+            output,
+            word,
+            text,
+            canonical_month_day(text, room),
+            room,
+        ),
     }
 }
 
@@ -208,71 +234,37 @@ fn answer_duration<K: Sink>(
     }
 }
 
-/// Puts the answer of `canonical`.
+/// Puts the answer of `instant`.
 #[inline(never)]
-fn answer_canonical<K: Sink>(
-    output: &mut Output<'_, K>,
-    printed: &mut PrintedText<MOST_PRINTED>,
-    text: &[u8],
-) -> Result<(), RunError>
-    requires { length text.now ≤ 4096 }
-    ensures { PutsOutcome K.contents K.failed output.old output.new result Word.Canonical text.now }
+fn answer_instant<K: Sink>(output: &mut Output<'_, K>, text: &[u8]) -> Result<(), RunError>
+    ensures { PutsOutcome K.contents K.failed output.old output.new result Word.Instant text.now }
 {
-    let read = IxdtfParser::from_utf8(text).parse();
-    match &read {
-        Ok(parts) => put_canonical(output, printed, parts),
+    let dated = IxdtfParser::from_utf8(text).parse();
+    match &dated {
+        Ok(parts) => put_instant(output, parts),
         Err(error) => put_error(output, *error),
     }
 }
 
-/// Puts the answer of `canonical-offset`.
-#[inline(never)]
-fn answer_canonical_offset<K: Sink>(
+/// Puts the canonical text of what the word's reader read, which was printed to the front of the array, or why it refuses the text.
+#[inline(always)]
+fn put_canonical<K: Sink>(
     output: &mut Output<'_, K>,
-    printed: &mut PrintedText<MOST_PRINTED>,
+    word: Word,
     text: &[u8],
+    printed: ParserResult<usize>,
+    room: &mut [u8; MOST_PRINTED],
 ) -> Result<(), RunError>
-    requires { length text.now ≤ 4096 }
-    ensures { PutsOutcome K.contents K.failed output.old output.new result Word.CanonicalOffset text.now }
+    requires { IsPrinted word text.now room.old printed }
+    ensures { PutsOutcome K.contents K.failed output.old output.new result word text.now }
 {
-    let read = TimeZoneParser::from_utf8(text).parse_offset();
-    match &read {
-        Ok(offset) => put_canonical_offset(output, printed, offset),
-        Err(error) => put_error(output, *error),
-    }
-}
-
-/// Puts the answer of `canonical-zone`.
-#[inline(never)]
-fn answer_canonical_zone<K: Sink>(
-    output: &mut Output<'_, K>,
-    printed: &mut PrintedText<MOST_PRINTED>,
-    text: &[u8],
-) -> Result<(), RunError>
-    requires { length text.now ≤ 4096 }
-    ensures { PutsOutcome K.contents K.failed output.old output.new result Word.CanonicalZone text.now }
-{
-    let read = TimeZoneParser::from_utf8(text).parse_identifier();
-    match &read {
-        Ok(zone) => put_canonical_zone(output, printed, zone),
-        Err(error) => put_error(output, *error),
-    }
-}
-
-/// Puts the answer of `canonical-duration`.
-#[inline(never)]
-fn answer_canonical_duration<K: Sink>(
-    output: &mut Output<'_, K>,
-    printed: &mut PrintedText<MOST_PRINTED>,
-    text: &[u8],
-) -> Result<(), RunError>
-    requires { length text.now ≤ 4096 }
-    ensures { PutsOutcome K.contents K.failed output.old output.new result Word.CanonicalDuration text.now }
-{
-    let read = IsoDurationParser::<Utf8>::from_utf8(text).parse();
-    match &read {
-        Ok(duration) => put_canonical_duration(output, printed, duration),
-        Err(error) => put_error(output, *error),
+    match printed {
+        Ok(count) => {
+            let end = add_byte(room, count, b'\n');
+            output.put(b"ok ")?;
+            output.put(&room[..end])
+        }
+        Err(error) => put_error(output, error),
     }
 }
 

@@ -23,7 +23,7 @@ pub const DATE_TIMES: Request<'static> = Request {
 /// Lines are printed as their canonical texts.
 pub const PRINTED: Request<'static> = Request {
     name: "times.txt",
-    task: Task::Print,
+    task: Task::Print(Kind::DateTime),
     profile: Profile::Crate,
     field: None,
     skips: None,

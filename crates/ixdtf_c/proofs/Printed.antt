@@ -1,7 +1,7 @@
 -- Records that have a text, and records that were read.
 use Rattle.ixdtf_grammar.specs.declared.records.UtcOffsetRecord.TheVariants as offsets
 use Rattle.ixdtf_grammar.specs.declared.records.UtcOffsetRecordOrZ.TheVariants as shifts
-use Rattle.std.proofs.Common.{refl, sym, ◌∙◌, ◌≡◌, ◌≢◌, ◌≤◌, ◌+◌, ℕ, Bool, not, inl, inr, ap, if◌then◌else◌, List, length, Option, Some, None, IfSome}
+use Rattle.std.proofs.Common.{refl, sym, true≢false, ◌∙◌, ◌≡◌, ◌≢◌, ◌≤◌, ◌+◌, ℕ, Bool, false, not, inl, inr, ap, if◌then◌else◌, List, length, Option, Some, None, IfSome}
 use Rattle.std.proofs.{Common.{IsSomeAnd, Result, Ok, Err, OnOk, arith}, lemmas.Bool.Decides.eqb_tells}
 use Rattle.ixdtf_grammar.specs.declared.records.DurationParseRecord.{DurationParseRecord}
 use Rattle.ixdtf_grammar.specs.declared.{profile.Profile.{Profile, TheVariants.Crate}, records.{DateRecord.DateRecord, MinutePrecisionOffset.MinutePrecisionOffset, Sign.Sign}}
@@ -10,11 +10,14 @@ use Rattle.ixdtf_grammar.specs.declared.records.UtcOffsetRecordOrZ.{UtcOffsetRec
 use Rattle.ixdtf.specs.language.{Brackets.ZoneNote, Fractions.FractionParts, Languages.Parsed, Letters.Text, OffsetRecords.sign_for, Readers.{parse, CoreKind.date_time}}
 use Rattle.ixdtf.specs.{language.ZoneNames.{Zone as SomeZone, Zone.{Name, Offset as ByOffset}}, Handlers.UnhandledRecord}
 use Rattle.ixdtf_c.specs.Crossing.{Contents, DurationContents, digits_for, value_for, is_negative, date_for, time_for, offset_for, area_for, zone_for, units_for, is_there}
-use Rattle.ixdtf_c.specs.{Crossing.record_for, Instants.shift_fraction, Outcomes.GivesRecord}
+use Rattle.ixdtf_c.specs.{Crossing.record_for, Instants.shift_fraction, Outcomes.GivesRecord, Printing.{HaveDigits, text_where}}
 use Rattle.ixdtf_c.specs.Standing.{where_there, fraction_by, date_by, time_by, minutes_by, offset_by, zone_by, parsed_by, record_by, lasting_by, shift_alone}
 use Rattle.ixdtf_c.proofs.Numbers.{number_some}
 use Rattle.ixdtf_print.specs.{Canonical.canonical_text, Durations.{duration_text, IsPrintableDuration, IsDurationReadBack}, Printable.IsPrintable, Spelled.{HasTime, HasDigits, IsDayTime, IsShift}}
-use Rattle.ixdtf_print.specs.{Offsets.IsPrintableOffset, Printing.{HasText, HasOneText}, SpelledDurations.HasTimeUnits}
+use Rattle.ixdtf_print.specs.{Times.IsPrintableTime, YearMonths.IsPrintableYearMonth, MonthDays.IsPrintableMonthDay, SpelledCores.{HasLoneTime, HasLoneMonth, HasLoneDay}}
+use Rattle.ixdtf_print.{specs.declared.error.PrintError.TheVariants.NotPrintable, proofs.theorems.ShortDurations.duration_short}
+use Rattle.ixdtf_print.proofs.theorems.{PrintableTimes.tests_time, PrintableYearMonths.tests_year_month, PrintableMonthDays.tests_month_day}
+use Rattle.ixdtf_print.specs.{Offsets.IsPrintableOffset, Printing.{HasText, HasOneText, PrintsOrRefuses}, SpelledDurations.HasTimeUnits}
 use Rattle.ixdtf_print.proofs.{parts.ParsedParts.to_parts, theorems.{PrintableDurations.printable_duration, PrintableOffsets.printable_offset, PrintableRecords.{printable_iff, of_record}}}
 
 time_of_both : (time : Option TimeRecord) (offset : Option UtcOffsetRecordOrZ) → HasTime time offset → IfSome time IsDayTime
@@ -39,27 +42,73 @@ digits_of_offset (Some shifts.Z) is = tt
 digits_of_offset (Some (shifts.Offset (offsets.MinutePrecision it))) is = tt
 digits_of_offset (Some (shifts.Offset (offsets.FullPrecisionOffset it))) is = is.fraction
 
--- what the numbers of a record stand for that is printed
+digits_of_both : (time : Option TimeRecord) (offset : Option UtcOffsetRecordOrZ) → HasTime time offset
+    → IfSome time (λ it. HasDigits it.fraction) × IfSome offset (λ shift. HasDigits (shift_fraction shift))
+digits_of_both time offset has = (digits_of_time time (time_of_both time offset has), digits_of_offset offset (offset_of_both time offset has))
+
+-- what the numbers of a record stand for has fractions that are such
 module _ (r : Contents) where
-  printed_parts : (offset : Option (Option UtcOffsetRecordOrZ)) (zone : Option (Option ZoneNote)) → IsSomeAnd (parsed_by r offset zone) IsPrintable
+  counted_parts : (offset : Option (Option UtcOffsetRecordOrZ)) (zone : Option (Option ZoneNote)) → IsSomeAnd (parsed_by r offset zone) HaveDigits
       → IfSome (time_by r.time) (λ it. HasDigits it.fraction) × IsSomeAnd offset (λ it. IfSome it (λ shift. HasDigits (shift_fraction shift))) × (zone ≢ None)
-  printed_parts (Some offset) (Some it) is =
-      let has = ((printable_iff _).0 is).time in (
-        digits_of_time (time_by r.time) (time_of_both (time_by r.time) offset has),
-        digits_of_offset offset (offset_of_both (time_by r.time) offset has),
-        λ none. cc,
-      )
-  printed_parts (Some _) None is = absurd is
-  printed_parts None _ is = absurd is
+  counted_parts (Some offset) (Some it) is = (is.0, is.1, λ none. cc)
+  counted_parts (Some _) None is = absurd is
+  counted_parts None (Some _) is = absurd is
+  counted_parts None None is = absurd is
 
-  pub printed_time : IsSomeAnd (record_by r) IsPrintable → IfSome (time_by r.time) (λ it. HasDigits it.fraction)
-  printed_time is = (printed_parts (offset_by r.offset) (zone_by r.zone) is).0
+  pub counted_time : IsSomeAnd (record_by r) HaveDigits → IfSome (time_by r.time) (λ it. HasDigits it.fraction)
+  counted_time is = (counted_parts (offset_by r.offset) (zone_by r.zone) is).0
 
-  pub printed_offset : IsSomeAnd (record_by r) IsPrintable → IsSomeAnd (offset_by r.offset) (λ it. IfSome it (λ shift. HasDigits (shift_fraction shift)))
-  printed_offset is = (printed_parts (offset_by r.offset) (zone_by r.zone) is).1
+  pub counted_offset : IsSomeAnd (record_by r) HaveDigits → IsSomeAnd (offset_by r.offset) (λ it. IfSome it (λ shift. HasDigits (shift_fraction shift)))
+  counted_offset is = (counted_parts (offset_by r.offset) (zone_by r.zone) is).1
 
-  pub printed_zone : IsSomeAnd (record_by r) IsPrintable → zone_by r.zone ≢ None
-  printed_zone is = (printed_parts (offset_by r.offset) (zone_by r.zone) is).2
+  pub counted_zone : IsSomeAnd (record_by r) HaveDigits → zone_by r.zone ≢ None
+  counted_zone is = (counted_parts (offset_by r.offset) (zone_by r.zone) is).2
+
+-- what holds of each value that another one holds of
+pub on_some : {A : Type 0} {P Q : A → Type 0} (x : Option A) → ((a : A) → P a → Q a) → IsSomeAnd x P → IsSomeAnd x Q
+on_some None f is = absurd is
+on_some (Some a) f is = f a is
+
+-- what does not hold of a value that another one does not hold of
+pub not_some : {A : Type 0} {P Q : A → Type 0} (x : Option A) → ((a : A) → ¬ (P a) → ¬ (Q a)) → ¬ (IsSomeAnd x P) → ¬ (IsSomeAnd x Q)
+not_some None f none is = absurd is
+not_some (Some a) f none is = f a none is
+
+-- the fractions of a record that a printer prints are such
+pub digits_of_record : (found : Parsed) → IsPrintable found → HaveDigits found
+digits_of_record found is = digits_of_both found.time found.offset ((printable_iff found).0 is).time
+
+pub no_time : (found : Parsed) → ¬ (HaveDigits found) → ¬ (IsPrintableTime found)
+no_time found none is =
+    true≢false (sym ((tests_time {test = false} found (λ no. absurd (true≢false (sym no)), λ s. absurd (none (go found.date found.time found.offset s.0)))).tests.1 is))
+  where
+    go : (date : Option DateRecord) (time : Option TimeRecord) (offset : Option UtcOffsetRecordOrZ) → HasLoneTime date time offset
+        → IfSome time (λ it. HasDigits it.fraction) × IfSome offset (λ shift. HasDigits (shift_fraction shift))
+    go None None offset has = absurd has
+    go None (Some time) offset has = digits_of_both (Some time) offset has
+    go (Some date) time offset has = absurd has
+
+pub no_year_month : (found : Parsed) → ¬ (HaveDigits found) → ¬ (IsPrintableYearMonth found)
+no_year_month found none is =
+    true≢false (sym ((tests_year_month {test = false} found (λ no. absurd (true≢false (sym no)), λ s. absurd (none (go found.date found.time found.offset s.0)))).tests.1 is))
+  where
+    go : (date : Option DateRecord) (time : Option TimeRecord) (offset : Option UtcOffsetRecordOrZ) → HasLoneMonth date time offset
+        → IfSome time (λ it. HasDigits it.fraction) × IfSome offset (λ shift. HasDigits (shift_fraction shift))
+    go None time offset has = absurd has
+    go (Some date) None None has = (tt, tt)
+    go (Some date) None (Some offset) has = absurd has
+    go (Some date) (Some time) offset has = absurd has
+
+pub no_month_day : (found : Parsed) → ¬ (HaveDigits found) → ¬ (IsPrintableMonthDay found)
+no_month_day found none is =
+    true≢false (sym ((tests_month_day {test = false} found (λ no. absurd (true≢false (sym no)), λ s. absurd (none (go found.date found.time found.offset s.0)))).tests.1 is))
+  where
+    go : (date : Option DateRecord) (time : Option TimeRecord) (offset : Option UtcOffsetRecordOrZ) → HasLoneDay Crate date time offset
+        → IfSome time (λ it. HasDigits it.fraction) × IfSome offset (λ shift. HasDigits (shift_fraction shift))
+    go None time offset has = absurd has
+    go (Some date) None None has = (tt, tt)
+    go (Some date) None (Some offset) has = absurd has
+    go (Some date) (Some time) offset has = absurd has
 
 -- ---- what is written of a record that has a text stands for it
 
@@ -153,6 +202,28 @@ pub printed_units : (d : DurationContents) (time : Option (Option TimeDurationRe
     → IsSomeAnd time HasTimeUnits
 printed_units d (Some time) is = ((printable_duration _).0 is).time
 printed_units d None is = absurd is
+
+-- what a printer returns of what is not printable
+pub refused : {printable : Type 0} {canonical : Text} {bytes : List ℕ} → ¬ printable → PrintsOrRefuses printable canonical bytes bytes (Err NotPrintable)
+refused none = record {
+  count = tt;
+  fits = tt;
+  text = tt;
+  rest = tt;
+  not_printable = (λ e. none, λ n. refl);
+  too_short = (λ e. absurd cc, λ p. absurd (none p.0));
+  unchanged = refl;
+}
+
+-- a duration has a short text
+pub short_text : (duration : Option DurationParseRecord) → IsSomeAnd duration IsPrintableDuration → length (text_where duration_text duration) ≤ 406
+short_text None is = absurd is
+short_text (Some duration) is = duration_short duration is
+
+-- what a printer printed has a property that what it promises gives
+pub on_ok : {E P Q : Type 0} (result : Result ℕ E) → (P → Q) → OnOk result P → OnOk result Q
+on_ok (Ok n) f is = f is
+on_ok (Err e) f is = tt
 
 -- a duration that is read back from its canonical text has a text
 pub read_is_duration : {E : Type 0} (duration : DurationParseRecord) (result : Result ℕ E)

@@ -1,6 +1,12 @@
 -- What a call that prints returns and writes.
-use Rattle.std.specs.Prelude.{◌≡◌, ◌≢◌, ◌↔◌, ℕ, ◌≤◌, ◌<◌, ◌^◌, ◌-◌, List, [], Option, Some, None, length, map, min, take, drop}
-use Rattle.ixdtf.specs.language.Letters.{Text, byte_letter}
+use Rattle.std.specs.Prelude.{◌≡◌, ◌≢◌, ◌↔◌, ℕ, ◌≤◌, ◌<◌, ◌^◌, ◌-◌, List, [], Option, Some, None, IfSome, length, map, min, take, drop}
+use Rattle.ixdtf.specs.language.{Letters.{Text, byte_letter}, Languages.Parsed}
+use Rattle.ixdtf_c.specs.Instants.{shift_fraction}
+use Rattle.ixdtf_print.specs.Spelled.{HasDigits}
+
+-- each fraction of a time and of an offset is one
+abbrev pub HaveDigits : Parsed → Type 0
+HaveDigits found = IfSome found.time (λ it. HasDigits it.fraction) × IfSome found.offset (λ shift. HasDigits (shift_fraction shift))
 
 -- the text of what is there
 abbrev pub text_where : {R : Type 0} → (R → Text) → Option R → Text

@@ -1,15 +1,13 @@
-//! Printing durations that C hands in.
+//! The durations that C hands in to be printed.
 
-ghost use Rattle.std.specs.Prelude.{◌≡◌, ◌≢◌, ◌≤◌, Some, length, IfSome, IfNone, IsSomeAnd};
+ghost use Rattle.std.specs.Prelude.{◌≡◌, Some, IfSome, IfNone, IsSomeAnd};
 ghost use Rattle.ixdtf_c.specs.Lasting.{contents};
-ghost use Rattle.ixdtf_c.specs.Printing.{GivesText, text_where};
 ghost use Rattle.ixdtf_c.specs.Standing.{date_units_by, time_units_by, duration_by};
-ghost use Rattle.ixdtf_print.specs.Durations.{duration_text, IsPrintableDuration, IsDurationReadBack};
+ghost use Rattle.ixdtf_print.specs.Durations.{IsPrintableDuration};
 ghost use Rattle.ixdtf_print.specs.SpelledDurations.{HasTimeUnits};
 
 use crate::durations::Duration;
 use crate::printing::fraction_of;
-use crate::texts::{length_into, print_into};
 use ixdtf::records::{DateDurationRecord, DurationParseRecord, Sign, TimeDurationRecord};
 
 /// The years, months, weeks and days, where they are there.
@@ -57,7 +55,7 @@ pub fn time_units_of(given: &Duration<'_>) -> Option<Option<TimeDurationRecord>>
 }
 
 /// The duration, where the form of its time has a name and its fraction is one.
-fn duration_of(given: &Duration<'_>) -> Option<DurationParseRecord>
+pub fn duration_of(given: &Duration<'_>) -> Option<DurationParseRecord>
     ensures found { IfSome result (λ found. duration_by (contents given.now) ≡ Some found) }
     ensures none { IfNone result (¬ (IsSomeAnd (duration_by (contents given.now)) IsPrintableDuration)) }
 {
@@ -69,36 +67,4 @@ fn duration_of(given: &Duration<'_>) -> Option<DurationParseRecord>
         date: date_units_of(given),
         time,
     })
-}
-
-/// Writes the canonical text of the duration into the front of the bytes, and how many bytes these are. It returns 0; or 101
-/// where no text stands for the duration, and else 102 where the bytes are fewer than those of the text, and the count is then
-/// how many these are.
-#[unsafe(no_mangle)]
-pub extern "C" fn ixdtf_print_duration(
-    given: &Duration<'_>,
-    out: &mut [u8],
-    count: &mut usize,
-) -> u32
-    ensures prints { GivesText (IsSomeAnd (duration_by (contents given.now)) IsPrintableDuration)
-        (text_where duration_text (duration_by (contents given.now))) out.old out.new count.old count.new result }
-    ensures read_back { result ≡ 0 → IsSomeAnd (duration_by (contents given.now)) IsDurationReadBack }
-{
-    let Some(found) = duration_of(given) else {
-        return 101;
-    };
-    print_into(&found, out, count)
-}
-
-/// How many bytes the canonical text of the duration has, and 0 where no text stands for the duration.
-#[unsafe(no_mangle)]
-pub extern "C" fn ixdtf_printed_duration_length(given: &Duration<'_>) -> usize
-    ensures length { IsSomeAnd (duration_by (contents given.now)) IsPrintableDuration →
-        result ≡ length (text_where duration_text (duration_by (contents given.now))) }
-    ensures none { ¬ (IsSomeAnd (duration_by (contents given.now)) IsPrintableDuration) → result ≡ 0 }
-{
-    let Some(found) = duration_of(given) else {
-        return 0;
-    };
-    length_into(&found)
 }

@@ -10,7 +10,7 @@
 ghost use Rattle.std.specs.Prelude.{◌≡◌, ◌≢◌, ◌+◌, ◌*◌, ◌≤◌, length, map, IsSomeAnd};
 ghost use Rattle.ixdtf.specs.language.Languages.Found.{dated, shifted, identified, named};
 ghost use Rattle.ixdtf.specs.language.Letters.{byte_letter, wide_letter};
-ghost use Rattle.ixdtf.specs.language.Readers.{parse, parse_year_month, parse_month_day, parse_time};
+ghost use Rattle.ixdtf.specs.language.Readers.{parse, parse_rfc9557, parse_year_month, parse_month_day, parse_time};
 ghost use Rattle.ixdtf.specs.language.Readers.Reader.{parse_rfc3339, parse_offset, parse_identifier, parse_iana_identifier};
 ghost use Rattle.ixdtf_c.specs.Crossing.{offset_alone, zone_alone, name_alone};
 ghost use Rattle.ixdtf_c.specs.Lasting.{contents as lasting_contents, SameButError as SameLastingButError};
@@ -29,7 +29,7 @@ use crate::narrow::{Annotation, Calendar, Record};
 use crate::readers::{name_into, offset_into, read_into, rfc3339_into, take_reply, zone_into};
 use crate::{narrow_annotations, wide, wide_annotations};
 use ixdtf::encoding::{Utf8, Utf16};
-use ixdtf::parsers::{DateTimes, MonthDays, Profile, Times, YearMonths};
+use ixdtf::parsers::{DateTimes, InternetDateTimes, MonthDays, Profile, Times, YearMonths};
 
 /// Reads a date, or a date and a time, and the brackets after it.
 #[unsafe(no_mangle)]
@@ -96,6 +96,15 @@ pub extern "C" fn ixdtf_parse_rfc3339<'a>(text: &'a [u8], out: &mut Record<'a>) 
     ensures unchanged { result ≢ 0 → SameButError out.old out.new }
 {
     rfc3339_into::<Utf8, _>(text, out)
+}
+
+/// Reads a date-time of RFC 9557, section 4.1.
+#[unsafe(no_mangle)]
+pub extern "C" fn ixdtf_parse_rfc9557<'a>(text: &'a [u8], out: &mut Record<'a>) -> u32
+    ensures read { GivesRecord Profile.Crate parse_rfc9557 (map byte_letter text.now) result (contents out.old) (contents out.new) }
+    ensures unchanged { result ≢ 0 → SameButError out.old out.new }
+{
+    read_into::<Utf8, InternetDateTimes, _>(text, Profile::Crate, out)
 }
 
 /// Reads an offset.
@@ -205,6 +214,28 @@ pub extern "C" fn ixdtf_parse_time_with_annotations<'a>(
     ensures unchanged { result ≢ 0 → SameButError out.old out.new }
 {
     narrow_annotations::list_into::<Times>(text, Profile::Crate, annotations, count, out)
+}
+
+/// Reads a date-time of RFC 9557, section 4.1. The annotations are passed over and listed.
+#[unsafe(no_mangle)]
+pub extern "C" fn ixdtf_parse_rfc9557_with_annotations<'a>(
+    text: &'a [u8],
+    annotations: &mut [Annotation<'a>],
+    count: &mut usize,
+    out: &mut Record<'a>,
+) -> u32
+    ensures lists { ListsRecord annotation_by Profile.Crate parse_rfc9557 (map byte_letter text.now)
+        annotations.old annotations.new count.new result (contents out.old) (contents out.new) }
+    ensures few { 5 * count.new ≤ length text.now }
+    ensures unchanged { result ≢ 0 → SameButError out.old out.new }
+{
+    narrow_annotations::list_into::<InternetDateTimes>(
+        text,
+        Profile::Crate,
+        annotations,
+        count,
+        out,
+    )
 }
 
 /// Reads a month and a day, and the brackets after it, under the strict profile. The annotations are passed over and listed.
@@ -318,6 +349,15 @@ pub extern "C" fn ixdtf16_parse_rfc3339<'a>(text: &'a [u16], out: &mut wide::Rec
     rfc3339_into::<Utf16, _>(text, out)
 }
 
+/// Reads a date-time of RFC 9557, section 4.1.
+#[unsafe(no_mangle)]
+pub extern "C" fn ixdtf16_parse_rfc9557<'a>(text: &'a [u16], out: &mut wide::Record<'a>) -> u32
+    ensures read { GivesRecord Profile.Crate parse_rfc9557 (map wide_letter text.now) result (wide_contents out.old) (wide_contents out.new) }
+    ensures unchanged { result ≢ 0 → SameWideButError out.old out.new }
+{
+    read_into::<Utf16, InternetDateTimes, _>(text, Profile::Crate, out)
+}
+
 /// Reads an offset.
 #[unsafe(no_mangle)]
 pub extern "C" fn ixdtf16_parse_offset<'a>(text: &'a [u16], out: &mut wide::Record<'a>) -> u32
@@ -428,6 +468,22 @@ pub extern "C" fn ixdtf16_parse_time_with_annotations<'a>(
     ensures unchanged { result ≢ 0 → SameWideButError out.old out.new }
 {
     wide_annotations::list_into::<Times>(text, Profile::Crate, annotations, count, out)
+}
+
+/// Reads a date-time of RFC 9557, section 4.1. The annotations are passed over and listed.
+#[unsafe(no_mangle)]
+pub extern "C" fn ixdtf16_parse_rfc9557_with_annotations<'a>(
+    text: &'a [u16],
+    annotations: &mut [wide::Annotation<'a>],
+    count: &mut usize,
+    out: &mut wide::Record<'a>,
+) -> u32
+    ensures lists { ListsRecord wide_annotation_by Profile.Crate parse_rfc9557 (map wide_letter text.now)
+        annotations.old annotations.new count.new result (wide_contents out.old) (wide_contents out.new) }
+    ensures few { 5 * count.new ≤ length text.now }
+    ensures unchanged { result ≢ 0 → SameWideButError out.old out.new }
+{
+    wide_annotations::list_into::<InternetDateTimes>(text, Profile::Crate, annotations, count, out)
 }
 
 /// Reads a month and a day, and the brackets after it, under the strict profile. The annotations are passed over and listed.

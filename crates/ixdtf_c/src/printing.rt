@@ -6,6 +6,7 @@ ghost use Rattle.ixdtf.specs.language.Letters.{byte_letter};
 ghost use Rattle.ixdtf.specs.Views.{parsed_of, note_of};
 ghost use Rattle.ixdtf_c.specs.Instants.{shift_fraction};
 ghost use Rattle.ixdtf_c.specs.Narrow.{contents, zone_contents};
+ghost use Rattle.ixdtf_c.specs.Printing.{HaveDigits};
 ghost use Rattle.ixdtf_c.specs.Standing.{fraction_by, date_by, time_by, minutes_by, offset_by, zone_by, record_by};
 ghost use Rattle.ixdtf_print.specs.Canonical.{canonical_text};
 ghost use Rattle.ixdtf_print.specs.Printable.{IsPrintable, IsReadBack};
@@ -140,10 +141,11 @@ pub fn zone_of<'a>(zone: &Zone<'a>) -> Option<Option<TimeZoneAnnotation<'a, Utf8
     }))
 }
 
-/// The record, where its forms have names and its fractions are such.
+/// The record, where its forms have names and its fractions are such. No record is printed without that.
 pub fn record_of<'a>(given: &Record<'a>) -> Option<IxdtfParseRecord<'a, Utf8>>
     ensures found { IfSome result
         (λ found. record_by (contents given.now) ≡ Some (parsed_of (λ unit. unit) found)) }
+    ensures digits { IfNone result (¬ (IsSomeAnd (record_by (contents given.now)) HaveDigits)) }
     ensures none { IfNone result (¬ (IsSomeAnd (record_by (contents given.now)) IsPrintable)) }
 {
     let Some(time) = time_of(&given.time) else {

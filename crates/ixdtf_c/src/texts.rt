@@ -1,30 +1,41 @@
 //! Printing of what the library's other printers print than records of dates.
 
-ghost use Rattle.std.specs.Prelude.{◌≡◌, ◌≤◌, length, None, IfSome, OnOk};
+ghost use Rattle.std.specs.Prelude.{◌≡◌, ◌≤◌, length, None, IfSome, OnOk, IsSomeAnd};
 ghost use Rattle.ixdtf.specs.language.Letters.{Text};
-ghost use Rattle.ixdtf_c.specs.Printing.{GivesText};
-ghost use Rattle.ixdtf_print.specs.Durations.{duration_text, IsPrintableDuration, IsDurationReadBack};
+ghost use Rattle.ixdtf_c.specs.Lasting.{contents as duration_contents};
+ghost use Rattle.ixdtf_c.specs.Narrow.{contents, zone_contents};
+ghost use Rattle.ixdtf_c.specs.Printing.{GivesText, text_where};
+ghost use Rattle.ixdtf_c.specs.Standing.{duration_by, shift_by, area_by, record_by};
 ghost use Rattle.ixdtf_print.specs.Canonical.{zone_text};
+ghost use Rattle.ixdtf_print.specs.Durations.{duration_text, IsPrintableDuration, IsDurationReadBack};
+ghost use Rattle.ixdtf_print.specs.MonthDays.{month_day_text, IsPrintableMonthDay, IsMonthDayReadBack};
 ghost use Rattle.ixdtf_print.specs.Offsets.{utc_offset_text, IsPrintableOffset, IsOffsetReadBack};
 ghost use Rattle.ixdtf_print.specs.Printing.{PrintsOrRefuses};
-ghost use Rattle.ixdtf_print.specs.Zones.{IsPrintableZone, IsZoneReadBack, zone_in};
+ghost use Rattle.ixdtf_print.specs.Times.{lone_time_text, IsPrintableTime, IsTimeReadBack};
+ghost use Rattle.ixdtf_print.specs.YearMonths.{year_month_text, IsPrintableYearMonth, IsYearMonthReadBack};
+ghost use Rattle.ixdtf_print.specs.Zones.{IsPrintableZone, IsZoneReadBack};
 
-use ixdtf::encoding::Utf8;
-use ixdtf::records::{DurationParseRecord, TimeZoneRecord, UtcOffsetRecord};
+use crate::duration_texts::duration_of;
+use crate::durations::Duration;
+use crate::forms::Offset;
+use crate::narrow::{Record, Zone};
+use crate::part_texts::{area_of, shift_of};
+use crate::printing::record_of;
 use ixdtf_print::{
-    PrintError, duration_length, offset_length, print_duration, print_offset, print_zone,
+    PrintError, duration_length, month_day_length, offset_length, print_duration, print_month_day,
+    print_offset, print_time, print_year_month, print_zone, time_length, year_month_length,
     zone_length,
 };
 
-/// What one of the printers of the library prints.
+/// What C hands in, and a printer of the library prints.
 pub trait HasText {
-    /// Some text stands for it.
+    /// Its numbers stand for something that has a text.
     ghost printable: { Self → Type 0 };
 
-    /// Its canonical text.
+    /// The canonical text of that.
     ghost canonical: { Self → Text };
 
-    /// Its reader reads it from its canonical text, which is that of no other one.
+    /// Its reader reads that from its canonical text, which is that of no other one.
     ghost reads_back: { Self → Type 0 };
 
     /// Prints it.
@@ -40,57 +51,165 @@ pub trait HasText {
         ensures not_printable { ¬ (printable self.now) → result ≡ None };
 }
 
-impl HasText for DurationParseRecord {
-    ghost printable = { IsPrintableDuration };
+/// A record of a time, and maybe an offset.
+#[derive(Clone, Copy)]
+pub struct AsTime<'a> {
+    pub record: &'a Record<'a>,
+}
 
-    ghost canonical = { duration_text };
+/// A record of a year and a month.
+#[derive(Clone, Copy)]
+pub struct AsYearMonth<'a> {
+    pub record: &'a Record<'a>,
+}
 
-    ghost reads_back = { IsDurationReadBack };
+/// A record of a month and a day.
+#[derive(Clone, Copy)]
+pub struct AsMonthDay<'a> {
+    pub record: &'a Record<'a>,
+}
+
+impl<'a> HasText for Duration<'a> {
+    ghost printable = { λ given. IsSomeAnd (duration_by (duration_contents given)) IsPrintableDuration };
+
+    ghost canonical = { λ given. text_where duration_text (duration_by (duration_contents given)) };
+
+    ghost reads_back = { λ given. IsSomeAnd (duration_by (duration_contents given)) IsDurationReadBack };
 
     #[inline(always)]
     fn print(&self, out: &mut [u8]) -> Result<usize, PrintError> {
-        print_duration(self, out)
+        match duration_of(self) {
+            None => Err(PrintError::NotPrintable),
+            Some(found) => print_duration(&found, out),
+        }
     }
 
     #[inline(always)]
     fn needs(&self) -> Option<usize> {
-        duration_length(self)
+        match duration_of(self) {
+            None => None,
+            Some(found) => duration_length(&found),
+        }
     }
 }
 
-impl HasText for UtcOffsetRecord {
-    ghost printable = { IsPrintableOffset };
+impl HasText for Offset {
+    ghost printable = { λ given. IsSomeAnd (shift_by given) IsPrintableOffset };
 
-    ghost canonical = { utc_offset_text };
+    ghost canonical = { λ given. text_where utc_offset_text (shift_by given) };
 
-    ghost reads_back = { IsOffsetReadBack };
+    ghost reads_back = { λ given. IsSomeAnd (shift_by given) IsOffsetReadBack };
 
     #[inline(always)]
     fn print(&self, out: &mut [u8]) -> Result<usize, PrintError> {
-        print_offset(self, out)
+        match shift_of(self) {
+            None => Err(PrintError::NotPrintable),
+            Some(found) => print_offset(&found, out),
+        }
     }
 
     #[inline(always)]
     fn needs(&self) -> Option<usize> {
-        offset_length(self)
+        match shift_of(self) {
+            None => None,
+            Some(found) => offset_length(&found),
+        }
     }
 }
 
-impl<'a> HasText for TimeZoneRecord<'a, Utf8> {
-    ghost printable = { λ zone. IsPrintableZone (zone_in zone) };
+impl<'a> HasText for Zone<'a> {
+    ghost printable = { λ given. IsSomeAnd (area_by (zone_contents given)) IsPrintableZone };
 
-    ghost canonical = { λ zone. zone_text (zone_in zone) };
+    ghost canonical = { λ given. text_where zone_text (area_by (zone_contents given)) };
 
-    ghost reads_back = { λ zone. IsZoneReadBack (zone_in zone) };
+    ghost reads_back = { λ given. IsSomeAnd (area_by (zone_contents given)) IsZoneReadBack };
 
     #[inline(always)]
     fn print(&self, out: &mut [u8]) -> Result<usize, PrintError> {
-        print_zone(self, out)
+        match area_of(self) {
+            None => Err(PrintError::NotPrintable),
+            Some(found) => print_zone(&found, out),
+        }
     }
 
     #[inline(always)]
     fn needs(&self) -> Option<usize> {
-        zone_length(self)
+        match area_of(self) {
+            None => None,
+            Some(found) => zone_length(&found),
+        }
+    }
+}
+
+impl<'a> HasText for AsTime<'a> {
+    ghost printable = { λ given. IsSomeAnd (record_by (contents given.record.now)) IsPrintableTime };
+
+    ghost canonical = { λ given. text_where lone_time_text (record_by (contents given.record.now)) };
+
+    ghost reads_back = { λ given. IsSomeAnd (record_by (contents given.record.now)) IsTimeReadBack };
+
+    #[inline(always)]
+    fn print(&self, out: &mut [u8]) -> Result<usize, PrintError> {
+        match record_of(self.record) {
+            None => Err(PrintError::NotPrintable),
+            Some(found) => print_time(&found, out),
+        }
+    }
+
+    #[inline(always)]
+    fn needs(&self) -> Option<usize> {
+        match record_of(self.record) {
+            None => None,
+            Some(found) => time_length(&found),
+        }
+    }
+}
+
+impl<'a> HasText for AsYearMonth<'a> {
+    ghost printable = { λ given. IsSomeAnd (record_by (contents given.record.now)) IsPrintableYearMonth };
+
+    ghost canonical = { λ given. text_where year_month_text (record_by (contents given.record.now)) };
+
+    ghost reads_back = { λ given. IsSomeAnd (record_by (contents given.record.now)) IsYearMonthReadBack };
+
+    #[inline(always)]
+    fn print(&self, out: &mut [u8]) -> Result<usize, PrintError> {
+        match record_of(self.record) {
+            None => Err(PrintError::NotPrintable),
+            Some(found) => print_year_month(&found, out),
+        }
+    }
+
+    #[inline(always)]
+    fn needs(&self) -> Option<usize> {
+        match record_of(self.record) {
+            None => None,
+            Some(found) => year_month_length(&found),
+        }
+    }
+}
+
+impl<'a> HasText for AsMonthDay<'a> {
+    ghost printable = { λ given. IsSomeAnd (record_by (contents given.record.now)) IsPrintableMonthDay };
+
+    ghost canonical = { λ given. text_where month_day_text (record_by (contents given.record.now)) };
+
+    ghost reads_back = { λ given. IsSomeAnd (record_by (contents given.record.now)) IsMonthDayReadBack };
+
+    #[inline(always)]
+    fn print(&self, out: &mut [u8]) -> Result<usize, PrintError> {
+        match record_of(self.record) {
+            None => Err(PrintError::NotPrintable),
+            Some(found) => print_month_day(&found, out),
+        }
+    }
+
+    #[inline(always)]
+    fn needs(&self) -> Option<usize> {
+        match record_of(self.record) {
+            None => None,
+            Some(found) => month_day_length(&found),
+        }
     }
 }
 

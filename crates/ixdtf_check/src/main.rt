@@ -1,11 +1,14 @@
 //! Checks the lines of files: which are wrong, where, and why.
 #![tactic(auto)]
 
+mod front;
 mod watched;
 
+use front::Front;
 use ixdtf_buffers::error::RunError;
-use ixdtf_checks::arguments::{Options, Word, Wrong, meant_by};
+use ixdtf_checks::arguments::{FieldName, Options, Word, Wrong, meant_by};
 use ixdtf_checks::checker::check_lines;
+use ixdtf_checks::column::{ColumnError, column_named};
 use ixdtf_checks::request::Request;
 use ixdtf_checks::status::status_of;
 use ixdtf_checks::tally::Tally;
@@ -24,6 +27,7 @@ What is read:\n\
 \x20                  time, offset, zone, zone-name or iana, duration, rfc3339, rfc9557\n\
 \x20 --strict         stricter rules: a month-day does not have the day 00,\n\
 \x20                  and a duration does not repeat a unit\n\
+\x20 --ordered        also the order: no instant may be before that of the line before\n\
 \x20 ixdtf_check --kind rfc3339 times.txt\n\
 \x20 ixdtf_check --kind=duration --strict durations.txt\n\
 \n\
@@ -35,8 +39,10 @@ Which lines are read:\n\
 \n\
 Which part of a line is read:\n\
 \x20 --field N        field N of each line, counted from 1, and not the complete line\n\
+\x20 --field NAME     the field that has this name in the first line; needs --header\n\
 \x20 --separator C    the byte between two fields; without this option, it is a tab\n\
 \x20 ixdtf_check --field 3 --separator , table.csv\n\
+\x20 ixdtf_check --header --field time --separator , table.csv\n\
 \n\
 What is written:\n\
 \x20 --canonical      the canonical text of each date-time that is accepted\n\
@@ -199,6 +205,50 @@ fn check_reader<R: Read>(
     let Some(mut request) = options.request(name) else {
         return;
     };
+    let Some(field_name) = options.field_name() else {
+        return check_request(rt, reader, request, outcome);
+    };
+    let mut front = Front::new(reader);
+    match front.first_line() {
+        Err(error) => complain(rt, name, error, outcome),
+        Ok(line) => match column_of(rt, options, field_name, line) {
+            Err(error) => complain(rt, name, error.message(), outcome),
+            Ok(before) => {
+                request.field = Some(options.field_after(before));
+                check_request(rt, &mut front, request, outcome);
+            }
+        },
+    }
+}
+
+/// Returns how many fields stand before the one that has the name, in the first line of a file.
+fn column_of(
+    rt: &HostRuntime,
+    options: &Options,
+    field_name: FieldName,
+    first: &[u8],
+) -> Result<usize, ColumnError> {
+    let Ok(words) = env::args(rt) else {
+        return Err(ColumnError::Missing);
+    };
+    let separator = options.field_after(0).separator;
+    for (number, word) in words.skip(1).enumerate() {
+        if number == field_name.word {
+            return column_named(separator, field_name.in_word(word.as_str()), first);
+        }
+    }
+    Err(ColumnError::Missing)
+}
+
+/// Checks what the reader returns, as the request says.
+fn check_request<R: Read>(
+    rt: &HostRuntime,
+    reader: &mut R,
+    request: Request<'_>,
+    outcome: &mut Outcome,
+) {
+    let name = request.name;
+    let mut request = request;
     outcome.limit_reports(&mut request);
     let mut watched = Watched::new(reader);
     let mut output = rt.stdout();

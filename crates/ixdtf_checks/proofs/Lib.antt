@@ -1,5 +1,8 @@
 pub mod CharactersLemmas
+pub mod ColumnLemmas
+pub mod InstantLemmas
 pub mod MaskedLemmas
+pub mod NameLemmas
 pub mod PartsLemmas
 pub mod PointedLemmas
 pub mod VerdictLemmas

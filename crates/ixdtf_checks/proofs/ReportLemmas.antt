@@ -1,32 +1,38 @@
 -- What a run over lines puts are their reports.
-use Rattle.std.proofs.Common.{◌≡◌, ℕ, true, false, ◌+◌, ◌≤◌, ◌<◌, ◌^◌, List, [], ◌∷◌, ◌++◌, length, Option, Result, Ok, Err, OnOk, ap, subst, ◌∙◌, arith}
+use Rattle.std.proofs.Common.{◌≡◌, ℕ, ◌+◌, ◌≤◌, ◌<◌, ◌^◌, List, [], ◌∷◌, ◌++◌, length, Option, None, Result, Ok, Err, OnOk, ap, subst, ◌∙◌, arith}
 use Rattle.std.specs.Io.KnownBytes.{Appends}
-use Rattle.std.proofs.{Common.{length-append}, lemmas.Bool.{eq-eqb, ne_eqb}}
+use Rattle.std.proofs.Common.{length-append}
 use Rattle.std.specs.Prelude.{◌==◌}
 use Rattle.ixdtf_buffers.specs.{declared.error.RunError.RunError, Lines.{ended_lines_of, last_line_of, unended_of}, Output.AppendsFront}
 use Rattle.ixdtf_buffers.specs.Tasks.{Steps, Does, DoesFront}
 use Rattle.ixdtf_buffers.proofs.LinesLemmas.{lines_most}
 use Rattle.ixdtf_checks.specs.{declared.{request.Request.Request, tally.Tally.Tally, checking.Checking.Checking}, Checks.{Counts, Reports, ReportsFront, ReportsLine}}
-use Rattle.ixdtf_checks.specs.Reports.{AreVerdicts, report_of, reports_of, refusal_count, refusals_of}
-use Rattle.ixdtf_checks.specs.Verdicts.{Verdict, Verdict.{accepted, printed, skipped, refused}}
+use Rattle.ixdtf_instants.specs.declared.instant.Instant.{Instant}
+use Rattle.ixdtf_checks.specs.{Order.latest, Reports.{AreVerdicts, instant_in, last_instant, report_of, reports_of, refusal_count, refusals_of}}
+use Rattle.ixdtf_checks.specs.Verdicts.{Verdict, IsVerdict, Verdict.{accepted, printed, skipped, refused}}
 
 -- at most this line is refused
 one_most : (verdict : Verdict) → refusal_count verdict ≤ 1
 one_most = elim [
-  | accepted ↦ omega arith
+  | accepted instant ↦ omega arith
   | printed canonical ↦ omega arith
   | skipped ↦ omega arith
-  | refused column message lines ↦ omega arith
+  | refused instant column message lines ↦ omega arith
 ]
 
 -- a step of a check
 abbrev Checks : Checking → List ℕ → List ℕ → Checking → Type 0
-Checks old line bytes new = (new.request ≡ old.request) × ReportsLine old.request old.tally new.tally line bytes
+Checks old line bytes new = (new.request ≡ old.request) × ReportsLine old.request old.tally new.tally old.last new.last line bytes
 
--- the bytes are the reports of the lines from this number on, and so many more were counted
-record AllReported (request : Request) (old new : Tally) (lines : List (List ℕ)) (bytes : List ℕ) : Type 0 where
+-- these verdicts are on the lines before, and the code counted them and kept their last instant
+record After (tally : Tally) (last : Option Instant) (earlier : List Verdict) : Type 0 where
+  lines : tally.lines ≡ length earlier
+  instant : last ≡ last_instant earlier
+
+-- the bytes are the reports of the lines behind these, and so many more were counted
+record AllReported (request : Request) (earlier : List Verdict) (old new : Tally) (lines : List (List ℕ)) (bytes : List ℕ) : Type 0 where
   verdicts : List Verdict
-  are : AreVerdicts request (old.lines == 0) lines verdicts
+  are : AreVerdicts request earlier lines verdicts
   reports : bytes ≡ reports_of request (old.lines + 1) old.refused verdicts
   count : new.lines ≡ old.lines + length verdicts
   refusals : new.refused ≡ old.refused + refusals_of verdicts
@@ -35,21 +41,22 @@ record AllReported (request : Request) (old new : Tally) (lines : List (List ℕ
 abbrev HasRoom : Tally → ℕ → Type 0
 HasRoom tally count = (tally.lines + count < 2 ^ 64) × (tally.refused + count < 2 ^ 64)
 
--- a line behind another is not the first one
-behind_first : (next old : ℕ) → next ≡ old + 1 → (next == 0) ≡ false
-behind_first next old more = ne_eqb next 0 (λ none. omega (arith, more, none))
-
 -- one more line before the others
-one_more : {request asked : Request} {old next new : Tally} {line put : List ℕ} {lines : List (List ℕ)} {others bytes : List ℕ} → bytes ≡ put ++ others
-    → asked ≡ request → (one : ReportsLine request old next line put) → next.lines ≡ old.lines + 1
-    → next.refused ≡ old.refused + refusal_count one.verdict → AllReported asked next new lines others → AllReported request old new (line ∷ lines) bytes
-one_more {request = request} {asked = asked} {old = old} {next = next} {put = put} {lines = lines} whole same one number count more =
+one_more : {request asked : Request} {earlier : List Verdict} {old next new : Tally} {last kept : Option Instant} {line put : List ℕ} {lines : List (List ℕ)}
+    {others bytes : List ℕ} → bytes ≡ put ++ others → asked ≡ request → After old last earlier → (one : ReportsLine request old next last kept line put)
+    → next.lines ≡ old.lines + 1 → next.refused ≡ old.refused + refusal_count one.verdict
+    → AllReported asked (one.verdict ∷ earlier) next new lines others → AllReported request earlier old new (line ∷ lines) bytes
+one_more {request = request} {asked = asked} {earlier = earlier} {old = old} {next = next} {last = last} {line = line} {put = put} {lines = lines} whole same stands one number count more =
     let first = one.verdict in
     let before = old.refused + refusal_count first in
     let rest = more.verdicts in
     record {
       verdicts = first ∷ rest;
-      are = (one.is, subst (λ b. AreVerdicts request b lines rest) (behind_first next.lines old.lines number) (subst (λ r. AreVerdicts r (next.lines == 0) lines rest) same more.are));
+      are = (
+        subst (λ n. IsVerdict request (n == 0) (last_instant earlier) line first) stands.lines
+            (subst (λ l. IsVerdict request (old.lines == 0) l line first) stands.instant one.is),
+        subst (λ r. AreVerdicts r (first ∷ earlier) lines rest) same more.are,
+      );
       reports = whole ∙ ap (λ t. put ++ t) more.reports ∙ ap (λ t. t ++ reports_of asked (next.lines + 1) next.refused rest) one.report
           ∙ ap (λ n. report_of request n next.refused first ++ reports_of asked (n + 1) next.refused rest) number
           ∙ ap (λ k. report_of request (old.lines + 1) k first ++ reports_of asked (old.lines + 1 + 1) k rest) count
@@ -58,28 +65,30 @@ one_more {request = request} {asked = asked} {old = old} {next = next} {put = pu
       refusals = omega (arith, more.refusals, count);
     }
 
-all_reported : (old new : Checking) (lines : List (List ℕ)) (bytes : List ℕ) → HasRoom old.tally (length lines) → Steps Checks old lines bytes new
-    → AllReported old.request old.tally new.tally lines bytes
-all_reported old new [] bytes room (none, same) =
+all_reported : (earlier : List Verdict) (old new : Checking) (lines : List (List ℕ)) (bytes : List ℕ) → HasRoom old.tally (length lines)
+    → After old.tally old.last earlier → Steps Checks old lines bytes new → AllReported old.request earlier old.tally new.tally lines bytes
+all_reported earlier old new [] bytes room stands (none, same) =
     record { verdicts = []; are = tt; reports = none; count = rw same (omega arith); refusals = rw same (omega arith) }
-all_reported old new (line ∷ lines) bytes room (put, others, next, whole, (same, one), rest) =
+all_reported earlier old new (line ∷ lines) bytes room stands (put, others, next, whole, (same, one), rest) =
     let number : next.tally.lines ≡ old.tally.lines + 1 = omega (arith, one.lines, room.0) in
     let count : next.tally.refused ≡ old.tally.refused + refusal_count one.verdict = omega (arith, one.refused, room.1, one_most one.verdict) in
-    one_more whole same one number count
-    (all_reported next new lines others (omega (arith, number, room.0), omega (arith, count, room.1, one_most one.verdict)) rest)
+    let now : After next.tally next.last (one.verdict ∷ earlier) =
+    record { lines = omega (arith, number, stands.lines); instant = one.instant ∙ ap (λ l. latest (instant_in one.verdict) l) stands.instant } in
+    one_more whole same stands one number count
+    (all_reported (one.verdict ∷ earlier) next new lines others (omega (arith, number, room.0), omega (arith, count, room.1, one_most one.verdict)) now rest)
 
 module _ (old new : Checking) (request : Request) (tally : Tally) (lines : List (List ℕ)) (asked : old.request ≡ request)
-    (none : old.tally.lines ≡ 0) (zero : old.tally.refused ≡ 0) (few : length lines < 2 ^ 64) (count : tally.lines ≡ new.tally.lines)
+    (none : old.tally.lines ≡ 0) (zero : old.tally.refused ≡ 0) (unseen : old.last ≡ None) (few : length lines < 2 ^ 64) (count : tally.lines ≡ new.tally.lines)
     (refusals : tally.refused ≡ new.tally.refused) where
   -- all that was put of some of the lines
   some_reported : (first : List (List ℕ)) (bytes : List ℕ) → length first ≤ length lines → Steps Checks old first bytes new
-      → (verdicts : List Verdict) × AreVerdicts request true first verdicts × (bytes ≡ reports_of request 1 0 verdicts) × Counts tally verdicts
+      → (verdicts : List Verdict) × AreVerdicts request [] first verdicts × (bytes ≡ reports_of request 1 0 verdicts) × Counts tally verdicts
   some_reported first bytes fewer steps =
-      let all = all_reported old new first bytes (omega (arith, none, few, fewer), omega (arith, zero, few, fewer)) steps in
+      let start : After old.tally old.last [] = record { lines = none; instant = unseen } in
+      let all = all_reported [] old new first bytes (omega (arith, none, few, fewer), omega (arith, zero, few, fewer)) start steps in
       let one : old.tally.lines + 1 ≡ 1 = omega (arith, none) in (
         all.verdicts,
-        subst (λ b. AreVerdicts request b first all.verdicts) (eq-eqb old.tally.lines 0 none)
-            (subst (λ r. AreVerdicts r (old.tally.lines == 0) first all.verdicts) asked all.are),
+        subst (λ r. AreVerdicts r [] first all.verdicts) asked all.are,
         all.reports ∙ ap (λ k. reports_of old.request k old.tally.refused all.verdicts) one
             ∙ ap (λ k. reports_of old.request 1 k all.verdicts) zero ∙ ap (λ r. reports_of r 1 0 all.verdicts) asked,
         record { lines = omega (arith, count, all.count, none); refused = omega (arith, refusals, all.refusals, zero) },

@@ -1,17 +1,18 @@
 -- What a reader returns for the text of a line.
-use Rattle.std.proofs.Common.{◌≡◌, ℕ, ◌≤◌, Bool, true, false, if◌then◌else◌, List, [], ◌∷◌, ◌++◌, length, inl, inr, refl, sym, ap, ◌∙◌, true≢false, arith, length-append}
+use Rattle.std.proofs.Common.{◌≡◌, ℕ, ◌≤◌, Bool, true, false, if◌then◌else◌, List, [], ◌∷◌, ◌++◌, length, Option, Some, None, inl, inr, refl, sym, ap, ◌∙◌, true≢false, arith, length-append}
 use Rattle.std.proofs.lemmas.{List.{length-map}, Str.{IsUtf8-from_is_utf8, is_utf8-from_IsUtf8}}
 use Rattle.std.specs.Str.{is_utf8}
 use Rattle.ixdtf_grammar.specs.LocatedTexts.{pointed_text}
 use Rattle.ixdtf_buffers.specs.Lines.{newline}
 use Rattle.ixdtf_grammar.specs.{declared.profile.Profile.Profile, Places.HasUnhandledFaultAt}
 use Rattle.ixdtf_grammar.specs.Widths.{byte_text}
-use Rattle.ixdtf_grammar.specs.language.{Letters.{Text, Letter, byte_letter}, Readers.{Reader, parse}}
+use Rattle.ixdtf_grammar.specs.language.{Letters.{Text, Letter, byte_letter}, Readers.{Reader}}
 use Rattle.ixdtf_grammar.specs.language.Readers.Reader.{bracketed, parse_rfc3339, parse_offset, parse_identifier, parse_iana_identifier, parse_duration}
 use Rattle.ixdtf_grammar.specs.table.{ErrorTexts.message_of, Faults.Fault}
+use Rattle.ixdtf_instants.specs.declared.instant.Instant.{Instant}
 use Rattle.ixdtf_print.proofs.theorems.ShortErrors.{message_short}
-use Rattle.ixdtf_checks.specs.{Seen.lines_at, Kinds.reader_of, Parts.{Text as Part}, Refusals.IsRefusal}
-use Rattle.ixdtf_checks.specs.{Verdicts.{Verdict, ShowsPlace, IsTextVerdict, Verdict.{accepted, printed, skipped, refused}}, declared.kind.Kind.Kind}
+use Rattle.ixdtf_checks.specs.{Seen.lines_at, Kinds.{has_offset, reader_of}, Parts.{Text as Part}, Refusals.IsRefusal}
+use Rattle.ixdtf_checks.specs.{Verdicts.{Verdict, ShowsPlace, IsOrderVerdict, IsTextVerdict, Verdict.{accepted, printed, skipped, refused}}, declared.kind.Kind.Kind}
 use Rattle.ixdtf_checks.specs.declared.request.Task.TheVariants.{Check, Print}
 
 -- no fault stands past the end of the text
@@ -59,15 +60,26 @@ shows_place bytes at = go (is_utf8 bytes) refl
     go false is = inr ((λ good. true≢false (sym (is_utf8-from_IsUtf8 bytes good) ∙ is)), refl)
 
 -- a text that is refused has this verdict
-pub check_refused : (kind : Kind) (profile : Profile) (text : Part) (verdict : Verdict) → IsRefusal (reader_of kind profile) text verdict
-    → IsTextVerdict (Check kind) profile text verdict
-check_refused kind profile text accepted none = absurd none
-check_refused kind profile text (printed canonical) none = absurd none
-check_refused kind profile text skipped none = absurd none
-check_refused kind profile text (refused column message lines) is = is
+pub check_refused : (kind : Kind) (profile : Profile) (last : Option Instant) (text : Part) (verdict : Verdict)
+    → IsRefusal (has_offset kind) (reader_of kind profile) text verdict → IsTextVerdict (Check kind) profile last text verdict
+check_refused kind profile last text (accepted instant) none = absurd none
+check_refused kind profile last text (printed canonical) none = absurd none
+check_refused kind profile last text skipped none = absurd none
+check_refused kind profile last text (refused None column message lines) is = is
+check_refused kind profile last text (refused (Some instant) column message lines) none = absurd none
 
-pub print_refused : (profile : Profile) (text : Part) (verdict : Verdict) → IsRefusal parse text verdict → IsTextVerdict Print profile text verdict
-print_refused profile text accepted none = absurd none
-print_refused profile text (printed canonical) none = absurd none
-print_refused profile text skipped none = absurd none
-print_refused profile text (refused column message lines) is = is
+pub print_refused : (kind : Kind) (profile : Profile) (last : Option Instant) (text : Part) (verdict : Verdict)
+    → IsRefusal (has_offset kind) (reader_of kind profile) text verdict → IsTextVerdict (Print kind) profile last text verdict
+print_refused kind profile last text (accepted instant) none = absurd none
+print_refused kind profile last text (printed canonical) none = absurd none
+print_refused kind profile last text skipped none = absurd none
+print_refused kind profile last text (refused None column message lines) is = is
+print_refused kind profile last text (refused (Some instant) column message lines) none = absurd none
+
+pub order_refused : (reader : Reader) (last : Option Instant) (text : Part) (verdict : Verdict)
+    → IsRefusal true reader text verdict → IsOrderVerdict reader last text verdict
+order_refused reader last text (accepted instant) none = absurd none
+order_refused reader last text (printed canonical) none = absurd none
+order_refused reader last text skipped none = absurd none
+order_refused reader last text (refused None column message lines) is = inl is
+order_refused reader last text (refused (Some instant) column message lines) none = absurd none

@@ -1,8 +1,10 @@
 -- The names of the kinds, and the readers of what is asked for.
-use Rattle.std.specs.Prelude.{◌≡◌, ◌≢◌, ℕ, List, Option, Some, None, codes}
+use Rattle.std.specs.Prelude.{◌≡◌, ◌≢◌, ℕ, Bool, true, false, List, Option, Some, None, codes}
 use Rattle.ixdtf_grammar.specs.{declared.profile.Profile.Profile, language.Readers.{Reader, parse, parse_rfc9557, parse_year_month, parse_month_day, parse_time}}
 use Rattle.ixdtf_grammar.specs.language.Readers.Reader.{parse_rfc3339, parse_offset, parse_identifier, parse_iana_identifier, parse_duration}
 use Rattle.ixdtf_checks.specs.declared.kind.Kind.{Kind, TheVariants.{DateTime, YearMonth, MonthDay, Time, Offset, Zone, ZoneName, Duration, Rfc3339, Iana, Rfc9557}}
+use Rattle.ixdtf_checks.specs.declared.kind.InstantKind.{InstantKind}
+use Rattle.ixdtf_checks.specs.declared.kind.InstantKind.TheVariants as instants
 
 abbrev pub name_of : Kind → List ℕ
 name_of DateTime = codes "date-time"
@@ -35,3 +37,37 @@ reader_of Duration profile = parse_duration profile
 reader_of Rfc3339 profile = parse_rfc3339
 reader_of Iana profile = parse_iana_identifier
 reader_of Rfc9557 profile = parse_rfc9557
+
+-- the kind, if its texts can name an instant
+abbrev pub instant_kind : Kind → Option InstantKind
+instant_kind DateTime = Some instants.DateTime
+instant_kind YearMonth = None
+instant_kind MonthDay = None
+instant_kind Time = None
+instant_kind Offset = None
+instant_kind Zone = None
+instant_kind ZoneName = None
+instant_kind Duration = None
+instant_kind Rfc3339 = Some instants.Rfc3339
+instant_kind Iana = None
+instant_kind Rfc9557 = Some instants.Rfc9557
+
+-- the reader of such a kind
+abbrev pub instant_reader_of : InstantKind → Reader
+instant_reader_of instants.DateTime = parse
+instant_reader_of instants.Rfc3339 = parse_rfc3339
+instant_reader_of instants.Rfc9557 = parse_rfc9557
+
+-- an offset may follow the time of a text
+abbrev pub has_offset : Kind → Bool
+has_offset DateTime = true
+has_offset YearMonth = false
+has_offset MonthDay = false
+has_offset Time = true
+has_offset Offset = false
+has_offset Zone = false
+has_offset ZoneName = false
+has_offset Duration = false
+has_offset Rfc3339 = true
+has_offset Iana = false
+has_offset Rfc9557 = true

@@ -1,11 +1,15 @@
+pub mod Canonicals
 pub mod Checks
+pub mod Columns
 pub mod Kept
 pub mod Kinds
+pub mod Order
 pub mod Parts
 pub mod Pointed
 pub mod Refusals
 pub mod Reports
 pub mod Seen
 pub mod Skipped
+pub mod Spaced
 pub mod Statuses
 pub mod Verdicts

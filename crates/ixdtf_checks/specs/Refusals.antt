@@ -1,9 +1,11 @@
 -- A verdict that refuses a text. No clause of `check` cites this module.
+use Rattle.std.specs.Prelude.{Bool, Some, None}
 use Rattle.ixdtf_grammar.specs.language.Readers.{Reader}
 use Rattle.ixdtf_checks.specs.{Parts.Text, Verdicts.{Verdict, IsRefused, Verdict.{accepted, printed, skipped, refused}}}
 
-abbrev pub IsRefusal : Reader → Text → Verdict → Type 0
-IsRefusal reader text accepted = ⊥
-IsRefusal reader text (printed canonical) = ⊥
-IsRefusal reader text skipped = ⊥
-IsRefusal reader text (refused column message lines) = IsRefused reader text column message lines
+abbrev pub IsRefusal : Bool → Reader → Text → Verdict → Type 0
+IsRefusal has_offset reader text (accepted instant) = ⊥
+IsRefusal has_offset reader text (printed canonical) = ⊥
+IsRefusal has_offset reader text skipped = ⊥
+IsRefusal has_offset reader text (refused None column message lines) = IsRefused has_offset reader text column message lines
+IsRefusal has_offset reader text (refused (Some instant) column message lines) = ⊥

@@ -1,14 +1,18 @@
 -- A verdict of the code as the definitions speak of it. No clause of `check` cites this module.
-use Rattle.std.specs.{Prelude.{ℕ, if◌then◌else◌, List, [], ◌∷◌, ◌++◌, codes}, Str.is_utf8}
+use Rattle.std.specs.{Prelude.{ℕ, if◌then◌else◌, List, [], ◌∷◌, ◌++◌, codes, Option, Some, None}, Str.is_utf8}
+use Rattle.ixdtf_instants.specs.declared.instant.Instant.{Instant}
 use Rattle.ixdtf_grammar.specs.{LocatedTexts.pointed_text, table.{ErrorTexts.message_of, Faults.fault_of_located}}
 use Rattle.ixdtf_buffers.specs.Lines.{newline}
-use Rattle.ixdtf_checks.specs.declared.verdict.{Verdict.{Verdict as VerdictInCode, TheVariants.{Accepted, Printed, Skipped, Refused}}, Reason.Reason}
-use Rattle.ixdtf_checks.specs.{declared.verdict.Reason.TheVariants.{TooLong, NoField, Unread}, Verdicts.{Verdict, Verdict.{accepted, printed, skipped, refused}}}
+use Rattle.ixdtf_checks.specs.declared.verdict.{Verdict.{Verdict as VerdictInCode, TheVariants.{Accepted, Timed, Printed, Skipped, Refused}}, Reason.Reason}
+use Rattle.ixdtf_checks.specs.{declared.verdict.Reason.TheVariants.{TooLong, NoField, Unread, Spaced, NoInstant, Early}, Verdicts.{Verdict, Verdict.{accepted, printed, skipped, refused}}}
 
 abbrev pub message_in : Reason → List ℕ
 message_in TooLong = codes "line too long"
 message_in NoField = codes "no such field"
 message_in (Unread unread) = message_of (fault_of_located unread.error)
+message_in (Spaced unread) = codes "a space stands before the offset"
+message_in (NoInstant text) = codes "no instant"
+message_in (Early early) = codes "earlier than the line before"
 
 -- the lines that show the place in a text, where the bytes are one
 abbrev pub lines_at : ℕ → List ℕ → List ℕ
@@ -18,10 +22,23 @@ abbrev pub lines_in : Reason → List ℕ
 lines_in TooLong = []
 lines_in NoField = []
 lines_in (Unread unread) = lines_at unread.error.at unread.text.now
+lines_in (Spaced unread) = lines_at unread.error.at unread.text.now
+lines_in (NoInstant text) = lines_at 0 text.now
+lines_in (Early early) = lines_at 0 early.text.now
+
+-- the instant of a text that is read for it, and refused
+abbrev pub instant_of : Reason → Option Instant
+instant_of TooLong = None
+instant_of NoField = None
+instant_of (Unread unread) = None
+instant_of (Spaced unread) = None
+instant_of (NoInstant text) = None
+instant_of (Early early) = Some early.instant
 
 -- a verdict, where this is the canonical text that was printed last
 abbrev pub seen : List ℕ → VerdictInCode → Verdict
-seen canonical Accepted = accepted
+seen canonical Accepted = accepted None
+seen canonical (Timed instant) = accepted (Some instant)
 seen canonical Printed = printed canonical
 seen canonical Skipped = skipped
-seen canonical (Refused refusal) = refused refusal.column (message_in refusal.reason) (lines_in refusal.reason)
+seen canonical (Refused refusal) = refused (instant_of refusal.reason) refusal.column (message_in refusal.reason) (lines_in refusal.reason)

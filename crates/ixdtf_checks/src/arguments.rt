@@ -1,6 +1,6 @@
 //! The words after the program's name.
 
-use crate::kind::Kind;
+use crate::kind::{InstantKind, Kind};
 use crate::nearest::{KINDS, OPTIONS, nearest_of};
 use crate::request::{Field, Request, Skips, Task};
 use ixdtf::parsers::Profile;
@@ -41,8 +41,10 @@ pub enum Wrong {
     MissingValue,
     /// There is no kind of this name.
     UnknownKind,
-    /// The value of `--field` is not a number from 1 on.
+    /// The value of `--field` is 0 or empty.
     InvalidField,
+    /// The value of `--field` is a name, but there is no `--header`.
+    NameWithoutHeader,
     /// The value of `--separator` is not one byte.
     InvalidSeparator,
     /// The value of `--comment` is not one byte.
@@ -51,8 +53,10 @@ pub enum Wrong {
     InvalidCount,
     /// There is a separator, but no field.
     SeparatorWithoutField,
-    /// There is another kind than `date-time`, and `--canonical`.
-    CanonicalKind,
+    /// There is `--ordered`, and a kind whose texts name no instants.
+    OrderedKind,
+    /// There are `--ordered` and `--canonical`.
+    OrderedCanonical,
 }
 
 impl Wrong {
@@ -65,12 +69,19 @@ impl Wrong {
             Wrong::UnknownKind => {
                 "there is no such kind; the kinds are date-time, year-month, month-day, time, offset, zone, zone-name, iana, duration, rfc3339 and rfc9557"
             }
-            Wrong::InvalidField => "expected the number of a field, which is 1 or more",
+            Wrong::InvalidField =>
+                "expected the number of a field, which is 1 or more, or its name",
+            Wrong::NameWithoutHeader => {
+                "expected the number of a field, which is 1 or more; --field NAME needs --header"
+            }
             Wrong::InvalidSeparator => "expected a separator of one byte",
             Wrong::InvalidComment => "expected the one byte with which comments begin",
             Wrong::InvalidCount => "expected a number of reports",
             Wrong::SeparatorWithoutField => "--separator needs --field",
-            Wrong::CanonicalKind => "--canonical is only for the kind date-time",
+            Wrong::OrderedKind => {
+                "--ordered is only for the kinds date-time, rfc3339 and rfc9557, whose texts can name instants"
+            }
+            Wrong::OrderedCanonical => "--ordered and --canonical do not go together",
         }
     }
 }
@@ -87,11 +98,13 @@ pub fn meant_by(word: &str, wrong: Wrong) -> Option<&'static str> {
         Wrong::UnexpectedValue
         | Wrong::MissingValue
         | Wrong::InvalidField
+        | Wrong::NameWithoutHeader
         | Wrong::InvalidSeparator
         | Wrong::InvalidComment
         | Wrong::InvalidCount
         | Wrong::SeparatorWithoutField
-        | Wrong::CanonicalKind => None,
+        | Wrong::OrderedKind
+        | Wrong::OrderedCanonical => None,
     }
 }
 
@@ -107,18 +120,46 @@ enum Awaited {
     File,
 }
 
+/// Where the arguments have the name of a field.
+#[derive(Clone, Copy, Debug, PartialEq)]
+pub struct FieldName {
+    /// How many words stand before the one that has the name.
+    pub word: usize,
+    /// How many bytes of this word stand before the name.
+    pub start: usize,
+}
+
+impl FieldName {
+    /// Returns the name in the word.
+    pub fn in_word(self, word: &str) -> &[u8] {
+        let bytes = word.as_bytes();
+        &bytes[self.start.min(bytes.len())..]
+    }
+}
+
+/// Which field of a line is its text.
+#[derive(Clone, Copy, Debug, PartialEq)]
+enum Column {
+    /// The one after so many others.
+    After(usize),
+    /// The one that has a name in the first line of a file.
+    Named(FieldName),
+}
+
 /// What the words so far ask for.
 #[derive(Clone, Copy, Debug, PartialEq)]
 pub struct Options {
     awaited: Awaited,
+    /// How many words there were before this one.
+    words: usize,
     kind: Option<Kind>,
     is_strict: bool,
-    /// The number of fields before the one that is read.
-    before: Option<usize>,
+    column: Option<Column>,
     separator: Option<u8>,
     skips: Skips,
     most_reports: Option<u64>,
     is_canonical: bool,
+    is_ordered: bool,
     is_quiet: bool,
 }
 
@@ -127,35 +168,39 @@ impl Options {
     pub fn new() -> Options {
         Options {
             awaited: Awaited::Anything,
+            words: 0,
             kind: None,
             is_strict: false,
-            before: None,
+            column: None,
             separator: None,
             skips: NOTHING_SKIPPED,
             most_reports: None,
             is_canonical: false,
+            is_ordered: false,
             is_quiet: false,
         }
     }
 
     /// Takes one more word, and returns what it is.
     pub fn take(&mut self, word: &str) -> Word {
-        match self.awaited {
+        let taken = match self.awaited {
             Awaited::Anything => self.take_any(word),
             Awaited::Kind
             | Awaited::Field
             | Awaited::Separator
             | Awaited::Comment
-            | Awaited::MaxReports => self.take_value(word),
+            | Awaited::MaxReports => self.take_value(word, 0),
             Awaited::File => Word::File,
-        }
+        };
+        self.words = self.words.saturating_add(1);
+        taken
     }
 
-    /// Takes the value of the option that awaits one.
-    fn take_value(&mut self, value: &str) -> Word {
+    /// Takes the value of the option that awaits one. So many bytes of the word stand before the value.
+    fn take_value(&mut self, value: &str, start: usize) -> Word {
         match self.awaited {
             Awaited::Kind => self.take_kind(value),
-            Awaited::Field => self.take_field(value),
+            Awaited::Field => self.take_field(value, start),
             Awaited::Separator => self.take_separator(value),
             Awaited::Comment => self.take_comment(value),
             Awaited::MaxReports => self.take_count(value),
@@ -190,6 +235,8 @@ impl Options {
             self.skips.blank = true;
         } else if option == "--canonical" {
             self.is_canonical = true;
+        } else if option == "--ordered" {
+            self.is_ordered = true;
         } else if option == "--quiet" {
             self.is_quiet = true;
         } else if option == "--" {
@@ -221,7 +268,7 @@ impl Options {
     /// Takes an option and its value, which were one word with a `=` between them.
     fn take_with_value(&mut self, option: &str, value: &str) -> Word {
         if self.awaits_value_of(option) {
-            return self.take_value(value);
+            return self.take_value(value, option.len().saturating_add(1));
         }
         if self.take_option(option) == Word::Wrong(Wrong::UnknownOption) {
             return Word::Wrong(Wrong::UnknownOption);
@@ -240,16 +287,19 @@ impl Options {
         }
     }
 
-    /// Takes the number of a field.
-    fn take_field(&mut self, word: &str) -> Word {
+    /// Takes the number or the name of a field. So many bytes of the word stand before it.
+    fn take_field(&mut self, value: &str, start: usize) -> Word {
         self.awaited = Awaited::Anything;
-        match word.parse::<usize>() {
-            Ok(number) if number > 0 => {
-                self.before = number.checked_sub(1);
-                Word::Option
-            }
-            Ok(_) | Err(_) => Word::Wrong(Wrong::InvalidField),
-        }
+        let column = match value.parse::<usize>() {
+            Ok(number) if number > 0 => Column::After(number.saturating_sub(1)),
+            Err(_) if !value.is_empty() => Column::Named(FieldName {
+                word: self.words,
+                start,
+            }),
+            Ok(_) | Err(_) => return Word::Wrong(Wrong::InvalidField),
+        };
+        self.column = Some(column);
+        Word::Option
     }
 
     /// Takes a separator.
@@ -298,10 +348,14 @@ impl Options {
             | Awaited::Comment
             | Awaited::MaxReports => Some(Wrong::MissingValue),
             Awaited::Anything | Awaited::File => {
-                if self.separator.is_some() && self.before.is_none() {
+                if self.separator.is_some() && self.column.is_none() {
                     Some(Wrong::SeparatorWithoutField)
-                } else if self.is_canonical && kind != Kind::DateTime {
-                    Some(Wrong::CanonicalKind)
+                } else if self.field_name().is_some() && !self.skips.header {
+                    Some(Wrong::NameWithoutHeader)
+                } else if self.is_ordered && InstantKind::of(kind).is_none() {
+                    Some(Wrong::OrderedKind)
+                } else if self.is_ordered && self.is_canonical {
+                    Some(Wrong::OrderedCanonical)
                 } else {
                     None
                 }
@@ -309,12 +363,28 @@ impl Options {
         }
     }
 
-    /// Returns what is to be done with a file of this name. Returns `None` if the words do not go together.
+    /// Returns where the words have the name of the field that is read. Returns `None` if they have no name of a field.
+    pub fn field_name(&self) -> Option<FieldName> {
+        match self.column {
+            Some(Column::Named(field_name)) => Some(field_name),
+            Some(Column::After(_)) | None => None,
+        }
+    }
+
+    /// Returns the field after so many others.
+    pub fn field_after(&self, before: usize) -> Field {
+        Field {
+            before,
+            separator: self.separator.unwrap_or(TAB),
+        }
+    }
+
+    /// Returns what is to be done with a file of this name. Returns `None` if the words do not go together. If they have the name of
+    /// a field, the caller has to find this field in the first line of the file, and to set it.
     pub fn request<'n>(&self, name: &'n str) -> Option<Request<'n>> {
         if self.wrong().is_some() {
             return None;
         }
-        let separator = self.separator.unwrap_or(TAB);
         Some(Request {
             name,
             task: self.task(),
@@ -323,11 +393,19 @@ impl Options {
             } else {
                 Profile::Crate
             },
-            field: self.before.map(|before| Field { before, separator }),
+            field: self.numbered_field(),
             skips: self.skips(),
             most_reports: self.most_reports.unwrap_or(u64::MAX),
             is_quiet: self.is_quiet,
         })
+    }
+
+    /// Returns the field whose number the words have, if they have one.
+    fn numbered_field(&self) -> Option<Field> {
+        match self.column {
+            Some(Column::After(before)) => Some(self.field_after(before)),
+            Some(Column::Named(_)) | None => None,
+        }
     }
 
     /// Returns which lines are skipped, if any are.
@@ -341,10 +419,13 @@ impl Options {
 
     /// Returns what is to be done with each text.
     fn task(&self) -> Task {
+        let kind = self.kind.unwrap_or(Kind::DateTime);
         if self.is_canonical {
-            Task::Print
-        } else {
-            Task::Check(self.kind.unwrap_or(Kind::DateTime))
+            return Task::Print(kind);
+        }
+        match InstantKind::of(kind) {
+            Some(kind) if self.is_ordered => Task::Order(kind),
+            _ => Task::Check(kind),
         }
     }
 }

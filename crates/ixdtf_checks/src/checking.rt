@@ -1,5 +1,5 @@
 //! What a check does with a line.
-ghost use Rattle.std.specs.Prelude.{◌≡◌};
+ghost use Rattle.std.specs.Prelude.{◌≡◌, None};
 
 use crate::judge::judge;
 use crate::pointed::ROOM;
@@ -8,6 +8,7 @@ use crate::report::put_report;
 use crate::request::Request;
 use crate::tally::Tally;
 use crate::verdict::{LINE_LIMIT, Verdict};
+use ixdtf::Instant;
 use ixdtf_buffers::driver::LineTask;
 use ixdtf_buffers::error::RunError;
 use ixdtf_buffers::output::Output;
@@ -22,6 +23,8 @@ pub struct Checking<'n> {
     pub printed: PrintedText,
     /// The room in which a report is made. It stands here, since to clear it for each report takes as long as to fill it.
     pub room: [u8; ROOM],
+    /// The instant of the last line whose text names one, if it was read for its instant.
+    pub last: Option<Instant>,
     /// What was counted. Its bytes are counted elsewhere.
     pub tally: Tally,
 }
@@ -32,11 +35,13 @@ impl<'n> Checking<'n> {
         ensures request { result.request ≡ request.entry }
         ensures lines { result.tally.lines ≡ 0 }
         ensures refused { result.tally.refused ≡ 0 }
+        ensures last { result.last ≡ None }
     {
         Checking {
             request,
             printed: PrintedText::empty(),
             room: [0; ROOM],
+            last: None,
             tally: Tally::new(),
         }
     }
@@ -47,7 +52,7 @@ impl LineTask<LINE_LIMIT> for Checking<'_> {
     ghost use Rattle.ixdtf_checks.specs.Checks.{ReportsLine};
 
     ghost step = { λ old line bytes new. (new.request ≡ old.request)
-        × ReportsLine old.request old.tally new.tally line bytes };
+        × ReportsLine old.request old.tally new.tally old.last new.last line bytes };
 
     /// Puts the report of the line and counts it.
     #[inline(always)]
@@ -61,6 +66,7 @@ impl LineTask<LINE_LIMIT> for Checking<'_> {
         judge(
             &self.request,
             is_first,
+            &mut self.last,
             line,
             &mut self.printed,
             &mut verdict,

@@ -1,37 +1,47 @@
 //! Which verdict a line gets.
-ghost use Rattle.std.specs.Prelude.{◌≤◌, ◌+◌, ℕ, List, length, IfSome};
+ghost use Rattle.std.specs.Prelude.{◌≡◌, ◌≤◌, ◌+◌, ℕ, List, length, IfSome, Some, None};
 ghost use Rattle.ixdtf_grammar.specs.Places.{HasUnhandledFaultAt};
 ghost use Rattle.ixdtf_grammar.specs.Widths.{byte_text};
 ghost use Rattle.ixdtf_grammar.specs.language.Readers.{Reader};
 ghost use Rattle.ixdtf_grammar.specs.table.ErrorTexts.{message_of};
 ghost use Rattle.ixdtf_grammar.specs.table.Faults.{fault_of_located};
 ghost use Rattle.ixdtf_buffers.specs.Line.{IsLine};
+ghost use Rattle.ixdtf_checks.specs.Kinds.{instant_reader_of};
+ghost use Rattle.ixdtf_checks.specs.Order.{IsTimed, latest};
 ghost use Rattle.ixdtf_checks.specs.Parts.{line_in, seen_part};
-ghost use Rattle.ixdtf_checks.specs.Seen.{seen};
-ghost use Rattle.ixdtf_checks.specs.Verdicts.{IsVerdict, IsShortVerdict, IsLineVerdict, IsTextVerdict};
+ghost use Rattle.ixdtf_checks.specs.Seen.{instant_of, lines_at, lines_in, message_in, seen};
+ghost use Rattle.ixdtf_checks.specs.Verdicts.{IsVerdict, IsShortVerdict, IsLineVerdict, IsOrderVerdict, IsTextVerdict};
+ghost use Rattle.ixdtf_checks.specs.Reports.{instant_in};
 ghost use Rattle.ixdtf_checks.specs.Refusals.{IsRefusal};
+ghost use Rattle.ixdtf_checks.specs.Spaced.{is_spaced, message_at};
 
+use crate::instants::read_instant;
+use crate::kind::InstantKind;
 use crate::part::{Part, part_of};
 use crate::printed::PrintedText;
-use crate::reading::{read, read_to_print};
+use crate::printing::read_to_print;
+use crate::reading::read;
 use crate::request::{Request, Task};
 use crate::skipped::kept_line;
-use crate::verdict::{LINE_LIMIT, Reason, Refusal, Unread, Verdict};
-use ixdtf::LocatedError;
+use crate::verdict::{Early, LINE_LIMIT, Reason, Refusal, Unread, Verdict};
+use ixdtf::{Instant, LocatedError};
 
-/// Writes the verdict on the line, which is `None` where it is too long, and may be the first one of a file.
+/// Writes the verdict on the line, which is `None` where it is too long, and may be the first one of a file. `last` is the instant
+/// of the line before. It becomes that of this line, if this line has one.
 ///
 /// A verdict is written in its place, and not returned: most lines are accepted, and of these one byte is written.
 pub fn judge<'a>(
     request: &Request<'_>,
     is_first: bool,
+    last: &mut Option<Instant>,
     line: Option<&'a [u8]>,
     printed: &mut PrintedText,
     verdict: &mut Verdict<'a>,
 )
     requires { IfSome line (λ bytes. length bytes.now ≤ 65536) }
-    ensures { (text : List ℕ) → IsLine 65536 line.entry text
-        → IsVerdict request.now is_first text (seen printed.new verdict.new) }
+    ensures verdict { (text : List ℕ) → IsLine 65536 line.entry text
+        → IsVerdict request.now is_first last.old text (seen printed.new verdict.new) }
+    ensures kept { (printed : List ℕ) → last.new ≡ latest (instant_in (seen printed verdict.new)) last.old }
 {
     match line {
         None => {
@@ -40,7 +50,7 @@ pub fn judge<'a>(
                 reason: Reason::TooLong,
             });
         }
-        Some(bytes) => judge_short(request, is_first, bytes, printed, verdict),
+        Some(bytes) => judge_short(request, is_first, last, bytes, printed, verdict),
     }
 }
 
@@ -48,28 +58,32 @@ pub fn judge<'a>(
 fn judge_short<'a>(
     request: &Request<'_>,
     is_first: bool,
+    last: &mut Option<Instant>,
     bytes: &'a [u8],
     printed: &mut PrintedText,
     verdict: &mut Verdict<'a>,
 )
     requires { length bytes.now ≤ 65536 }
-    ensures { IsShortVerdict request.now is_first (line_in is_first bytes.now) (seen printed.new verdict.new) }
+    ensures verdict { IsShortVerdict request.now is_first last.old (line_in is_first bytes.now) (seen printed.new verdict.new) }
+    ensures kept { (printed : List ℕ) → last.new ≡ latest (instant_in (seen printed verdict.new)) last.old }
 {
     match kept_line(&request.skips, is_first, bytes) {
         None => *verdict = Verdict::Skipped,
-        Some(line) => judge_line(request, line, printed, verdict),
+        Some(line) => judge_line(request, last, line, printed, verdict),
     }
 }
 
 /// Writes the verdict on a line that is not skipped.
 fn judge_line<'a>(
     request: &Request<'_>,
+    last: &mut Option<Instant>,
     line: &'a [u8],
     printed: &mut PrintedText,
     verdict: &mut Verdict<'a>,
 )
     requires { length line.now ≤ 65536 }
-    ensures { IsLineVerdict request.now line.now (seen printed.new verdict.new) }
+    ensures verdict { IsLineVerdict request.now last.old line.now (seen printed.new verdict.new) }
+    ensures kept { (printed : List ℕ) → last.new ≡ latest (instant_in (seen printed verdict.new)) last.old }
 {
     match part_of(request.field, line) {
         None => {
@@ -78,47 +92,138 @@ fn judge_line<'a>(
                 reason: Reason::NoField,
             });
         }
-        Some(part) => judge_text(request, part, printed, verdict),
+        Some(part) => judge_text(request, last, part, printed, verdict),
     }
 }
 
 /// Writes the verdict on the text of a line.
 fn judge_text<'a>(
     request: &Request<'_>,
+    last: &mut Option<Instant>,
     part: Part<'a>,
     printed: &mut PrintedText,
     verdict: &mut Verdict<'a>,
 )
     requires { part.start + length part.text.now ≤ 65536 }
-    ensures { IsTextVerdict request.now.task request.now.profile (seen_part part.entry)
+    ensures verdict { IsTextVerdict request.now.task request.now.profile last.old (seen_part part.entry)
         (seen printed.new verdict.new) }
+    ensures kept { (printed : List ℕ) → last.new ≡ latest (instant_in (seen printed verdict.new)) last.old }
 {
     match request.task {
         Task::Check(kind) => match read(kind, request.profile, part.text) {
             Ok(()) => *verdict = Verdict::Accepted,
-            Err(error) => refuse(verdict, error, part),
+            Err(error) => refuse(verdict, kind.has_offset(), error, part),
         },
-        Task::Print => match read_to_print(part.text, printed) {
+        Task::Print(kind) => match read_to_print(kind, request.profile, part.text, printed) {
             Ok(()) => *verdict = Verdict::Printed,
-            Err(error) => refuse(verdict, error, part),
+            Err(error) => refuse(verdict, kind.has_offset(), error, part),
         },
+        Task::Order(kind) => judge_order(kind, last, part, verdict),
     }
 }
 
-/// Writes the verdict on a line whose text a reader refuses.
-fn refuse<'a>(verdict: &mut Verdict<'a>, error: LocatedError, part: Part<'a>)
+/// Writes the verdict on a text that has to name an instant, which must not be before the last one. Keeps this instant.
+#[inline(never)]
+fn judge_order<'a>(
+    kind: InstantKind,
+    last: &mut Option<Instant>,
+    part: Part<'a>,
+    verdict: &mut Verdict<'a>,
+)
+    requires { part.start + length part.text.now ≤ 65536 }
+    ensures verdict { (printed : List ℕ)
+        → IsOrderVerdict (instant_reader_of kind) last.old (seen_part part.entry) (seen printed verdict.new) }
+    ensures kept { (printed : List ℕ) → last.new ≡ latest (instant_in (seen printed verdict.new)) last.old }
+{
+    judge_instant(kind, *last, part, verdict);
+    verdict.keep_instant(last);
+}
+
+/// Writes the verdict on a text that has to name an instant, which must not be before the last one.
+fn judge_instant<'a>(
+    kind: InstantKind,
+    last: Option<Instant>,
+    part: Part<'a>,
+    verdict: &mut Verdict<'a>,
+)
+    requires { part.start + length part.text.now ≤ 65536 }
+    ensures { (printed : List ℕ)
+        → IsOrderVerdict (instant_reader_of kind) last (seen_part part.entry) (seen printed verdict.new) }
+{
+    match read_instant(kind, part.text) {
+        Ok(Some(instant)) => *verdict = order(instant, last, part),
+        Ok(None) => {
+            *verdict = Verdict::Refused(Refusal {
+                column: part.start + 1,
+                reason: Reason::NoInstant(part.text),
+            });
+        }
+        Err(error) => refuse(verdict, true, error, part),
+    }
+}
+
+/// Returns the verdict on a text that names this instant.
+fn order(instant: Instant, last: Option<Instant>, part: Part<'_>) -> Verdict<'_>
+    requires { part.start + length part.text.now ≤ 65536 }
+    ensures { (reader : Reader) → IsTimed reader part.entry.text.now instant
+        → (printed : List ℕ) → IsOrderVerdict reader last (seen_part part.entry) (seen printed result) }
+{
+    match last {
+        Some(last) if instant < last => Verdict::Refused(Refusal {
+            column: part.start + 1,
+            reason: Reason::Early(Early {
+                instant,
+                text: part.text,
+            }),
+        }),
+        _ => Verdict::Timed(instant),
+    }
+}
+
+/// Writes the verdict on a line whose text a reader refuses. `has_offset` says whether an offset may follow the time of a text.
+fn refuse<'a>(verdict: &mut Verdict<'a>, has_offset: bool, error: LocatedError, part: Part<'a>)
     requires line { part.start + length part.text.now ≤ 65536 }
     requires within { error.at ≤ length part.text.now }
     requires short { length (message_of (fault_of_located error)) ≤ 69 }
-    ensures { (reader : Reader)
+    ensures verdict { (reader : Reader)
         → HasUnhandledFaultAt reader (byte_text part.entry.text.now) (fault_of_located error) error.at
-        → (printed : List ℕ) → IsRefusal reader (seen_part part.entry) (seen printed verdict.new) }
+        → (printed : List ℕ) → IsRefusal has_offset reader (seen_part part.entry) (seen printed verdict.new) }
+    ensures instant { (printed : List ℕ) → instant_in (seen printed verdict.new) ≡ None }
 {
     *verdict = Verdict::Refused(Refusal {
         column: part.start + error.at + 1,
-        reason: Reason::Unread(Unread {
-            error,
-            text: part.text,
-        }),
+        reason: reason_of(
+            has_offset,
+            Unread {
+                error,
+                text: part.text,
+            },
+        ),
     });
+}
+
+/// Returns why a text is refused that a reader does not read.
+fn reason_of(has_offset: bool, unread: Unread<'_>) -> Reason<'_>
+    requires { unread.error.at ≤ length unread.text.now }
+    ensures message { message_in result
+        ≡ message_at has_offset unread.entry.text.now (fault_of_located unread.entry.error) unread.entry.error.at }
+    ensures lines { lines_in result ≡ lines_at unread.entry.error.at unread.entry.text.now }
+    ensures instant { instant_of result ≡ None }
+{
+    if has_offset && is_spaced(&unread.text[unread.error.at..]) {
+        Reason::Spaced(unread)
+    } else {
+        Reason::Unread(unread)
+    }
+}
+
+/// Returns whether a space and an offset are at the beginning of the bytes.
+fn is_spaced(bytes: &[u8]) -> bool
+    ensures { result ≡ is_spaced bytes.now }
+{
+    match bytes {
+        [b' ', b'Z' | b'z', ..] => true,
+        [b' ', b'+' | b'-', digit, ..] => digit.is_ascii_digit(),
+        _ => false,
+    }
 }

@@ -7,6 +7,8 @@
 pub mod arguments;
 pub mod checker;
 mod checking;
+pub mod column;
+mod instants;
 mod judge;
 pub mod kind;
 pub mod laws;
@@ -14,6 +16,7 @@ mod nearest;
 mod part;
 mod pointed;
 mod printed;
+mod printing;
 mod reading;
 mod report;
 pub mod request;

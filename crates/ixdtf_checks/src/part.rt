@@ -114,7 +114,7 @@ fn near_field_start(separator: u8, before: usize, line: &[u8]) -> Option<usize>
 }
 
 /// The field at the front.
-fn front_field(separator: u8, line: &[u8]) -> &[u8]
+pub fn front_field(separator: u8, line: &[u8]) -> &[u8]
     ensures text { result.now ≡ front_field separator line.now }
     ensures shorter { length result.now ≤ length line.now }
 {

@@ -1,15 +1,13 @@
 //! Reading a text.
-ghost use Rattle.std.specs.Prelude.{◌≡◌, ◌≤◌, length, IfErr, OnOk};
+ghost use Rattle.std.specs.Prelude.{◌≡◌, IfErr, OnOk};
 ghost use Rattle.ixdtf_grammar.specs.Places.{HasUnhandledFaultAt};
 ghost use Rattle.ixdtf_grammar.specs.Widths.{byte_text};
-ghost use Rattle.ixdtf_grammar.specs.language.Readers.{parse};
 ghost use Rattle.ixdtf_grammar.specs.language.Readers.Reader.{parse_iana_identifier};
 ghost use Rattle.ixdtf_grammar.specs.table.Faults.{fault_of_located};
 ghost use Rattle.ixdtf_checks.specs.Kinds.{reader_of};
-ghost use Rattle.ixdtf_checks.specs.Verdicts.{IsRead, IsCanonical};
+ghost use Rattle.ixdtf_checks.specs.Verdicts.{IsRead};
 
 use crate::kind::Kind;
-use crate::printed::PrintedText;
 use ixdtf::LocatedError;
 use ixdtf::encoding::Utf8;
 use ixdtf::parsers::{IsoDurationParser, IxdtfParser, Profile, TimeZoneParser};
@@ -78,7 +76,7 @@ fn read_zone_name(text: &[u8]) -> Result<(), LocatedError>
 }
 
 /// A parser of the text under the profile.
-fn parser(profile: Profile, text: &[u8]) -> IxdtfParser<'_, Utf8>
+pub fn parser(profile: Profile, text: &[u8]) -> IxdtfParser<'_, Utf8>
     ensures rest { result.rest ≡ text.now }
     ensures profile { result.profile ≡ profile }
 {
@@ -86,26 +84,9 @@ fn parser(profile: Profile, text: &[u8]) -> IxdtfParser<'_, Utf8>
 }
 
 /// The same of a duration.
-fn duration_parser(profile: Profile, text: &[u8]) -> IsoDurationParser<'_, Utf8>
+pub fn duration_parser(profile: Profile, text: &[u8]) -> IsoDurationParser<'_, Utf8>
     ensures rest { result.rest ≡ text.now }
     ensures profile { result.profile ≡ profile }
 {
     IsoDurationParser::<Utf8>::from_utf8(text).with_profile(profile)
-}
-
-/// Reads the text as a date-time and prints its canonical text, or returns the error with its place.
-#[inline(always)]
-pub fn read_to_print(text: &[u8], printed: &mut PrintedText) -> Result<(), LocatedError>
-    requires { length text.now ≤ 65536 }
-    ensures ok { OnOk result (IsCanonical text.now printed.new) }
-    ensures err { IfErr result (λ error. HasUnhandledFaultAt parse
-        (byte_text text.now) (fault_of_located error) error.at) }
-{
-    match IxdtfParser::from_utf8(text).parse_located() {
-        Ok(parts) => {
-            printed.print(&parts);
-            Ok(())
-        }
-        Err(error) => Err(error),
-    }
 }

@@ -3,7 +3,7 @@ ghost use Rattle.std.specs.Prelude.{◌≡◌, ◌≤◌, ℕ, List, length, if�
 ghost use Rattle.ixdtf_grammar.specs.table.ErrorTexts.{message_of};
 ghost use Rattle.ixdtf_grammar.specs.table.Faults.{fault_of_located};
 
-use ixdtf::LocatedError;
+use ixdtf::{Instant, LocatedError};
 
 /// The longest line that is read, in bytes.
 pub const LINE_LIMIT: usize = 65536;
@@ -13,6 +13,8 @@ pub const LINE_LIMIT: usize = 65536;
 pub enum Verdict<'a> {
     /// Its text is read.
     Accepted,
+    /// Its text is read, and names this instant, which is not before that of the line before.
+    Timed(Instant),
     /// Its text is read, and its canonical text is printed.
     Printed,
     /// It has no text, and is skipped.
@@ -39,6 +41,12 @@ pub enum Reason<'a> {
     NoField,
     /// Its text is not read.
     Unread(Unread<'a>),
+    /// Its text is not read, because a space stands before an offset.
+    Spaced(Unread<'a>),
+    /// This text is read, but does not name an instant.
+    NoInstant(&'a [u8]),
+    /// Its text names an instant before that of the line before.
+    Early(Early<'a>),
 }
 
 /// A text that is not read.
@@ -52,8 +60,18 @@ pub struct Unread<'a> {
     pub ghost short: { length (message_of (fault_of_located error)) ≤ 69 },
 }
 
+/// A text that names an instant before that of the line before.
+#[derive(Clone, Copy)]
+pub struct Early<'a> {
+    /// The instant.
+    pub instant: Instant,
+    /// The text.
+    pub text: &'a [u8],
+}
+
 impl Verdict<'_> {
-    ghost use Rattle.ixdtf_checks.specs.Reports.{refusal_count};
+    ghost use Rattle.ixdtf_checks.specs.Order.{latest};
+    ghost use Rattle.ixdtf_checks.specs.Reports.{instant_in, refusal_count};
     ghost use Rattle.ixdtf_checks.specs.Seen.{seen};
 
     /// Whether the line is refused.
@@ -61,5 +79,35 @@ impl Verdict<'_> {
         ensures { (printed : List ℕ) → refusal_count (seen printed self.now) ≡ (if result then 1 else 0) }
     {
         matches!(self, Verdict::Refused(_))
+    }
+
+    /// Keeps the instant of the text, if the text was read for it.
+    pub fn keep_instant(&self, last: &mut Option<Instant>)
+        ensures { (printed : List ℕ) → last.new ≡ latest (instant_in (seen printed self.now)) last.old }
+    {
+        match self {
+            Verdict::Timed(instant) => *last = Some(*instant),
+            Verdict::Refused(refusal) => refusal.reason.keep_instant(last),
+            Verdict::Accepted | Verdict::Printed | Verdict::Skipped => {}
+        }
+    }
+}
+
+impl Reason<'_> {
+    ghost use Rattle.ixdtf_checks.specs.Order.{latest};
+    ghost use Rattle.ixdtf_checks.specs.Seen.{instant_of};
+
+    /// Keeps the instant of the text, if the text was read for it.
+    fn keep_instant(&self, last: &mut Option<Instant>)
+        ensures { last.new ≡ latest (instant_of self.now) last.old }
+    {
+        match self {
+            Reason::Early(early) => *last = Some(early.instant),
+            Reason::TooLong
+            | Reason::NoField
+            | Reason::Unread(_)
+            | Reason::Spaced(_)
+            | Reason::NoInstant(_) => {}
+        }
     }
 }

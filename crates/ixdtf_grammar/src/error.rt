@@ -48,7 +48,8 @@ pub enum ParseError {
     ///   annotation. It is empty after `[` or `[!`, or it begins with a lowercase letter or `_` and contains neither
     ///   `=` nor `]`, as in `2020-01-01[cet`.
     /// - `MonthDay`: the text for `parse_month_day` is empty, or is one hyphen.
-    /// - `time-numoffset`: the text for `parse_offset` is empty.
+    /// - `time-numoffset`: the text for `parse_offset` is empty, or the text for `parse_rfc3339` or `parse_rfc9557`
+    ///   ends where the offset must begin.
     /// - `TimeZoneAnnotation`: the text for `parse_identifier` is empty.
     /// - `DurationStart`: the text for a duration is empty.
     /// - `DurationDesignator`: a duration ends after its sign.
@@ -70,7 +71,7 @@ pub enum ParseError {
     /// The day of a date is 00, or is after the last day of this month in this year.
     InvalidDayRange,
     /// The text begins with a character that is neither a digit nor a sign, or the four digits of a year contain
-    /// another character.
+    /// another character. In `parse_rfc3339` and `parse_rfc9557`, this is also the error if the text begins with a sign.
     DateYear,
     /// The six digits of a year with a sign contain another character, or the year is `-000000`.
     DateExtendedYear,
@@ -92,12 +93,16 @@ pub enum ParseError {
     TimeMinuteSecond,
     /// The second of a time contains a character that is not a digit, or is greater than 60.
     TimeSecond,
-    /// No digit follows the `.` or `,` of a fraction. This is also the error if the text ends there.
+    /// No digit follows the `.` or `,` of a fraction. This is also the error if the text ends there. In `parse_rfc3339`
+    /// and `parse_rfc9557`, this is also the error if a comma follows the second.
     FractionPart,
     /// A date has only one of its two hyphens: no hyphen follows `2020-01`, or a hyphen follows `202001`. This is also
-    /// the error if the text ends after `2020-01`.
+    /// the error if the text ends after `2020-01`. In `parse_rfc3339` and `parse_rfc9557`, it is the error if another
+    /// character than a hyphen follows the year, or if no hyphen follows the month.
     DateSeparator,
-    /// A time has only one of its two colons: a digit follows `12:00`, or a colon follows `1200`.
+    /// A time has only one of its two colons: a digit follows `12:00`, or a colon follows `1200`. In `parse_rfc3339` and
+    /// `parse_rfc9557`, this is the error if no `T` or `t` follows the date, or if no colon follows the hour or the
+    /// minute.
     TimeSeparator,
     /// No reader returns this error.
     DecimalSeparator,
@@ -124,10 +129,11 @@ pub enum ParseError {
     /// This is also the error if no ASCII letter or digit follows the `=`, or if the text ends after the `=`.
     AnnotationValueChar,
     /// A colon or a digit follows the minute of an offset that must not have seconds: an offset in brackets, or for
-    /// `parse_identifier`.
+    /// `parse_identifier`. In `parse_rfc9557`, this is also the error of an offset in brackets that does not have the
+    /// form `+05:30`.
     InvalidMinutePrecisionOffset,
-    /// An annotation with the key `u-ca` has a value that differs from that of the first such annotation, and at least
-    /// one of the two is critical. With a handler, this is about the annotations that the handler returned.
+    /// An annotation with the key `u-ca` has another value than the first annotation with this key, and at least one of
+    /// the two is critical. With a handler, this is about the annotations that the handler returned.
     CriticalDuplicateCalendar,
     /// An annotation is critical, and its key is not `u-ca`. With a handler, this is about the annotations that the
     /// handler returned.
@@ -139,10 +145,13 @@ pub enum ParseError {
     /// ends there.
     IanaCharPostSeparator,
     /// The name of a time zone contains a character that a name cannot contain, and that is not the `]` of its bracket.
+    /// In `parse_rfc9557`, this is also the error of a name that RFC 9557 does not allow, such as `a/1` or `..`.
     IanaChar,
-    /// An offset has only one of its two colons: a digit follows `+05:00`, or a colon follows `+0500`.
+    /// An offset has only one of its two colons: a digit follows `+05:00`, or a colon follows `+0500`. In
+    /// `parse_rfc3339` and `parse_rfc9557`, this is the error if no colon follows the hour of the offset.
     UtcTimeSeparator,
-    /// The text for `parse_offset` begins with a character that is not a sign.
+    /// The text for `parse_offset` begins with a character that is not a sign. In `parse_rfc3339` and `parse_rfc9557`,
+    /// this is the error if another character than a sign, `Z` or `z` is where the offset must begin.
     OffsetNeedsSign,
     /// A month and a day begin with one hyphen and another character. Two hyphens or none are allowed.
     MonthDayHyphen,

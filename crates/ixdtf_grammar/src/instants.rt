@@ -13,17 +13,19 @@ use ixdtf_instants::Instant;
 use ixdtf_instants::days::day_number;
 
 impl<'a, T: EncodingType> IxdtfParseRecord<'a, T> {
-    /// The instant that the record names: local time less the offset (RFC 3339, section 4.2). `Some` exactly where the record
-    /// has a date, a time and an offset or `Z`.
+    /// Returns the instant of the record: the local time minus the offset (RFC 3339, section 4.2). For a record that a reader
+    /// returned, the result is `Some` exactly if the record has a date, a time and an offset or `Z`.
     ///
-    /// - The nanoseconds are the first nine digits of the fraction. An offset with a fraction is subtracted to the nanosecond.
-    /// - Second 60 is second 59, as in `ParseISODateTime` of the Temporal proposal: `23:59:60.5` and `23:59:59.5` are one
-    ///   instant.
-    /// - No time zone is looked up. The one in brackets does not count, and neither does a calendar. Where the text has an offset
-    ///   and a zone, whether the zone has this offset then is left to the caller (RFC 9557, section 3.4), who has to
-    ///   check it where the annotation is critical.
-    /// - Of a record that no reader returns, made by hand, a day that its month does not have is counted on from the first of the
-    ///   month, and so are hours and minutes. A second above 59 is 59. With a month that is not from 1 to 12 there is no instant.
+    /// - The nanoseconds are the first nine digits of the fraction. If the offset has a fraction, its first nine digits are
+    ///   subtracted too.
+    /// - The second 60 counts as the second 59, as in `ParseISODateTime` of the Temporal proposal. So `23:59:60.5` and
+    ///   `23:59:59.5` are the same instant.
+    /// - No time zone is looked up: the zone in brackets and the calendar do not change the instant. If the text has an offset
+    ///   and a zone, this method does not check that the zone has this offset at this time. If the zone is critical, the
+    ///   caller must check it (RFC 9557, section 3.4).
+    /// - A program can also make a record that no reader returns. If its month does not have its day, the days are counted
+    ///   from the first day of the month. Hours above 23 and minutes above 59 are counted in the same way. A second above 59
+    ///   counts as 59. If the month is not from 1 to 12, the result is `None`.
     ///
     /// ```rust
     /// use ixdtf::Instant;
@@ -77,7 +79,7 @@ impl<'a, T: EncodingType> IxdtfParseRecord<'a, T> {
 impl UtcOffsetRecord {
     /// Returns how many seconds local time is ahead of UTC. The number is below zero if local time is behind UTC.
     ///
-    /// A fraction of a second is dropped: it is that of [`fraction`](Self::fraction). The result is 0 for `+00:00` and for
+    /// A fraction of a second is dropped. Call [`fraction`](Self::fraction) to get it. The result is 0 for `+00:00` and for
     /// `-00:00`. RFC 9557, section 2, gives these two a different meaning.
     ///
     /// # Examples

@@ -29,10 +29,10 @@ pub struct LocatedError {
 }
 
 impl LocatedError {
-    /// Returns the text with a mark under the position of the error, for people to read.
+    /// Returns the text with a mark under the position of the error, so that people can see where the text is wrong.
     ///
-    /// `text` must be the text that the reader was given, as 8-bit text, because the position is used as a number of
-    /// bytes. If the reader was given 16-bit text with a character outside ASCII before the position, the mark is at a
+    /// `text` must be the complete source of a new parser, and the source must be 8-bit text: the position is used as a
+    /// number of bytes in `text`. For 16-bit text with a character outside ASCII before the position, the mark is in a
     /// wrong column.
     ///
     /// The `Display` of the result writes two lines, without a newline at the end. [`PointedText`] describes what it

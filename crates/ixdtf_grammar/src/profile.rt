@@ -4,7 +4,7 @@ ghost use Rattle.std.specs.Prelude.{◌≡◌};
 ghost use Rattle.ixdtf_grammar.specs.language.Months.{least_day};
 ghost use Rattle.ixdtf_grammar.specs.language.Durations.{least_step};
 
-/// The rules of a parser: those of `ixdtf` 0.6.7 of ICU4X, or stricter rules for month-days and durations.
+/// The rules of a parser: the rules of `ixdtf` 0.6.7 of ICU4X, or stricter rules for months with a day and for durations.
 ///
 /// A new parser has [`Profile::Crate`]. For dates, year-months, offsets and zones, both profiles have the same rules.
 ///

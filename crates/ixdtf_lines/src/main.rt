@@ -26,8 +26,8 @@ fn main(rt: HostRuntime) -> ExitCode {
 const USAGE: &str =
     "usage: a line of standard input is a word, a space and a text, and the words are \
     parse, year-month, month-day, time, offset, zone, iana, duration, strict-month-day, \
-    strict-time, strict-duration, canonical, rfc3339, rfc9557, zone-name, canonical-offset, canonical-zone, \
-    canonical-duration";
+    strict-time, strict-duration, rfc3339, rfc9557, zone-name, instant, canonical, canonical-time, \
+    canonical-year-month, canonical-month-day, canonical-offset, canonical-zone, canonical-duration";
 
 fn refuse(rt: &impl Eprint) -> ExitCode {
     let _ = eprintln!(rt; "ixdtf_lines: takes no arguments");

@@ -7,4 +7,5 @@ pub mod PlainNumbers
 pub mod PutBytes
 pub mod ValueLoop
 pub mod ValueTest
+pub mod WideUnits
 pub mod YearSigns

@@ -12,6 +12,7 @@ pub mod Shown
 pub mod Spelled
 pub mod SpelledCores
 pub mod SpelledDurations
+pub mod Tails
 pub mod Times
 pub mod YearMonths
 pub mod Zones

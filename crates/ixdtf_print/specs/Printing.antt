@@ -1,7 +1,7 @@
 -- What each printer does, whatever records it prints.
-use Rattle.std.specs.Prelude.{◌≡◌, ◌↔◌, ℕ, ◌+◌, ◌≤◌, ◌<◌, List, map, take, drop, length, Result, Err, IfOk, OnErr}
+use Rattle.std.specs.Prelude.{◌≡◌, ◌↔◌, ℕ, ◌+◌, ◌≤◌, ◌<◌, Bool, IsTrue, List, map, take, drop, length, Result, Err, IfOk, OnErr}
 use Rattle.ixdtf.specs.language.Letters.{Text, Letter.Plain}
-use Rattle.ixdtf_print.specs.declared.error.PrintError.{PrintError, TheVariants.{NotPrintable, TooShort}}
+use Rattle.ixdtf_print.specs.{Shown.bytes_of, declared.error.PrintError.{PrintError, TheVariants.{NotPrintable, TooShort}}}
 
 -- some text stands for the record
 abbrev pub HasText : {R : Type 0} → (Text → R → Type 0) → R → Type 0
@@ -20,6 +20,13 @@ EachIsReadBack {R} stands text_of = (found : R) → HasText stands found → Has
 -- the canonical text of a record has at most so many code units more than each text that stands for the record
 abbrev pub FitsWithin : {R : Type 0} → ℕ → (Text → R → Type 0) → (R → Text) → Type 0
 FitsWithin {R} more stands text_of = (text : Text) (found : R) → stands text found → length (text_of found) ≤ length text + more
+
+-- A test of whether a record with this canonical text is printable. The canonical text of a printable record is displayed as it is, and
+-- the record is read back from it.
+pub record TestsText (test : Bool) (printable read_back : Type 0) (canonical : Text) : Type 0 where
+  pub tests : IsTrue test ↔ printable
+  pub shown : IsTrue test → map Plain (bytes_of canonical) ≡ canonical
+  pub kept : IsTrue test → read_back
 
 -- A printer of a record with this canonical text writes it to the front of a slice, where the record is printable and the slice is
 -- long enough. Else the slice is as it was.

@@ -1,24 +1,129 @@
-//! A record that is displayed as its canonical text.
-ghost use Rattle.std.specs.Prelude.{◌≡◌, ◌↔◌, ◌≤◌, length, map, take, option_map, IfSome, OnSome, None};
-ghost use Rattle.std.specs.Char.{encode_utf8};
-ghost use Rattle.std.specs.Fmt.{WritesStyledOnOk};
-ghost use Rattle.std.specs.Str.{encode_utf8_all};
-ghost use Rattle.ixdtf.specs.Views.{note_of, zone_of};
+//! Date-times printed as their canonical texts.
+ghost use Rattle.std.specs.Prelude.{◌≡◌, ◌↔◌, ◌<◌, ◌≤◌, ◌^◌, length, map, take, drop, IfOk, IfSome, OnErr, OnOk, OnSome, Err, None};
 ghost use Rattle.ixdtf.specs.language.Letters.{byte_letter};
-ghost use Rattle.ixdtf_print.specs.Canonical.{zone_text, bracket_text, calendar_text, brackets_text, canonical_text, core_text, minute_offset_text};
+ghost use Rattle.ixdtf_print.specs.Canonical.{canonical_text};
 ghost use Rattle.ixdtf_print.specs.Printable.{IsPrintable, IsReadBack, record_of};
-ghost use Rattle.ixdtf_print.specs.Shown.{bytes_of, shown_text};
+ghost use Rattle.ixdtf_print.specs.Shown.{shown_text};
 
-use crate::check::is_printable;
-use crate::fields::{opening_of, put_core, put_minute_offset};
-use crate::length::core_length;
+use crate::check::is_spelled;
+use crate::error::PrintError;
+use crate::fields::put_core;
+use crate::length::{core_length, has_plenty};
+use crate::text::{CanonicalText, Tail};
 use ixdtf::encoding::Utf8;
-use ixdtf::records::{IxdtfParseRecord, MinutePrecisionOffset, TimeZoneAnnotation, TimeZoneRecord};
+use ixdtf::records::IxdtfParseRecord;
 use std::fmt;
 
-/// The greatest number of bytes of a date, a time and an offset. A date has at most 13 bytes. A time and an offset have
-/// at most 265 bytes each, with a fraction of 255 digits.
-const MOST_OF_CORE: usize = 543;
+/// Writes the canonical text of the record to the beginning of the slice, such as `2024-03-02T08:48:00Z[u-ca=hebrew]`.
+///
+/// The canonical text has these parts, if the record has them: the date; the time, with its seconds; the offset, with
+/// or without seconds as it was written; the zone, with its `!`; and the calendar. Some parts of a parsed text are not
+/// in the record, and so not in the canonical text: the `!` of a calendar, and all other annotations. Digits of a
+/// fraction after the first 18 are written as zeros.
+///
+/// A record of a year and a month has the first day of the month, and a record of a month and a day has the year 0.
+/// Their canonical texts are these dates. A record of `parse_time` has no date, and no canonical text. To write what
+/// these readers read, call [`print_year_month`](crate::print_year_month), [`print_month_day`](crate::print_month_day)
+/// and [`print_time`](crate::print_time).
+///
+/// Returns the number of bytes that were written.
+///
+/// # Examples
+///
+/// ```rust
+/// use ixdtf::parsers::IxdtfParser;
+/// use ixdtf_print::{PrintError, print};
+///
+/// let record = IxdtfParser::from_str("20240302 084800z[!u-ca=hebrew][a=b]").parse().unwrap();
+/// let mut out = [0; 64];
+/// let count = print(&record, &mut out).unwrap();
+/// assert_eq!(&out[..count], b"2024-03-02T08:48:00Z[u-ca=hebrew]");
+/// assert_eq!(print(&record, &mut [0; 8]), Err(PrintError::TooShort));
+///
+/// let record = IxdtfParser::from_str("2020-11").parse_year_month().unwrap();
+/// let count = print(&record, &mut out).unwrap();
+/// assert_eq!(&out[..count], b"2020-11-01");
+/// let record = IxdtfParser::from_str("11-07").parse_month_day().unwrap();
+/// let count = print(&record, &mut out).unwrap();
+/// assert_eq!(&out[..count], b"0000-11-07");
+/// let record = IxdtfParser::from_str("T12:00").parse_time().unwrap();
+/// assert_eq!(print(&record, &mut out), Err(PrintError::NotPrintable));
+/// ```
+///
+/// # Errors
+///
+/// After an error, the slice is unchanged.
+///
+/// - [`PrintError::NotPrintable`]: the record has no canonical text.
+/// - [`PrintError::TooShort`]: the slice is shorter than the canonical text.
+pub fn print(parsed: &IxdtfParseRecord<'_, Utf8>, out: &mut [u8]) -> Result<usize, PrintError>
+    ensures count { IfOk result
+        (λ n. n ≡ length (canonical_text (record_of parsed.now))) }
+    ensures fits { IfOk result (λ n. n ≤ length out.new) }
+    ensures text { IfOk result
+        (λ n. map byte_letter (take n out.new) ≡ canonical_text (record_of parsed.now)) }
+    ensures read_back { OnOk result (IsReadBack (record_of parsed.now)) }
+    ensures rest { IfOk result (λ n. drop n out.new ≡ drop n out.old) }
+    ensures not_printable { (result ≡ Err PrintError.NotPrintable) ↔
+        ¬ (IsPrintable (record_of parsed.now)) }
+    ensures too_short { (result ≡ Err PrintError.TooShort) ↔
+        (IsPrintable (record_of parsed.now) ×
+        (length out.old < length (canonical_text (record_of parsed.now)))) }
+    ensures unchanged { OnErr result (out.new ≡ out.old) }
+{
+    Canonical { parsed }.print(out)
+}
+
+/// Writes the canonical text of the record to the beginning of a slice that is long enough, like [`print`]. Returns the
+/// number of bytes.
+///
+/// It tests neither the record nor the length of the slice. A caller that has just parsed the record from a text knows
+/// that both are right.
+// For crates of this repository, and no part of the interface.
+#[doc(hidden)]
+pub fn print_with_room(parsed: &IxdtfParseRecord<'_, Utf8>, room: &mut [u8]) -> usize
+    requires { length (canonical_text (record_of parsed.now)) ≤ length room.old }
+    ensures count { result ≡ length (canonical_text (record_of parsed.now)) }
+    ensures text { map byte_letter (take result room.new) ≡ canonical_text (record_of parsed.now) }
+    ensures rest { drop result room.new ≡ drop result room.old }
+{
+    Canonical { parsed }.put_in_room(room)
+}
+
+/// Returns the number of bytes of the canonical text of the record.
+///
+/// A slice of this length is long enough for [`print`](crate::print). Returns `None` if the record has no canonical
+/// text, or if its text is longer than any slice.
+///
+/// # Examples
+///
+/// ```rust
+/// use ixdtf::parsers::IxdtfParser;
+/// use ixdtf_print::{print, printed_length};
+///
+/// let record = IxdtfParser::from_str("20240302 084800z[u-ca=hebrew]").parse().unwrap();
+/// let length = printed_length(&record).unwrap();
+/// let mut out = vec![0; length];
+/// assert_eq!(print(&record, &mut out), Ok(length));
+/// ```
+pub fn printed_length(parsed: &IxdtfParseRecord<'_, Utf8>) -> Option<usize>
+    ensures length { IfSome result
+        (λ n. n ≡ length (canonical_text (record_of parsed.now))) }
+    ensures printable { OnSome result (IsPrintable (record_of parsed.now)) }
+    ensures none { (result ≡ None) ↔ ¬ (IsPrintable (record_of parsed.now) ×
+        (length (canonical_text (record_of parsed.now)) < 2 ^ 64)) }
+{
+    Canonical { parsed }.printed_length()
+}
+
+/// Returns the number of bytes of the canonical text of the record.
+// For crates of this repository, and no part of the interface.
+#[doc(hidden)]
+pub fn length_of(parsed: &IxdtfParseRecord<'_, Utf8>) -> u128
+    ensures { result ≡ length (canonical_text (record_of parsed.now)) }
+{
+    Canonical { parsed }.length()
+}
 
 /// A record that `Display` writes as its canonical text, such as `2024-03-02T08:48:00Z[u-ca=hebrew]`.
 ///
@@ -37,7 +142,7 @@ const MOST_OF_CORE: usize = 543;
 /// ```
 #[derive(Clone, Copy, Debug)]
 pub struct Canonical<'a> {
-    parsed: &'a IxdtfParseRecord<'a, Utf8>,
+    pub(crate) parsed: &'a IxdtfParseRecord<'a, Utf8>,
 }
 
 impl<'a> Canonical<'a> {
@@ -54,10 +159,40 @@ impl<'a> Canonical<'a> {
         ensures read_back { OnSome result (IsReadBack (record_of parsed.now)) }
         ensures none { (result ≡ None) ↔ ¬ (IsPrintable (record_of parsed.now)) }
     {
-        if !is_printable(parsed) {
-            return None;
-        }
-        Some(Canonical { parsed })
+        Canonical { parsed }.checked()
+    }
+}
+
+impl<'a> CanonicalText for Canonical<'a> {
+    ghost use Rattle.ixdtf_print.specs.Canonical.{core_text};
+
+    ghost text = { λ c. canonical_text (record_of c.parsed.now) };
+
+    ghost core = { λ c. core_text (record_of c.parsed.now) };
+
+    ghost IsPrintable = { λ c. IsPrintable (record_of c.parsed.now) };
+
+    ghost IsReadBack = { λ c. IsReadBack (record_of c.parsed.now) };
+
+    fn is_printable(self) -> bool {
+        is_spelled(self.parsed)
+    }
+
+    fn core_length(self) -> u16 {
+        core_length(self.parsed)
+    }
+
+    fn put_core(self, out: &mut [u8]) -> usize {
+        put_core(out, 0, self.parsed)
+    }
+
+    #[tactic(auto, unfolding(crate::specs::Canonical::canonical_text))]
+    fn tail(&self) -> Tail<'_> {
+        Tail::Brackets(self.parsed)
+    }
+
+    fn is_too_short(self, room: usize) -> bool {
+        !has_plenty(self.parsed, room) && (room as u128) < self.length()
     }
 }
 
@@ -72,125 +207,6 @@ impl<'a> fmt::Display for Canonical<'a> {
     ghost styled_output = { λ c _. Some (shown_text (record_of c.parsed.now)) };
 
     fn fmt<W: fmt::Write>(&self, f: &mut fmt::Formatter<W>) -> fmt::Result {
-        let parsed = self.parsed;
-        write_core(f, parsed)?;
-        write_brackets(f, parsed)
+        self.write(f)
     }
-}
-
-/// Writes the two brackets.
-pub fn write_brackets<W: fmt::Write>(
-    f: &mut fmt::Formatter<W>,
-    parsed: &IxdtfParseRecord<'_, Utf8>,
-) -> fmt::Result
-    ensures { WritesStyledOnOk W.write_str_gives f.old result
-        (bytes_of (brackets_text (record_of parsed.now))) f.new }
-{
-    write_bracket(f, &parsed.tz)?;
-    write_calendar(f, parsed.calendar)
-}
-
-/// Writes the date, the time and the offset.
-fn write_core<W: fmt::Write>(
-    f: &mut fmt::Formatter<W>,
-    parsed: &IxdtfParseRecord<'_, Utf8>,
-) -> fmt::Result
-    ensures { WritesStyledOnOk W.write_str_gives f.old result
-        (bytes_of (core_text (record_of parsed.now))) f.new }
-{
-    let count = usize::from(core_length(parsed));
-    let mut bytes = [0; MOST_OF_CORE];
-    put_core(&mut bytes, 0, parsed);
-    write_bytes(f, front_of(&bytes, count))
-}
-
-/// The first bytes, so many.
-pub fn front_of(bytes: &[u8], count: usize) -> &[u8]
-    requires { count ≤ length bytes.now }
-    ensures { result.now ≡ take count bytes.now }
-{
-    // `bytes` always has `count` bytes, as the proof shows. The compiler does not know the proof: because of this test,
-    // it compiles no code for a panic.
-    match bytes.get(..count) {
-        Some(front) => front,
-        None => bytes,
-    }
-}
-
-/// Writes the zone in its bracket, if there is a zone.
-fn write_bracket<W: fmt::Write>(
-    f: &mut fmt::Formatter<W>,
-    note: &Option<TimeZoneAnnotation<'_, Utf8>>,
-) -> fmt::Result
-    ensures { WritesStyledOnOk W.write_str_gives f.old result
-        (bytes_of (bracket_text (option_map (note_of (λ byte. byte)) note.now))) f.new }
-{
-    match note {
-        None => Ok(()),
-        Some(note) => {
-            write_bytes(f, opening_of(note.critical))?;
-            write_zone(f, &note.tz)?;
-            f.write_str("]")
-        }
-    }
-}
-
-/// Writes the zone.
-pub fn write_zone<W: fmt::Write>(
-    f: &mut fmt::Formatter<W>,
-    zone: &TimeZoneRecord<'_, Utf8>,
-) -> fmt::Result
-    ensures { WritesStyledOnOk W.write_str_gives f.old result
-        (bytes_of (zone_text (zone_of (λ byte. byte) zone.now))) f.new }
-{
-    match zone {
-        TimeZoneRecord::Name(name) => write_bytes(f, name),
-        TimeZoneRecord::Offset(offset) => write_minute_offset(f, *offset),
-    }
-}
-
-/// Writes an offset with hours and minutes.
-fn write_minute_offset<W: fmt::Write>(
-    f: &mut fmt::Formatter<W>,
-    offset: MinutePrecisionOffset,
-) -> fmt::Result
-    ensures { WritesStyledOnOk W.write_str_gives f.old result
-        (bytes_of (minute_offset_text offset)) f.new }
-{
-    let mut bytes = [0; 6];
-    put_minute_offset(&mut bytes, 0, offset);
-    write_bytes(f, &bytes)
-}
-
-/// Writes the calendar in its bracket, if there is a calendar.
-fn write_calendar<W: fmt::Write>(f: &mut fmt::Formatter<W>, calendar: Option<&[u8]>) -> fmt::Result
-    ensures { WritesStyledOnOk W.write_str_gives f.old result
-        (bytes_of (calendar_text (option_map (λ units. map (λ byte. byte) units.now) calendar.entry))) f.new }
-{
-    match calendar {
-        None => Ok(()),
-        Some(value) => {
-            f.write_str("[u-ca=")?;
-            write_bytes(f, value)?;
-            f.write_str("]")
-        }
-    }
-}
-
-/// Writes each byte as the character of its number. Of a record that has a text they are ASCII.
-pub fn write_bytes<W: fmt::Write>(f: &mut fmt::Formatter<W>, bytes: &[u8]) -> fmt::Result
-    ensures { WritesStyledOnOk W.write_str_gives f.old result (encode_utf8_all bytes.now) f.new }
-{
-    for byte in bytes {
-        write_byte(f, *byte)?;
-    }
-    Ok(())
-}
-
-/// Writes the byte as the character with its number.
-fn write_byte<W: fmt::Write>(f: &mut fmt::Formatter<W>, byte: u8) -> fmt::Result
-    ensures { WritesStyledOnOk W.write_str_gives f.old result (encode_utf8 byte) f.new }
-{
-    let mut bytes = [0; 4];
-    f.write_str(char::from(byte).encode_utf8(&mut bytes))
 }

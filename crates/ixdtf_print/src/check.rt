@@ -1,7 +1,7 @@
 //! Tests whether a record has a canonical text.
 ghost use Rattle.std.specs.Prelude.{◌↔◌, IsTrue, map, option_map};
 ghost use Rattle.ixdtf.specs.Views.{note_of, zone_of};
-ghost use Rattle.ixdtf_print.specs.Printable.{IsPrintable, record_of};
+ghost use Rattle.ixdtf_print.specs.Printable.{record_of};
 ghost use Rattle.ixdtf.specs.language.Letters.{Plain};
 ghost use Rattle.ixdtf.specs.language.Brackets.{Value};
 ghost use Rattle.ixdtf.specs.language.ZoneNames.{ZoneName};
@@ -160,16 +160,8 @@ pub fn has_brackets(parsed: &IxdtfParseRecord<'_, Utf8>) -> bool
     has_zone(&parsed.tz) && has_calendar(parsed.calendar)
 }
 
-/// Returns whether `parse` returns this record for some text.
-#[inline(always)]
-pub fn is_printable(parsed: &IxdtfParseRecord<'_, Utf8>) -> bool
-    ensures { IsTrue result ↔ IsPrintable (record_of parsed.now) }
-{
-    is_spelled(parsed)
-}
-
 /// Returns whether there is a date, and each field has a text.
-fn is_spelled(parsed: &IxdtfParseRecord<'_, Utf8>) -> bool
+pub fn is_spelled(parsed: &IxdtfParseRecord<'_, Utf8>) -> bool
     ensures { IsTrue result ↔ IsSpelled (record_of parsed.now) }
 {
     has_day(parsed.date) && has_time(parsed.time, parsed.offset) && has_brackets(parsed)

@@ -1,6 +1,7 @@
 //! Durations printed as their canonical texts.
-ghost use Rattle.std.specs.Prelude.{◌≡◌, ◌↔◌, ◌<◌, ◌≤◌, ◌∷◌, ◌++◌, ◌^◌, [], IsTrue, length, map, IfSome, OnSome, OnOk, None};
-ghost use Rattle.ixdtf.specs.language.Letters.{Plain, byte_letter};
+ghost use Rattle.std.specs.Prelude.{◌≡◌, ◌↔◌, ◌<◌, ◌≤◌, IsTrue, length, map, take, IfOk, IfSome, OnSome, OnOk, None};
+ghost use Rattle.ixdtf.specs.language.Letters.{byte_letter};
+ghost use Rattle.ixdtf.specs.Widths.{wide_text};
 ghost use Rattle.ixdtf_print.specs.Durations.{unit_text, date_units_text, has_no_unit, date_part_text};
 ghost use Rattle.ixdtf_print.specs.Durations.{last_text, time_units_text, time_part_text, start_text, duration_text};
 ghost use Rattle.ixdtf_print.specs.Durations.{IsPrintableDuration, IsDurationReadBack};
@@ -9,12 +10,12 @@ ghost use Rattle.ixdtf_print.specs.Prints.{HasRoom, Prints};
 ghost use Rattle.ixdtf_print.specs.Shown.{bytes_of};
 ghost use Rattle.ixdtf_print.specs.SpelledDurations.{AreParts};
 
-use crate::canonical::{front_of, write_bytes};
 use crate::digits::put_fraction;
 use crate::error::PrintError;
 use crate::length::fraction_length;
 use crate::numbers::{digit_count, put_number};
 use crate::put::{put, put_byte};
+use crate::text::{CanonicalText, Tail};
 use ixdtf::records::{DateDurationRecord, DurationParseRecord, Fraction, Sign, TimeDurationRecord};
 use std::fmt;
 
@@ -53,13 +54,43 @@ pub fn print_duration(duration: &DurationParseRecord, out: &mut [u8]) -> Result<
     ensures prints { PrintsOrRefuses (IsPrintableDuration duration.now) (duration_text duration.now) out.old out.new result }
     ensures read_back { OnOk result (IsDurationReadBack duration.now) }
 {
-    if !is_duration(duration) {
-        return Err(PrintError::NotPrintable);
-    }
-    if is_too_short(duration, out.len()) {
-        return Err(PrintError::TooShort);
-    }
-    Ok(put_duration(out, duration))
+    CanonicalDuration { duration }.print(out)
+}
+
+/// Writes the canonical text of a duration as 16-bit code units, like [`print_duration`](crate::print_duration).
+///
+/// Each code unit is the number of an ASCII character, so [`IsoDurationParser::from_utf16`](ixdtf::parsers::IsoDurationParser::from_utf16)
+/// reads the text. The number of code units is the number of bytes that `print_duration` writes.
+///
+/// # Examples
+///
+/// ```rust
+/// use ixdtf::parsers::IsoDurationParser;
+/// use ixdtf_print::{PrintError, print_duration_utf16};
+///
+/// let text: Vec<u16> = "+p1y0m03dt04,50m".encode_utf16().collect();
+/// let duration = IsoDurationParser::from_utf16(&text).parse().unwrap();
+/// let mut out = [0; 64];
+/// let count = print_duration_utf16(&duration, &mut out).unwrap();
+/// assert_eq!(String::from_utf16(&out[..count]).unwrap(), "P1Y3DT4.50M");
+/// assert_eq!(print_duration_utf16(&duration, &mut [0; 3]), Err(PrintError::TooShort));
+/// ```
+///
+/// # Errors
+///
+/// After an error, the slice is unchanged.
+///
+/// - [`PrintError::NotPrintable`]: the duration has neither a date nor a time, so no text stands for it.
+/// - [`PrintError::TooShort`]: the slice is shorter than the canonical text.
+pub fn print_duration_utf16(
+    duration: &DurationParseRecord,
+    out: &mut [u16],
+) -> Result<usize, PrintError>
+    ensures prints { PrintsOrRefuses (IsPrintableDuration duration.now) (duration_text duration.now) out.old out.new result }
+    ensures wide { IfOk result (λ n. wide_text (take n out.new) ≡ duration_text duration.now) }
+    ensures read_back { OnOk result (IsDurationReadBack duration.now) }
+{
+    CanonicalDuration { duration }.print_utf16(out)
 }
 
 /// Returns the number of bytes of the canonical text of a duration. A slice of this length is long enough for
@@ -76,18 +107,7 @@ pub fn duration_length(duration: &DurationParseRecord) -> Option<usize>
     ensures length { IfSome result (λ n. n ≡ length (duration_text duration.now)) }
     ensures none { (result ≡ None) ↔ ¬ (IsPrintableDuration duration.now) }
 {
-    if !is_duration(duration) {
-        return None;
-    }
-    Some(usize::from(length_of_duration(duration)))
-}
-
-/// Whether a text stands for the duration: it has a date or a time.
-#[inline(always)]
-fn is_duration(duration: &DurationParseRecord) -> bool
-    ensures { IsTrue result ↔ IsPrintableDuration duration.now }
-{
-    has_part(duration.date, duration.time)
+    CanonicalDuration { duration }.printed_length()
 }
 
 /// Whether there is a date or a time. Any numbers fit.
@@ -96,19 +116,6 @@ fn has_part(date: Option<DateDurationRecord>, time: Option<TimeDurationRecord>) 
     ensures { IsTrue result ↔ AreParts date time }
 {
     date.is_some() || time.is_some()
-}
-
-/// Whether so many bytes are too few for the canonical text of a duration that has one. The text is counted only where they
-/// could be.
-#[inline(always)]
-fn is_too_short(duration: &DurationParseRecord, room: usize) -> bool
-    requires { IsPrintableDuration duration.now }
-    ensures { IsTrue result ↔ room < length (duration_text duration.now) }
-{
-    if room >= MOST_OF_DURATION {
-        return false;
-    }
-    room < usize::from(length_of_duration(duration))
 }
 
 /// A duration whose `Display` writes its canonical text, as [`print_duration`](crate::print_duration) does. It does not
@@ -123,7 +130,7 @@ fn is_too_short(duration: &DurationParseRecord, room: usize) -> bool
 /// ```
 #[derive(Clone, Copy, Debug)]
 pub struct CanonicalDuration<'a> {
-    duration: &'a DurationParseRecord,
+    pub(crate) duration: &'a DurationParseRecord,
 }
 
 impl<'a> CanonicalDuration<'a> {
@@ -135,10 +142,40 @@ impl<'a> CanonicalDuration<'a> {
         ensures read_back { OnSome result (IsDurationReadBack duration.now) }
         ensures none { (result ≡ None) ↔ ¬ (IsPrintableDuration duration.now) }
     {
-        if !is_duration(duration) {
-            return None;
+        CanonicalDuration { duration }.checked()
+    }
+}
+
+impl<'a> CanonicalText for CanonicalDuration<'a> {
+    ghost text = { λ c. duration_text c.duration.now };
+
+    ghost core = { λ c. duration_text c.duration.now };
+
+    ghost IsPrintable = { λ c. IsPrintableDuration c.duration.now };
+
+    ghost IsReadBack = { λ c. IsDurationReadBack c.duration.now };
+
+    fn is_printable(self) -> bool {
+        has_part(self.duration.date, self.duration.time)
+    }
+
+    fn core_length(self) -> u16 {
+        length_of_duration(self.duration)
+    }
+
+    fn put_core(self, out: &mut [u8]) -> usize {
+        put_duration(out, self.duration)
+    }
+
+    fn tail(&self) -> Tail<'_> {
+        Tail::Nothing
+    }
+
+    fn is_too_short(self, room: usize) -> bool {
+        if room >= MOST_OF_DURATION {
+            return false;
         }
-        Some(CanonicalDuration { duration })
+        room < usize::from(length_of_duration(self.duration))
     }
 }
 
@@ -153,10 +190,7 @@ impl<'a> fmt::Display for CanonicalDuration<'a> {
     ghost styled_output = { λ c _. Some (bytes_of (duration_text c.duration.now)) };
 
     fn fmt<W: fmt::Write>(&self, f: &mut fmt::Formatter<W>) -> fmt::Result {
-        let count = usize::from(length_of_duration(self.duration));
-        let mut bytes = [0; MOST_OF_DURATION];
-        put_duration(&mut bytes, self.duration);
-        write_bytes(f, front_of(&bytes, count))
+        self.write(f)
     }
 }
 

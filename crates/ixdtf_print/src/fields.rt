@@ -5,7 +5,7 @@ ghost use Rattle.ixdtf_print.specs.Printable.{record_of};
 ghost use Rattle.ixdtf.specs.language.Letters.{Plain};
 ghost use Rattle.ixdtf_print.specs.Canonical.{two_digits, year_text, date_text, minutes_text, seconds_text, clock_text, time_text, minute_offset_text};
 ghost use Rattle.ixdtf_print.specs.Canonical.{offset_text, zone_text, opening_text, bracket_text, calendar_text, brackets_text};
-ghost use Rattle.ixdtf_print.specs.Canonical.{optional_date_text, core_text, canonical_text, mark_of};
+ghost use Rattle.ixdtf_print.specs.Canonical.{optional_date_text, core_text, mark_of};
 ghost use Rattle.ixdtf_print.specs.Prints.{HasRoom, Prints};
 
 use crate::digits::{ones_digit, put_digits, put_four, put_fraction, tens_digit};
@@ -297,15 +297,4 @@ pub fn put_core(out: &mut [u8], at: usize, parsed: &IxdtfParseRecord<'_, Utf8>) 
     let after_date = put_optional_date(out, at, parsed.date);
     let after_time = put_time(out, after_date, parsed.time);
     put_offset(out, after_time, parsed.offset)
-}
-
-/// Writes the record at the beginning of the slice. Returns the index after it.
-#[tactic(auto, using(crate::proofs::code::PutBytes::putting), unfolding(crate::specs::Canonical::canonical_text))]
-pub fn put_record(out: &mut [u8], parsed: &IxdtfParseRecord<'_, Utf8>) -> usize
-    requires { HasRoom out.old 0 (canonical_text (record_of parsed.now)) }
-    ensures { Prints out.old out.new 0 result
-        (canonical_text (record_of parsed.now)) }
-{
-    let after_core = put_core(out, 0, parsed);
-    put_brackets(out, after_core, parsed)
 }

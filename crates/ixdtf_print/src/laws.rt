@@ -1,6 +1,6 @@
 //! What holds of canonical texts, for callers to cite.
 ghost use Rattle.ixdtf_print.specs.Durations.{DurationFits, DurationIsReadBack};
-ghost use Rattle.ixdtf_print.specs.Laws.{CanonicalFits, CanonicalIsReadBack};
+ghost use Rattle.ixdtf_print.specs.Laws.{CanonicalFits, CanonicalIsReadBack, Rfc9557IsReadBack};
 ghost use Rattle.ixdtf_print.specs.MonthDays.{MonthDayFits, MonthDayIsReadBack};
 ghost use Rattle.ixdtf_print.specs.Offsets.{OffsetFits, OffsetIsReadBack};
 ghost use Rattle.ixdtf_print.specs.Times.{TimeFits, TimeIsReadBack};
@@ -22,6 +22,14 @@ pub fn canonical_fits()
 /// canonical texts are equal exactly if the two records are equal.
 pub fn canonical_is_read_back()
     ensures { CanonicalIsReadBack }
+{}
+
+/// States that a canonical text is a text of RFC 9557 if the parsed text was one.
+///
+/// Suppose that [`IxdtfParser::parse_rfc9557`](ixdtf::parsers::IxdtfParser::parse_rfc9557) returns a record for some text.
+/// Then it also returns this record for the canonical text of the record, and no other such record has this canonical text.
+pub fn rfc9557_is_read_back()
+    ensures { Rfc9557IsReadBack }
 {}
 
 /// The canonical text of a duration that [`IsoDurationParser::parse`](ixdtf::parsers::IsoDurationParser::parse) reads from a

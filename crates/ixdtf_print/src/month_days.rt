@@ -1,9 +1,7 @@
 //! Months and days printed as their canonical texts.
 ghost use Rattle.std.specs.Prelude.{◌≡◌, ◌↔◌, ◌<◌, ◌≤◌, ◌^◌, IsTrue, length, map, IfSome, OnSome, OnOk, None};
-ghost use Rattle.std.specs.Fmt.{WritesStyledOnOk};
 ghost use Rattle.ixdtf_grammar.specs.declared.profile.Profile.TheVariants.{Crate};
 ghost use Rattle.ixdtf.specs.language.Letters.{byte_letter};
-ghost use Rattle.ixdtf_print.specs.Canonical.{brackets_text};
 ghost use Rattle.ixdtf_print.specs.Printable.{record_of};
 ghost use Rattle.ixdtf_print.specs.Printing.{PrintsOrRefuses};
 ghost use Rattle.ixdtf_print.specs.Prints.{HasRoom, Prints};
@@ -11,20 +9,15 @@ ghost use Rattle.ixdtf_print.specs.Shown.{bytes_of};
 ghost use Rattle.ixdtf_print.specs.SpelledCores.{IsDayOfAnyYear, HasLoneDay, IsSpelledAs};
 ghost use Rattle.ixdtf_print.specs.MonthDays.{day_text, optional_day_text, month_day_text, IsPrintableMonthDay, IsMonthDayReadBack};
 
-use crate::canonical::{front_of, write_brackets, write_bytes};
 use crate::check::has_brackets;
 use crate::digits::put_two;
 use crate::error::PrintError;
-use crate::fields::put_brackets;
-use crate::length::brackets_length;
 use crate::put::put_byte;
+use crate::text::{CanonicalText, Tail};
 use ixdtf::encoding::Utf8;
 use ixdtf::parsers::days_in_month;
 use ixdtf::records::{DateRecord, IxdtfParseRecord, TimeRecord, UtcOffsetRecordOrZ};
 use std::fmt;
-
-/// The number of bytes of a month and a day.
-const MOST_OF_DAY: usize = 5;
 
 /// Writes the canonical text of a month and a day to the beginning of the slice, such as `11-07[u-ca=hebrew]`.
 ///
@@ -73,13 +66,7 @@ pub fn print_month_day(
     ensures prints { PrintsOrRefuses (IsPrintableMonthDay (record_of parsed.now)) (month_day_text (record_of parsed.now)) out.old out.new result }
     ensures read_back { OnOk result (IsMonthDayReadBack (record_of parsed.now)) }
 {
-    if !is_month_day(parsed) {
-        return Err(PrintError::NotPrintable);
-    }
-    if (out.len() as u128) < length_of_month_day(parsed) {
-        return Err(PrintError::TooShort);
-    }
-    Ok(put_month_day(out, parsed))
+    CanonicalMonthDay { parsed }.print(out)
 }
 
 /// Returns the number of bytes of the canonical text of a month and a day.
@@ -102,10 +89,7 @@ pub fn month_day_length(parsed: &IxdtfParseRecord<'_, Utf8>) -> Option<usize>
     ensures none { (result ≡ None) ↔ ¬ (IsPrintableMonthDay (record_of parsed.now) ×
         (length (month_day_text (record_of parsed.now)) < 2 ^ 64)) }
 {
-    if !is_month_day(parsed) {
-        return None;
-    }
-    usize::try_from(length_of_month_day(parsed)).ok()
+    CanonicalMonthDay { parsed }.printed_length()
 }
 
 /// A record of a month and a day that `Display` writes as its canonical text, such as `11-07[u-ca=hebrew]`.
@@ -124,7 +108,7 @@ pub fn month_day_length(parsed: &IxdtfParseRecord<'_, Utf8>) -> Option<usize>
 /// ```
 #[derive(Clone, Copy, Debug)]
 pub struct CanonicalMonthDay<'a> {
-    parsed: &'a IxdtfParseRecord<'a, Utf8>,
+    pub(crate) parsed: &'a IxdtfParseRecord<'a, Utf8>,
 }
 
 impl<'a> CanonicalMonthDay<'a> {
@@ -138,10 +122,34 @@ impl<'a> CanonicalMonthDay<'a> {
         ensures read_back { OnSome result (IsMonthDayReadBack (record_of parsed.now)) }
         ensures none { (result ≡ None) ↔ ¬ (IsPrintableMonthDay (record_of parsed.now)) }
     {
-        if !is_month_day(parsed) {
-            return None;
-        }
-        Some(CanonicalMonthDay { parsed })
+        CanonicalMonthDay { parsed }.checked()
+    }
+}
+
+impl<'a> CanonicalText for CanonicalMonthDay<'a> {
+    ghost text = { λ c. month_day_text (record_of c.parsed.now) };
+
+    ghost core = { λ c. optional_day_text c.parsed.now.date };
+
+    ghost IsPrintable = { λ c. IsPrintableMonthDay (record_of c.parsed.now) };
+
+    ghost IsReadBack = { λ c. IsMonthDayReadBack (record_of c.parsed.now) };
+
+    fn is_printable(self) -> bool {
+        is_spelled(self.parsed)
+    }
+
+    fn core_length(self) -> u16 {
+        optional_day_length(self.parsed.date)
+    }
+
+    fn put_core(self, out: &mut [u8]) -> usize {
+        put_optional_day(out, 0, self.parsed.date)
+    }
+
+    #[tactic(auto, unfolding(crate::specs::MonthDays::month_day_text))]
+    fn tail(&self) -> Tail<'_> {
+        Tail::Brackets(self.parsed)
     }
 }
 
@@ -157,29 +165,8 @@ impl<'a> fmt::Display for CanonicalMonthDay<'a> {
     ghost styled_output = { λ c _. Some (bytes_of (month_day_text (record_of c.parsed.now))) };
 
     fn fmt<W: fmt::Write>(&self, f: &mut fmt::Formatter<W>) -> fmt::Result {
-        write_core(f, self.parsed)?;
-        write_brackets(f, self.parsed)
+        self.write(f)
     }
-}
-
-/// Writes what comes before the brackets.
-fn write_core<W: fmt::Write>(
-    f: &mut fmt::Formatter<W>,
-    parsed: &IxdtfParseRecord<'_, Utf8>,
-) -> fmt::Result
-    ensures { WritesStyledOnOk W.write_str_gives f.old result (bytes_of (optional_day_text parsed.now.date)) f.new }
-{
-    let count = usize::from(optional_day_length(parsed.date));
-    let mut bytes = [0; MOST_OF_DAY];
-    put_optional_day(&mut bytes, 0, parsed.date);
-    write_bytes(f, front_of(&bytes, count))
-}
-
-/// Returns whether `parse_month_day` returns this record for some text.
-fn is_month_day(parsed: &IxdtfParseRecord<'_, Utf8>) -> bool
-    ensures { IsTrue result ↔ IsPrintableMonthDay (record_of parsed.now) }
-{
-    is_spelled(parsed)
 }
 
 /// Returns whether each field has a text, and the record has the fields of a month and a day.
@@ -229,14 +216,6 @@ fn optional_day_length(date: Option<DateRecord>) -> u16
     }
 }
 
-/// Returns the number of bytes of the canonical text.
-#[tactic(auto, using(crate::proofs::code::LoneLengths::lone_lengths))]
-fn length_of_month_day(parsed: &IxdtfParseRecord<'_, Utf8>) -> u128
-    ensures { result ≡ length (month_day_text (record_of parsed.now)) }
-{
-    u128::from(optional_day_length(parsed.date)) + brackets_length(parsed)
-}
-
 // ---- bytes
 
 /// Writes the month and the day at index `at`, if there is a date. Returns the index after them.
@@ -259,14 +238,4 @@ fn put_day(out: &mut [u8], at: usize, date: DateRecord) -> usize
     let hyphen = put_two(out, at, date.month);
     let day = put_byte(out, hyphen, b'-');
     put_two(out, day, date.day)
-}
-
-/// Writes the record at the beginning of the slice. Returns the index after it.
-#[tactic(auto, using(crate::proofs::code::PutBytes::putting), unfolding(crate::specs::MonthDays::month_day_text))]
-fn put_month_day(out: &mut [u8], parsed: &IxdtfParseRecord<'_, Utf8>) -> usize
-    requires { HasRoom out.old 0 (month_day_text (record_of parsed.now)) }
-    ensures { Prints out.old out.new 0 result (month_day_text (record_of parsed.now)) }
-{
-    let after_core = put_optional_day(out, 0, parsed.date);
-    put_brackets(out, after_core, parsed)
 }

@@ -1,21 +1,18 @@
 //! Offsets printed as their canonical texts.
-ghost use Rattle.std.specs.Prelude.{◌≡◌, ◌↔◌, ◌≤◌, IsTrue, length, map, IfSome, OnSome, OnOk, None};
+ghost use Rattle.std.specs.Prelude.{◌≡◌, ◌↔◌, length, map, take, IfOk, IfSome, OnSome, OnOk, None};
 ghost use Rattle.ixdtf.specs.language.Letters.{byte_letter};
+ghost use Rattle.ixdtf.specs.Widths.{wide_text};
 ghost use Rattle.ixdtf_print.specs.Offsets.{utc_offset_text, IsPrintableOffset, IsOffsetReadBack};
 ghost use Rattle.ixdtf_print.specs.Printing.{PrintsOrRefuses};
-ghost use Rattle.ixdtf_print.specs.Prints.{HasRoom, Prints};
 ghost use Rattle.ixdtf_print.specs.Shown.{bytes_of};
 
-use crate::canonical::{front_of, write_bytes};
 use crate::check::is_shift;
 use crate::error::PrintError;
 use crate::fields::put_offset;
 use crate::length::shift_length;
+use crate::text::{CanonicalText, Tail};
 use ixdtf::records::{UtcOffsetRecord, UtcOffsetRecordOrZ};
 use std::fmt;
-
-/// The greatest number of bytes of an offset: a sign, eight bytes, a point, and a fraction of 255 digits.
-const MOST_OF_OFFSET: usize = 265;
 
 /// Writes the canonical text of an offset to the beginning of the slice, such as `-05:00` or `+01:30:15.5`.
 ///
@@ -51,13 +48,40 @@ pub fn print_offset(offset: &UtcOffsetRecord, out: &mut [u8]) -> Result<usize, P
     ensures prints { PrintsOrRefuses (IsPrintableOffset offset.now) (utc_offset_text offset.now) out.old out.new result }
     ensures read_back { OnOk result (IsOffsetReadBack offset.now) }
 {
-    if !is_offset(offset) {
-        return Err(PrintError::NotPrintable);
-    }
-    if out.len() < usize::from(length_of_offset(offset)) {
-        return Err(PrintError::TooShort);
-    }
-    Ok(put_utc_offset(out, offset))
+    CanonicalOffset { offset }.print(out)
+}
+
+/// Writes the canonical text of an offset as 16-bit code units, like [`print_offset`](crate::print_offset).
+///
+/// Each code unit is the number of an ASCII character, so [`TimeZoneParser::from_utf16`](ixdtf::parsers::TimeZoneParser::from_utf16)
+/// reads the text. The number of code units is the number of bytes that `print_offset` writes.
+///
+/// # Examples
+///
+/// ```rust
+/// use ixdtf::parsers::TimeZoneParser;
+/// use ixdtf_print::{PrintError, print_offset_utf16};
+///
+/// let text: Vec<u16> = "+013015,5".encode_utf16().collect();
+/// let offset = TimeZoneParser::from_utf16(&text).parse_offset().unwrap();
+/// let mut out = [0; 16];
+/// let count = print_offset_utf16(&offset, &mut out).unwrap();
+/// assert_eq!(String::from_utf16(&out[..count]).unwrap(), "+01:30:15.5");
+/// assert_eq!(print_offset_utf16(&offset, &mut [0; 5]), Err(PrintError::TooShort));
+/// ```
+///
+/// # Errors
+///
+/// After an error, the slice is unchanged.
+///
+/// - [`PrintError::NotPrintable`]: the offset has no canonical text, because a number of it is out of its range.
+/// - [`PrintError::TooShort`]: the slice is shorter than the canonical text.
+pub fn print_offset_utf16(offset: &UtcOffsetRecord, out: &mut [u16]) -> Result<usize, PrintError>
+    ensures prints { PrintsOrRefuses (IsPrintableOffset offset.now) (utc_offset_text offset.now) out.old out.new result }
+    ensures wide { IfOk result (λ n. wide_text (take n out.new) ≡ utc_offset_text offset.now) }
+    ensures read_back { OnOk result (IsOffsetReadBack offset.now) }
+{
+    CanonicalOffset { offset }.print_utf16(out)
 }
 
 /// Returns the number of bytes of the canonical text of an offset.
@@ -78,10 +102,7 @@ pub fn offset_length(offset: &UtcOffsetRecord) -> Option<usize>
     ensures length { IfSome result (λ n. n ≡ length (utc_offset_text offset.now)) }
     ensures none { (result ≡ None) ↔ ¬ (IsPrintableOffset offset.now) }
 {
-    if !is_offset(offset) {
-        return None;
-    }
-    Some(usize::from(length_of_offset(offset)))
+    CanonicalOffset { offset }.printed_length()
 }
 
 /// An offset that `Display` writes as its canonical text, such as `-05:00`.
@@ -100,7 +121,7 @@ pub fn offset_length(offset: &UtcOffsetRecord) -> Option<usize>
 /// ```
 #[derive(Clone, Copy, Debug)]
 pub struct CanonicalOffset<'a> {
-    offset: &'a UtcOffsetRecord,
+    pub(crate) offset: &'a UtcOffsetRecord,
 }
 
 impl<'a> CanonicalOffset<'a> {
@@ -112,10 +133,33 @@ impl<'a> CanonicalOffset<'a> {
         ensures read_back { OnSome result (IsOffsetReadBack offset.now) }
         ensures none { (result ≡ None) ↔ ¬ (IsPrintableOffset offset.now) }
     {
-        if !is_offset(offset) {
-            return None;
-        }
-        Some(CanonicalOffset { offset })
+        CanonicalOffset { offset }.checked()
+    }
+}
+
+impl<'a> CanonicalText for CanonicalOffset<'a> {
+    ghost text = { λ c. utc_offset_text c.offset.now };
+
+    ghost core = { λ c. utc_offset_text c.offset.now };
+
+    ghost IsPrintable = { λ c. IsPrintableOffset c.offset.now };
+
+    ghost IsReadBack = { λ c. IsOffsetReadBack c.offset.now };
+
+    fn is_printable(self) -> bool {
+        is_shift(UtcOffsetRecordOrZ::Offset(*self.offset))
+    }
+
+    fn core_length(self) -> u16 {
+        shift_length(Some(UtcOffsetRecordOrZ::Offset(*self.offset)))
+    }
+
+    fn put_core(self, out: &mut [u8]) -> usize {
+        put_offset(out, 0, Some(UtcOffsetRecordOrZ::Offset(*self.offset)))
+    }
+
+    fn tail(&self) -> Tail<'_> {
+        Tail::Nothing
     }
 }
 
@@ -130,33 +174,6 @@ impl<'a> fmt::Display for CanonicalOffset<'a> {
     ghost styled_output = { λ c _. Some (bytes_of (utc_offset_text c.offset.now)) };
 
     fn fmt<W: fmt::Write>(&self, f: &mut fmt::Formatter<W>) -> fmt::Result {
-        let count = usize::from(length_of_offset(self.offset));
-        let mut bytes = [0; MOST_OF_OFFSET];
-        put_utc_offset(&mut bytes, self.offset);
-        write_bytes(f, front_of(&bytes, count))
+        self.write(f)
     }
-}
-
-/// Returns whether `parse_offset` returns this offset for some text.
-#[inline(always)]
-fn is_offset(offset: &UtcOffsetRecord) -> bool
-    ensures { IsTrue result ↔ IsPrintableOffset offset.now }
-{
-    is_shift(UtcOffsetRecordOrZ::Offset(*offset))
-}
-
-/// Returns the number of bytes of the canonical text of the offset.
-fn length_of_offset(offset: &UtcOffsetRecord) -> u16
-    ensures length { result ≡ length (utc_offset_text offset.now) }
-    ensures small { result ≤ 265 }
-{
-    shift_length(Some(UtcOffsetRecordOrZ::Offset(*offset)))
-}
-
-/// Writes the offset at the beginning of the slice. Returns the index after it.
-fn put_utc_offset(out: &mut [u8], offset: &UtcOffsetRecord) -> usize
-    requires { HasRoom out.old 0 (utc_offset_text offset.now) }
-    ensures { Prints out.old out.new 0 result (utc_offset_text offset.now) }
-{
-    put_offset(out, 0, Some(UtcOffsetRecordOrZ::Offset(*offset)))
 }

@@ -1,16 +1,22 @@
 //! The canonical text that a program printed last.
-ghost use Rattle.std.specs.Prelude.{◌≡◌, ◌<◌, ◌^◌, ◌++◌, ◌∷◌, ℕ, List, [], length, map, take, slice_index};
+ghost use Rattle.std.specs.Prelude.{◌≡◌, ◌<◌, ◌++◌, ◌∷◌, ℕ, List, [], length, map, take, slice_index};
 ghost use Rattle.ixdtf.specs.language.Letters.{byte_letter};
 ghost use Rattle.ixdtf_print.specs.Canonical.{canonical_text, zone_text};
 ghost use Rattle.ixdtf_print.specs.Durations.{IsPrintableDuration, duration_text};
+ghost use Rattle.ixdtf_print.specs.MonthDays.{IsPrintableMonthDay, month_day_text};
 ghost use Rattle.ixdtf_print.specs.Offsets.{IsPrintableOffset, utc_offset_text};
 ghost use Rattle.ixdtf_print.specs.Printable.{record_of};
 ghost use Rattle.ixdtf_print.specs.Printed.{FitsArray};
+ghost use Rattle.ixdtf_print.specs.Times.{IsPrintableTime, lone_time_text};
+ghost use Rattle.ixdtf_print.specs.YearMonths.{IsPrintableYearMonth, year_month_text};
 ghost use Rattle.ixdtf_print.specs.Zones.{IsPrintableZone, zone_in};
 
+use crate::canonical::print_with_room;
 use crate::durations::print_duration;
+use crate::month_days::print_month_day;
 use crate::offsets::print_offset;
-use crate::print_with_room;
+use crate::times::print_time;
+use crate::year_months::print_year_month;
 use crate::zones::print_zone;
 use ixdtf::encoding::Utf8;
 use ixdtf::records::{DurationParseRecord, IxdtfParseRecord, TimeZoneRecord, UtcOffsetRecord};
@@ -86,6 +92,42 @@ impl<const SIZE: usize> PrintedText<SIZE> {
         ensures { map byte_letter self.new ≡ zone_text (zone_in zone.now) }
     {
         if let Ok(count) = print_zone(zone, &mut self.bytes) {
+            self.bytes[count] = b'\n';
+            self.count = count;
+        }
+    }
+
+    /// Prints a time that was read. It replaces what was printed before.
+    pub fn print_time(&mut self, parts: &IxdtfParseRecord<'_, Utf8>)
+        requires printable { IsPrintableTime (record_of parts.now) }
+        requires fits { length (lone_time_text (record_of parts.now)) < SIZE }
+        ensures { map byte_letter self.new ≡ lone_time_text (record_of parts.now) }
+    {
+        if let Ok(count) = print_time(parts, &mut self.bytes) {
+            self.bytes[count] = b'\n';
+            self.count = count;
+        }
+    }
+
+    /// Prints a year and a month that was read. It replaces what was printed before.
+    pub fn print_year_month(&mut self, parts: &IxdtfParseRecord<'_, Utf8>)
+        requires printable { IsPrintableYearMonth (record_of parts.now) }
+        requires fits { length (year_month_text (record_of parts.now)) < SIZE }
+        ensures { map byte_letter self.new ≡ year_month_text (record_of parts.now) }
+    {
+        if let Ok(count) = print_year_month(parts, &mut self.bytes) {
+            self.bytes[count] = b'\n';
+            self.count = count;
+        }
+    }
+
+    /// Prints a month and a day that was read. It replaces what was printed before.
+    pub fn print_month_day(&mut self, parts: &IxdtfParseRecord<'_, Utf8>)
+        requires printable { IsPrintableMonthDay (record_of parts.now) }
+        requires fits { length (month_day_text (record_of parts.now)) < SIZE }
+        ensures { map byte_letter self.new ≡ month_day_text (record_of parts.now) }
+    {
+        if let Ok(count) = print_month_day(parts, &mut self.bytes) {
             self.bytes[count] = b'\n';
             self.count = count;
         }

@@ -1,8 +1,7 @@
 //! Times printed as their canonical texts.
 ghost use Rattle.std.specs.Prelude.{◌≡◌, ◌↔◌, ◌<◌, ◌≤◌, ◌^◌, IsTrue, length, map, IfSome, OnSome, OnOk, None};
-ghost use Rattle.std.specs.Fmt.{WritesStyledOnOk};
 ghost use Rattle.ixdtf.specs.language.Letters.{byte_letter};
-ghost use Rattle.ixdtf_print.specs.Canonical.{seconds_text, brackets_text};
+ghost use Rattle.ixdtf_print.specs.Canonical.{seconds_text};
 ghost use Rattle.ixdtf_print.specs.Printable.{record_of};
 ghost use Rattle.ixdtf_print.specs.Printing.{PrintsOrRefuses};
 ghost use Rattle.ixdtf_print.specs.Prints.{HasRoom, Prints};
@@ -10,18 +9,15 @@ ghost use Rattle.ixdtf_print.specs.Shown.{bytes_of};
 ghost use Rattle.ixdtf_print.specs.SpelledCores.{HasLoneTime, IsSpelledAs};
 ghost use Rattle.ixdtf_print.specs.Times.{unmarked_time_text, time_core_text, lone_time_text, IsPrintableTime, IsTimeReadBack};
 
-use crate::canonical::{front_of, write_brackets, write_bytes};
 use crate::check::{has_brackets, has_time};
 use crate::digits::{put_fraction, put_two};
 use crate::error::PrintError;
-use crate::fields::{put_brackets, put_minutes, put_offset};
-use crate::length::{brackets_length, fraction_length, shift_length};
+use crate::fields::{put_minutes, put_offset};
+use crate::length::{fraction_length, shift_length};
+use crate::text::{CanonicalText, Tail};
 use ixdtf::encoding::Utf8;
 use ixdtf::records::{DateRecord, IxdtfParseRecord, TimeRecord, UtcOffsetRecordOrZ};
 use std::fmt;
-
-/// The greatest number of bytes of a time and an offset: eight and nine, and a fraction of 255 digits with its point in each.
-const MOST_OF_TIME: usize = 529;
 
 /// Writes the canonical text of a time to the beginning of the slice, such as `08:48:00Z[u-ca=hebrew]`.
 ///
@@ -64,13 +60,7 @@ pub fn print_time(parsed: &IxdtfParseRecord<'_, Utf8>, out: &mut [u8]) -> Result
     ensures prints { PrintsOrRefuses (IsPrintableTime (record_of parsed.now)) (lone_time_text (record_of parsed.now)) out.old out.new result }
     ensures read_back { OnOk result (IsTimeReadBack (record_of parsed.now)) }
 {
-    if !is_time(parsed) {
-        return Err(PrintError::NotPrintable);
-    }
-    if (out.len() as u128) < length_of_time(parsed) {
-        return Err(PrintError::TooShort);
-    }
-    Ok(put_time(out, parsed))
+    CanonicalTime { parsed }.print(out)
 }
 
 /// Returns the number of bytes of the canonical text of a time.
@@ -93,10 +83,7 @@ pub fn time_length(parsed: &IxdtfParseRecord<'_, Utf8>) -> Option<usize>
     ensures none { (result ≡ None) ↔ ¬ (IsPrintableTime (record_of parsed.now) ×
         (length (lone_time_text (record_of parsed.now)) < 2 ^ 64)) }
 {
-    if !is_time(parsed) {
-        return None;
-    }
-    usize::try_from(length_of_time(parsed)).ok()
+    CanonicalTime { parsed }.printed_length()
 }
 
 /// A record of a time that `Display` writes as its canonical text, such as `08:48:00Z[u-ca=hebrew]`.
@@ -115,7 +102,7 @@ pub fn time_length(parsed: &IxdtfParseRecord<'_, Utf8>) -> Option<usize>
 /// ```
 #[derive(Clone, Copy, Debug)]
 pub struct CanonicalTime<'a> {
-    parsed: &'a IxdtfParseRecord<'a, Utf8>,
+    pub(crate) parsed: &'a IxdtfParseRecord<'a, Utf8>,
 }
 
 impl<'a> CanonicalTime<'a> {
@@ -129,10 +116,34 @@ impl<'a> CanonicalTime<'a> {
         ensures read_back { OnSome result (IsTimeReadBack (record_of parsed.now)) }
         ensures none { (result ≡ None) ↔ ¬ (IsPrintableTime (record_of parsed.now)) }
     {
-        if !is_time(parsed) {
-            return None;
-        }
-        Some(CanonicalTime { parsed })
+        CanonicalTime { parsed }.checked()
+    }
+}
+
+impl<'a> CanonicalText for CanonicalTime<'a> {
+    ghost text = { λ c. lone_time_text (record_of c.parsed.now) };
+
+    ghost core = { λ c. time_core_text (record_of c.parsed.now) };
+
+    ghost IsPrintable = { λ c. IsPrintableTime (record_of c.parsed.now) };
+
+    ghost IsReadBack = { λ c. IsTimeReadBack (record_of c.parsed.now) };
+
+    fn is_printable(self) -> bool {
+        is_spelled(self.parsed)
+    }
+
+    fn core_length(self) -> u16 {
+        time_core_length(self.parsed)
+    }
+
+    fn put_core(self, out: &mut [u8]) -> usize {
+        put_time_core(out, 0, self.parsed)
+    }
+
+    #[tactic(auto, unfolding(crate::specs::Times::lone_time_text))]
+    fn tail(&self) -> Tail<'_> {
+        Tail::Brackets(self.parsed)
     }
 }
 
@@ -148,29 +159,8 @@ impl<'a> fmt::Display for CanonicalTime<'a> {
     ghost styled_output = { λ c _. Some (bytes_of (lone_time_text (record_of c.parsed.now))) };
 
     fn fmt<W: fmt::Write>(&self, f: &mut fmt::Formatter<W>) -> fmt::Result {
-        write_core(f, self.parsed)?;
-        write_brackets(f, self.parsed)
+        self.write(f)
     }
-}
-
-/// Writes what comes before the brackets.
-fn write_core<W: fmt::Write>(
-    f: &mut fmt::Formatter<W>,
-    parsed: &IxdtfParseRecord<'_, Utf8>,
-) -> fmt::Result
-    ensures { WritesStyledOnOk W.write_str_gives f.old result (bytes_of (time_core_text (record_of parsed.now))) f.new }
-{
-    let count = usize::from(time_core_length(parsed));
-    let mut bytes = [0; MOST_OF_TIME];
-    put_time_core(&mut bytes, 0, parsed);
-    write_bytes(f, front_of(&bytes, count))
-}
-
-/// Returns whether `parse_time` returns this record for some text.
-fn is_time(parsed: &IxdtfParseRecord<'_, Utf8>) -> bool
-    ensures { IsTrue result ↔ IsPrintableTime (record_of parsed.now) }
-{
-    is_spelled(parsed)
 }
 
 /// Returns whether each field has a text, and the record has the fields of a time.
@@ -218,14 +208,6 @@ fn time_core_length(parsed: &IxdtfParseRecord<'_, Utf8>) -> u16
     unmarked_time_length(parsed.time) + shift_length(parsed.offset)
 }
 
-/// Returns the number of bytes of the canonical text.
-#[tactic(auto, using(crate::proofs::code::LoneLengths::lone_lengths))]
-fn length_of_time(parsed: &IxdtfParseRecord<'_, Utf8>) -> u128
-    ensures { result ≡ length (lone_time_text (record_of parsed.now)) }
-{
-    u128::from(time_core_length(parsed)) + brackets_length(parsed)
-}
-
 // ---- bytes
 
 /// Writes an hour, a minute and a second at index `at`. Returns the index after them.
@@ -257,14 +239,4 @@ fn put_time_core(out: &mut [u8], at: usize, parsed: &IxdtfParseRecord<'_, Utf8>)
 {
     let after_time = put_unmarked_time(out, at, parsed.time);
     put_offset(out, after_time, parsed.offset)
-}
-
-/// Writes the record at the beginning of the slice. Returns the index after it.
-#[tactic(auto, using(crate::proofs::code::PutBytes::putting), unfolding(crate::specs::Times::lone_time_text))]
-fn put_time(out: &mut [u8], parsed: &IxdtfParseRecord<'_, Utf8>) -> usize
-    requires { HasRoom out.old 0 (lone_time_text (record_of parsed.now)) }
-    ensures { Prints out.old out.new 0 result (lone_time_text (record_of parsed.now)) }
-{
-    let after_core = put_time_core(out, 0, parsed);
-    put_brackets(out, after_core, parsed)
 }

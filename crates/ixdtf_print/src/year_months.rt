@@ -1,8 +1,6 @@
 //! Years and months printed as their canonical texts.
 ghost use Rattle.std.specs.Prelude.{◌≡◌, ◌↔◌, ◌<◌, ◌≤◌, ◌^◌, IsTrue, length, map, IfSome, OnSome, OnOk, None};
-ghost use Rattle.std.specs.Fmt.{WritesStyledOnOk};
 ghost use Rattle.ixdtf.specs.language.Letters.{byte_letter};
-ghost use Rattle.ixdtf_print.specs.Canonical.{brackets_text};
 ghost use Rattle.ixdtf_print.specs.Printable.{record_of};
 ghost use Rattle.ixdtf_print.specs.Printing.{PrintsOrRefuses};
 ghost use Rattle.ixdtf_print.specs.Prints.{HasRoom, Prints};
@@ -10,19 +8,15 @@ ghost use Rattle.ixdtf_print.specs.Shown.{bytes_of};
 ghost use Rattle.ixdtf_print.specs.SpelledCores.{IsFirstDay, HasLoneMonth, IsSpelledAs};
 ghost use Rattle.ixdtf_print.specs.YearMonths.{month_text, optional_month_text, year_month_text, IsPrintableYearMonth, IsYearMonthReadBack};
 
-use crate::canonical::{front_of, write_brackets, write_bytes};
 use crate::check::has_brackets;
 use crate::digits::put_two;
 use crate::error::PrintError;
-use crate::fields::{put_brackets, put_year};
-use crate::length::brackets_length;
+use crate::fields::put_year;
 use crate::put::put_byte;
+use crate::text::{CanonicalText, Tail};
 use ixdtf::encoding::Utf8;
 use ixdtf::records::{DateRecord, IxdtfParseRecord, TimeRecord, UtcOffsetRecordOrZ};
 use std::fmt;
-
-/// The greatest number of bytes of a year and a month.
-const MOST_OF_MONTH: usize = 10;
 
 /// Writes the canonical text of a year and a month to the beginning of the slice, such as `2020-11[u-ca=hebrew]`.
 ///
@@ -70,13 +64,7 @@ pub fn print_year_month(
     ensures prints { PrintsOrRefuses (IsPrintableYearMonth (record_of parsed.now)) (year_month_text (record_of parsed.now)) out.old out.new result }
     ensures read_back { OnOk result (IsYearMonthReadBack (record_of parsed.now)) }
 {
-    if !is_year_month(parsed) {
-        return Err(PrintError::NotPrintable);
-    }
-    if (out.len() as u128) < length_of_year_month(parsed) {
-        return Err(PrintError::TooShort);
-    }
-    Ok(put_year_month(out, parsed))
+    CanonicalYearMonth { parsed }.print(out)
 }
 
 /// Returns the number of bytes of the canonical text of a year and a month.
@@ -99,10 +87,7 @@ pub fn year_month_length(parsed: &IxdtfParseRecord<'_, Utf8>) -> Option<usize>
     ensures none { (result ≡ None) ↔ ¬ (IsPrintableYearMonth (record_of parsed.now) ×
         (length (year_month_text (record_of parsed.now)) < 2 ^ 64)) }
 {
-    if !is_year_month(parsed) {
-        return None;
-    }
-    usize::try_from(length_of_year_month(parsed)).ok()
+    CanonicalYearMonth { parsed }.printed_length()
 }
 
 /// A record of a year and a month that `Display` writes as its canonical text, such as `2020-11[u-ca=hebrew]`.
@@ -121,7 +106,7 @@ pub fn year_month_length(parsed: &IxdtfParseRecord<'_, Utf8>) -> Option<usize>
 /// ```
 #[derive(Clone, Copy, Debug)]
 pub struct CanonicalYearMonth<'a> {
-    parsed: &'a IxdtfParseRecord<'a, Utf8>,
+    pub(crate) parsed: &'a IxdtfParseRecord<'a, Utf8>,
 }
 
 impl<'a> CanonicalYearMonth<'a> {
@@ -135,10 +120,34 @@ impl<'a> CanonicalYearMonth<'a> {
         ensures read_back { OnSome result (IsYearMonthReadBack (record_of parsed.now)) }
         ensures none { (result ≡ None) ↔ ¬ (IsPrintableYearMonth (record_of parsed.now)) }
     {
-        if !is_year_month(parsed) {
-            return None;
-        }
-        Some(CanonicalYearMonth { parsed })
+        CanonicalYearMonth { parsed }.checked()
+    }
+}
+
+impl<'a> CanonicalText for CanonicalYearMonth<'a> {
+    ghost text = { λ c. year_month_text (record_of c.parsed.now) };
+
+    ghost core = { λ c. optional_month_text c.parsed.now.date };
+
+    ghost IsPrintable = { λ c. IsPrintableYearMonth (record_of c.parsed.now) };
+
+    ghost IsReadBack = { λ c. IsYearMonthReadBack (record_of c.parsed.now) };
+
+    fn is_printable(self) -> bool {
+        is_spelled(self.parsed)
+    }
+
+    fn core_length(self) -> u16 {
+        optional_month_length(self.parsed.date)
+    }
+
+    fn put_core(self, out: &mut [u8]) -> usize {
+        put_optional_month(out, 0, self.parsed.date)
+    }
+
+    #[tactic(auto, unfolding(crate::specs::YearMonths::year_month_text))]
+    fn tail(&self) -> Tail<'_> {
+        Tail::Brackets(self.parsed)
     }
 }
 
@@ -154,29 +163,8 @@ impl<'a> fmt::Display for CanonicalYearMonth<'a> {
     ghost styled_output = { λ c _. Some (bytes_of (year_month_text (record_of c.parsed.now))) };
 
     fn fmt<W: fmt::Write>(&self, f: &mut fmt::Formatter<W>) -> fmt::Result {
-        write_core(f, self.parsed)?;
-        write_brackets(f, self.parsed)
+        self.write(f)
     }
-}
-
-/// Writes what comes before the brackets.
-fn write_core<W: fmt::Write>(
-    f: &mut fmt::Formatter<W>,
-    parsed: &IxdtfParseRecord<'_, Utf8>,
-) -> fmt::Result
-    ensures { WritesStyledOnOk W.write_str_gives f.old result (bytes_of (optional_month_text parsed.now.date)) f.new }
-{
-    let count = usize::from(optional_month_length(parsed.date));
-    let mut bytes = [0; MOST_OF_MONTH];
-    put_optional_month(&mut bytes, 0, parsed.date);
-    write_bytes(f, front_of(&bytes, count))
-}
-
-/// Returns whether `parse_year_month` returns this record for some text.
-fn is_year_month(parsed: &IxdtfParseRecord<'_, Utf8>) -> bool
-    ensures { IsTrue result ↔ IsPrintableYearMonth (record_of parsed.now) }
-{
-    is_spelled(parsed)
 }
 
 /// Returns whether each field has a text, and the record has the fields of a year and a month.
@@ -229,14 +217,6 @@ fn optional_month_length(date: Option<DateRecord>) -> u16
     }
 }
 
-/// Returns the number of bytes of the canonical text.
-#[tactic(auto, using(crate::proofs::code::LoneLengths::lone_lengths))]
-fn length_of_year_month(parsed: &IxdtfParseRecord<'_, Utf8>) -> u128
-    ensures { result ≡ length (year_month_text (record_of parsed.now)) }
-{
-    u128::from(optional_month_length(parsed.date)) + brackets_length(parsed)
-}
-
 // ---- bytes
 
 /// Writes the year and the month at index `at`, if there is a date. Returns the index after them.
@@ -259,14 +239,4 @@ fn put_month(out: &mut [u8], at: usize, date: DateRecord) -> usize
     let hyphen = put_year(out, at, date);
     let month = put_byte(out, hyphen, b'-');
     put_two(out, month, date.month)
-}
-
-/// Writes the record at the beginning of the slice. Returns the index after it.
-#[tactic(auto, using(crate::proofs::code::PutBytes::putting), unfolding(crate::specs::YearMonths::year_month_text))]
-fn put_year_month(out: &mut [u8], parsed: &IxdtfParseRecord<'_, Utf8>) -> usize
-    requires { HasRoom out.old 0 (year_month_text (record_of parsed.now)) }
-    ensures { Prints out.old out.new 0 result (year_month_text (record_of parsed.now)) }
-{
-    let after_core = put_optional_month(out, 0, parsed.date);
-    put_brackets(out, after_core, parsed)
 }

@@ -1,16 +1,15 @@
 //! Time zones printed as their canonical texts.
-ghost use Rattle.std.specs.Prelude.{◌≡◌, ◌↔◌, ◌<◌, ◌^◌, IsTrue, length, map, IfSome, OnSome, OnOk, None};
+ghost use Rattle.std.specs.Prelude.{◌≡◌, ◌↔◌, [], length, map, IfSome, OnSome, OnOk, None};
 ghost use Rattle.ixdtf.specs.language.Letters.{byte_letter};
 ghost use Rattle.ixdtf_print.specs.Canonical.{zone_text};
 ghost use Rattle.ixdtf_print.specs.Printing.{PrintsOrRefuses};
 ghost use Rattle.ixdtf_print.specs.Shown.{bytes_of};
 ghost use Rattle.ixdtf_print.specs.Zones.{zone_in, IsPrintableZone, IsZoneReadBack};
 
-use crate::canonical::write_zone;
 use crate::check::is_zone;
 use crate::error::PrintError;
-use crate::fields::put_zone;
 use crate::length::length_of_zone;
+use crate::text::{CanonicalText, Tail};
 use ixdtf::encoding::Utf8;
 use ixdtf::records::TimeZoneRecord;
 use std::fmt;
@@ -52,13 +51,7 @@ pub fn print_zone(zone: &TimeZoneRecord<'_, Utf8>, out: &mut [u8]) -> Result<usi
     ensures prints { PrintsOrRefuses (IsPrintableZone (zone_in zone.now)) (zone_text (zone_in zone.now)) out.old out.new result }
     ensures read_back { OnOk result (IsZoneReadBack (zone_in zone.now)) }
 {
-    if !is_identifier(zone) {
-        return Err(PrintError::NotPrintable);
-    }
-    if (out.len() as u128) < length_of_zone(zone) {
-        return Err(PrintError::TooShort);
-    }
-    Ok(put_zone(out, 0, zone))
+    CanonicalZone { zone }.print(out)
 }
 
 /// Returns the number of bytes of the canonical text of a time zone.
@@ -79,9 +72,7 @@ pub fn zone_length(zone: &TimeZoneRecord<'_, Utf8>) -> Option<usize>
     ensures length { IfSome result (λ n. n ≡ length (zone_text (zone_in zone.now))) }
     ensures none { (result ≡ None) ↔ ¬ (IsPrintableZone (zone_in zone.now)) }
 {
-    if !is_identifier(zone) {
-        return None;
-    }
+    CanonicalZone { zone }.checked()?;
     Some(length_of_zone(zone) as usize)
 }
 
@@ -101,7 +92,7 @@ pub fn zone_length(zone: &TimeZoneRecord<'_, Utf8>) -> Option<usize>
 /// ```
 #[derive(Clone, Copy, Debug)]
 pub struct CanonicalZone<'a> {
-    zone: &'a TimeZoneRecord<'a, Utf8>,
+    pub(crate) zone: &'a TimeZoneRecord<'a, Utf8>,
 }
 
 impl<'a> CanonicalZone<'a> {
@@ -113,10 +104,33 @@ impl<'a> CanonicalZone<'a> {
         ensures read_back { OnSome result (IsZoneReadBack (zone_in zone.now)) }
         ensures none { (result ≡ None) ↔ ¬ (IsPrintableZone (zone_in zone.now)) }
     {
-        if !is_identifier(zone) {
-            return None;
-        }
-        Some(CanonicalZone { zone })
+        CanonicalZone { zone }.checked()
+    }
+}
+
+impl<'a> CanonicalText for CanonicalZone<'a> {
+    ghost text = { λ c. zone_text (zone_in c.zone.now) };
+
+    ghost core = { λ c. [] };
+
+    ghost IsPrintable = { λ c. IsPrintableZone (zone_in c.zone.now) };
+
+    ghost IsReadBack = { λ c. IsZoneReadBack (zone_in c.zone.now) };
+
+    fn is_printable(self) -> bool {
+        is_zone(self.zone)
+    }
+
+    fn core_length(self) -> u16 {
+        0
+    }
+
+    fn put_core(self, _out: &mut [u8]) -> usize {
+        0
+    }
+
+    fn tail(&self) -> Tail<'_> {
+        Tail::Zone(self.zone)
     }
 }
 
@@ -132,14 +146,6 @@ impl<'a> fmt::Display for CanonicalZone<'a> {
     ghost styled_output = { λ c _. Some (bytes_of (zone_text (zone_in c.zone.now))) };
 
     fn fmt<W: fmt::Write>(&self, f: &mut fmt::Formatter<W>) -> fmt::Result {
-        write_zone(f, self.zone)
+        self.write(f)
     }
-}
-
-/// Returns whether `parse_identifier` returns this zone for some text.
-#[inline(always)]
-fn is_identifier(zone: &TimeZoneRecord<'_, Utf8>) -> bool
-    ensures { IsTrue result ↔ IsPrintableZone (zone_in zone.now) }
-{
-    is_zone(zone)
 }

@@ -1,7 +1,9 @@
 //! What no clause says: worked lines, failing readers and writers, and what the arguments ask for.
 
 mod arguments;
+mod columns;
 mod faults;
+mod ordered;
 mod skips;
 mod worked;
 

@@ -113,7 +113,7 @@ typedef struct {
     list_record *list, *list_strict;
 } kind;
 
-enum { DATE_TIME, YEAR_MONTH, MONTH_DAY, TIME, RFC3339, OFFSET, ZONE, ZONE_NAME, RECORD_KINDS };
+enum { DATE_TIME, YEAR_MONTH, MONTH_DAY, TIME, RFC3339, RFC9557, OFFSET, ZONE, ZONE_NAME, RECORD_KINDS };
 
 static const kind KINDS[RECORD_KINDS] = {
     { "date-time", ixdtf_parse, ixdtf_parse, ixdtf_parse_with_annotations, ixdtf_parse_with_annotations },
@@ -123,6 +123,7 @@ static const kind KINDS[RECORD_KINDS] = {
       ixdtf_parse_month_day_with_annotations_strict },
     { "time", ixdtf_parse_time, ixdtf_parse_time_strict, ixdtf_parse_time_with_annotations, ixdtf_parse_time_with_annotations_strict },
     { "rfc3339", ixdtf_parse_rfc3339, ixdtf_parse_rfc3339, NULL, NULL },
+    { "rfc9557", ixdtf_parse_rfc9557, ixdtf_parse_rfc9557, ixdtf_parse_rfc9557_with_annotations, ixdtf_parse_rfc9557_with_annotations },
     { "offset", ixdtf_parse_offset, ixdtf_parse_offset, NULL, NULL },
     { "zone", ixdtf_parse_identifier, ixdtf_parse_identifier, NULL, NULL },
     { "zone-name", ixdtf_parse_iana_identifier, ixdtf_parse_iana_identifier, NULL, NULL },
@@ -792,6 +793,7 @@ READER(parse_year_month, YEAR_MONTH, 0, 1)
 READER(parse_month_day, MONTH_DAY, 1, 1)
 READER(parse_time, TIME, 1, 1)
 READER(parse_rfc3339, RFC3339, 0, 0)
+READER(parse_rfc9557, RFC9557, 0, 1)
 
 /* The offset or the zone of a text that is nothing else. */
 static PyObject *read_part(PyObject *module, PyObject *text, const kind *what) {
@@ -864,7 +866,7 @@ static int kind_number(PyObject *name) {
             return RECORD_KINDS;
         }
     }
-    PyErr_Format(PyExc_ValueError, "%R is no kind of text: the kinds are date-time, year-month, month-day, time, rfc3339, offset, zone, zone-name and duration", name);
+    PyErr_Format(PyExc_ValueError, "%R is no kind of text: the kinds are date-time, year-month, month-day, time, rfc3339, rfc9557, offset, zone, zone-name and duration", name);
     return -1;
 }
 
@@ -984,19 +986,26 @@ static PyObject *canonical_duration(PyObject *duration) {
     return PyUnicode_DecodeASCII((const char *)text, (Py_ssize_t)count, NULL);
 }
 
-static PyObject *canonical_record(const ixdtf_record *fields) {
+/* The printers of records, by the names of the kinds, and the function that reads the texts. */
+static const struct { const char *kind, *reader; uint32_t (*print)(const ixdtf_record *, uint8_t *, size_t, size_t *); } PRINTERS[] = {
+    { "date-time", "parse", ixdtf_print },
+    { "year-month", "parse_year_month", ixdtf_print_year_month },
+    { "month-day", "parse_month_day", ixdtf_print_month_day },
+    { "time", "parse_time", ixdtf_print_time },
+};
+
+static PyObject *canonical_record(const ixdtf_record *fields, int number) {
     uint8_t few[128];
     size_t count = 0;
-    uint32_t error = ixdtf_print(fields, few, sizeof few, &count);
+    uint32_t error = PRINTERS[number].print(fields, few, sizeof few, &count);
     if (error == IXDTF_OK) {
         return PyUnicode_DecodeASCII((const char *)few, (Py_ssize_t)count, NULL);
     }
     if (error == IXDTF_NOT_PRINTABLE) {
-        PyErr_SetString(PyExc_ValueError, "no text that parse() accepts gives this record, so it has no canonical text");
-        return NULL;
+        return PyErr_Format(PyExc_ValueError, "no text that %s() accepts gives this record, so it has no canonical text", PRINTERS[number].reader);
     }
     PyObject *made = PyUnicode_New((Py_ssize_t)count, 127);
-    if (made != NULL && ixdtf_print(fields, PyUnicode_1BYTE_DATA(made), count, &count) != IXDTF_OK) {
+    if (made != NULL && PRINTERS[number].print(fields, PyUnicode_1BYTE_DATA(made), count, &count) != IXDTF_OK) {
         Py_CLEAR(made);
         PyErr_SetString(PyExc_SystemError, "the canonical text has another length than was counted");
     }
@@ -1037,10 +1046,31 @@ static PyObject *canonical_zone(PyObject *zone) {
     return made;
 }
 
-static PyObject *canonical(PyObject *module, PyObject *record) {
+/* The number of a printer of records, or -1 with an exception. */
+static int printer_number(PyObject *name) {
+    for (int i = 0; PyUnicode_Check(name) && i < (int)(sizeof PRINTERS / sizeof *PRINTERS); i++) {
+        if (PyUnicode_CompareWithASCIIString(name, PRINTERS[i].kind) == 0) {
+            return i;
+        }
+    }
+    PyErr_Format(PyExc_ValueError, "%R is no kind of record: the kinds are date-time, year-month, month-day and time", name);
+    return -1;
+}
+
+static PyObject *canonical(PyObject *module, PyObject *arguments, PyObject *keywords) {
+    static char *names[] = { "", "kind", NULL };
     module_state *state = state_of(module);
+    PyObject *record, *kind = NULL;
+    if (!PyArg_ParseTupleAndKeywords(arguments, keywords, "O|O:canonical", names, &record, &kind)) {
+        return NULL;
+    }
     if (PyObject_TypeCheck(record, (PyTypeObject *)state->record_type)) {
-        return canonical_record(&((record_object *)record)->fields);
+        int number = kind == NULL ? 0 : printer_number(kind);
+        return number < 0 ? NULL : canonical_record(&((record_object *)record)->fields, number);
+    }
+    if (kind != NULL) {
+        PyErr_SetString(PyExc_TypeError, "canonical() takes a kind only with a Record");
+        return NULL;
     }
     if (PyObject_TypeCheck(record, (PyTypeObject *)state->duration_type)) {
         return canonical_duration(record);
@@ -1089,6 +1119,10 @@ static PyMethodDef module_methods[] = {
     { "parse_rfc3339", FAST(parse_rfc3339),
       "parse_rfc3339(text, /)\n--\n\nReturns the Record of a date-time of RFC 3339, section 5.6, such as '2024-03-02T08:48:00.25-05:00'. It refuses every other text.\n"
       "parse() accepts each of these texts too, and returns an equal Record." },
+    { "parse_rfc9557", FAST(parse_rfc9557),
+      "parse_rfc9557(text, /, *, handler=None)\n--\n\nReturns the Record of a date-time of RFC 9557, section 4.1, such as\n"
+      "'2024-03-02T08:48:00-05:00[America/New_York][u-ca=hebrew]'. It refuses every other text.\n"
+      "parse() accepts each of these texts too, and returns an equal Record." },
     { "parse_offset", parse_offset, METH_O, "parse_offset(text, /)\n--\n\nReturns the Offset of a text such as '+05:30'." },
     { "parse_zone", parse_zone, METH_O, "parse_zone(text, /)\n--\n\nReturns the Zone of a name or an offset, such as 'Europe/Berlin' or '+05:30'." },
     { "parse_zone_name", parse_zone_name, METH_O, "parse_zone_name(text, /)\n--\n\nReturns the Zone of a name, such as 'Europe/Berlin'." },
@@ -1096,11 +1130,11 @@ static PyMethodDef module_methods[] = {
       "parse_duration(text, /, *, strict=False)\n--\n\nReturns the Duration of a text such as '-P1Y2M3W4DT5H6M7.5S'. The strict profile refuses a unit that stands twice." },
     { "is_valid", FAST(is_valid),
       "is_valid(text, /, kind='date-time', *, strict=False)\n--\n\n"
-      "Returns whether a text is accepted. The kinds are date-time, year-month, month-day, time, rfc3339, offset, zone, zone-name and duration." },
-    { "canonical", canonical, METH_O,
-      "canonical(record, /)\n--\n\nReturns the one canonical text of a Record, a Duration, an Offset or a Zone. parse(), parse_duration(), parse_offset() and\n"
+      "Returns whether a text is accepted. The kinds are date-time, year-month, month-day, time, rfc3339, rfc9557, offset, zone, zone-name and duration." },
+    { "canonical", (PyCFunction)(void (*)(void))canonical, METH_VARARGS | METH_KEYWORDS,
+      "canonical(record, /, kind='date-time')\n--\n\nReturns the one canonical text of a Record, a Duration, an Offset or a Zone. parse(), parse_duration(), parse_offset() and\n"
       "parse_zone() read it back as an equal value. The text of a Zone does not say whether it is critical. ValueError is raised if\n"
-      "they return this value for no text." },
+      "they return this value for no text. The kind says which reader the Record is for: date-time, year-month, month-day or time." },
     { "instant", instant, METH_O,
       "instant(record, /)\n--\n\nReturns the Instant of a Record: the seconds since 1970-01-01T00:00:00Z, rounded down, and the nanoseconds after them.\n\n"
       "ValueError is raised if the record has no date, no time or no offset. The zone does not count. The second 60 is the same\n"

@@ -11,6 +11,7 @@ fn answer<T: EncodingType>(reader: &str, units: &[T::CodeUnit]) -> String {
     let mut parser = IxdtfParser::<T>::new(units);
     let found = match reader {
         "rfc3339" => parser.parse_rfc3339_located(),
+        "rfc9557" => parser.parse_rfc9557_located(),
         _ => return String::from("no such reader"),
     };
     found.map_or_else(|error| format!("error {error}"), |_| String::from("ok"))
@@ -52,6 +53,16 @@ fn answers_in_both_widths() {
         );
     }
     assert_eq!(answer_line("rfc3339 16 ff12").unwrap(), "error Code point was not ASCII at 0");
+}
+
+#[test]
+fn knows_both_readers() {
+    let zoned = "2024-03-02T08:48:00Z[UTC]";
+    assert_eq!(answer_line(&line_of("rfc9557", 16, zoned)).unwrap(), "ok");
+    assert_eq!(
+        answer_line(&line_of("rfc3339", 16, zoned)).unwrap(),
+        "error Unexpected character found after parsing was completed. at 20"
+    );
 }
 
 #[test]

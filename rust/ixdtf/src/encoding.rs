@@ -2,8 +2,8 @@
 
 //! The encodings that a source can have.
 //!
-//! The readers are generic in the encoding. A code unit stands for an ASCII byte, or for none. The encoding says for
-//! which byte, and the readers see this byte.
+//! The readers are generic in the encoding. A code unit stands for a byte, or for no character. The encoding
+//! decides this, and the readers see only the byte.
 
 use crate::{ParseError, ParserResult};
 use core::hash::Hash;
@@ -38,7 +38,7 @@ pub trait EncodingType: private::Sealed {
 
     /// Returns the code unit at an index of the source, as a byte. Returns `None` after the end of the source.
     ///
-    /// The readers accept only ASCII. So none of them accepts a byte of 128 or more.
+    /// No reader accepts a byte of 128 or more.
     ///
     /// # Errors
     ///
@@ -52,7 +52,7 @@ pub trait EncodingType: private::Sealed {
 
 /// The encoding of sources with 8-bit code units, such as UTF-8.
 ///
-/// Each code unit stands for itself, also 0 and the code units of 128 or more. So `get_ascii` returns no error. It is
+/// Each code unit stands for itself, even 0 and the code units of 128 or more. So `get_ascii` returns no error. It is
 /// not checked that the source is UTF-8.
 #[derive(Clone, Copy, Debug, PartialEq, Eq, Hash)]
 pub struct Utf8;

@@ -8,19 +8,20 @@ const BILLION: u32 = 1_000_000_000;
 /// A point in time: the seconds since 1970-01-01T00:00:00Z and the nanoseconds after them. Leap seconds are not counted: each
 /// day has 86,400 seconds (POSIX.1-2017, section 4.16).
 ///
-/// Of two instants the earlier one is the smaller one.
+/// Instants are ordered by time: the earlier of two instants is the smaller one.
 ///
 /// `Display` writes the date and the time in UTC, such as `2024-03-02T08:48:00.25Z`. Years from 0 to 9999 have four digits.
 /// Other years have a sign and six digits, as in `+010000-01-01T00:00:00Z`. The nanoseconds have no zeros at the end. If they
 /// are 0, there is no fraction. `Display` ignores width and fill.
 ///
-/// The fields are public, so an instant can be one that no record has. If the year has more than six digits, it is written with
-/// a sign and twelve digits, and no reader accepts the text. Nanoseconds from 1,000,000,000 on are written as seconds.
+/// The fields are public, so a program can make an instant that no record has. A year with more than six digits is written with
+/// a sign and twelve digits, and no reader accepts this text. If the nanoseconds are 1,000,000,000 or more, `Display` carries
+/// them over to the seconds.
 #[derive(Clone, Copy, Debug, PartialEq, Eq, PartialOrd, Ord, Hash)]
 pub struct Instant {
-    /// The whole seconds from 1970-01-01T00:00:00Z on, rounded down: they are below zero before.
+    /// The seconds since 1970-01-01T00:00:00Z, rounded down. Before 1970 they are below zero.
     pub seconds: i64,
-    /// The nanoseconds after them, 0 to 999,999,999.
+    /// The nanoseconds after these seconds, 0 to 999,999,999.
     pub nanoseconds: u32,
 }
 

@@ -139,8 +139,8 @@ pub enum TimeZoneRecord<'a, T: EncodingType> {
 impl<'a> TimeZoneRecord<'a, Utf8> {
     /// Returns the name of the zone as a string. It is a part of the text.
     ///
-    /// The result is `None` if the zone is an offset, or if the name is not UTF-8. All characters of a name that a reader
-    /// returns are ASCII characters, so such a name is never `None`.
+    /// The result is `None` if the zone is an offset, or if the name is not UTF-8. A name that a reader returned
+    /// contains only ASCII characters, so its result is never `None`.
     ///
     /// # Examples
     ///
@@ -349,7 +349,7 @@ impl UtcOffsetRecordOrZ {
 
 /// A duration, such as `P1Y2M3DT4H` (`Duration` of the Temporal grammar; ISO 8601, section 5.5.2).
 ///
-/// It has the units in which it was written. No unit is converted to another.
+/// It keeps the units of the text: no unit is converted to another.
 #[derive(Clone, Copy, Debug, PartialEq, Eq, Hash)]
 pub struct DurationParseRecord {
     /// The sign of the complete duration. It is `Negative` exactly if the text begins with a `-`.

@@ -1,10 +1,9 @@
 // Made by tools/to_rust.py of crates/ixdtf_c/src/duration_texts.rt. Do not edit.
 
-//! Printing durations that C hands in.
+//! The durations that C hands in to be printed.
 
 use crate::durations::Duration;
 use crate::printing::fraction_of;
-use crate::texts::{length_into, print_into};
 use ixdtf::records::{DateDurationRecord, DurationParseRecord, Sign, TimeDurationRecord};
 
 /// The years, months, weeks and days, where they are there.
@@ -47,7 +46,7 @@ pub fn time_units_of(given: &Duration<'_>) -> Option<Option<TimeDurationRecord>>
 }
 
 /// The duration, where the form of its time has a name and its fraction is one.
-fn duration_of(given: &Duration<'_>) -> Option<DurationParseRecord> {
+pub fn duration_of(given: &Duration<'_>) -> Option<DurationParseRecord> {
     let Some(time) = time_units_of(given) else {
         return None;
     };
@@ -56,31 +55,4 @@ fn duration_of(given: &Duration<'_>) -> Option<DurationParseRecord> {
         date: date_units_of(given),
         time,
     })
-}
-
-/// Writes the canonical text of the duration into the front of the bytes, and how many bytes these are. It returns 0; or 101
-/// where no text stands for the duration, and else 102 where the bytes are fewer than those of the text, and the count is then
-/// how many these are.
-#[unsafe(no_mangle)]
-pub unsafe extern "C" fn ixdtf_print_duration(
-    given: &Duration<'_>,
-    out: *mut u8,
-    out_length: usize,
-    count: &mut usize,
-) -> u32 {
-    // SAFETY: so the header has it.
-    let out = unsafe { crate::slices::slice_mut(out, out_length) };
-    let Some(found) = duration_of(given) else {
-        return 101;
-    };
-    print_into(&found, out, count)
-}
-
-/// How many bytes the canonical text of the duration has, and 0 where no text stands for the duration.
-#[unsafe(no_mangle)]
-pub extern "C" fn ixdtf_printed_duration_length(given: &Duration<'_>) -> usize {
-    let Some(found) = duration_of(given) else {
-        return 0;
-    };
-    length_into(&found)
 }

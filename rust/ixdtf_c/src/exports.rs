@@ -14,7 +14,7 @@ use crate::narrow::{Annotation, Calendar, Record};
 use crate::readers::{name_into, offset_into, read_into, rfc3339_into, take_reply, zone_into};
 use crate::{narrow_annotations, wide, wide_annotations};
 use ixdtf::encoding::{Utf8, Utf16};
-use ixdtf::parsers::{DateTimes, MonthDays, Profile, Times, YearMonths};
+use ixdtf::parsers::{DateTimes, InternetDateTimes, MonthDays, Profile, Times, YearMonths};
 
 /// Reads a date, or a date and a time, and the brackets after it.
 #[unsafe(no_mangle)]
@@ -70,6 +70,14 @@ pub unsafe extern "C" fn ixdtf_parse_rfc3339<'a>(text: *const u8, text_length: u
     // SAFETY: so the header has it.
     let text = unsafe { crate::slices::slice(text, text_length) };
     rfc3339_into::<Utf8, _>(text, out)
+}
+
+/// Reads a date-time of RFC 9557, section 4.1.
+#[unsafe(no_mangle)]
+pub unsafe extern "C" fn ixdtf_parse_rfc9557<'a>(text: *const u8, text_length: usize, out: &mut Record<'a>) -> u32 {
+    // SAFETY: so the header has it.
+    let text = unsafe { crate::slices::slice(text, text_length) };
+    read_into::<Utf8, InternetDateTimes, _>(text, Profile::Crate, out)
 }
 
 /// Reads an offset.
@@ -180,6 +188,29 @@ pub unsafe extern "C" fn ixdtf_parse_time_with_annotations<'a>(
     narrow_annotations::list_into::<Times>(text, Profile::Crate, annotations, count, out)
 }
 
+/// Reads a date-time of RFC 9557, section 4.1. The annotations are passed over and listed.
+#[unsafe(no_mangle)]
+pub unsafe extern "C" fn ixdtf_parse_rfc9557_with_annotations<'a>(
+    text: *const u8,
+    text_length: usize,
+    annotations: *mut Annotation<'a>,
+    annotations_length: usize,
+    count: &mut usize,
+    out: &mut Record<'a>,
+) -> u32 {
+    // SAFETY: so the header has it.
+    let text = unsafe { crate::slices::slice(text, text_length) };
+    // SAFETY: so the header has it.
+    let annotations = unsafe { crate::slices::slice_mut(annotations, annotations_length) };
+    narrow_annotations::list_into::<InternetDateTimes>(
+        text,
+        Profile::Crate,
+        annotations,
+        count,
+        out,
+    )
+}
+
 /// Reads a month and a day, and the brackets after it, under the strict profile. The annotations are passed over and listed.
 #[unsafe(no_mangle)]
 pub unsafe extern "C" fn ixdtf_parse_month_day_with_annotations_strict<'a>(
@@ -279,6 +310,14 @@ pub unsafe extern "C" fn ixdtf16_parse_rfc3339<'a>(text: *const u16, text_length
     // SAFETY: so the header has it.
     let text = unsafe { crate::slices::slice(text, text_length) };
     rfc3339_into::<Utf16, _>(text, out)
+}
+
+/// Reads a date-time of RFC 9557, section 4.1.
+#[unsafe(no_mangle)]
+pub unsafe extern "C" fn ixdtf16_parse_rfc9557<'a>(text: *const u16, text_length: usize, out: &mut wide::Record<'a>) -> u32 {
+    // SAFETY: so the header has it.
+    let text = unsafe { crate::slices::slice(text, text_length) };
+    read_into::<Utf16, InternetDateTimes, _>(text, Profile::Crate, out)
 }
 
 /// Reads an offset.
@@ -391,6 +430,23 @@ pub unsafe extern "C" fn ixdtf16_parse_time_with_annotations<'a>(
     // SAFETY: so the header has it.
     let annotations = unsafe { crate::slices::slice_mut(annotations, annotations_length) };
     wide_annotations::list_into::<Times>(text, Profile::Crate, annotations, count, out)
+}
+
+/// Reads a date-time of RFC 9557, section 4.1. The annotations are passed over and listed.
+#[unsafe(no_mangle)]
+pub unsafe extern "C" fn ixdtf16_parse_rfc9557_with_annotations<'a>(
+    text: *const u16,
+    text_length: usize,
+    annotations: *mut wide::Annotation<'a>,
+    annotations_length: usize,
+    count: &mut usize,
+    out: &mut wide::Record<'a>,
+) -> u32 {
+    // SAFETY: so the header has it.
+    let text = unsafe { crate::slices::slice(text, text_length) };
+    // SAFETY: so the header has it.
+    let annotations = unsafe { crate::slices::slice_mut(annotations, annotations_length) };
+    wide_annotations::list_into::<InternetDateTimes>(text, Profile::Crate, annotations, count, out)
 }
 
 /// Reads a month and a day, and the brackets after it, under the strict profile. The annotations are passed over and listed.

@@ -16,6 +16,7 @@ mod names;
 pub mod narrow;
 mod narrow_annotations;
 mod part_texts;
+mod printers;
 mod printing;
 mod readers;
 mod slices;

@@ -109,7 +109,7 @@ pub fn zone_of<'a>(zone: &Zone<'a>) -> Option<Option<TimeZoneAnnotation<'a, Utf8
     }))
 }
 
-/// The record, where its forms have names and its fractions are such.
+/// The record, where its forms have names and its fractions are such. No record is printed without that.
 pub fn record_of<'a>(given: &Record<'a>) -> Option<IxdtfParseRecord<'a, Utf8>> {
     let Some(time) = time_of(&given.time) else {
         return None;

@@ -2,14 +2,19 @@
 
 //! Printing of what the library's other printers print than records of dates.
 
-use ixdtf::encoding::Utf8;
-use ixdtf::records::{DurationParseRecord, TimeZoneRecord, UtcOffsetRecord};
+use crate::duration_texts::duration_of;
+use crate::durations::Duration;
+use crate::forms::Offset;
+use crate::narrow::{Record, Zone};
+use crate::part_texts::{area_of, shift_of};
+use crate::printing::record_of;
 use ixdtf_print::{
-    PrintError, duration_length, offset_length, print_duration, print_offset, print_zone,
+    PrintError, duration_length, month_day_length, offset_length, print_duration, print_month_day,
+    print_offset, print_time, print_year_month, print_zone, time_length, year_month_length,
     zone_length,
 };
 
-/// What one of the printers of the library prints.
+/// What C hands in, and a printer of the library prints.
 pub trait HasText {
     /// Prints it.
     fn print(&self, out: &mut [u8]) -> Result<usize, PrintError>;
@@ -18,39 +23,129 @@ pub trait HasText {
     fn needs(&self) -> Option<usize>;
 }
 
-impl HasText for DurationParseRecord {
+/// A record of a time, and maybe an offset.
+#[derive(Clone, Copy)]
+pub struct AsTime<'a> {
+    pub record: &'a Record<'a>,
+}
+
+/// A record of a year and a month.
+#[derive(Clone, Copy)]
+pub struct AsYearMonth<'a> {
+    pub record: &'a Record<'a>,
+}
+
+/// A record of a month and a day.
+#[derive(Clone, Copy)]
+pub struct AsMonthDay<'a> {
+    pub record: &'a Record<'a>,
+}
+
+impl<'a> HasText for Duration<'a> {
     #[inline(always)]
     fn print(&self, out: &mut [u8]) -> Result<usize, PrintError> {
-        print_duration(self, out)
+        match duration_of(self) {
+            None => Err(PrintError::NotPrintable),
+            Some(found) => print_duration(&found, out),
+        }
     }
 
     #[inline(always)]
     fn needs(&self) -> Option<usize> {
-        duration_length(self)
+        match duration_of(self) {
+            None => None,
+            Some(found) => duration_length(&found),
+        }
     }
 }
 
-impl HasText for UtcOffsetRecord {
+impl HasText for Offset {
     #[inline(always)]
     fn print(&self, out: &mut [u8]) -> Result<usize, PrintError> {
-        print_offset(self, out)
+        match shift_of(self) {
+            None => Err(PrintError::NotPrintable),
+            Some(found) => print_offset(&found, out),
+        }
     }
 
     #[inline(always)]
     fn needs(&self) -> Option<usize> {
-        offset_length(self)
+        match shift_of(self) {
+            None => None,
+            Some(found) => offset_length(&found),
+        }
     }
 }
 
-impl<'a> HasText for TimeZoneRecord<'a, Utf8> {
+impl<'a> HasText for Zone<'a> {
     #[inline(always)]
     fn print(&self, out: &mut [u8]) -> Result<usize, PrintError> {
-        print_zone(self, out)
+        match area_of(self) {
+            None => Err(PrintError::NotPrintable),
+            Some(found) => print_zone(&found, out),
+        }
     }
 
     #[inline(always)]
     fn needs(&self) -> Option<usize> {
-        zone_length(self)
+        match area_of(self) {
+            None => None,
+            Some(found) => zone_length(&found),
+        }
+    }
+}
+
+impl<'a> HasText for AsTime<'a> {
+    #[inline(always)]
+    fn print(&self, out: &mut [u8]) -> Result<usize, PrintError> {
+        match record_of(self.record) {
+            None => Err(PrintError::NotPrintable),
+            Some(found) => print_time(&found, out),
+        }
+    }
+
+    #[inline(always)]
+    fn needs(&self) -> Option<usize> {
+        match record_of(self.record) {
+            None => None,
+            Some(found) => time_length(&found),
+        }
+    }
+}
+
+impl<'a> HasText for AsYearMonth<'a> {
+    #[inline(always)]
+    fn print(&self, out: &mut [u8]) -> Result<usize, PrintError> {
+        match record_of(self.record) {
+            None => Err(PrintError::NotPrintable),
+            Some(found) => print_year_month(&found, out),
+        }
+    }
+
+    #[inline(always)]
+    fn needs(&self) -> Option<usize> {
+        match record_of(self.record) {
+            None => None,
+            Some(found) => year_month_length(&found),
+        }
+    }
+}
+
+impl<'a> HasText for AsMonthDay<'a> {
+    #[inline(always)]
+    fn print(&self, out: &mut [u8]) -> Result<usize, PrintError> {
+        match record_of(self.record) {
+            None => Err(PrintError::NotPrintable),
+            Some(found) => print_month_day(&found, out),
+        }
+    }
+
+    #[inline(always)]
+    fn needs(&self) -> Option<usize> {
+        match record_of(self.record) {
+            None => None,
+            Some(found) => month_day_length(&found),
+        }
     }
 }
 

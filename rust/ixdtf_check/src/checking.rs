@@ -9,6 +9,7 @@ use crate::report::put_report;
 use crate::request::Request;
 use crate::tally::Tally;
 use crate::verdict::{LINE_LIMIT, Verdict};
+use ixdtf::Instant;
 use ixdtf_buffers::driver::LineTask;
 use ixdtf_buffers::error::RunError;
 use ixdtf_buffers::output::Output;
@@ -22,6 +23,8 @@ pub struct Checking<'n> {
     pub printed: PrintedText,
     /// The room in which a report is made. It stands here, since to clear it for each report takes as long as to fill it.
     pub room: [u8; ROOM],
+    /// The instant of the last line whose text names one, if it was read for its instant.
+    pub last: Option<Instant>,
     /// What was counted. Its bytes are counted elsewhere.
     pub tally: Tally,
 }
@@ -33,6 +36,7 @@ impl<'n> Checking<'n> {
             request,
             printed: PrintedText::empty(),
             room: [0; ROOM],
+            last: None,
             tally: Tally::new(),
         }
     }
@@ -51,6 +55,7 @@ impl LineTask<LINE_LIMIT> for Checking<'_> {
         judge(
             &self.request,
             is_first,
+            &mut self.last,
             line,
             &mut self.printed,
             &mut verdict,

@@ -2,20 +2,25 @@
 
 //! Which verdict a line gets.
 
+use crate::instants::read_instant;
+use crate::kind::InstantKind;
 use crate::part::{Part, part_of};
 use crate::printed::PrintedText;
-use crate::reading::{read, read_to_print};
+use crate::printing::read_to_print;
+use crate::reading::read;
 use crate::request::{Request, Task};
 use crate::skipped::kept_line;
-use crate::verdict::{LINE_LIMIT, Reason, Refusal, Unread, Verdict};
-use ixdtf::LocatedError;
+use crate::verdict::{Early, LINE_LIMIT, Reason, Refusal, Unread, Verdict};
+use ixdtf::{Instant, LocatedError};
 
-/// Writes the verdict on the line, which is `None` where it is too long, and may be the first one of a file.
+/// Writes the verdict on the line, which is `None` where it is too long, and may be the first one of a file. `last` is the instant
+/// of the line before. It becomes that of this line, if this line has one.
 ///
 /// A verdict is written in its place, and not returned: most lines are accepted, and of these one byte is written.
 pub fn judge<'a>(
     request: &Request<'_>,
     is_first: bool,
+    last: &mut Option<Instant>,
     line: Option<&'a [u8]>,
     printed: &mut PrintedText,
     verdict: &mut Verdict<'a>,
@@ -27,7 +32,7 @@ pub fn judge<'a>(
                 reason: Reason::TooLong,
             });
         }
-        Some(bytes) => judge_short(request, is_first, bytes, printed, verdict),
+        Some(bytes) => judge_short(request, is_first, last, bytes, printed, verdict),
     }
 }
 
@@ -35,19 +40,21 @@ pub fn judge<'a>(
 fn judge_short<'a>(
     request: &Request<'_>,
     is_first: bool,
+    last: &mut Option<Instant>,
     bytes: &'a [u8],
     printed: &mut PrintedText,
     verdict: &mut Verdict<'a>,
 ) {
     match kept_line(&request.skips, is_first, bytes) {
         None => *verdict = Verdict::Skipped,
-        Some(line) => judge_line(request, line, printed, verdict),
+        Some(line) => judge_line(request, last, line, printed, verdict),
     }
 }
 
 /// Writes the verdict on a line that is not skipped.
 fn judge_line<'a>(
     request: &Request<'_>,
+    last: &mut Option<Instant>,
     line: &'a [u8],
     printed: &mut PrintedText,
     verdict: &mut Verdict<'a>,
@@ -59,13 +66,14 @@ fn judge_line<'a>(
                 reason: Reason::NoField,
             });
         }
-        Some(part) => judge_text(request, part, printed, verdict),
+        Some(part) => judge_text(request, last, part, printed, verdict),
     }
 }
 
 /// Writes the verdict on the text of a line.
 fn judge_text<'a>(
     request: &Request<'_>,
+    last: &mut Option<Instant>,
     part: Part<'a>,
     printed: &mut PrintedText,
     verdict: &mut Verdict<'a>,
@@ -73,22 +81,89 @@ fn judge_text<'a>(
     match request.task {
         Task::Check(kind) => match read(kind, request.profile, part.text) {
             Ok(()) => *verdict = Verdict::Accepted,
-            Err(error) => refuse(verdict, error, part),
+            Err(error) => refuse(verdict, kind.has_offset(), error, part),
         },
-        Task::Print => match read_to_print(part.text, printed) {
+        Task::Print(kind) => match read_to_print(kind, request.profile, part.text, printed) {
             Ok(()) => *verdict = Verdict::Printed,
-            Err(error) => refuse(verdict, error, part),
+            Err(error) => refuse(verdict, kind.has_offset(), error, part),
         },
+        Task::Order(kind) => judge_order(kind, last, part, verdict),
     }
 }
 
-/// Writes the verdict on a line whose text a reader refuses.
-fn refuse<'a>(verdict: &mut Verdict<'a>, error: LocatedError, part: Part<'a>) {
+/// Writes the verdict on a text that has to name an instant, which must not be before the last one. Keeps this instant.
+#[inline(never)]
+fn judge_order<'a>(
+    kind: InstantKind,
+    last: &mut Option<Instant>,
+    part: Part<'a>,
+    verdict: &mut Verdict<'a>,
+) {
+    judge_instant(kind, *last, part, verdict);
+    verdict.keep_instant(last);
+}
+
+/// Writes the verdict on a text that has to name an instant, which must not be before the last one.
+fn judge_instant<'a>(
+    kind: InstantKind,
+    last: Option<Instant>,
+    part: Part<'a>,
+    verdict: &mut Verdict<'a>,
+) {
+    match read_instant(kind, part.text) {
+        Ok(Some(instant)) => *verdict = order(instant, last, part),
+        Ok(None) => {
+            *verdict = Verdict::Refused(Refusal {
+                column: part.start + 1,
+                reason: Reason::NoInstant(part.text),
+            });
+        }
+        Err(error) => refuse(verdict, true, error, part),
+    }
+}
+
+/// Returns the verdict on a text that names this instant.
+fn order(instant: Instant, last: Option<Instant>, part: Part<'_>) -> Verdict<'_> {
+    match last {
+        Some(last) if instant < last => Verdict::Refused(Refusal {
+            column: part.start + 1,
+            reason: Reason::Early(Early {
+                instant,
+                text: part.text,
+            }),
+        }),
+        _ => Verdict::Timed(instant),
+    }
+}
+
+/// Writes the verdict on a line whose text a reader refuses. `has_offset` says whether an offset may follow the time of a text.
+fn refuse<'a>(verdict: &mut Verdict<'a>, has_offset: bool, error: LocatedError, part: Part<'a>) {
     *verdict = Verdict::Refused(Refusal {
         column: part.start + error.at + 1,
-        reason: Reason::Unread(Unread {
-            error,
-            text: part.text,
-        }),
+        reason: reason_of(
+            has_offset,
+            Unread {
+                error,
+                text: part.text,
+            },
+        ),
     });
+}
+
+/// Returns why a text is refused that a reader does not read.
+fn reason_of(has_offset: bool, unread: Unread<'_>) -> Reason<'_> {
+    if has_offset && is_spaced(&unread.text[unread.error.at..]) {
+        Reason::Spaced(unread)
+    } else {
+        Reason::Unread(unread)
+    }
+}
+
+/// Returns whether a space and an offset are at the beginning of the bytes.
+fn is_spaced(bytes: &[u8]) -> bool {
+    match bytes {
+        [b' ', b'Z' | b'z', ..] => true,
+        [b' ', b'+' | b'-', digit, ..] => digit.is_ascii_digit(),
+        _ => false,
+    }
 }

@@ -58,4 +58,48 @@ impl Kind {
             None
         }
     }
+
+    /// Returns whether an offset may follow the time of a text.
+    pub fn has_offset(self) -> bool {
+        match self {
+            Kind::DateTime | Kind::Time | Kind::Rfc3339 | Kind::Rfc9557 => true,
+            Kind::YearMonth
+            | Kind::MonthDay
+            | Kind::Offset
+            | Kind::Zone
+            | Kind::ZoneName
+            | Kind::Duration
+            | Kind::Iana => false,
+        }
+    }
+}
+
+/// The kinds whose texts can name an instant.
+#[derive(Clone, Copy, Debug, PartialEq)]
+pub enum InstantKind {
+    /// `date-time`: see `Kind::DateTime`.
+    DateTime,
+    /// `rfc3339`: see `Kind::Rfc3339`.
+    Rfc3339,
+    /// `rfc9557`: see `Kind::Rfc9557`.
+    Rfc9557,
+}
+
+impl InstantKind {
+    /// Returns the kind as one whose texts can name an instant. Returns `None` if none of its texts can.
+    pub fn of(kind: Kind) -> Option<InstantKind> {
+        match kind {
+            Kind::DateTime => Some(InstantKind::DateTime),
+            Kind::Rfc3339 => Some(InstantKind::Rfc3339),
+            Kind::Rfc9557 => Some(InstantKind::Rfc9557),
+            Kind::YearMonth
+            | Kind::MonthDay
+            | Kind::Time
+            | Kind::Offset
+            | Kind::Zone
+            | Kind::ZoneName
+            | Kind::Duration
+            | Kind::Iana => None,
+        }
+    }
 }

@@ -4,12 +4,15 @@
 mod arguments;
 mod checker;
 mod checking;
+mod column;
+mod instants;
 mod judge;
 mod kind;
 mod nearest;
 mod part;
 mod pointed;
 mod printed;
+mod printing;
 mod reading;
 mod report;
 mod request;
@@ -20,6 +23,7 @@ mod verdict;
 
 use arguments::{Options, Word, Wrong, meant_by};
 use checker::check;
+use column::column_named;
 use ixdtf_buffers::error::RunError;
 use request::Request;
 use status::status_of;
@@ -28,6 +32,7 @@ use std::fs::File;
 use std::io::{self, ErrorKind, Read, Write, stdin, stdout};
 use std::process::ExitCode;
 use tally::Tally;
+use verdict::LINE_LIMIT;
 
 const USAGE: &str = "\
 usage: ixdtf_check [OPTION..] [FILE..]
@@ -38,6 +43,7 @@ What is read:
                    time, offset, zone, zone-name or iana, duration, rfc3339, rfc9557
   --strict         stricter rules: a month-day does not have the day 00,
                    and a duration does not repeat a unit
+  --ordered        also the order: no instant may be before that of the line before
   ixdtf_check --kind rfc3339 times.txt
   ixdtf_check --kind=duration --strict durations.txt
 
@@ -49,8 +55,10 @@ Which lines are read:
 
 Which part of a line is read:
   --field N        field N of each line, counted from 1, and not the complete line
+  --field NAME     the field that has this name in the first line; needs --header
   --separator C    the byte between two fields; without this option, it is a tab
   ixdtf_check --field 3 --separator , table.csv
+  ixdtf_check --header --field time --separator , table.csv
 
 What is written:
   --canonical      the canonical text of each date-time that is accepted
@@ -124,9 +132,10 @@ fn main() -> ExitCode {
     }
     let mut output = standard_output();
     let mut outcome = Outcome { total: Tally::new(), has_failed: false, most_reports: u64::MAX, shows_refusals: false, is_closed: false, is_quiet: false };
+    let field_name = options.field_name().map(|it| it.in_word(&words[it.word]));
     for name in files {
         if !outcome.is_closed {
-            check_file(&options, name, &mut output, &mut outcome);
+            check_file(&options, field_name, name, &mut output, &mut outcome);
         }
     }
     let Tally { lines, refused, bytes } = outcome.total;
@@ -182,21 +191,62 @@ fn standard_output() -> Box<dyn Write> {
 }
 
 /// Checks the file of this name; `-` is standard input.
-fn check_file<W: Write>(options: &Options, name: &str, output: &mut W, outcome: &mut Outcome) {
+fn check_file<W: Write>(options: &Options, field_name: Option<&[u8]>, name: &str, output: &mut W, outcome: &mut Outcome) {
+    let Some(request) = options.request(name) else {
+        return;
+    };
     if name == "-" {
-        return check_reader(&mut stdin().lock(), options, name, output, outcome);
+        return check_reader(&mut stdin().lock(), options, field_name, request, output, outcome);
     }
     match File::open(name) {
-        Ok(mut file) => check_reader(&mut file, options, name, output, outcome),
+        Ok(mut file) => check_reader(&mut file, options, field_name, request, output, outcome),
         Err(error) => complain(name, error, outcome),
     }
 }
 
-/// Checks what the reader gives, under this name.
-fn check_reader<R: Read, W: Write>(reader: &mut R, options: &Options, name: &str, output: &mut W, outcome: &mut Outcome) {
-    let Some(mut request) = options.request(name) else {
-        return;
+/// Checks what the reader gives. If the field that is read has a name, the reader's first line says which field it is.
+fn check_reader<R: Read, W: Write>(
+    reader: &mut R,
+    options: &Options,
+    field_name: Option<&[u8]>,
+    mut request: Request<'_>,
+    output: &mut W,
+    outcome: &mut Outcome,
+) {
+    let Some(field_name) = field_name else {
+        return check_request(reader, request, output, outcome);
     };
+    let front = match front_of(reader) {
+        Ok(front) => front,
+        Err(error) => return complain(request.name, error, outcome),
+    };
+    let line = front.split(|byte| *byte == b'\n').next().unwrap_or(&front);
+    match column_named(options.field_after(0).separator, field_name, line) {
+        Ok(before) => {
+            request.field = Some(options.field_after(before));
+            check_request(&mut front.as_slice().chain(reader), request, output, outcome);
+        }
+        Err(error) => complain(request.name, error.message(), outcome),
+    }
+}
+
+/// The first line of what the reader gives, or its first bytes if it is too long, and perhaps some bytes behind it.
+fn front_of<R: Read>(reader: &mut R) -> io::Result<Vec<u8>> {
+    let mut front = vec![0; LINE_LIMIT];
+    let mut count = 0;
+    while count < front.len() && !front[..count].contains(&b'\n') {
+        match reader.read(&mut front[count..])? {
+            0 => break,
+            more => count += more,
+        }
+    }
+    front.truncate(count);
+    Ok(front)
+}
+
+/// Checks what the reader gives, as the request says.
+fn check_request<R: Read, W: Write>(reader: &mut R, mut request: Request<'_>, output: &mut W, outcome: &mut Outcome) {
+    let name = request.name;
     outcome.limit_reports(&mut request);
     let mut watched = Watched { inner: reader, error: None };
     let mut watched_output = Watched { inner: output, error: None };

@@ -3,7 +3,6 @@
 //! Reading a text.
 
 use crate::kind::Kind;
-use crate::printed::PrintedText;
 use ixdtf::LocatedError;
 use ixdtf::encoding::Utf8;
 use ixdtf::parsers::{IsoDurationParser, IxdtfParser, Profile, TimeZoneParser};
@@ -64,23 +63,11 @@ fn read_zone_name(text: &[u8]) -> Result<(), LocatedError> {
 }
 
 /// A parser of the text under the profile.
-fn parser(profile: Profile, text: &[u8]) -> IxdtfParser<'_, Utf8> {
+pub fn parser(profile: Profile, text: &[u8]) -> IxdtfParser<'_, Utf8> {
     IxdtfParser::from_utf8(text).with_profile(profile)
 }
 
 /// The same of a duration.
-fn duration_parser(profile: Profile, text: &[u8]) -> IsoDurationParser<'_, Utf8> {
+pub fn duration_parser(profile: Profile, text: &[u8]) -> IsoDurationParser<'_, Utf8> {
     IsoDurationParser::<Utf8>::from_utf8(text).with_profile(profile)
-}
-
-/// Reads the text as a date-time and prints its canonical text, or returns the error with its place.
-#[inline(always)]
-pub fn read_to_print(text: &[u8], printed: &mut PrintedText) -> Result<(), LocatedError> {
-    match IxdtfParser::from_utf8(text).parse_located() {
-        Ok(parts) => {
-            printed.print(&parts);
-            Ok(())
-        }
-        Err(error) => Err(error),
-    }
 }

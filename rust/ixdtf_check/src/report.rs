@@ -30,7 +30,7 @@ pub fn put_report<K: Sink>(
     verdict: &Verdict<'_>,
 ) -> Result<(), RunError> {
     match verdict {
-        Verdict::Accepted | Verdict::Skipped => Ok(()),
+        Verdict::Accepted | Verdict::Timed(_) | Verdict::Skipped => Ok(()),
         Verdict::Printed => put_printed(output, printed.as_line()),
         Verdict::Refused(refusal) => {
             if request.is_quiet || refusals > request.most_reports {
@@ -86,6 +86,18 @@ fn add_reason(room: &mut [u8; ROOM], at: usize, reason: &Reason<'_>) -> usize {
             let (message, location) = error_parts(unread.error.error);
             let lines = add_message(room, at, message, location);
             add_lines(room, lines, unread.text, unread.error.at)
+        }
+        Reason::Spaced(spaced) => {
+            let lines = add_message(room, at, "a space stands before the offset", "");
+            add_lines(room, lines, spaced.text, spaced.error.at)
+        }
+        Reason::NoInstant(text) => {
+            let lines = add_message(room, at, "no instant", "");
+            add_lines(room, lines, text, 0)
+        }
+        Reason::Early(early) => {
+            let lines = add_message(room, at, "earlier than the line before", "");
+            add_lines(room, lines, early.text, 0)
         }
     }
 }

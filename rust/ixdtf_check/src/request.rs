@@ -2,7 +2,7 @@
 
 //! What is asked of a check.
 
-use crate::kind::Kind;
+use crate::kind::{InstantKind, Kind};
 use ixdtf::parsers::Profile;
 
 /// What is done with each text.
@@ -10,8 +10,10 @@ use ixdtf::parsers::Profile;
 pub enum Task {
     /// It is read as one of this kind.
     Check(Kind),
-    /// It is read as a date-time, and its canonical text is written.
-    Print,
+    /// It is read as one of this kind, and its canonical text is written.
+    Print(Kind),
+    /// It is read as one of this kind. It has to name an instant, and this instant must not be before that of the line before.
+    Order(InstantKind),
 }
 
 /// Which field of a line is its text.

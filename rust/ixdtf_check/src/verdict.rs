@@ -2,7 +2,7 @@
 
 //! The verdict on a line.
 
-use ixdtf::LocatedError;
+use ixdtf::{Instant, LocatedError};
 
 /// The longest line that is read, in bytes.
 pub const LINE_LIMIT: usize = 65536;
@@ -12,6 +12,8 @@ pub const LINE_LIMIT: usize = 65536;
 pub enum Verdict<'a> {
     /// Its text is read.
     Accepted,
+    /// Its text is read, and names this instant, which is not before that of the line before.
+    Timed(Instant),
     /// Its text is read, and its canonical text is printed.
     Printed,
     /// It has no text, and is skipped.
@@ -38,6 +40,12 @@ pub enum Reason<'a> {
     NoField,
     /// Its text is not read.
     Unread(Unread<'a>),
+    /// Its text is not read, because a space stands before an offset.
+    Spaced(Unread<'a>),
+    /// This text is read, but does not name an instant.
+    NoInstant(&'a [u8]),
+    /// Its text names an instant before that of the line before.
+    Early(Early<'a>),
 }
 
 /// A text that is not read.
@@ -49,9 +57,41 @@ pub struct Unread<'a> {
     pub text: &'a [u8],
 }
 
+/// A text that names an instant before that of the line before.
+#[derive(Clone, Copy)]
+pub struct Early<'a> {
+    /// The instant.
+    pub instant: Instant,
+    /// The text.
+    pub text: &'a [u8],
+}
+
 impl Verdict<'_> {
     /// Whether the line is refused.
     pub fn is_refused(&self) -> bool {
         matches!(self, Verdict::Refused(_))
+    }
+
+    /// Keeps the instant of the text, if the text was read for it.
+    pub fn keep_instant(&self, last: &mut Option<Instant>) {
+        match self {
+            Verdict::Timed(instant) => *last = Some(*instant),
+            Verdict::Refused(refusal) => refusal.reason.keep_instant(last),
+            Verdict::Accepted | Verdict::Printed | Verdict::Skipped => {}
+        }
+    }
+}
+
+impl Reason<'_> {
+    /// Keeps the instant of the text, if the text was read for it.
+    fn keep_instant(&self, last: &mut Option<Instant>) {
+        match self {
+            Reason::Early(early) => *last = Some(early.instant),
+            Reason::TooLong
+            | Reason::NoField
+            | Reason::Unread(_)
+            | Reason::Spaced(_)
+            | Reason::NoInstant(_) => {}
+        }
     }
 }

@@ -2,6 +2,7 @@
 
 //! The fields of what a reader found, added to the text of an answer.
 
+use ixdtf::Instant;
 use ixdtf::encoding::Utf8;
 use ixdtf::records::{
     DateDurationRecord, DateRecord, DurationParseRecord, Fraction, FullPrecisionOffset,
@@ -136,6 +137,25 @@ fn add_zone_label(room: &mut [u8; ROOM], at: usize, critical: bool) -> usize {
         add_bytes(room, at, b" tz=!")
     } else {
         add_bytes(room, at, b" tz=")
+    }
+}
+
+/// Adds the seconds and the nanoseconds of an instant.
+pub fn add_instant(room: &mut [u8; ROOM], at: usize, instant: Instant) -> usize {
+    let seconds = add_bytes(room, at, b" seconds=");
+    let label = add_seconds(room, seconds, instant.seconds);
+    let nanoseconds = add_bytes(room, label, b" nanoseconds=");
+    add_number(room, nanoseconds, u64::from(instant.nanoseconds))
+}
+
+/// Adds a number of seconds, with a sign where it is below zero.
+fn add_seconds(room: &mut [u8; ROOM], at: usize, seconds: i64) -> usize {
+    let number = seconds.unsigned_abs();
+    if seconds < 0 {
+        let magnitude = add_byte(room, at, b'-');
+        add_number(room, magnitude, number)
+    } else {
+        add_number(room, at, number)
     }
 }
 

@@ -3,6 +3,7 @@
 
 mod answer;
 mod arguments;
+mod canonical;
 mod fields;
 mod outcome;
 mod readers;
@@ -43,8 +44,8 @@ fn standard_output() -> Box<dyn Write> {
 /// What a line of the input is, for whoever gave arguments in its place.
 const USAGE: &str = "usage: a line of standard input is a word, a space and a text, and the words are \
     parse, year-month, month-day, time, offset, zone, iana, duration, strict-month-day, \
-    strict-time, strict-duration, canonical, rfc3339, rfc9557, zone-name, canonical-offset, canonical-zone, \
-    canonical-duration";
+    strict-time, strict-duration, rfc3339, rfc9557, zone-name, instant, canonical, canonical-time, \
+    canonical-year-month, canonical-month-day, canonical-offset, canonical-zone, canonical-duration";
 
 fn failed(what: &str) -> ExitCode {
     eprintln!("ixdtf_lines: {what} failed");

@@ -3,7 +3,7 @@
 //! What is put for what a reader found, or for why it refuses a text.
 
 use crate::fields::{
-    add_date_field, add_duration, add_offset, add_offset_field, add_time_field,
+    add_date_field, add_duration, add_instant, add_offset, add_offset_field, add_time_field,
     add_zone_field_front, add_zone_front,
 };
 use ixdtf::ParseError;
@@ -15,7 +15,7 @@ use ixdtf_buffers::adding::{ROOM, add_byte, add_bytes};
 use ixdtf_buffers::error::RunError;
 use ixdtf_buffers::output::Output;
 use ixdtf_buffers::sink::Sink;
-use ixdtf_print::{PrintedText, error_parts};
+use ixdtf_print::error_parts;
 
 /// Puts each field that the record has.
 pub fn put_record<K: Sink>(
@@ -120,53 +120,19 @@ pub fn put_duration<K: Sink>(
     output.put(&room[..end])
 }
 
-/// Prints the canonical text of the record, and puts it.
-pub fn put_canonical<K: Sink, const SIZE: usize>(
+/// Puts the instant of a record that `parse` returned, or that it has none.
+pub fn put_instant<K: Sink>(
     output: &mut Output<'_, K>,
-    printed: &mut PrintedText<SIZE>,
     parts: &IxdtfParseRecord<'_, Utf8>,
 ) -> Result<(), RunError> {
-    printed.print(parts);
-    put_printed(output, printed)
-}
-
-/// Prints the canonical text of the offset, and puts it.
-pub fn put_canonical_offset<K: Sink, const SIZE: usize>(
-    output: &mut Output<'_, K>,
-    printed: &mut PrintedText<SIZE>,
-    offset: &UtcOffsetRecord,
-) -> Result<(), RunError> {
-    printed.print_offset(offset);
-    put_printed(output, printed)
-}
-
-/// Prints the canonical text of the zone, and puts it.
-pub fn put_canonical_zone<K: Sink, const SIZE: usize>(
-    output: &mut Output<'_, K>,
-    printed: &mut PrintedText<SIZE>,
-    zone: &TimeZoneRecord<'_, Utf8>,
-) -> Result<(), RunError> {
-    printed.print_zone(zone);
-    put_printed(output, printed)
-}
-
-/// Prints the canonical text of the duration, and puts it.
-pub fn put_canonical_duration<K: Sink, const SIZE: usize>(
-    output: &mut Output<'_, K>,
-    printed: &mut PrintedText<SIZE>,
-    duration: &DurationParseRecord,
-) -> Result<(), RunError> {
-    printed.print_duration(duration);
-    put_printed(output, printed)
-}
-
-/// Puts a canonical text that was printed.
-fn put_printed<K: Sink, const SIZE: usize>(
-    output: &mut Output<'_, K>,
-    printed: &PrintedText<SIZE>,
-) -> Result<(), RunError> {
-    output.put(b"ok ")?;
-    output.put(printed.as_line())
+    let Some(instant) = parts.instant() else {
+        return output.put(b"error no instant\n");
+    };
+    let mut room = [0; ROOM];
+    let field = add_bytes(&mut room, 0, b"ok");
+    let front = add_instant(&mut room, field, instant);
+    let end = add_byte(&mut room, front, b'\n');
+    output.put(&room[..end])
 }
 
 /// Puts the answer to a text that is refused, and a newline.

@@ -41,6 +41,14 @@ pub enum Word {
     CanonicalZone,
     /// `canonical-duration`: as `duration`, to be printed as its canonical text.
     CanonicalDuration,
+    /// `instant`: as `parse`, to be answered by the instant of the record.
+    Instant,
+    /// `canonical-time`: as `time`, to be printed as its canonical text.
+    CanonicalTime,
+    /// `canonical-year-month`: as `year-month`, to be printed as its canonical text.
+    CanonicalYearMonth,
+    /// `canonical-month-day`: as `month-day`, to be printed as its canonical text.
+    CanonicalMonthDay,
 }
 
 impl Word {
@@ -82,6 +90,14 @@ impl Word {
             Some(Word::CanonicalZone)
         } else if name == b"canonical-duration".as_slice() {
             Some(Word::CanonicalDuration)
+        } else if name == b"instant".as_slice() {
+            Some(Word::Instant)
+        } else if name == b"canonical-time".as_slice() {
+            Some(Word::CanonicalTime)
+        } else if name == b"canonical-year-month".as_slice() {
+            Some(Word::CanonicalYearMonth)
+        } else if name == b"canonical-month-day".as_slice() {
+            Some(Word::CanonicalMonthDay)
         } else {
             None
         }

@@ -1,17 +1,100 @@
 // Made by tools/to_rust.py of crates/ixdtf_print/src/canonical.rt. Do not edit.
 
-//! A record that is displayed as its canonical text.
+//! Date-times printed as their canonical texts.
 
-use crate::check::is_printable;
-use crate::fields::{opening_of, put_core, put_minute_offset};
-use crate::length::core_length;
+use crate::check::is_spelled;
+use crate::error::PrintError;
+use crate::fields::put_core;
+use crate::length::{core_length, has_plenty};
+use crate::text::{CanonicalText, Tail};
 use ixdtf::encoding::Utf8;
-use ixdtf::records::{IxdtfParseRecord, MinutePrecisionOffset, TimeZoneAnnotation, TimeZoneRecord};
+use ixdtf::records::IxdtfParseRecord;
 use core::fmt;
 
-/// The greatest number of bytes of a date, a time and an offset. A date has at most 13 bytes. A time and an offset have
-/// at most 265 bytes each, with a fraction of 255 digits.
-const MOST_OF_CORE: usize = 543;
+/// Writes the canonical text of the record to the beginning of the slice, such as `2024-03-02T08:48:00Z[u-ca=hebrew]`.
+///
+/// The canonical text has these parts, if the record has them: the date; the time, with its seconds; the offset, with
+/// or without seconds as it was written; the zone, with its `!`; and the calendar. Some parts of a parsed text are not
+/// in the record, and so not in the canonical text: the `!` of a calendar, and all other annotations. Digits of a
+/// fraction after the first 18 are written as zeros.
+///
+/// A record of a year and a month has the first day of the month, and a record of a month and a day has the year 0.
+/// Their canonical texts are these dates. A record of `parse_time` has no date, and no canonical text. To write what
+/// these readers read, call [`print_year_month`](crate::print_year_month), [`print_month_day`](crate::print_month_day)
+/// and [`print_time`](crate::print_time).
+///
+/// Returns the number of bytes that were written.
+///
+/// # Examples
+///
+/// ```rust
+/// use ixdtf::parsers::IxdtfParser;
+/// use ixdtf_print::{PrintError, print};
+///
+/// let record = IxdtfParser::from_str("20240302 084800z[!u-ca=hebrew][a=b]").parse().unwrap();
+/// let mut out = [0; 64];
+/// let count = print(&record, &mut out).unwrap();
+/// assert_eq!(&out[..count], b"2024-03-02T08:48:00Z[u-ca=hebrew]");
+/// assert_eq!(print(&record, &mut [0; 8]), Err(PrintError::TooShort));
+///
+/// let record = IxdtfParser::from_str("2020-11").parse_year_month().unwrap();
+/// let count = print(&record, &mut out).unwrap();
+/// assert_eq!(&out[..count], b"2020-11-01");
+/// let record = IxdtfParser::from_str("11-07").parse_month_day().unwrap();
+/// let count = print(&record, &mut out).unwrap();
+/// assert_eq!(&out[..count], b"0000-11-07");
+/// let record = IxdtfParser::from_str("T12:00").parse_time().unwrap();
+/// assert_eq!(print(&record, &mut out), Err(PrintError::NotPrintable));
+/// ```
+///
+/// # Errors
+///
+/// After an error, the slice is unchanged.
+///
+/// - [`PrintError::NotPrintable`]: the record has no canonical text.
+/// - [`PrintError::TooShort`]: the slice is shorter than the canonical text.
+pub fn print(parsed: &IxdtfParseRecord<'_, Utf8>, out: &mut [u8]) -> Result<usize, PrintError> {
+    Canonical { parsed }.print(out)
+}
+
+/// Writes the canonical text of the record to the beginning of a slice that is long enough, like [`print`]. Returns the
+/// number of bytes.
+///
+/// It tests neither the record nor the length of the slice. A caller that has just parsed the record from a text knows
+/// that both are right.
+// For crates of this repository, and no part of the interface.
+#[doc(hidden)]
+pub fn print_with_room(parsed: &IxdtfParseRecord<'_, Utf8>, room: &mut [u8]) -> usize {
+    Canonical { parsed }.put_in_room(room)
+}
+
+/// Returns the number of bytes of the canonical text of the record.
+///
+/// A slice of this length is long enough for [`print`](crate::print). Returns `None` if the record has no canonical
+/// text, or if its text is longer than any slice.
+///
+/// # Examples
+///
+/// ```rust
+/// use ixdtf::parsers::IxdtfParser;
+/// use ixdtf_print::{print, printed_length};
+///
+/// let record = IxdtfParser::from_str("20240302 084800z[u-ca=hebrew]").parse().unwrap();
+/// let length = printed_length(&record).unwrap();
+/// let mut out = vec![0; length];
+/// assert_eq!(print(&record, &mut out), Ok(length));
+/// ```
+#[must_use]
+pub fn printed_length(parsed: &IxdtfParseRecord<'_, Utf8>) -> Option<usize> {
+    Canonical { parsed }.printed_length()
+}
+
+/// Returns the number of bytes of the canonical text of the record.
+// For crates of this repository, and no part of the interface.
+#[doc(hidden)]
+pub fn length_of(parsed: &IxdtfParseRecord<'_, Utf8>) -> u128 {
+    Canonical { parsed }.length()
+}
 
 /// A record that `Display` writes as its canonical text, such as `2024-03-02T08:48:00Z[u-ca=hebrew]`.
 ///
@@ -30,7 +113,7 @@ const MOST_OF_CORE: usize = 543;
 /// ```
 #[derive(Clone, Copy, Debug)]
 pub struct Canonical<'a> {
-    parsed: &'a IxdtfParseRecord<'a, Utf8>,
+    pub(crate) parsed: &'a IxdtfParseRecord<'a, Utf8>,
 }
 
 impl<'a> Canonical<'a> {
@@ -40,112 +123,35 @@ impl<'a> Canonical<'a> {
     /// text.
     #[must_use]
     pub fn of(parsed: &'a IxdtfParseRecord<'a, Utf8>) -> Option<Canonical<'a>> {
-        if !is_printable(parsed) {
-            return None;
-        }
-        Some(Canonical { parsed })
+        Canonical { parsed }.checked()
+    }
+}
+
+impl<'a> CanonicalText for Canonical<'a> {
+    fn is_printable(self) -> bool {
+        is_spelled(self.parsed)
+    }
+
+    fn core_length(self) -> u16 {
+        core_length(self.parsed)
+    }
+
+    fn put_core(self, out: &mut [u8]) -> usize {
+        put_core(out, 0, self.parsed)
+    }
+
+    fn tail(&self) -> Tail<'_> {
+        Tail::Brackets(self.parsed)
+    }
+
+    fn is_too_short(self, room: usize) -> bool {
+        !has_plenty(self.parsed, room) && (room as u128) < self.length()
     }
 }
 
 // `Display` ignores width and fill.
 impl<'a> fmt::Display for Canonical<'a> {
     fn fmt(&self, f: &mut fmt::Formatter<'_>) -> fmt::Result {
-        let parsed = self.parsed;
-        write_core(f, parsed)?;
-        write_brackets(f, parsed)
+        self.write(f)
     }
-}
-
-/// Writes the two brackets.
-pub fn write_brackets(
-    f: &mut fmt::Formatter<'_>,
-    parsed: &IxdtfParseRecord<'_, Utf8>,
-) -> fmt::Result {
-    write_bracket(f, &parsed.tz)?;
-    write_calendar(f, parsed.calendar)
-}
-
-/// Writes the date, the time and the offset.
-fn write_core(
-    f: &mut fmt::Formatter<'_>,
-    parsed: &IxdtfParseRecord<'_, Utf8>,
-) -> fmt::Result {
-    let count = usize::from(core_length(parsed));
-    let mut bytes = [0; MOST_OF_CORE];
-    put_core(&mut bytes, 0, parsed);
-    write_bytes(f, front_of(&bytes, count))
-}
-
-/// The first bytes, so many.
-#[must_use]
-pub fn front_of(bytes: &[u8], count: usize) -> &[u8] {
-    // `bytes` always has `count` bytes, as the proof shows. The compiler does not know the proof: because of this test,
-    // it compiles no code for a panic.
-    match bytes.get(..count) {
-        Some(front) => front,
-        None => bytes,
-    }
-}
-
-/// Writes the zone in its bracket, if there is a zone.
-fn write_bracket(
-    f: &mut fmt::Formatter<'_>,
-    note: &Option<TimeZoneAnnotation<'_, Utf8>>,
-) -> fmt::Result {
-    match note {
-        None => Ok(()),
-        Some(note) => {
-            write_bytes(f, opening_of(note.critical))?;
-            write_zone(f, &note.tz)?;
-            f.write_str("]")
-        }
-    }
-}
-
-/// Writes the zone.
-pub fn write_zone(
-    f: &mut fmt::Formatter<'_>,
-    zone: &TimeZoneRecord<'_, Utf8>,
-) -> fmt::Result {
-    match zone {
-        TimeZoneRecord::Name(name) => write_bytes(f, name),
-        TimeZoneRecord::Offset(offset) => write_minute_offset(f, *offset),
-        _ => unreachable!(),
-    }
-}
-
-/// Writes an offset with hours and minutes.
-fn write_minute_offset(
-    f: &mut fmt::Formatter<'_>,
-    offset: MinutePrecisionOffset,
-) -> fmt::Result {
-    let mut bytes = [0; 6];
-    put_minute_offset(&mut bytes, 0, offset);
-    write_bytes(f, &bytes)
-}
-
-/// Writes the calendar in its bracket, if there is a calendar.
-fn write_calendar(f: &mut fmt::Formatter<'_>, calendar: Option<&[u8]>) -> fmt::Result {
-    match calendar {
-        None => Ok(()),
-        Some(value) => {
-            f.write_str("[u-ca=")?;
-            write_bytes(f, value)?;
-            f.write_str("]")
-        }
-    }
-}
-
-/// Writes each byte as the character of its number. Of a record that has a text they are ASCII.
-pub fn write_bytes(f: &mut fmt::Formatter<'_>, bytes: &[u8]) -> fmt::Result {
-    for byte in bytes {
-        write_byte(f, *byte)?;
-    }
-    Ok(())
-}
-
-/// Writes the byte as the character with its number.
-fn write_byte(f: &mut fmt::Formatter<'_>, byte: u8) -> fmt::Result {
-    let mut bytes = [0; 4];
-    f.write_str(char::from(byte).encode_utf8(&mut bytes))
 }

@@ -129,13 +129,7 @@ pub fn has_brackets(parsed: &IxdtfParseRecord<'_, Utf8>) -> bool {
     has_zone(&parsed.tz) && has_calendar(parsed.calendar)
 }
 
-/// Returns whether `parse` returns this record for some text.
-#[inline(always)]
-pub fn is_printable(parsed: &IxdtfParseRecord<'_, Utf8>) -> bool {
-    is_spelled(parsed)
-}
-
 /// Returns whether there is a date, and each field has a text.
-fn is_spelled(parsed: &IxdtfParseRecord<'_, Utf8>) -> bool {
+pub fn is_spelled(parsed: &IxdtfParseRecord<'_, Utf8>) -> bool {
     has_day(parsed.date) && has_time(parsed.time, parsed.offset) && has_brackets(parsed)
 }

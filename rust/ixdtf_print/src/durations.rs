@@ -2,12 +2,12 @@
 
 //! Durations printed as their canonical texts.
 
-use crate::canonical::{front_of, write_bytes};
 use crate::digits::put_fraction;
 use crate::error::PrintError;
 use crate::length::fraction_length;
 use crate::numbers::{digit_count, put_number};
 use crate::put::{put, put_byte};
+use crate::text::{CanonicalText, Tail};
 use ixdtf::records::{DateDurationRecord, DurationParseRecord, Fraction, Sign, TimeDurationRecord};
 use core::fmt;
 
@@ -43,13 +43,39 @@ const MOST_OF_DURATION: usize = 406;
 ///
 /// After an error the slice is unchanged.
 pub fn print_duration(duration: &DurationParseRecord, out: &mut [u8]) -> Result<usize, PrintError> {
-    if !is_duration(duration) {
-        return Err(PrintError::NotPrintable);
-    }
-    if is_too_short(duration, out.len()) {
-        return Err(PrintError::TooShort);
-    }
-    Ok(put_duration(out, duration))
+    CanonicalDuration { duration }.print(out)
+}
+
+/// Writes the canonical text of a duration as 16-bit code units, like [`print_duration`](crate::print_duration).
+///
+/// Each code unit is the number of an ASCII character, so [`IsoDurationParser::from_utf16`](ixdtf::parsers::IsoDurationParser::from_utf16)
+/// reads the text. The number of code units is the number of bytes that `print_duration` writes.
+///
+/// # Examples
+///
+/// ```rust
+/// use ixdtf::parsers::IsoDurationParser;
+/// use ixdtf_print::{PrintError, print_duration_utf16};
+///
+/// let text: Vec<u16> = "+p1y0m03dt04,50m".encode_utf16().collect();
+/// let duration = IsoDurationParser::from_utf16(&text).parse().unwrap();
+/// let mut out = [0; 64];
+/// let count = print_duration_utf16(&duration, &mut out).unwrap();
+/// assert_eq!(String::from_utf16(&out[..count]).unwrap(), "P1Y3DT4.50M");
+/// assert_eq!(print_duration_utf16(&duration, &mut [0; 3]), Err(PrintError::TooShort));
+/// ```
+///
+/// # Errors
+///
+/// After an error, the slice is unchanged.
+///
+/// - [`PrintError::NotPrintable`]: the duration has neither a date nor a time, so no text stands for it.
+/// - [`PrintError::TooShort`]: the slice is shorter than the canonical text.
+pub fn print_duration_utf16(
+    duration: &DurationParseRecord,
+    out: &mut [u16],
+) -> Result<usize, PrintError> {
+    CanonicalDuration { duration }.print_utf16(out)
 }
 
 /// Returns the number of bytes of the canonical text of a duration. A slice of this length is long enough for
@@ -63,32 +89,13 @@ pub fn print_duration(duration: &DurationParseRecord, out: &mut [u8]) -> Result<
 /// assert_eq!(duration_length(&duration), Some("PT1H30.5M".len()));
 /// ```
 pub fn duration_length(duration: &DurationParseRecord) -> Option<usize> {
-    if !is_duration(duration) {
-        return None;
-    }
-    Some(usize::from(length_of_duration(duration)))
-}
-
-/// Whether a text stands for the duration: it has a date or a time.
-#[inline(always)]
-fn is_duration(duration: &DurationParseRecord) -> bool {
-    has_part(duration.date, duration.time)
+    CanonicalDuration { duration }.printed_length()
 }
 
 /// Whether there is a date or a time. Any numbers fit.
 #[inline(always)]
 fn has_part(date: Option<DateDurationRecord>, time: Option<TimeDurationRecord>) -> bool {
     date.is_some() || time.is_some()
-}
-
-/// Whether so many bytes are too few for the canonical text of a duration that has one. The text is counted only where they
-/// could be.
-#[inline(always)]
-fn is_too_short(duration: &DurationParseRecord, room: usize) -> bool {
-    if room >= MOST_OF_DURATION {
-        return false;
-    }
-    room < usize::from(length_of_duration(duration))
 }
 
 /// A duration whose `Display` writes its canonical text, as [`print_duration`](crate::print_duration) does. It does not
@@ -103,26 +110,45 @@ fn is_too_short(duration: &DurationParseRecord, room: usize) -> bool {
 /// ```
 #[derive(Clone, Copy, Debug)]
 pub struct CanonicalDuration<'a> {
-    duration: &'a DurationParseRecord,
+    pub(crate) duration: &'a DurationParseRecord,
 }
 
 impl<'a> CanonicalDuration<'a> {
     /// Returns the duration to display. Returns `None` if no text stands for it: it has neither a date nor a time.
     pub fn of(duration: &'a DurationParseRecord) -> Option<CanonicalDuration<'a>> {
-        if !is_duration(duration) {
-            return None;
+        CanonicalDuration { duration }.checked()
+    }
+}
+
+impl<'a> CanonicalText for CanonicalDuration<'a> {
+    fn is_printable(self) -> bool {
+        has_part(self.duration.date, self.duration.time)
+    }
+
+    fn core_length(self) -> u16 {
+        length_of_duration(self.duration)
+    }
+
+    fn put_core(self, out: &mut [u8]) -> usize {
+        put_duration(out, self.duration)
+    }
+
+    fn tail(&self) -> Tail<'_> {
+        Tail::Nothing
+    }
+
+    fn is_too_short(self, room: usize) -> bool {
+        if room >= MOST_OF_DURATION {
+            return false;
         }
-        Some(CanonicalDuration { duration })
+        room < usize::from(length_of_duration(self.duration))
     }
 }
 
 // Display heeds no width and no fill.
 impl<'a> fmt::Display for CanonicalDuration<'a> {
     fn fmt(&self, f: &mut fmt::Formatter<'_>) -> fmt::Result {
-        let count = usize::from(length_of_duration(self.duration));
-        let mut bytes = [0; MOST_OF_DURATION];
-        put_duration(&mut bytes, self.duration);
-        write_bytes(f, front_of(&bytes, count))
+        self.write(f)
     }
 }
 

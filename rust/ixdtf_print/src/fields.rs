@@ -231,9 +231,3 @@ pub fn put_core(out: &mut [u8], at: usize, parsed: &IxdtfParseRecord<'_, Utf8>) 
     let after_time = put_time(out, after_date, parsed.time);
     put_offset(out, after_time, parsed.offset)
 }
-
-/// Writes the record at the beginning of the slice. Returns the index after it.
-pub fn put_record(out: &mut [u8], parsed: &IxdtfParseRecord<'_, Utf8>) -> usize {
-    let after_core = put_core(out, 0, parsed);
-    put_brackets(out, after_core, parsed)
-}

@@ -2,7 +2,6 @@
 
 //! The length of the canonical text of a record.
 
-use crate::check::is_printable;
 use ixdtf::encoding::Utf8;
 use ixdtf::records::{
     DateRecord, Fraction, IxdtfParseRecord, TimeRecord, TimeZoneAnnotation, TimeZoneRecord,
@@ -107,12 +106,6 @@ pub fn core_length(parsed: &IxdtfParseRecord<'_, Utf8>) -> u16 {
     date_length(parsed.date) + time_length(parsed.time) + shift_length(parsed.offset)
 }
 
-/// Returns the number of bytes of the canonical text of the record.
-#[must_use]
-pub fn length_of(parsed: &IxdtfParseRecord<'_, Utf8>) -> u128 {
-    u128::from(core_length(parsed)) + brackets_length(parsed)
-}
-
 /// Tests quickly whether the canonical text of a record that has one fits into `room` bytes.
 ///
 /// `true` means that it fits. `false` means that the length must be counted: the text may fit or not. The result is
@@ -154,28 +147,4 @@ fn is_short_calendar(calendar: Option<&[u8]>, most: usize) -> bool {
         None => true,
         Some(value) => value.len() <= most,
     }
-}
-
-/// Returns the number of bytes of the canonical text of the record.
-///
-/// A slice of this length is long enough for [`print`](crate::print). Returns `None` if the record has no canonical
-/// text, or if its text is longer than any slice.
-///
-/// # Examples
-///
-/// ```rust
-/// use ixdtf::parsers::IxdtfParser;
-/// use ixdtf_print::{print, printed_length};
-///
-/// let record = IxdtfParser::from_str("20240302 084800z[u-ca=hebrew]").parse().unwrap();
-/// let length = printed_length(&record).unwrap();
-/// let mut out = vec![0; length];
-/// assert_eq!(print(&record, &mut out), Ok(length));
-/// ```
-#[must_use]
-pub fn printed_length(parsed: &IxdtfParseRecord<'_, Utf8>) -> Option<usize> {
-    if !is_printable(parsed) {
-        return None;
-    }
-    usize::try_from(length_of(parsed)).ok()
 }

@@ -17,95 +17,30 @@ mod numbers;
 mod offsets;
 mod printed;
 mod put;
+mod text;
 mod times;
+mod wide;
+mod written;
 mod year_months;
 mod zones;
 
-pub use canonical::Canonical;
-use check::is_printable;
+pub use canonical::{Canonical, print, printed_length};
+// For crates of this repository, and no part of the interface.
+#[doc(hidden)]
+pub use canonical::{length_of, print_with_room};
 // For crates of this repository, and no part of the interface.
 #[doc(hidden)]
 pub use digits::put_digits;
-pub use durations::{CanonicalDuration, duration_length, print_duration};
+pub use durations::{CanonicalDuration, duration_length, print_duration, print_duration_utf16};
 pub use error::PrintError;
-use fields::put_record;
-use ixdtf::encoding::Utf8;
-use ixdtf::records::IxdtfParseRecord;
-use length::has_plenty;
-// For crates of this repository, and no part of the interface.
-#[doc(hidden)]
-pub use length::length_of;
-pub use length::printed_length;
 // For crates of this repository, and no part of the interface.
 #[doc(hidden)]
 pub use message::error_parts;
 pub use month_days::{CanonicalMonthDay, month_day_length, print_month_day};
-pub use offsets::{CanonicalOffset, offset_length, print_offset};
+pub use offsets::{CanonicalOffset, offset_length, print_offset, print_offset_utf16};
 // For crates of this repository, and no part of the interface.
 #[doc(hidden)]
 pub use printed::PrintedText;
 pub use times::{CanonicalTime, print_time, time_length};
 pub use year_months::{CanonicalYearMonth, print_year_month, year_month_length};
 pub use zones::{CanonicalZone, print_zone, zone_length};
-
-/// Writes the canonical text of the record to the beginning of the slice, such as `2024-03-02T08:48:00Z[u-ca=hebrew]`.
-///
-/// The canonical text has these parts, if the record has them: the date; the time, with its seconds; the offset, with
-/// or without seconds as it was written; the zone, with its `!`; and the calendar. Some parts of a parsed text are not
-/// in the record, and so not in the canonical text: the `!` of a calendar, and all other annotations. Digits of a
-/// fraction after the first 18 are written as zeros.
-///
-/// A record of a year and a month has the first day of the month, and a record of a month and a day has the year 0.
-/// Their canonical texts are these dates. A record of `parse_time` has no date, and no canonical text. To write what
-/// these readers read, call [`print_year_month`], [`print_month_day`] and [`print_time`].
-///
-/// Returns the number of bytes that were written.
-///
-/// # Examples
-///
-/// ```rust
-/// use ixdtf::parsers::IxdtfParser;
-/// use ixdtf_print::{PrintError, print};
-///
-/// let record = IxdtfParser::from_str("20240302 084800z[!u-ca=hebrew][a=b]").parse().unwrap();
-/// let mut out = [0; 64];
-/// let count = print(&record, &mut out).unwrap();
-/// assert_eq!(&out[..count], b"2024-03-02T08:48:00Z[u-ca=hebrew]");
-/// assert_eq!(print(&record, &mut [0; 8]), Err(PrintError::TooShort));
-///
-/// let record = IxdtfParser::from_str("2020-11").parse_year_month().unwrap();
-/// let count = print(&record, &mut out).unwrap();
-/// assert_eq!(&out[..count], b"2020-11-01");
-/// let record = IxdtfParser::from_str("11-07").parse_month_day().unwrap();
-/// let count = print(&record, &mut out).unwrap();
-/// assert_eq!(&out[..count], b"0000-11-07");
-/// let record = IxdtfParser::from_str("T12:00").parse_time().unwrap();
-/// assert_eq!(print(&record, &mut out), Err(PrintError::NotPrintable));
-/// ```
-///
-/// # Errors
-///
-/// After an error, the slice is unchanged.
-///
-/// - [`PrintError::NotPrintable`]: the record has no canonical text.
-/// - [`PrintError::TooShort`]: the slice is shorter than the canonical text.
-pub fn print(parsed: &IxdtfParseRecord<'_, Utf8>, out: &mut [u8]) -> Result<usize, PrintError> {
-    if !is_printable(parsed) {
-        return Err(PrintError::NotPrintable);
-    }
-    if !has_plenty(parsed, out.len()) && (out.len() as u128) < length_of(parsed) {
-        return Err(PrintError::TooShort);
-    }
-    Ok(put_record(out, parsed))
-}
-
-/// Writes the canonical text of the record to the beginning of a slice that is long enough, like [`print`]. Returns the
-/// number of bytes.
-///
-/// It tests neither the record nor the length of the slice. A caller that has just parsed the record from a text knows
-/// that both are right.
-// For crates of this repository, and no part of the interface.
-#[doc(hidden)]
-pub fn print_with_room(parsed: &IxdtfParseRecord<'_, Utf8>, room: &mut [u8]) -> usize {
-    put_record(room, parsed)
-}

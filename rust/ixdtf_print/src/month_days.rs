@@ -2,20 +2,15 @@
 
 //! Months and days printed as their canonical texts.
 
-use crate::canonical::{front_of, write_brackets, write_bytes};
 use crate::check::has_brackets;
 use crate::digits::put_two;
 use crate::error::PrintError;
-use crate::fields::put_brackets;
-use crate::length::brackets_length;
 use crate::put::put_byte;
+use crate::text::{CanonicalText, Tail};
 use ixdtf::encoding::Utf8;
 use ixdtf::parsers::days_in_month;
 use ixdtf::records::{DateRecord, IxdtfParseRecord, TimeRecord, UtcOffsetRecordOrZ};
 use core::fmt;
-
-/// The number of bytes of a month and a day.
-const MOST_OF_DAY: usize = 5;
 
 /// Writes the canonical text of a month and a day to the beginning of the slice, such as `11-07[u-ca=hebrew]`.
 ///
@@ -61,13 +56,7 @@ pub fn print_month_day(
     parsed: &IxdtfParseRecord<'_, Utf8>,
     out: &mut [u8],
 ) -> Result<usize, PrintError> {
-    if !is_month_day(parsed) {
-        return Err(PrintError::NotPrintable);
-    }
-    if (out.len() as u128) < length_of_month_day(parsed) {
-        return Err(PrintError::TooShort);
-    }
-    Ok(put_month_day(out, parsed))
+    CanonicalMonthDay { parsed }.print(out)
 }
 
 /// Returns the number of bytes of the canonical text of a month and a day.
@@ -85,10 +74,7 @@ pub fn print_month_day(
 /// assert_eq!(month_day_length(&record), Some("11-07[u-ca=hebrew]".len()));
 /// ```
 pub fn month_day_length(parsed: &IxdtfParseRecord<'_, Utf8>) -> Option<usize> {
-    if !is_month_day(parsed) {
-        return None;
-    }
-    usize::try_from(length_of_month_day(parsed)).ok()
+    CanonicalMonthDay { parsed }.printed_length()
 }
 
 /// A record of a month and a day that `Display` writes as its canonical text, such as `11-07[u-ca=hebrew]`.
@@ -107,41 +93,39 @@ pub fn month_day_length(parsed: &IxdtfParseRecord<'_, Utf8>) -> Option<usize> {
 /// ```
 #[derive(Clone, Copy, Debug)]
 pub struct CanonicalMonthDay<'a> {
-    parsed: &'a IxdtfParseRecord<'a, Utf8>,
+    pub(crate) parsed: &'a IxdtfParseRecord<'a, Utf8>,
 }
 
 impl<'a> CanonicalMonthDay<'a> {
     /// Creates a value that displays the record. Returns `None` if the record has no canonical text as a month and a day.
     pub fn of(parsed: &'a IxdtfParseRecord<'a, Utf8>) -> Option<CanonicalMonthDay<'a>> {
-        if !is_month_day(parsed) {
-            return None;
-        }
-        Some(CanonicalMonthDay { parsed })
+        CanonicalMonthDay { parsed }.checked()
+    }
+}
+
+impl<'a> CanonicalText for CanonicalMonthDay<'a> {
+    fn is_printable(self) -> bool {
+        is_spelled(self.parsed)
+    }
+
+    fn core_length(self) -> u16 {
+        optional_day_length(self.parsed.date)
+    }
+
+    fn put_core(self, out: &mut [u8]) -> usize {
+        put_optional_day(out, 0, self.parsed.date)
+    }
+
+    fn tail(&self) -> Tail<'_> {
+        Tail::Brackets(self.parsed)
     }
 }
 
 // `Display` ignores width and fill.
 impl<'a> fmt::Display for CanonicalMonthDay<'a> {
     fn fmt(&self, f: &mut fmt::Formatter<'_>) -> fmt::Result {
-        write_core(f, self.parsed)?;
-        write_brackets(f, self.parsed)
+        self.write(f)
     }
-}
-
-/// Writes what comes before the brackets.
-fn write_core(
-    f: &mut fmt::Formatter<'_>,
-    parsed: &IxdtfParseRecord<'_, Utf8>,
-) -> fmt::Result {
-    let count = usize::from(optional_day_length(parsed.date));
-    let mut bytes = [0; MOST_OF_DAY];
-    put_optional_day(&mut bytes, 0, parsed.date);
-    write_bytes(f, front_of(&bytes, count))
-}
-
-/// Returns whether `parse_month_day` returns this record for some text.
-fn is_month_day(parsed: &IxdtfParseRecord<'_, Utf8>) -> bool {
-    is_spelled(parsed)
 }
 
 /// Returns whether each field has a text, and the record has the fields of a month and a day.
@@ -181,11 +165,6 @@ fn optional_day_length(date: Option<DateRecord>) -> u16 {
     }
 }
 
-/// Returns the number of bytes of the canonical text.
-fn length_of_month_day(parsed: &IxdtfParseRecord<'_, Utf8>) -> u128 {
-    u128::from(optional_day_length(parsed.date)) + brackets_length(parsed)
-}
-
 // ---- bytes
 
 /// Writes the month and the day at index `at`, if there is a date. Returns the index after them.
@@ -201,10 +180,4 @@ fn put_day(out: &mut [u8], at: usize, date: DateRecord) -> usize {
     let hyphen = put_two(out, at, date.month);
     let day = put_byte(out, hyphen, b'-');
     put_two(out, day, date.day)
-}
-
-/// Writes the record at the beginning of the slice. Returns the index after it.
-fn put_month_day(out: &mut [u8], parsed: &IxdtfParseRecord<'_, Utf8>) -> usize {
-    let after_core = put_optional_day(out, 0, parsed.date);
-    put_brackets(out, after_core, parsed)
 }

@@ -2,16 +2,13 @@
 
 //! Offsets printed as their canonical texts.
 
-use crate::canonical::{front_of, write_bytes};
 use crate::check::is_shift;
 use crate::error::PrintError;
 use crate::fields::put_offset;
 use crate::length::shift_length;
+use crate::text::{CanonicalText, Tail};
 use ixdtf::records::{UtcOffsetRecord, UtcOffsetRecordOrZ};
 use core::fmt;
-
-/// The greatest number of bytes of an offset: a sign, eight bytes, a point, and a fraction of 255 digits.
-const MOST_OF_OFFSET: usize = 265;
 
 /// Writes the canonical text of an offset to the beginning of the slice, such as `-05:00` or `+01:30:15.5`.
 ///
@@ -44,13 +41,36 @@ const MOST_OF_OFFSET: usize = 265;
 /// - [`PrintError::NotPrintable`]: the offset has no canonical text, because a number of it is out of its range.
 /// - [`PrintError::TooShort`]: the slice is shorter than the canonical text.
 pub fn print_offset(offset: &UtcOffsetRecord, out: &mut [u8]) -> Result<usize, PrintError> {
-    if !is_offset(offset) {
-        return Err(PrintError::NotPrintable);
-    }
-    if out.len() < usize::from(length_of_offset(offset)) {
-        return Err(PrintError::TooShort);
-    }
-    Ok(put_utc_offset(out, offset))
+    CanonicalOffset { offset }.print(out)
+}
+
+/// Writes the canonical text of an offset as 16-bit code units, like [`print_offset`](crate::print_offset).
+///
+/// Each code unit is the number of an ASCII character, so [`TimeZoneParser::from_utf16`](ixdtf::parsers::TimeZoneParser::from_utf16)
+/// reads the text. The number of code units is the number of bytes that `print_offset` writes.
+///
+/// # Examples
+///
+/// ```rust
+/// use ixdtf::parsers::TimeZoneParser;
+/// use ixdtf_print::{PrintError, print_offset_utf16};
+///
+/// let text: Vec<u16> = "+013015,5".encode_utf16().collect();
+/// let offset = TimeZoneParser::from_utf16(&text).parse_offset().unwrap();
+/// let mut out = [0; 16];
+/// let count = print_offset_utf16(&offset, &mut out).unwrap();
+/// assert_eq!(String::from_utf16(&out[..count]).unwrap(), "+01:30:15.5");
+/// assert_eq!(print_offset_utf16(&offset, &mut [0; 5]), Err(PrintError::TooShort));
+/// ```
+///
+/// # Errors
+///
+/// After an error, the slice is unchanged.
+///
+/// - [`PrintError::NotPrintable`]: the offset has no canonical text, because a number of it is out of its range.
+/// - [`PrintError::TooShort`]: the slice is shorter than the canonical text.
+pub fn print_offset_utf16(offset: &UtcOffsetRecord, out: &mut [u16]) -> Result<usize, PrintError> {
+    CanonicalOffset { offset }.print_utf16(out)
 }
 
 /// Returns the number of bytes of the canonical text of an offset.
@@ -68,10 +88,7 @@ pub fn print_offset(offset: &UtcOffsetRecord, out: &mut [u8]) -> Result<usize, P
 /// assert_eq!(offset_length(&offset), Some("+01:30:15.5".len()));
 /// ```
 pub fn offset_length(offset: &UtcOffsetRecord) -> Option<usize> {
-    if !is_offset(offset) {
-        return None;
-    }
-    Some(usize::from(length_of_offset(offset)))
+    CanonicalOffset { offset }.printed_length()
 }
 
 /// An offset that `Display` writes as its canonical text, such as `-05:00`.
@@ -90,41 +107,37 @@ pub fn offset_length(offset: &UtcOffsetRecord) -> Option<usize> {
 /// ```
 #[derive(Clone, Copy, Debug)]
 pub struct CanonicalOffset<'a> {
-    offset: &'a UtcOffsetRecord,
+    pub(crate) offset: &'a UtcOffsetRecord,
 }
 
 impl<'a> CanonicalOffset<'a> {
     /// Creates a value that displays the offset. Returns `None` if the offset has no canonical text.
     pub fn of(offset: &'a UtcOffsetRecord) -> Option<CanonicalOffset<'a>> {
-        if !is_offset(offset) {
-            return None;
-        }
-        Some(CanonicalOffset { offset })
+        CanonicalOffset { offset }.checked()
+    }
+}
+
+impl<'a> CanonicalText for CanonicalOffset<'a> {
+    fn is_printable(self) -> bool {
+        is_shift(UtcOffsetRecordOrZ::Offset(*self.offset))
+    }
+
+    fn core_length(self) -> u16 {
+        shift_length(Some(UtcOffsetRecordOrZ::Offset(*self.offset)))
+    }
+
+    fn put_core(self, out: &mut [u8]) -> usize {
+        put_offset(out, 0, Some(UtcOffsetRecordOrZ::Offset(*self.offset)))
+    }
+
+    fn tail(&self) -> Tail<'_> {
+        Tail::Nothing
     }
 }
 
 // `Display` ignores width and fill.
 impl<'a> fmt::Display for CanonicalOffset<'a> {
     fn fmt(&self, f: &mut fmt::Formatter<'_>) -> fmt::Result {
-        let count = usize::from(length_of_offset(self.offset));
-        let mut bytes = [0; MOST_OF_OFFSET];
-        put_utc_offset(&mut bytes, self.offset);
-        write_bytes(f, front_of(&bytes, count))
+        self.write(f)
     }
-}
-
-/// Returns whether `parse_offset` returns this offset for some text.
-#[inline(always)]
-fn is_offset(offset: &UtcOffsetRecord) -> bool {
-    is_shift(UtcOffsetRecordOrZ::Offset(*offset))
-}
-
-/// Returns the number of bytes of the canonical text of the offset.
-fn length_of_offset(offset: &UtcOffsetRecord) -> u16 {
-    shift_length(Some(UtcOffsetRecordOrZ::Offset(*offset)))
-}
-
-/// Writes the offset at the beginning of the slice. Returns the index after it.
-fn put_utc_offset(out: &mut [u8], offset: &UtcOffsetRecord) -> usize {
-    put_offset(out, 0, Some(UtcOffsetRecordOrZ::Offset(*offset)))
 }

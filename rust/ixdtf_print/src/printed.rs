@@ -2,9 +2,12 @@
 
 //! The canonical text that a program printed last.
 
+use crate::canonical::print_with_room;
 use crate::durations::print_duration;
+use crate::month_days::print_month_day;
 use crate::offsets::print_offset;
-use crate::print_with_room;
+use crate::times::print_time;
+use crate::year_months::print_year_month;
 use crate::zones::print_zone;
 use ixdtf::encoding::Utf8;
 use ixdtf::records::{DurationParseRecord, IxdtfParseRecord, TimeZoneRecord, UtcOffsetRecord};
@@ -51,6 +54,30 @@ impl<const SIZE: usize> PrintedText<SIZE> {
     /// Prints a zone that was read. It replaces what was printed before.
     pub fn print_zone(&mut self, zone: &TimeZoneRecord<'_, Utf8>) {
         if let Ok(count) = print_zone(zone, &mut self.bytes) {
+            self.bytes[count] = b'\n';
+            self.count = count;
+        }
+    }
+
+    /// Prints a time that was read. It replaces what was printed before.
+    pub fn print_time(&mut self, parts: &IxdtfParseRecord<'_, Utf8>) {
+        if let Ok(count) = print_time(parts, &mut self.bytes) {
+            self.bytes[count] = b'\n';
+            self.count = count;
+        }
+    }
+
+    /// Prints a year and a month that was read. It replaces what was printed before.
+    pub fn print_year_month(&mut self, parts: &IxdtfParseRecord<'_, Utf8>) {
+        if let Ok(count) = print_year_month(parts, &mut self.bytes) {
+            self.bytes[count] = b'\n';
+            self.count = count;
+        }
+    }
+
+    /// Prints a month and a day that was read. It replaces what was printed before.
+    pub fn print_month_day(&mut self, parts: &IxdtfParseRecord<'_, Utf8>) {
+        if let Ok(count) = print_month_day(parts, &mut self.bytes) {
             self.bytes[count] = b'\n';
             self.count = count;
         }

@@ -2,18 +2,15 @@
 
 //! Times printed as their canonical texts.
 
-use crate::canonical::{front_of, write_brackets, write_bytes};
 use crate::check::{has_brackets, has_time};
 use crate::digits::{put_fraction, put_two};
 use crate::error::PrintError;
-use crate::fields::{put_brackets, put_minutes, put_offset};
-use crate::length::{brackets_length, fraction_length, shift_length};
+use crate::fields::{put_minutes, put_offset};
+use crate::length::{fraction_length, shift_length};
+use crate::text::{CanonicalText, Tail};
 use ixdtf::encoding::Utf8;
 use ixdtf::records::{DateRecord, IxdtfParseRecord, TimeRecord, UtcOffsetRecordOrZ};
 use core::fmt;
-
-/// The greatest number of bytes of a time and an offset: eight and nine, and a fraction of 255 digits with its point in each.
-const MOST_OF_TIME: usize = 529;
 
 /// Writes the canonical text of a time to the beginning of the slice, such as `08:48:00Z[u-ca=hebrew]`.
 ///
@@ -53,13 +50,7 @@ const MOST_OF_TIME: usize = 529;
 /// - [`PrintError::NotPrintable`]: the record has no canonical text. It has a date, or no time, or a part that no text has.
 /// - [`PrintError::TooShort`]: the slice is shorter than the canonical text.
 pub fn print_time(parsed: &IxdtfParseRecord<'_, Utf8>, out: &mut [u8]) -> Result<usize, PrintError> {
-    if !is_time(parsed) {
-        return Err(PrintError::NotPrintable);
-    }
-    if (out.len() as u128) < length_of_time(parsed) {
-        return Err(PrintError::TooShort);
-    }
-    Ok(put_time(out, parsed))
+    CanonicalTime { parsed }.print(out)
 }
 
 /// Returns the number of bytes of the canonical text of a time.
@@ -77,10 +68,7 @@ pub fn print_time(parsed: &IxdtfParseRecord<'_, Utf8>, out: &mut [u8]) -> Result
 /// assert_eq!(time_length(&record), Some("08:48:00Z[u-ca=hebrew]".len()));
 /// ```
 pub fn time_length(parsed: &IxdtfParseRecord<'_, Utf8>) -> Option<usize> {
-    if !is_time(parsed) {
-        return None;
-    }
-    usize::try_from(length_of_time(parsed)).ok()
+    CanonicalTime { parsed }.printed_length()
 }
 
 /// A record of a time that `Display` writes as its canonical text, such as `08:48:00Z[u-ca=hebrew]`.
@@ -99,41 +87,39 @@ pub fn time_length(parsed: &IxdtfParseRecord<'_, Utf8>) -> Option<usize> {
 /// ```
 #[derive(Clone, Copy, Debug)]
 pub struct CanonicalTime<'a> {
-    parsed: &'a IxdtfParseRecord<'a, Utf8>,
+    pub(crate) parsed: &'a IxdtfParseRecord<'a, Utf8>,
 }
 
 impl<'a> CanonicalTime<'a> {
     /// Creates a value that displays the record. Returns `None` if the record has no canonical text as a time.
     pub fn of(parsed: &'a IxdtfParseRecord<'a, Utf8>) -> Option<CanonicalTime<'a>> {
-        if !is_time(parsed) {
-            return None;
-        }
-        Some(CanonicalTime { parsed })
+        CanonicalTime { parsed }.checked()
+    }
+}
+
+impl<'a> CanonicalText for CanonicalTime<'a> {
+    fn is_printable(self) -> bool {
+        is_spelled(self.parsed)
+    }
+
+    fn core_length(self) -> u16 {
+        time_core_length(self.parsed)
+    }
+
+    fn put_core(self, out: &mut [u8]) -> usize {
+        put_time_core(out, 0, self.parsed)
+    }
+
+    fn tail(&self) -> Tail<'_> {
+        Tail::Brackets(self.parsed)
     }
 }
 
 // `Display` ignores width and fill.
 impl<'a> fmt::Display for CanonicalTime<'a> {
     fn fmt(&self, f: &mut fmt::Formatter<'_>) -> fmt::Result {
-        write_core(f, self.parsed)?;
-        write_brackets(f, self.parsed)
+        self.write(f)
     }
-}
-
-/// Writes what comes before the brackets.
-fn write_core(
-    f: &mut fmt::Formatter<'_>,
-    parsed: &IxdtfParseRecord<'_, Utf8>,
-) -> fmt::Result {
-    let count = usize::from(time_core_length(parsed));
-    let mut bytes = [0; MOST_OF_TIME];
-    put_time_core(&mut bytes, 0, parsed);
-    write_bytes(f, front_of(&bytes, count))
-}
-
-/// Returns whether `parse_time` returns this record for some text.
-fn is_time(parsed: &IxdtfParseRecord<'_, Utf8>) -> bool {
-    is_spelled(parsed)
 }
 
 /// Returns whether each field has a text, and the record has the fields of a time.
@@ -169,11 +155,6 @@ fn time_core_length(parsed: &IxdtfParseRecord<'_, Utf8>) -> u16 {
     unmarked_time_length(parsed.time) + shift_length(parsed.offset)
 }
 
-/// Returns the number of bytes of the canonical text.
-fn length_of_time(parsed: &IxdtfParseRecord<'_, Utf8>) -> u128 {
-    u128::from(time_core_length(parsed)) + brackets_length(parsed)
-}
-
 // ---- bytes
 
 /// Writes an hour, a minute and a second at index `at`. Returns the index after them.
@@ -195,10 +176,4 @@ fn put_unmarked_time(out: &mut [u8], at: usize, time: Option<TimeRecord>) -> usi
 fn put_time_core(out: &mut [u8], at: usize, parsed: &IxdtfParseRecord<'_, Utf8>) -> usize {
     let after_time = put_unmarked_time(out, at, parsed.time);
     put_offset(out, after_time, parsed.offset)
-}
-
-/// Writes the record at the beginning of the slice. Returns the index after it.
-fn put_time(out: &mut [u8], parsed: &IxdtfParseRecord<'_, Utf8>) -> usize {
-    let after_core = put_time_core(out, 0, parsed);
-    put_brackets(out, after_core, parsed)
 }

@@ -2,19 +2,15 @@
 
 //! Years and months printed as their canonical texts.
 
-use crate::canonical::{front_of, write_brackets, write_bytes};
 use crate::check::has_brackets;
 use crate::digits::put_two;
 use crate::error::PrintError;
-use crate::fields::{put_brackets, put_year};
-use crate::length::brackets_length;
+use crate::fields::put_year;
 use crate::put::put_byte;
+use crate::text::{CanonicalText, Tail};
 use ixdtf::encoding::Utf8;
 use ixdtf::records::{DateRecord, IxdtfParseRecord, TimeRecord, UtcOffsetRecordOrZ};
 use core::fmt;
-
-/// The greatest number of bytes of a year and a month.
-const MOST_OF_MONTH: usize = 10;
 
 /// Writes the canonical text of a year and a month to the beginning of the slice, such as `2020-11[u-ca=hebrew]`.
 ///
@@ -59,13 +55,7 @@ pub fn print_year_month(
     parsed: &IxdtfParseRecord<'_, Utf8>,
     out: &mut [u8],
 ) -> Result<usize, PrintError> {
-    if !is_year_month(parsed) {
-        return Err(PrintError::NotPrintable);
-    }
-    if (out.len() as u128) < length_of_year_month(parsed) {
-        return Err(PrintError::TooShort);
-    }
-    Ok(put_year_month(out, parsed))
+    CanonicalYearMonth { parsed }.print(out)
 }
 
 /// Returns the number of bytes of the canonical text of a year and a month.
@@ -83,10 +73,7 @@ pub fn print_year_month(
 /// assert_eq!(year_month_length(&record), Some("2020-11[u-ca=hebrew]".len()));
 /// ```
 pub fn year_month_length(parsed: &IxdtfParseRecord<'_, Utf8>) -> Option<usize> {
-    if !is_year_month(parsed) {
-        return None;
-    }
-    usize::try_from(length_of_year_month(parsed)).ok()
+    CanonicalYearMonth { parsed }.printed_length()
 }
 
 /// A record of a year and a month that `Display` writes as its canonical text, such as `2020-11[u-ca=hebrew]`.
@@ -105,41 +92,39 @@ pub fn year_month_length(parsed: &IxdtfParseRecord<'_, Utf8>) -> Option<usize> {
 /// ```
 #[derive(Clone, Copy, Debug)]
 pub struct CanonicalYearMonth<'a> {
-    parsed: &'a IxdtfParseRecord<'a, Utf8>,
+    pub(crate) parsed: &'a IxdtfParseRecord<'a, Utf8>,
 }
 
 impl<'a> CanonicalYearMonth<'a> {
     /// Creates a value that displays the record. Returns `None` if the record has no canonical text as a year and a month.
     pub fn of(parsed: &'a IxdtfParseRecord<'a, Utf8>) -> Option<CanonicalYearMonth<'a>> {
-        if !is_year_month(parsed) {
-            return None;
-        }
-        Some(CanonicalYearMonth { parsed })
+        CanonicalYearMonth { parsed }.checked()
+    }
+}
+
+impl<'a> CanonicalText for CanonicalYearMonth<'a> {
+    fn is_printable(self) -> bool {
+        is_spelled(self.parsed)
+    }
+
+    fn core_length(self) -> u16 {
+        optional_month_length(self.parsed.date)
+    }
+
+    fn put_core(self, out: &mut [u8]) -> usize {
+        put_optional_month(out, 0, self.parsed.date)
+    }
+
+    fn tail(&self) -> Tail<'_> {
+        Tail::Brackets(self.parsed)
     }
 }
 
 // `Display` ignores width and fill.
 impl<'a> fmt::Display for CanonicalYearMonth<'a> {
     fn fmt(&self, f: &mut fmt::Formatter<'_>) -> fmt::Result {
-        write_core(f, self.parsed)?;
-        write_brackets(f, self.parsed)
+        self.write(f)
     }
-}
-
-/// Writes what comes before the brackets.
-fn write_core(
-    f: &mut fmt::Formatter<'_>,
-    parsed: &IxdtfParseRecord<'_, Utf8>,
-) -> fmt::Result {
-    let count = usize::from(optional_month_length(parsed.date));
-    let mut bytes = [0; MOST_OF_MONTH];
-    put_optional_month(&mut bytes, 0, parsed.date);
-    write_bytes(f, front_of(&bytes, count))
-}
-
-/// Returns whether `parse_year_month` returns this record for some text.
-fn is_year_month(parsed: &IxdtfParseRecord<'_, Utf8>) -> bool {
-    is_spelled(parsed)
 }
 
 /// Returns whether each field has a text, and the record has the fields of a year and a month.
@@ -182,11 +167,6 @@ fn optional_month_length(date: Option<DateRecord>) -> u16 {
     }
 }
 
-/// Returns the number of bytes of the canonical text.
-fn length_of_year_month(parsed: &IxdtfParseRecord<'_, Utf8>) -> u128 {
-    u128::from(optional_month_length(parsed.date)) + brackets_length(parsed)
-}
-
 // ---- bytes
 
 /// Writes the year and the month at index `at`, if there is a date. Returns the index after them.
@@ -202,10 +182,4 @@ fn put_month(out: &mut [u8], at: usize, date: DateRecord) -> usize {
     let hyphen = put_year(out, at, date);
     let month = put_byte(out, hyphen, b'-');
     put_two(out, month, date.month)
-}
-
-/// Writes the record at the beginning of the slice. Returns the index after it.
-fn put_year_month(out: &mut [u8], parsed: &IxdtfParseRecord<'_, Utf8>) -> usize {
-    let after_core = put_optional_month(out, 0, parsed.date);
-    put_brackets(out, after_core, parsed)
 }

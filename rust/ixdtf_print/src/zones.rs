@@ -2,11 +2,10 @@
 
 //! Time zones printed as their canonical texts.
 
-use crate::canonical::write_zone;
 use crate::check::is_zone;
 use crate::error::PrintError;
-use crate::fields::put_zone;
 use crate::length::length_of_zone;
+use crate::text::{CanonicalText, Tail};
 use ixdtf::encoding::Utf8;
 use ixdtf::records::TimeZoneRecord;
 use core::fmt;
@@ -45,13 +44,7 @@ use core::fmt;
 ///   offset is out of its range.
 /// - [`PrintError::TooShort`]: the slice is shorter than the canonical text.
 pub fn print_zone(zone: &TimeZoneRecord<'_, Utf8>, out: &mut [u8]) -> Result<usize, PrintError> {
-    if !is_identifier(zone) {
-        return Err(PrintError::NotPrintable);
-    }
-    if (out.len() as u128) < length_of_zone(zone) {
-        return Err(PrintError::TooShort);
-    }
-    Ok(put_zone(out, 0, zone))
+    CanonicalZone { zone }.print(out)
 }
 
 /// Returns the number of bytes of the canonical text of a time zone.
@@ -69,9 +62,7 @@ pub fn print_zone(zone: &TimeZoneRecord<'_, Utf8>, out: &mut [u8]) -> Result<usi
 /// assert_eq!(zone_length(&zone), Some("+05:30".len()));
 /// ```
 pub fn zone_length(zone: &TimeZoneRecord<'_, Utf8>) -> Option<usize> {
-    if !is_identifier(zone) {
-        return None;
-    }
+    CanonicalZone { zone }.checked()?;
     Some(length_of_zone(zone) as usize)
 }
 
@@ -91,28 +82,37 @@ pub fn zone_length(zone: &TimeZoneRecord<'_, Utf8>) -> Option<usize> {
 /// ```
 #[derive(Clone, Copy, Debug)]
 pub struct CanonicalZone<'a> {
-    zone: &'a TimeZoneRecord<'a, Utf8>,
+    pub(crate) zone: &'a TimeZoneRecord<'a, Utf8>,
 }
 
 impl<'a> CanonicalZone<'a> {
     /// Creates a value that displays the zone. Returns `None` if the zone has no canonical text.
     pub fn of(zone: &'a TimeZoneRecord<'a, Utf8>) -> Option<CanonicalZone<'a>> {
-        if !is_identifier(zone) {
-            return None;
-        }
-        Some(CanonicalZone { zone })
+        CanonicalZone { zone }.checked()
+    }
+}
+
+impl<'a> CanonicalText for CanonicalZone<'a> {
+    fn is_printable(self) -> bool {
+        is_zone(self.zone)
+    }
+
+    fn core_length(self) -> u16 {
+        0
+    }
+
+    fn put_core(self, _out: &mut [u8]) -> usize {
+        0
+    }
+
+    fn tail(&self) -> Tail<'_> {
+        Tail::Zone(self.zone)
     }
 }
 
 // `Display` ignores width and fill.
 impl<'a> fmt::Display for CanonicalZone<'a> {
     fn fmt(&self, f: &mut fmt::Formatter<'_>) -> fmt::Result {
-        write_zone(f, self.zone)
+        self.write(f)
     }
-}
-
-/// Returns whether `parse_identifier` returns this zone for some text.
-#[inline(always)]
-fn is_identifier(zone: &TimeZoneRecord<'_, Utf8>) -> bool {
-    is_zone(zone)
 }

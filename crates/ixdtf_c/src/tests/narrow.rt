@@ -43,6 +43,7 @@ fn call<'a>(call: Call, text: &'a [u8], out: &mut Record<'a>) -> u32 {
         Call::Time => ixdtf_parse_time(text, out),
         Call::TimeStrict => ixdtf_parse_time_strict(text, out),
         Call::Rfc3339 => ixdtf_parse_rfc3339(text, out),
+        Call::Rfc9557 => ixdtf_parse_rfc9557(text, out),
         Call::Offset => ixdtf_parse_offset(text, out),
         Call::Identifier => ixdtf_parse_identifier(text, out),
         Call::IanaIdentifier => ixdtf_parse_iana_identifier(text, out),
@@ -66,6 +67,7 @@ fn list<'a>(
         }
         ListCall::Time => ixdtf_parse_time_with_annotations(text, slots, count, out),
         ListCall::TimeStrict => ixdtf_parse_time_with_annotations_strict(text, slots, count, out),
+        ListCall::Rfc9557 => ixdtf_parse_rfc9557_with_annotations(text, slots, count, out),
     }
 }
 

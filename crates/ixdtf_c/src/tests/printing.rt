@@ -2,14 +2,17 @@
 
 use super::narrow::RECORD;
 use super::rows::DURATION;
-use crate::duration_texts::{ixdtf_print_duration, ixdtf_printed_duration_length};
 use crate::exports::{
-    ixdtf_parse, ixdtf_parse_duration, ixdtf_parse_identifier, ixdtf_parse_offset,
+    ixdtf_parse, ixdtf_parse_duration, ixdtf_parse_identifier, ixdtf_parse_month_day,
+    ixdtf_parse_offset, ixdtf_parse_time, ixdtf_parse_year_month,
 };
 use crate::forms::{Date, Offset, Time};
 use crate::narrow::Record;
-use crate::part_texts::{
-    ixdtf_print_offset, ixdtf_print_zone, ixdtf_printed_offset_length, ixdtf_printed_zone_length,
+use crate::printers::{
+    ixdtf_print_duration, ixdtf_print_month_day, ixdtf_print_offset, ixdtf_print_time,
+    ixdtf_print_year_month, ixdtf_print_zone, ixdtf_printed_duration_length,
+    ixdtf_printed_month_day_length, ixdtf_printed_offset_length, ixdtf_printed_time_length,
+    ixdtf_printed_year_month_length, ixdtf_printed_zone_length,
 };
 use crate::printing::ixdtf_print;
 use std::process::Abort;
@@ -205,4 +208,26 @@ fn prints_an_offset_and_a_zone(rt: HostRuntime) {
         ixdtf_print_offset(&record.offset, &mut out, &mut count),
         101
     );
+}
+
+#[test]
+fn prints_a_time_a_year_and_a_month_and_a_month_and_a_day(rt: HostRuntime) {
+    let mut record = RECORD;
+    let mut out = [7; 16];
+    let mut count = 9;
+    assert_eq!(rt; ixdtf_parse_time(b"T1214z", &mut record), 0);
+    assert_eq!(rt; ixdtf_printed_time_length(&record), 9);
+    assert_eq!(rt; ixdtf_print_time(&record, &mut out, &mut count), 0);
+    assert_eq!(rt; &out[..count.min(16)], b"12:14:00Z".as_slice());
+    assert_eq!(rt; ixdtf_print_year_month(&record, &mut out, &mut count), 101);
+    assert_eq!(rt; ixdtf_parse_year_month(b"202011", &mut record), 0);
+    assert_eq!(rt; ixdtf_printed_year_month_length(&record), 7);
+    assert_eq!(rt; ixdtf_print_year_month(&record, &mut out, &mut count), 0);
+    assert_eq!(rt; &out[..count.min(16)], b"2020-11".as_slice());
+    assert_eq!(rt; ixdtf_print_month_day(&record, &mut out, &mut count), 101);
+    assert_eq!(rt; ixdtf_parse_month_day(b"--1107", &mut record), 0);
+    assert_eq!(rt; ixdtf_printed_month_day_length(&record), 5);
+    assert_eq!(rt; ixdtf_print_month_day(&record, &mut out, &mut count), 0);
+    assert_eq!(rt; &out[..count.min(16)], b"11-07".as_slice());
+    assert_eq!(rt; ixdtf_print_time(&record, &mut out, &mut count), 101);
 }

@@ -13,6 +13,7 @@ pub(super) enum Call {
     Time,
     TimeStrict,
     Rfc3339,
+    Rfc9557,
     Offset,
     Identifier,
     IanaIdentifier,
@@ -66,7 +67,7 @@ pub(super) const OFFSET: Offset = Offset {
     second: 1,
 };
 
-pub(super) const ROWS: [Row; 18] = [
+pub(super) const ROWS: [Row; 20] = [
     Row {
         call: Call::Parse,
         text: b"2024-03-02T08:48:00.25-05:00[America/New_York][u-ca=hebrew]",
@@ -218,6 +219,26 @@ pub(super) const ROWS: [Row; 18] = [
         others: (1, 0, 10),
     },
     Row {
+        call: Call::Rfc9557,
+        text: b"2024-03-02t08:48:00.25-05:00[-05:00][u-ca=x]",
+        number: 0,
+        date: (2024, 3, 2),
+        time: (8, 48, 25),
+        offset: (2, 5, 0),
+        zone: (2, 5, 0),
+        others: (1, 0, 0),
+    },
+    Row {
+        call: Call::Rfc9557,
+        text: b"2024-03-02T08:48:00Z[+05]",
+        number: 30,
+        date: (1, 1, 1),
+        time: (1, 1, 1),
+        offset: (3, 1, 1),
+        zone: (2, 1, 1),
+        others: (1, 0, 25),
+    },
+    Row {
         call: Call::Identifier,
         text: b"+05:30",
         number: 0,
@@ -258,6 +279,7 @@ pub(super) enum ListCall {
     MonthDayStrict,
     Time,
     TimeStrict,
+    Rfc9557,
 }
 
 /// A text, and what a call that lists gives of it, with room for two annotations.
@@ -273,7 +295,7 @@ pub(super) struct ListRow {
     pub second: (bool, usize, usize),
 }
 
-pub(super) const LIST_ROWS: [ListRow; 7] = [
+pub(super) const LIST_ROWS: [ListRow; 8] = [
     ListRow {
         call: ListCall::Parse,
         text: b"2024-03-02[a=b][!c=de][u-ca=x]",
@@ -315,6 +337,13 @@ pub(super) const LIST_ROWS: [ListRow; 7] = [
         outcome: (0, 0),
         count: 2,
         second: (false, 1, 1),
+    },
+    ListRow {
+        call: ListCall::Rfc9557,
+        text: b"2024-03-02T08:48:00Z[!UTC][a=b][!c=de]",
+        outcome: (0, 0),
+        count: 2,
+        second: (true, 1, 2),
     },
     ListRow {
         call: ListCall::TimeStrict,

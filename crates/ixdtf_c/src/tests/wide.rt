@@ -49,6 +49,7 @@ fn call<'a>(call: Call, text: &'a [u16], out: &mut Record<'a>) -> u32 {
         Call::Time => ixdtf16_parse_time(text, out),
         Call::TimeStrict => ixdtf16_parse_time_strict(text, out),
         Call::Rfc3339 => ixdtf16_parse_rfc3339(text, out),
+        Call::Rfc9557 => ixdtf16_parse_rfc9557(text, out),
         Call::Offset => ixdtf16_parse_offset(text, out),
         Call::Identifier => ixdtf16_parse_identifier(text, out),
         Call::IanaIdentifier => ixdtf16_parse_iana_identifier(text, out),
@@ -72,6 +73,7 @@ fn list<'a>(
         }
         ListCall::Time => ixdtf16_parse_time_with_annotations(text, slots, count, out),
         ListCall::TimeStrict => ixdtf16_parse_time_with_annotations_strict(text, slots, count, out),
+        ListCall::Rfc9557 => ixdtf16_parse_rfc9557_with_annotations(text, slots, count, out),
     }
 }
 

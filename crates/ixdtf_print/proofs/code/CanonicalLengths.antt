@@ -1,5 +1,5 @@
 -- How long the parts of a canonical text are.
-use Rattle.std.proofs.Common.{◌+◌, ◌≡◌, ◌⊎◌, ℤ, pos, negsuc, false, ◌<◌, length, Some, refl, arith, nat_le, inl, inr}
+use Rattle.std.proofs.Common.{◌+◌, ◌≡◌, ◌↔◌, ◌⊎◌, ℤ, pos, negsuc, false, ◌<◌, length, Some, refl, arith, nat_le, inl, inr}
 use Rattle.std.proofs.lemmas.{Bool.Decides.nat_tests, Int.ints, List.length-append}
 use Rattle.std.specs.Prelude.{◌≤ℤ◌, ◌<ℤ◌}
 use Rattle.ixdtf_grammar.specs.declared.records.{DateRecord.DateRecord, FullPrecisionOffset.FullPrecisionOffset, MinutePrecisionOffset.MinutePrecisionOffset}
@@ -51,6 +51,10 @@ brackets_long found = length-append (bracket_text found.zone) (calendar_text fou
 pub canonical_long : (found : Parsed) → length (canonical_text found) ≡ length (core_text found) + length (brackets_text found)
 unfolding canonical_text
 canonical_long found = length-append (core_text found) (brackets_text found)
+
+-- a text that is short wherever there is one is always counted
+pub always_counted : {A P F : Type 0} → A ↔ ¬ (P × F) → (P → F) → A ↔ ¬ P
+always_counted both short = (λ a p. both.0 a (p, short p), λ none. both.1 (λ h. none h.0))
 
 pub ruleset lengths = (
   some_fraction_long,

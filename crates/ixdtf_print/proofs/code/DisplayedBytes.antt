@@ -3,8 +3,8 @@ use Rattle.std.proofs.Common.{ℕ, ◌+◌, ◌<◌, ◌≡◌, List, [], ◌∷
 use Rattle.std.proofs.{Common.take_all, Math.Seq.take-suc, lemmas.{List.map-append, Str.encodes-append}}
 use Rattle.std.specs.{Char.encode_utf8, Str.encode_utf8_all}
 use Rattle.ixdtf.specs.language.{Letters.{Text, Letter.Plain}, Brackets.ZoneNote, Languages.Parsed}
-use Rattle.ixdtf_print.specs.{Canonical.{opening_text, zone_text, bracket_text, calendar_text, brackets_text, core_text, canonical_text}, Prints.Prints}
-use Rattle.ixdtf_print.specs.Shown.{code_point, bytes_of, shown_text}
+use Rattle.ixdtf_print.specs.{Canonical.{opening_text, zone_text, bracket_text, calendar_text, brackets_text}, Prints.Prints}
+use Rattle.ixdtf_print.specs.Shown.{code_point, bytes_of}
 use Rattle.ixdtf_print.proofs.code.PutBytes.{front_of_new, text_long, puts_length}
 
 pub bytes-append : (a b : Text) → bytes_of (a ++ b) ≡ bytes_of a ++ bytes_of b
@@ -78,7 +78,3 @@ calendar_bytes value =
 
 pub brackets_bytes : (found : Parsed) → bytes_of (bracket_text found.zone) ++ bytes_of (calendar_text found.calendar) ≡ bytes_of (brackets_text found)
 brackets_bytes found = sym (bytes-append (bracket_text found.zone) (calendar_text found.calendar))
-
-pub all_bytes : (found : Parsed) → bytes_of (core_text found) ++ bytes_of (brackets_text found) ≡ shown_text found
-unfolding canonical_text
-all_bytes found = sym (bytes-append (core_text found) (brackets_text found))

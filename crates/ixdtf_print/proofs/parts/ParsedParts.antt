@@ -3,9 +3,8 @@
 use Rattle.std.proofs.Common.{◌≡◌, ◌++◌, List, Option, refl, ◌∙◌, ap}
 use Rattle.ixdtf.specs.language.{Letters.Text, Brackets.{ZoneNote, Pair, OptionalBracket, ArePairs}, Cores.{Core, IsCore}}
 use Rattle.ixdtf.specs.language.{Languages.{Parsed, parsed_with, IsBracketed, Derives, Derives.as_parsed, Found.parsed}, Readers.{CoreKind, has_exact_zones, Reader.bracketed}}
-use Rattle.ixdtf.specs.{Handlers.{UnhandledRecord, NoneRefused, own_replies, calendar_value, first_calendar, with_calendar}, Widths.UnhandledOutcome.read_as}
-use Rattle.ixdtf_reading.proofs.theorems.OneUnhandledOutcome.{one_unhandled_outcome}
-use Rattle.ixdtf_print.proofs.theorems.OneTexts.{StandsForOne}
+use Rattle.ixdtf.specs.{Handlers.{UnhandledRecord, NoneRefused, own_replies, calendar_value, first_calendar, with_calendar}}
+use Rattle.ixdtf_print.proofs.theorems.OneTexts.{StandsForOne, one_found}
 
 -- a record of these parts
 abbrev pub joined : Core → Option ZoneNote → List Pair → Parsed
@@ -78,8 +77,4 @@ of_parts text found h = (
 
 -- a text gives one record
 pub one_record : (kind : CoreKind) → StandsForOne (UnhandledRecord (bracketed kind))
-one_record kind text a b p q =
-    let outcome = one_unhandled_outcome (bracketed kind) text in
-    let first : read_as (parsed a) ≡ outcome.0 = outcome.2 (read_as (parsed a)) p in
-    let second : read_as (parsed b) ≡ outcome.0 = outcome.2 (read_as (parsed b)) q in
-    cc
+one_record kind text a b p q = let same = one_found (bracketed kind) text (parsed a) (parsed b) p q in cc

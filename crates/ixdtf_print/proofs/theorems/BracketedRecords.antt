@@ -4,8 +4,8 @@ use Rattle.std.proofs.lemmas.List.{length-append}
 use Rattle.ixdtf.specs.language.{Letters.{Text, Letter.Plain}, Cores.{Core, IsCore}, Languages.Parsed, Readers.{CoreKind, has_exact_zones, Reader.bracketed}}
 use Rattle.ixdtf.specs.Handlers.{UnhandledRecord}
 use Rattle.ixdtf_grammar.specs.declared.records.{DateRecord.DateRecord, TimeRecord.TimeRecord, UtcOffsetRecordOrZ.UtcOffsetRecordOrZ}
-use Rattle.ixdtf_print.specs.{Canonical.brackets_text, Printing.{HasText, EachIsReadBack, FitsWithin}, Shown.bytes_of, SpelledCores.IsSpelledAs}
-use Rattle.ixdtf_print.proofs.{parts.ParsedParts.{to_parts, of_parts, one_record}, theorems.ReadBack.brackets_read_back, theorems.OneTexts.has_one_text}
+use Rattle.ixdtf_print.specs.{Canonical.brackets_text, Printing.{HasText, EachIsReadBack, FitsWithin, TestsText}, Shown.bytes_of, SpelledCores.IsSpelledAs}
+use Rattle.ixdtf_print.proofs.{parts.ParsedParts.{to_parts, of_parts, one_record}, theorems.ReadBack.brackets_read_back, theorems.OneTexts.{has_one_text, tests_text}}
 use Rattle.ixdtf_print.proofs.theorems.{PrintableRecords.{core_in, core_of_parts, of_brackets}, DisplayedText.{ascii_of, shown_as_it_is}}
 
 -- the cores of a reader: which of them have a text, which text, and by how much it is longer at most
@@ -44,17 +44,18 @@ spelled w text found given =
 pub printable : (w : Written) (found : Parsed) → HasText (Stands w) found ↔ IsSpelledAs w.has_core found
 printable w found = (λ h. (spelled w h.0 found h.1).0, λ s. (w.text_of found, reads w found s))
 
--- a test of the fields
-pub tests : (w : Written) {test : Bool} (found : Parsed) → IsTrue test ↔ IsSpelledAs w.has_core found → IsTrue test ↔ HasText (Stands w) found
-tests w found both = (λ yes. (printable w found).1 (both.0 yes), λ p. both.1 ((printable w found).0 p))
-
 pub read_back : (w : Written) → EachIsReadBack (Stands w) w.text_of
 read_back w = has_one_text (one_record w.kind) (λ found h. reads w found ((printable w found).0 h))
 
 pub fits : (w : Written) → FitsWithin (w.more + 3) (Stands w) w.text_of
 fits w text found given = (spelled w text found given).1
 
-pub shown : (w : Written) (found : Parsed) → HasText (Stands w) found → map Plain (bytes_of (w.text_of found)) ≡ w.text_of found
+shown : (w : Written) (found : Parsed) → HasText (Stands w) found → map Plain (bytes_of (w.text_of found)) ≡ w.text_of found
 shown w found h =
     let reading = reads w found ((printable w found).0 h) in
     shown_as_it_is (w.text_of found) (ascii_of w.kind (w.text_of found) found (to_parts w.kind (w.text_of found) found reading))
+
+-- a test of the fields
+pub tests : (w : Written) {test : Bool} {back : Type 0} (found : Parsed) → (HasText (Stands w) found → back) → IsTrue test ↔ IsSpelledAs w.has_core found
+    → TestsText test (HasText (Stands w) found) back (w.text_of found)
+tests w found = tests_text (printable w found) (shown w found)

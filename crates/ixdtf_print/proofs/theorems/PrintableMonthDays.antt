@@ -1,15 +1,15 @@
 -- The month-days that have a text are those whose fields have texts, and the canonical text is one of these texts.
-use Rattle.std.proofs.Common.{◌+◌, ◌≤◌, ◌≡◌, ◌↔◌, Bool, IsTrue, [], ◌∷◌, ◌++◌, length, map, Option, Some, None, refl, inl, inr, arith, pos}
+use Rattle.std.proofs.Common.{◌+◌, ◌≤◌, ◌≡◌, ◌↔◌, Bool, IsTrue, [], ◌∷◌, ◌++◌, length, Option, Some, None, refl, inl, inr, arith, pos}
 use Rattle.std.proofs.lemmas.List.{length-append}
 use Rattle.ixdtf_grammar.specs.declared.profile.Profile.{Profile, TheVariants.Crate}
 use Rattle.ixdtf_grammar.specs.declared.records.{DateRecord.DateRecord, TimeRecord.TimeRecord, UtcOffsetRecordOrZ.UtcOffsetRecordOrZ}
 use Rattle.ixdtf.specs.language.{Letters.{Letter, Text, Letter.Plain}, Months.IsMonthDay, Cores.{Core, core_of, DateAlone}}
 use Rattle.ixdtf.specs.language.{Languages.Parsed, Readers.CoreKind.month_day}
 use Rattle.ixdtf_grammar.proofs.theorems.CoreSizes.{digits_long}
-use Rattle.ixdtf_print.specs.{Canonical.{two_digits, brackets_text}, Shown.bytes_of, SpelledCores.{IsDayOfAnyYear, HasLoneDay, IsSpelledAs}}
-use Rattle.ixdtf_print.specs.MonthDays.{day_text, optional_day_text, month_day_text, IsPrintableMonthDay, IsMonthDayReadBack, MonthDayFits, MonthDayIsReadBack}
+use Rattle.ixdtf_print.specs.{Canonical.{two_digits, brackets_text}, Printing.{HasText, TestsText}, SpelledCores.{IsDayOfAnyYear, HasLoneDay, IsSpelledAs}}
+use Rattle.ixdtf_print.specs.MonthDays.{day_text, optional_day_text, month_day_text, IsMonthDayText, IsPrintableMonthDay, IsMonthDayReadBack, MonthDayFits, MonthDayIsReadBack}
 use Rattle.ixdtf_print.proofs.{parts.PaddedDigits.two_are, theorems.ReadBack.month_length_most}
-use Rattle.ixdtf_print.proofs.theorems.BracketedRecords.{Written, tests, read_back, fits, shown}
+use Rattle.ixdtf_print.proofs.theorems.BracketedRecords.{Written, tests, printable, read_back, fits}
 
 is_day : (profile : Profile) (date : DateRecord) → IsDayOfAnyYear profile date → IsMonthDay profile (day_text date) date
 unfolding day_text
@@ -68,21 +68,34 @@ lone_day profile = record {
   of_core = of_core profile;
 }
 
--- a test of the fields
-pub tests_month_day : {test : Bool} (found : Parsed) → IsTrue test ↔ IsSpelledAs (HasLoneDay Crate) found → IsTrue test ↔ IsPrintableMonthDay found
-tests_month_day found both = tests (lone_day Crate) found both
-
 pub month_day_is_read_back : MonthDayIsReadBack
 month_day_is_read_back profile = read_back (lone_day profile)
 
-pub month_day_reads_back : (found : Parsed) → IsPrintableMonthDay found → IsMonthDayReadBack found
+month_day_reads_back : (found : Parsed) → IsPrintableMonthDay found → IsMonthDayReadBack found
 month_day_reads_back found h = record {
   same = read_back (lone_day Crate) found h;
   profiles = λ profile k. read_back (lone_day profile) found k;
 }
 
+-- a day of any year under some profile is one under the default profile
+any_profile : (profile : Profile) (date : Option DateRecord) (time : Option TimeRecord) (offset : Option UtcOffsetRecordOrZ)
+    → HasLoneDay profile date time offset → HasLoneDay Crate date time offset
+any_profile profile None time offset none = absurd none
+any_profile profile (Some date) None None h =
+    record { year = h.year; month_from = h.month_from; month_to = h.month_to; day = (omega arith, h.day.1) }
+any_profile profile (Some date) None (Some offset) none = absurd none
+any_profile profile (Some date) (Some time) offset none = absurd none
+
+-- what `parse_month_day` reads under some profile can be printed
+pub month_day_printable : (profile : Profile) (found : Parsed) → HasText (IsMonthDayText profile) found → IsPrintableMonthDay found
+month_day_printable profile found h =
+    let (core, brackets) = (printable (lone_day profile) found).0 h in
+    (printable (lone_day Crate) found).1 (any_profile profile found.date found.time found.offset core, brackets)
+
 pub month_day_fits : MonthDayFits
 month_day_fits profile = fits (lone_day profile)
 
-pub month_day_is_shown : (found : Parsed) → IsPrintableMonthDay found → map Plain (bytes_of (month_day_text found)) ≡ month_day_text found
-month_day_is_shown found h = shown (lone_day Crate) found h
+-- a test of the fields
+pub tests_month_day : {test : Bool} (found : Parsed) → IsTrue test ↔ IsSpelledAs (HasLoneDay Crate) found
+    → TestsText test (IsPrintableMonthDay found) (IsMonthDayReadBack found) (month_day_text found)
+tests_month_day found = tests (lone_day Crate) found (month_day_reads_back found)

@@ -5,8 +5,8 @@ use Rattle.ixdtf.specs.language.{Letters.{Letter, Text, byte_letter}, Cores.{Cor
 use Rattle.ixdtf.specs.Handlers.{UnhandledRecord}
 use Rattle.ixdtf_grammar.specs.declared.records.{TimeRecord.TimeRecord, UtcOffsetRecordOrZ.UtcOffsetRecordOrZ}
 use Rattle.ixdtf_print.specs.Canonical.{date_text, time_text, offset_text, brackets_text, optional_date_text, core_text, canonical_text}
-use Rattle.ixdtf_print.specs.{Printable.{IsPrintable, IsReadBack}, Printed.FitsArray, Spelled.{HasDay, HasTime, HasBrackets, IsSpelled}}
-use Rattle.ixdtf_print.proofs.{parts.ParsedParts.{HasParts, to_parts, of_parts, one_record}, theorems.ReadBack.canonical_reads_back, parts.DerivedDates.of_date}
+use Rattle.ixdtf_print.specs.{Printable.{IsPrintable, IsReadBack}, Printed.FitsArray, Printing.TestsText, Spelled.{HasDay, HasTime, HasBrackets, IsSpelled}}
+use Rattle.ixdtf_print.proofs.{parts.ParsedParts.{HasParts, to_parts, of_parts, one_record}, theorems.{DisplayedText.shown_is_canonical, OneTexts.tests_text, ReadBack.canonical_reads_back}, parts.DerivedDates.of_date}
 use Rattle.ixdtf_print.proofs.parts.DerivedTimes.{of_time, of_offset, of_bracket, of_pairs}
 
 abbrev text_of : Core → Text
@@ -81,10 +81,6 @@ printable_iff found = (
   λ s. (canonical_text found, of_parts (canonical_text found) found (canonical_reads_back found s)),
 )
 
--- a test of the fields
-pub tests_printable : {test : Bool} {found : Parsed} → IsTrue test ↔ IsSpelled found → IsTrue test ↔ IsPrintable found
-tests_printable {found = found} both = (λ yes. (printable_iff found).1 (both.0 yes), λ p. both.1 ((printable_iff found).0 p))
-
 -- the canonical text of a printable record gives the record
 canonical_is_read : (found : Parsed) → IsPrintable found → UnhandledRecord parse (canonical_text found) found
 canonical_is_read found p = of_parts (canonical_text found) found (canonical_reads_back found ((printable_iff found).0 p))
@@ -96,3 +92,9 @@ is_read_back found is =
       same = same;
       no_other_record = λ other h e. one_record date_time (canonical_text found) other found (subst (λ t. UnhandledRecord parse t other) e (canonical_is_read other h)) same;
     }
+
+-- a test of the fields
+pub tests_printable : {test : Bool} (found : Parsed) → IsTrue test ↔ IsSpelled found
+    → TestsText test (IsPrintable found) (IsReadBack found) (canonical_text found)
+tests_printable found =
+    tests_text (printable_iff found) (λ is. shown_is_canonical found ((printable_iff found).0 is)) (is_read_back found)

@@ -1,15 +1,15 @@
 -- The times that have a text are those whose fields have texts, and the canonical text is one of these texts.
-use Rattle.std.proofs.Common.{◌+◌, ◌≤◌, ◌≡◌, ◌↔◌, Bool, IsTrue, [], ◌++◌, length, map, Option, Some, None, refl, inl, arith}
+use Rattle.std.proofs.Common.{◌+◌, ◌≤◌, ◌≡◌, ◌↔◌, Bool, IsTrue, [], ◌++◌, length, Option, Some, None, refl, inl, arith}
 use Rattle.std.proofs.lemmas.List.{length-append}
 use Rattle.ixdtf_grammar.specs.declared.profile.Profile.{Profile, TheVariants.Crate}
 use Rattle.ixdtf_grammar.specs.declared.records.{DateRecord.DateRecord, TimeRecord.TimeRecord, UtcOffsetRecordOrZ.UtcOffsetRecordOrZ}
-use Rattle.ixdtf.specs.language.{Letters.{Letter, Text, colon, Letter.Plain}, Cores.{Core, core_of, IsTimeCore}, Languages.Parsed, Readers.CoreKind.time_of_day}
+use Rattle.ixdtf.specs.language.{Letters.{Letter, Text, colon}, Cores.{Core, core_of, IsTimeCore}, Languages.Parsed, Readers.CoreKind.time_of_day}
 use Rattle.ixdtf_reading.specs.reading.FixedPlaces.{byte_place}
 use Rattle.ixdtf_reading.proofs.parts.Fronts.{no_front_at_colon}
-use Rattle.ixdtf_print.specs.{Canonical.{two_digits, seconds_text, clock_text, offset_text, brackets_text}, Shown.bytes_of, SpelledCores.{HasLoneTime, IsSpelledAs}}
-use Rattle.ixdtf_print.specs.Times.{unmarked_time_text, time_core_text, lone_time_text, IsPrintableTime, TimeFits, TimeIsReadBack}
+use Rattle.ixdtf_print.specs.{Canonical.{two_digits, seconds_text, clock_text, offset_text, brackets_text}, Printing.{HasText, TestsText}, SpelledCores.{HasLoneTime, IsSpelledAs}}
+use Rattle.ixdtf_print.specs.Times.{unmarked_time_text, time_core_text, lone_time_text, IsTimeText, IsPrintableTime, IsTimeReadBack, TimeFits, TimeIsReadBack}
 use Rattle.ixdtf_print.proofs.{parts.DerivedTimes.of_time, theorems.ReadBack.{is_time, timed}, theorems.PrintableRecords.with_time}
-use Rattle.ixdtf_print.proofs.theorems.BracketedRecords.{Written, tests, printable, read_back, fits, shown}
+use Rattle.ixdtf_print.proofs.theorems.BracketedRecords.{Written, tests, printable, read_back, fits}
 
 abbrev text_of : Core → Text
 text_of core = unmarked_time_text core.time ++ offset_text core.offset
@@ -67,17 +67,19 @@ lone_time profile = record {
   of_core = of_core profile;
 }
 
--- a test of the fields
-pub tests_time : {test : Bool} (found : Parsed) → IsTrue test ↔ IsSpelledAs HasLoneTime found → IsTrue test ↔ IsPrintableTime found
-tests_time found both = tests (lone_time Crate) found both
-
 pub time_is_read_back : TimeIsReadBack
 time_is_read_back profile found h other =
     let spelled = (printable (lone_time profile) found).0 h in
     read_back (lone_time other) found ((printable (lone_time other) found).1 spelled)
 
+-- what `parse_time` reads under some profile can be printed
+pub time_printable : (profile : Profile) (found : Parsed) → HasText (IsTimeText profile) found → IsPrintableTime found
+time_printable profile found h = (printable (lone_time Crate) found).1 ((printable (lone_time profile) found).0 h)
+
 pub time_fits : TimeFits
 time_fits profile = fits (lone_time profile)
 
-pub time_is_shown : (found : Parsed) → IsPrintableTime found → map Plain (bytes_of (lone_time_text found)) ≡ lone_time_text found
-time_is_shown found h = shown (lone_time Crate) found h
+-- a test of the fields
+pub tests_time : {test : Bool} (found : Parsed) → IsTrue test ↔ IsSpelledAs HasLoneTime found
+    → TestsText test (IsPrintableTime found) (IsTimeReadBack found) (lone_time_text found)
+tests_time found = tests (lone_time Crate) found (time_is_read_back Crate found)

@@ -1,14 +1,14 @@
 -- The year-months that have a text are those whose fields have texts, and the canonical text is one of these texts.
-use Rattle.std.proofs.Common.{◌+◌, ◌≤◌, ◌≡◌, ◌↔◌, Bool, IsTrue, [], ◌∷◌, ◌++◌, length, map, Option, Some, None, refl, inr, arith}
+use Rattle.std.proofs.Common.{◌+◌, ◌≤◌, ◌≡◌, ◌↔◌, Bool, IsTrue, [], ◌∷◌, ◌++◌, length, Option, Some, None, refl, inr, arith}
 use Rattle.std.proofs.lemmas.List.{length-append}
 use Rattle.ixdtf_grammar.specs.declared.records.{DateRecord.DateRecord, TimeRecord.TimeRecord, UtcOffsetRecordOrZ.UtcOffsetRecordOrZ}
 use Rattle.ixdtf.specs.language.{Letters.{Letter, Text, Letter.Plain}, Months.{IsYearMonth}, Cores.{Core, core_of, DateAlone}}
 use Rattle.ixdtf.specs.language.{Languages.Parsed, Readers.CoreKind.year_month}
 use Rattle.ixdtf_grammar.proofs.theorems.CoreSizes.{digits_long}
-use Rattle.ixdtf_print.specs.{Canonical.{two_digits, year_text, brackets_text}, Shown.bytes_of, SpelledCores.{IsFirstDay, HasLoneMonth, IsSpelledAs}}
-use Rattle.ixdtf_print.specs.YearMonths.{month_text, optional_month_text, year_month_text, IsPrintableYearMonth, YearMonthFits, YearMonthIsReadBack}
+use Rattle.ixdtf_print.specs.{Canonical.{two_digits, year_text, brackets_text}, Printing.TestsText, SpelledCores.{IsFirstDay, HasLoneMonth, IsSpelledAs}}
+use Rattle.ixdtf_print.specs.YearMonths.{month_text, optional_month_text, year_month_text, IsPrintableYearMonth, IsYearMonthReadBack, YearMonthFits, YearMonthIsReadBack}
 use Rattle.ixdtf_print.proofs.{parts.DerivedDates.of_year, parts.PaddedDigits.two_are, theorems.ReadBack.is_year}
-use Rattle.ixdtf_print.proofs.theorems.BracketedRecords.{Written, tests, read_back, fits, shown}
+use Rattle.ixdtf_print.proofs.theorems.BracketedRecords.{Written, tests, read_back, fits}
 
 is_month : (date : DateRecord) → IsFirstDay date → IsYearMonth (month_text date) date
 unfolding month_text
@@ -63,15 +63,13 @@ lone_month = record {
   of_core = of_core;
 }
 
--- a test of the fields
-pub tests_year_month : {test : Bool} (found : Parsed) → IsTrue test ↔ IsSpelledAs HasLoneMonth found → IsTrue test ↔ IsPrintableYearMonth found
-tests_year_month found both = tests lone_month found both
-
 pub year_month_is_read_back : YearMonthIsReadBack
 year_month_is_read_back = read_back lone_month
 
 pub year_month_fits : YearMonthFits
 year_month_fits = fits lone_month
 
-pub year_month_is_shown : (found : Parsed) → IsPrintableYearMonth found → map Plain (bytes_of (year_month_text found)) ≡ year_month_text found
-year_month_is_shown found h = shown lone_month found h
+-- a test of the fields
+pub tests_year_month : {test : Bool} (found : Parsed) → IsTrue test ↔ IsSpelledAs HasLoneMonth found
+    → TestsText test (IsPrintableYearMonth found) (IsYearMonthReadBack found) (year_month_text found)
+tests_year_month found = tests (lone_month) found (year_month_is_read_back found)

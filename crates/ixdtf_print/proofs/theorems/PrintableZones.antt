@@ -3,23 +3,17 @@
 use Rattle.std.proofs.Common.{◌≡◌, ◌↔◌, Bool, IsTrue, false, [], ◌∷◌, ◌++◌, map, Some, refl, sym, append-nil}
 use Rattle.ixdtf.specs.language.{Letters.{Text, Class, Letter.Plain}, ZoneNames.{Zone, IsZone}, Brackets.ZoneNote, Readers.Reader.parse_identifier}
 use Rattle.ixdtf.specs.language.Languages.{Derives.as_identified, Found.identified}
-use Rattle.ixdtf.specs.Widths.{UnhandledOutcome.read_as}
-use Rattle.ixdtf_reading.proofs.theorems.OneUnhandledOutcome.{one_unhandled_outcome}
 use Rattle.ixdtf_grammar.proofs.{parts.Classes.{ascii, AllOf}, widths.PlainTexts.tail_ascii}
-use Rattle.ixdtf_print.specs.{Canonical.{zone_text, bracket_text}, Printing.HasText, Shown.bytes_of, Spelled.IsZoneText}
-use Rattle.ixdtf_print.specs.Zones.{IsIdentifier, IsPrintableZone, ZoneFits, ZoneIsReadBack}
+use Rattle.ixdtf_print.specs.{Canonical.{zone_text, bracket_text}, Printing.{HasText, TestsText}, Shown.bytes_of, Spelled.IsZoneText}
+use Rattle.ixdtf_print.specs.Zones.{IsIdentifier, IsPrintableZone, IsZoneReadBack, ZoneFits, ZoneIsReadBack}
 use Rattle.ixdtf_print.proofs.{parts.DerivedTimes.of_zone, theorems.ReadBack.{is_zone, is_bracket}, theorems.DisplayedText.shown_as_it_is}
-use Rattle.ixdtf_print.proofs.theorems.OneTexts.{StandsForOne, has_one_text}
+use Rattle.ixdtf_print.proofs.theorems.OneTexts.{StandsForOne, one_found, has_one_text, tests_text}
 
 derived : (text : Text) (zone : Zone) → IsIdentifier text zone → IsZone text zone
 derived text zone (as_identified h) = h
 
 one_zone : StandsForOne IsIdentifier
-one_zone text a b p q =
-    let outcome = one_unhandled_outcome parse_identifier text in
-    let first : read_as (identified a) ≡ outcome.0 = outcome.2 (read_as (identified a)) p in
-    let second : read_as (identified b) ≡ outcome.0 = outcome.2 (read_as (identified b)) q in
-    cc
+one_zone text a b p q = let same = one_found parse_identifier text (identified a) (identified b) p q in cc
 
 spelled : (zone : Zone) → HasText IsIdentifier zone → IsZoneText zone
 spelled zone h = (of_zone h.0 zone (derived h.0 zone h.1)).0
@@ -27,12 +21,8 @@ spelled zone h = (of_zone h.0 zone (derived h.0 zone h.1)).0
 is_text : (zone : Zone) → IsZoneText zone → IsIdentifier (zone_text zone) zone
 is_text zone s = as_identified (is_zone zone s)
 
-pub printable_zone : (zone : Zone) → IsPrintableZone zone ↔ IsZoneText zone
+printable_zone : (zone : Zone) → IsPrintableZone zone ↔ IsZoneText zone
 printable_zone zone = (spelled zone, λ s. (zone_text zone, is_text zone s))
-
--- a test of the name or of the numbers
-pub tests_zone : {test : Bool} (zone : Zone) → IsTrue test ↔ IsZoneText zone → IsTrue test ↔ IsPrintableZone zone
-tests_zone zone both = (λ yes. (printable_zone zone).1 (both.0 yes), λ p. both.1 ((printable_zone zone).0 p))
 
 pub zone_is_read_back : ZoneIsReadBack
 zone_is_read_back = has_one_text one_zone (λ found h. is_text found (spelled found h))
@@ -53,5 +43,10 @@ zone_ascii zone h =
     let whole = tail_ascii false (bracket_text (Some note)) (Some note) [] (bracket_text (Some note), [], sym (append-nil (bracket_text (Some note))), is_bracket (Some note) h, refl) in
     all_front ascii (zone_text zone) (Plain 93 ∷ []) whole.1
 
-pub zone_is_shown : (zone : Zone) → IsPrintableZone zone → map Plain (bytes_of (zone_text zone)) ≡ zone_text zone
+zone_is_shown : (zone : Zone) → IsPrintableZone zone → map Plain (bytes_of (zone_text zone)) ≡ zone_text zone
 zone_is_shown zone h = shown_as_it_is (zone_text zone) (zone_ascii zone (spelled zone h))
+
+-- a test of the name or of the numbers
+pub tests_zone : {test : Bool} (zone : Zone) → IsTrue test ↔ IsZoneText zone
+    → TestsText test (IsPrintableZone zone) (IsZoneReadBack zone) (zone_text zone)
+tests_zone zone = tests_text (printable_zone zone) (zone_is_shown zone) (zone_is_read_back zone)

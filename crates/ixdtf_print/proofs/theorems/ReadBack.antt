@@ -160,7 +160,7 @@ minute_clock clock offset at = record {
   no_fraction = refl;
 }
 
-is_sign : (s : Sign) → IsTrue (sign (mark_of s)) × (s ≡ sign_at (mark_of s))
+pub is_sign : (s : Sign) → IsTrue (sign (mark_of s)) × (s ≡ sign_at (mark_of s))
 is_sign Positive = (refl, refl)
 is_sign Negative = (refl, refl)
 
@@ -201,7 +201,7 @@ pub is_zone : (zone : Zone) → IsZoneText zone → IsZone (zone_text zone) zone
 is_zone (Name name) h = inl (name, (h, refl), refl)
 is_zone (Offset offset) h = inr (offset, is_minute_offset offset h, refl)
 
-opens : (critical : Bool) → Opens (opening_text critical) critical
+pub opens : (critical : Bool) → Opens (opening_text critical) critical
 opens true = (Plain 91 ∷ [], Plain 33 ∷ [], refl, (91, refl, refl), (33, refl, refl))
 opens false = (91, refl, refl)
 
@@ -302,9 +302,9 @@ is_core (Some date) (Some time) offset d h = inr (record {
 -- ---- records
 
 -- a core, and then the canonical brackets of a record, has the parts of the record
-pub brackets_read_back : (kind : CoreKind) (cores : Text) (found : Parsed) → has_exact_zones kind ≡ false → IsCore kind cores (core_of found.date found.time found.offset) → HasBrackets found
-    → HasParts kind (cores ++ brackets_text found) found
-brackets_read_back kind cores found any_zone is_core h = record {
+pub parts_read_back : (kind : CoreKind) (cores : Text) (found : Parsed) → IsCore kind cores (core_of found.date found.time found.offset)
+    → OptionalBracket (has_exact_zones kind) (bracket_text found.zone) found.zone → HasCalendar found.calendar → HasParts kind (cores ++ brackets_text found) found
+parts_read_back kind cores found is_core is_bracket has_calendar = record {
   cores = cores;
   zones = bracket_text found.zone;
   pair_texts = calendar_text found.calendar;
@@ -313,11 +313,16 @@ brackets_read_back kind cores found any_zone is_core h = record {
   pairs = calendar_pairs found.calendar;
   is = refl;
   is_core = is_core;
-  is_bracket = rw any_zone (is_bracket found.zone h.0);
-  are_pairs = are_pairs found.calendar h.1;
+  is_bracket = is_bracket;
+  are_pairs = are_pairs found.calendar has_calendar;
   accepted = none_refused found.calendar;
   has = λ i. record found { calendar = gives_calendar found.calendar i };
 }
+
+-- the same, where a zone need not be exact
+pub brackets_read_back : (kind : CoreKind) (cores : Text) (found : Parsed) → has_exact_zones kind ≡ false → IsCore kind cores (core_of found.date found.time found.offset) → HasBrackets found
+    → HasParts kind (cores ++ brackets_text found) found
+brackets_read_back kind cores found any_zone is_core h = parts_read_back kind cores found is_core (rw any_zone (is_bracket found.zone h.0)) h.1
 
 -- the canonical text of a record whose fields have texts has the parts of the record
 pub canonical_reads_back : (found : Parsed) → IsSpelled found → HasParts date_time (canonical_text found) found

@@ -20,7 +20,7 @@ fraction_short (Some fraction) h = omega (arith, some_fraction_long fraction, h.
 clock_short : (time : TimeRecord) → IsDayTime time → length (time_text (Some time)) ≤ 265
 clock_short time h = omega (arith, some_time_long time, fraction_short time.fraction h.fraction)
 
-shift_short : (offset : UtcOffsetRecordOrZ) → IsShift offset → length (offset_text (Some offset)) ≤ 265
+pub shift_short : (offset : UtcOffsetRecordOrZ) → IsShift offset → length (offset_text (Some offset)) ≤ 265
 shift_short stands.Z h = omega arith
 shift_short (stands.Offset (offsets.MinutePrecision offset)) h = omega (arith, minute_offset_long offset)
 shift_short (stands.Offset (offsets.FullPrecisionOffset offset)) h = omega (arith, full_offset_long offset, fraction_short offset.fraction h.fraction)

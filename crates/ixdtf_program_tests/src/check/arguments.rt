@@ -1,8 +1,8 @@
 //! What the arguments ask for.
 
 use ixdtf::parsers::Profile;
-use ixdtf_checks::arguments::{Options, Word, Wrong, meant_by};
-use ixdtf_checks::kind::Kind;
+use ixdtf_checks::arguments::{FieldName, Options, Word, Wrong, meant_by};
+use ixdtf_checks::kind::{InstantKind, Kind};
 use ixdtf_checks::request::{Field, Skips, Task};
 use ixdtf_checks::status::status_of;
 use ixdtf_checks::tally::Tally;
@@ -57,6 +57,40 @@ fn takes_options(rt: HostRuntime) {
     assert!(rt; request.is_quiet);
 }
 
+/// Words of which one has the name of a field, and where it has the name.
+const NAMED: &[(&[&str], Option<FieldName>)] = &[
+    (&["--header", "--field", "2"], None),
+    (
+        &["--header", "--field", "when"],
+        Some(FieldName { word: 2, start: 0 }),
+    ),
+    (
+        &["--field=2", "--header", "--field=when"],
+        Some(FieldName { word: 2, start: 8 }),
+    ),
+];
+
+#[test]
+fn finds_the_name_of_a_field(rt: HostRuntime) {
+    for (words, wanted) in NAMED {
+        let options = options_of(&rt, words);
+        assert_eq!(rt; options.field_name(), *wanted);
+        if let Some(field_name) = *wanted {
+            let last = words.last().copied().unwrap_or("");
+            assert_eq!(rt; field_name.in_word(last), b"when".as_slice());
+        }
+    }
+}
+
+#[test]
+fn asks_for_the_order_of_lines(rt: HostRuntime) {
+    let options = options_of(&rt, &["--ordered", "--kind=rfc3339"]);
+    let Some(request) = options.request("f") else {
+        panic!(rt; "no request");
+    };
+    assert_eq!(rt; request.task, Task::Order(InstantKind::Rfc3339));
+}
+
 #[test]
 fn asks_for_date_times_where_nothing_is_said(rt: HostRuntime) {
     let Some(request) = Options::new().request("f") else {
@@ -77,8 +111,12 @@ const TOGETHER: &[(&[&str], Option<Wrong>)] = &[
     (&["--kind"], Some(Wrong::MissingValue)),
     (&["--comment"], Some(Wrong::MissingValue)),
     (&["--skip-blank"], None),
-    (&["--kind=time", "--canonical"], Some(Wrong::CanonicalKind)),
-    (&["--kind", "date-time", "--canonical"], None),
+    (&["--kind=time", "--canonical"], None),
+    (&["--field=when"], Some(Wrong::NameWithoutHeader)),
+    (&["--header", "--field", "when"], None),
+    (&["--kind", "rfc9557", "--ordered"], None),
+    (&["--ordered", "--kind=time"], Some(Wrong::OrderedKind)),
+    (&["--ordered", "--canonical"], Some(Wrong::OrderedCanonical)),
 ];
 
 #[test]
@@ -107,7 +145,7 @@ const ONE_BY_ONE: &[(&str, Word)] = &[
 /// Options, each with a word that is no value of it.
 const WITHOUT_VALUES: &[(&str, &str, Wrong)] = &[
     ("--field", "0", Wrong::InvalidField),
-    ("--field", "two", Wrong::InvalidField),
+    ("--field", "", Wrong::InvalidField),
     ("--kind", "date", Wrong::UnknownKind),
     ("--separator", ",,", Wrong::InvalidSeparator),
     ("--comment", "//", Wrong::InvalidComment),

@@ -195,7 +195,7 @@ fn shows_characters_outside_ascii(rt: HostRuntime) -> Result<(), Fail> {
 #[test]
 fn writes_canonical_texts(rt: HostRuntime) -> Result<(), Fail> {
     let mut request = DATE_TIMES;
-    request.task = Task::Print;
+    request.task = Task::Print(Kind::DateTime);
     check_written(
         &rt,
         rt.alloc(),
@@ -214,6 +214,75 @@ f:2:8: Parsed month value not in a valid range.\n2020-13-01\n       ^\n",
         b"2020-01-01T00:00:00+00:00[+00:00]\n",
         (2, 1),
     )
+}
+
+/// A text of each kind, and its canonical text.
+const CANONICAL: &[(Kind, &str, &str)] = &[
+    (Kind::DateTime, "20240302T0848z", "2024-03-02T08:48:00Z\n"),
+    (Kind::YearMonth, "202411[UTC]", "2024-11[UTC]\n"),
+    (Kind::MonthDay, "--1107", "11-07\n"),
+    (Kind::Time, "T0848+01", "08:48:00+01:00\n"),
+    (Kind::Offset, "+05", "+05:00\n"),
+    (Kind::Zone, "-0530", "-05:30\n"),
+    (Kind::ZoneName, "Europe/Paris", "Europe/Paris\n"),
+    (Kind::Iana, "UTC", "UTC\n"),
+    (Kind::Duration, "-pt0h30,5m", "-PT30.5M\n"),
+    (
+        Kind::Rfc3339,
+        "2024-03-02t08:48:00z",
+        "2024-03-02T08:48:00Z\n",
+    ),
+    (
+        Kind::Rfc9557,
+        "2024-03-02T08:48:00Z[!u-ca=hebrew]",
+        "2024-03-02T08:48:00Z[u-ca=hebrew]\n",
+    ),
+];
+
+#[test]
+fn writes_canonical_texts_of_each_kind(rt: HostRuntime) -> Result<(), Fail> {
+    let mut request = DATE_TIMES;
+    for (kind, text, canonical) in CANONICAL {
+        request.task = Task::Print(*kind);
+        let bytes = canonical.as_bytes();
+        check_written(&rt, rt.alloc(), &request, text.as_bytes(), bytes, (1, 0))?;
+    }
+    Ok(())
+}
+
+/// Texts with a space before what may be an offset, and what is written about them.
+const SPACED: &[(Kind, &str, &str)] = &[
+    (
+        Kind::DateTime,
+        "2024-03-02 08:48 -0500",
+        "f:1:17: a space stands before the offset\n2024-03-02 08:48 -0500\n                ^\n",
+    ),
+    (
+        Kind::Time,
+        "08:48 z",
+        "f:1:6: a space stands before the offset\n08:48 z\n     ^\n",
+    ),
+    (
+        Kind::Time,
+        "08:48 +a",
+        "f:1:6: Unexpected character found after parsing was completed.\n08:48 +a\n     ^\n",
+    ),
+    (
+        Kind::Duration,
+        "P1D +05",
+        "f:1:4: Unexpected character found after parsing was completed.\nP1D +05\n   ^\n",
+    ),
+];
+
+#[test]
+fn names_a_space_before_an_offset(rt: HostRuntime) -> Result<(), Fail> {
+    let mut request = DATE_TIMES;
+    for (kind, text, report) in SPACED {
+        request.task = Task::Check(*kind);
+        let bytes = report.as_bytes();
+        check_written(&rt, rt.alloc(), &request, text.as_bytes(), bytes, (1, 1))?;
+    }
+    Ok(())
 }
 
 #[test]

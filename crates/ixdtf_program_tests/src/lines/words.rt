@@ -186,6 +186,13 @@ fn answers_canonical_texts(rt: HostRuntime) -> Result<(), Fail> {
 
 #[rattlefmt::skip]
 const CANONICAL_TEXTS_OF_PARTS: &[(&str, &str)] = &[
+    ("canonical-time 12+01[!+01][u-ca=hebrew]", "ok 12:00:00+01:00[!+01:00][u-ca=hebrew]"),
+    ("canonical-time T121430,50z", "ok 12:14:30.50Z"),
+    ("canonical-time 1214", "error Time is ambiguous with MonthDay"),
+    ("canonical-year-month +00202011[+01]", "ok 2020-11[+01:00]"),
+    ("canonical-year-month 2020-13", "error Parsed month value not in a valid range."),
+    ("canonical-month-day --1100[UTC]", "ok 11-00[UTC]"),
+    ("canonical-month-day 02-30", "error MonthDay was not valid."),
     ("canonical-offset -05", "ok -05:00"),
     ("canonical-offset +0530", "ok +05:30"),
     ("canonical-offset -050030,50", "ok -05:00:30.50"),
@@ -203,6 +210,24 @@ const CANONICAL_TEXTS_OF_PARTS: &[(&str, &str)] = &[
 #[test]
 fn answers_canonical_texts_of_parts(rt: HostRuntime) -> Result<(), Fail> {
     check_answers(&rt, rt.alloc(), CANONICAL_TEXTS_OF_PARTS)
+}
+
+// The seconds are those of the tests of the library (`instants`).
+#[rattlefmt::skip]
+const INSTANTS: &[(&str, &str)] = &[
+    ("instant 2024-03-02T08:48:00.25Z", "ok seconds=1709369280 nanoseconds=250000000"),
+    ("instant 2024-03-02T03:48-05:00[America/New_York]", "ok seconds=1709369280 nanoseconds=0"),
+    ("instant 1970-01-01T00:00:00+00:00:00.000000001", "ok seconds=-1 nanoseconds=999999999"),
+    ("instant 2016-12-31T23:59:60Z", "ok seconds=1483228799 nanoseconds=0"),
+    ("instant -999999-01-01T00:00:00Z", "ok seconds=-31619087596800 nanoseconds=0"),
+    ("instant 2024-03-02", "error no instant"),
+    ("instant 2024-03-02T08:48:00[Europe/Paris]", "error no instant"),
+    ("instant 2021-02-29", "error Parsed day value not in a valid range."),
+];
+
+#[test]
+fn answers_instants(rt: HostRuntime) -> Result<(), Fail> {
+    check_answers(&rt, rt.alloc(), INSTANTS)
 }
 
 /// A line of 4,096 bytes, its text a first part, the byte again and again, and a last part, is answered by a canonical text

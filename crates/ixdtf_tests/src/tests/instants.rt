@@ -1,8 +1,9 @@
 //! Instants. The seconds are those of Python's `datetime`, and of a count year by year where it does not reach.
 
-use super::check;
+use super::{check, check_displayed};
 use ixdtf::Instant;
 use ixdtf::parsers::IxdtfParser;
+use std::test::Fail;
 
 // Texts of `parse`, with the seconds and the nanoseconds of their instants.
 #[rattlefmt::skip]
@@ -96,4 +97,35 @@ fn the_earlier_instant_is_the_smaller_one(rt: HostRuntime) {
     };
     check(&rt, "nanoseconds", first < second);
     check(&rt, "seconds", second < third);
+}
+
+// Seconds and nanoseconds, and the texts that `Display` writes of these instants.
+#[rattlefmt::skip]
+const TEXTS: &[(i64, u32, &str)] = &[
+    (0, 0, "1970-01-01T00:00:00Z"),
+    (1_709_369_280, 250_000_000, "2024-03-02T08:48:00.25Z"),
+    (-1, 999_999_999, "1969-12-31T23:59:59.999999999Z"),
+    (951_825_600, 1, "2000-02-29T12:00:00.000000001Z"),
+    // other years than those from 0 to 9999
+    (-62_167_219_200, 0, "0000-01-01T00:00:00Z"),
+    (-62_167_219_201, 0, "-000001-12-31T23:59:59Z"),
+    (253_402_300_799, 0, "9999-12-31T23:59:59Z"),
+    (253_402_300_800, 0, "+010000-01-01T00:00:00Z"),
+    (31_494_784_780_799, 0, "+999999-12-31T23:59:59Z"),
+    // instants that no record has
+    (31_494_784_780_800, 0, "+000001000000-01-01T00:00:00Z"),
+    (i64::MAX, 0, "+292277026596-12-04T15:30:07Z"),
+    (0, 1_500_000_000, "1970-01-01T00:00:01.5Z"),
+];
+
+#[test]
+fn displays_the_date_and_the_time_in_utc(rt: HostRuntime) -> Result<(), Fail> {
+    for (seconds, nanoseconds, text) in TEXTS {
+        let instant = Instant {
+            seconds: *seconds,
+            nanoseconds: *nanoseconds,
+        };
+        check_displayed(&rt, rt.alloc(), &instant, text)?;
+    }
+    Ok(())
 }

@@ -5,7 +5,9 @@ use super::{check, check_displayed};
 use ixdtf::encoding::Utf16;
 use ixdtf::parsers::{IsoDurationParser, Profile};
 use ixdtf::records::{DurationParseRecord, Sign};
-use ixdtf_print::{CanonicalDuration, PrintError, duration_length, print_duration};
+use ixdtf_print::{
+    CanonicalDuration, PrintError, duration_length, print_duration, print_duration_utf16,
+};
 use std::alloc::Global;
 use std::process::Abort;
 use std::test::Fail;
@@ -68,6 +70,26 @@ fn is_read_wide(bytes: &[u8], duration: &DurationParseRecord) -> bool {
     IsoDurationParser::<Utf16>::new(wide.units()).parse() == Ok(*duration)
 }
 
+/// It is printed as 16-bit code units too, and read back from these.
+fn check_wide(rt: &impl Abort, duration: &DurationParseRecord, canonical: &[u8]) {
+    let mut out = [7; 512];
+    let short = print_duration_utf16(duration, &mut out[..1]);
+    check(rt, "too few code units", short == Err(PrintError::TooShort));
+    match print_duration_utf16(duration, &mut out) {
+        Ok(count) => {
+            let units = &out[..count];
+            check(
+                rt,
+                "its code units",
+                units == Wide::of_bytes(canonical).units(),
+            );
+            let again = IsoDurationParser::<Utf16>::new(units).parse();
+            check(rt, "read back", again == Ok(*duration));
+        }
+        Err(_) => check(rt, "a duration that was read", false),
+    }
+}
+
 /// The duration of the text is printed so, and read back from it.
 fn check_printed(rt: &impl Abort, text: &str, canonical: &str) {
     let Ok(duration) = IsoDurationParser::from_str(text).parse() else {
@@ -77,6 +99,7 @@ fn check_printed(rt: &impl Abort, text: &str, canonical: &str) {
     let bytes = canonical.as_bytes();
     check_canonical(rt, &duration, bytes);
     check_with_room(rt, &duration, bytes);
+    check_wide(rt, &duration, bytes);
     let is_read = is_read_under(bytes, Profile::Crate, &duration)
         && is_read_under(bytes, Profile::Strict, &duration)
         && is_read_wide(bytes, &duration);

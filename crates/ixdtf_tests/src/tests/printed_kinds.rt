@@ -3,13 +3,13 @@
 ghost use Rattle.std.specs.Prelude.{◌≤◌};
 
 use super::{check, check_displayed};
-use ixdtf::encoding::Utf8;
+use ixdtf::encoding::{Utf8, Utf16};
 use ixdtf::parsers::{IxdtfParser, Profile, TimeZoneParser};
 use ixdtf::records::IxdtfParseRecord;
 use ixdtf_print::{
     CanonicalMonthDay, CanonicalOffset, CanonicalTime, CanonicalYearMonth, CanonicalZone,
-    PrintError, month_day_length, offset_length, print_month_day, print_offset, print_time,
-    print_year_month, print_zone, time_length, year_month_length, zone_length,
+    PrintError, month_day_length, offset_length, print_month_day, print_offset, print_offset_utf16,
+    print_time, print_year_month, print_zone, time_length, year_month_length, zone_length,
 };
 use std::alloc::Global;
 use std::process::Abort;
@@ -66,6 +66,15 @@ fn check_offset(rt: &impl Abort, alloc: Global, text: &str, canonical: &str) -> 
     let printed = print_offset(&offset, &mut out[..too_few(canonical)]);
     check_refused(rt, canonical, printed, PrintError::TooShort, &out);
     let again = TimeZoneParser::from_str(canonical).parse_offset();
+    check(rt, canonical, again == Ok(offset));
+    let mut wide = [7; 64];
+    let short = print_offset_utf16(&offset, &mut wide[..too_few(canonical)]);
+    check(rt, canonical, short == Err(PrintError::TooShort));
+    let Ok(count) = print_offset_utf16(&offset, &mut wide) else {
+        check(rt, text, false);
+        return Ok(());
+    };
+    let again = TimeZoneParser::<Utf16>::new(&wide[..count]).parse_offset();
     check(rt, canonical, again == Ok(offset));
     let Some(shown) = CanonicalOffset::of(&offset) else {
         check(rt, text, false);

@@ -466,7 +466,7 @@ fn count_annotations(text: &str) -> ParserResult<u32> {
     }
 }
 
-// Whether a text is read where annotations of the key `x-note` are passed over, also critical ones.
+// Tests whether `parse` accepts a text without its annotations with the key `x-note`, even if they are critical.
 fn reads_with_notes(text: &str) -> bool {
     let mut parser = IxdtfParser::from_str(text);
     let read = parser.parse_with_annotation_handler(|annotation| {
@@ -562,7 +562,7 @@ impl From<ParseError> for Refused {
     }
 }
 
-// With an error of the caller's choice.
+// Reads the calendar of a text with a handler. The caller chooses the type of the error.
 fn calendar_or<'a, E: From<ParseError>, F>(text: &'a str, handler: F) -> Result<Option<&'a [u8]>, E>
 where
     F: FnMut(Annotation<'a, Utf8>) -> Option<Annotation<'a, Utf8>>,

@@ -1,6 +1,6 @@
 // Made by tools/to_rust.py of crates/ixdtf/src/parsers/exact.rt. Do not edit.
 
-//! The forms of [`IxdtfParser`] that read exactly the texts of a standard, as RFC 3339 has them.
+//! The readers of [`IxdtfParser`] that accept exactly the date-times of RFC 3339.
 
 use crate::parsers::IxdtfParser;
 use crate::{LocatedError, ParserResult};
@@ -9,16 +9,27 @@ use crate::records::IxdtfParseRecord;
 use crate::parsers::rfc3339::parse_rfc3339_text;
 
 impl<'a, T: EncodingType> IxdtfParser<'a, T> {
-    /// Reads the remaining input as a date-time of RFC 3339 (`date-time` of section 5.6), and accepts no other text. So it
-    /// can validate what has to be in this format.
+    /// Parses the remaining input as a date-time of RFC 3339 (`date-time` of section 5.6), and accepts no other text.
     ///
-    /// A date-time is a year of four digits, `-`, a month, `-`, a day that the month has, `T` or `t`, an hour, `:`, a minute,
-    /// `:`, a second, `.` and digits where there is a fraction, and `Z`, `z`, or a sign, an hour, `:` and a minute. The second
-    /// 60 is read in each minute: which minutes have it, a table of leap seconds says (section 5.7). A space in place of the
-    /// `T`, which a note of the section allows, is refused.
+    /// So this method can validate a text that has to be in this format, such as `2024-03-02T08:48:00.25-05:00`. The parts
+    /// of a date-time are, in this order:
     ///
-    /// [`parse`](Self::parse) reads each of these texts too, and returns an equal record. The record has `date`, `time` and
-    /// `offset`, and neither `tz` nor `calendar`. The profile does not matter.
+    /// - a year of four digits, `-`, a month, `-`, and a day that this month has;
+    /// - `T` or `t`;
+    /// - an hour, `:`, a minute, `:`, and a second;
+    /// - a fraction, which is `.` and one or more digits. It may be left out;
+    /// - `Z` or `z`, or a sign, an hour, `:` and a minute.
+    ///
+    /// The second 60 is accepted in every minute. Only a table of leap seconds could say in which minutes it exists
+    /// (section 5.7). A note of section 5.6 allows a space instead of the `T`. This method refuses it.
+    ///
+    /// [`parse`](Self::parse) accepts each of these texts too, and returns an equal record. The record has `date`, `time`
+    /// and `offset`. It has neither `tz` nor `calendar`. The profile does not matter.
+    ///
+    /// If the call succeeds, no input remains, and a second call returns the error of the empty text. If it fails, the
+    /// input is unchanged, and a second call returns the same error.
+    ///
+    /// # Examples
     ///
     /// ```rust
     /// use ixdtf::ParseError;
@@ -42,30 +53,30 @@ impl<'a, T: EncodingType> IxdtfParser<'a, T> {
     /// # Ok::<(), ParseError>(())
     /// ```
     ///
-    /// After `Ok` the remaining input is empty, so a later call returns the error of the empty text. After an error it is
-    /// unchanged, so a second call returns the same.
-    ///
     /// # Errors
     ///
-    /// The first part that is wrong decides. A number out of its range is an error before the next code unit is read.
+    /// The first part that is wrong decides. If a number is out of its range, this is the error, whatever follows the
+    /// number. To get the position of the error, call [`parse_rfc3339_located`](Self::parse_rfc3339_located).
     ///
-    /// - `AbruptEnd` where a digit has to follow (at `digit`), where the input ends after the year (at `Date`), and where it
-    ///   ends before an offset (at `time-numoffset`);
-    /// - `DateYear`, `DateMonth`, `DateDay`, `TimeHour`, `TimeMinuteSecond` and `TimeSecond` where another character stands in
-    ///   the place of a digit of the year, the month, the day, the hour, the minute and the second;
-    /// - `InvalidMonthRange`, `InvalidDayRange`, `TimeHour`, `TimeMinuteSecond` and `TimeSecond` where the month, the day, the
-    ///   hour, the minute and the second are out of their range;
-    /// - `DateSeparator` where no hyphen follows the year or the month, except at the end after a year;
-    /// - `TimeSeparator` where no `T` follows the date, or no colon the hour or the minute;
-    /// - `FractionPart` where no digit follows the point, and at a comma in its place;
-    /// - `OffsetNeedsSign` at any other character where the offset has to begin, and `UtcTimeSeparator` where no colon follows
-    ///   its hour;
-    /// - `InvalidEnd` at any character after the offset;
-    /// - `NonAsciiCodePoint` at a 16-bit code unit that is not from 1 to 126.
+    /// - `AbruptEnd`: the text ends where a digit has to follow (location `digit`), after the year (location `Date`), or
+    ///   where an offset has to begin (location `time-numoffset`).
+    /// - `DateYear`: the year has another character than a digit.
+    /// - `DateMonth`, `DateDay`, `TimeHour`, `TimeMinuteSecond`, `TimeSecond`: the month, the day, the hour, the minute or
+    ///   the second has another character than a digit. The last three also say that the number is out of its range. The
+    ///   hour and the minute can be those of the time or those of the offset.
+    /// - `InvalidMonthRange`: there is no such month.
+    /// - `InvalidDayRange`: the month does not have this day.
+    /// - `DateSeparator`: no `-` follows the month, or another character than `-` follows the year.
+    /// - `TimeSeparator`: no `T` follows the date, or no `:` follows the hour or the minute of the time.
+    /// - `FractionPart`: no digit follows the `.`, or a `,` follows the second.
+    /// - `OffsetNeedsSign`: any other character is where the offset has to begin.
+    /// - `UtcTimeSeparator`: no `:` follows the hour of the offset.
+    /// - `InvalidEnd`: any character follows the offset.
+    /// - `NonAsciiCodePoint`: 16-bit text has a code unit outside 1 to 126. 8-bit text never has this error.
     #[inline(always)]
     pub fn parse_rfc3339(&mut self) -> ParserResult<IxdtfParseRecord<'a, T>> {
         let mut here = self.cursor.fork();
-        // A refusal returns in an arm of its own, as in `parse`.
+        // The error returns in an arm of its own, as in `parse`.
         match parse_rfc3339_text(&mut here) {
             Ok(found) => {
                 self.cursor = here;
@@ -77,8 +88,13 @@ impl<'a, T: EncodingType> IxdtfParser<'a, T> {
         }
     }
 
-    /// Reads as [`parse_rfc3339`](Self::parse_rfc3339) does, and returns an error with its place: the number of code units
-    /// before it in the remaining input. The place of a number out of its range is after its last digit.
+    /// Parses the remaining input as a date-time of RFC 3339, like [`parse_rfc3339`](Self::parse_rfc3339). An error has its
+    /// position.
+    ///
+    /// The position is the number of code units before the error. It is the index of the code unit that does not fit, or
+    /// the end of the input if the input ends too early. For a number out of its range, the position is after the number.
+    ///
+    /// # Examples
     ///
     /// ```rust
     /// use ixdtf::ParseError;
@@ -87,7 +103,7 @@ impl<'a, T: EncodingType> IxdtfParser<'a, T> {
     /// for (text, error, at) in [
     ///     ("2024-03-02T08:48", ParseError::TimeSeparator, 16), // the end
     ///     ("2024-03-02 08:48:00Z", ParseError::TimeSeparator, 10), // where the space stands
-    ///     ("2023-02-29T08:48:00Z", ParseError::InvalidDayRange, 10), // after the 29
+    ///     ("2023-02-29T08:48:00Z", ParseError::InvalidDayRange, 10), // after the day
     /// ] {
     ///     let located = IxdtfParser::from_str(text).parse_rfc3339_located().unwrap_err();
     ///     assert_eq!((located.error, located.at), (error, at));
@@ -96,11 +112,11 @@ impl<'a, T: EncodingType> IxdtfParser<'a, T> {
     ///
     /// # Errors
     ///
-    /// Those of [`parse_rfc3339`](Self::parse_rfc3339), each with its place.
+    /// The errors of [`parse_rfc3339`](Self::parse_rfc3339), each with its position.
     #[inline(always)]
     pub fn parse_rfc3339_located(&mut self) -> Result<IxdtfParseRecord<'a, T>, LocatedError> {
         let mut here = self.cursor.fork();
-        // This is `settle`, written out: the borrow checker has no rule for a call of it with a record.
+        // These two arms do what `settle` does. The borrow checker has no rule for a call of `settle` with a record.
         match parse_rfc3339_text(&mut here) {
             Ok(found) => {
                 self.cursor = here;

@@ -15,15 +15,15 @@ impl<'a, T: EncodingType> IxdtfParser<'a, T> {
     /// Parses the remaining input like [`parse`](Self::parse), and lets a handler decide about each annotation.
     ///
     /// The handler is called with each annotation, in order, up to the first error. It is called when the bracket of
-    /// the annotation has been read completely. What the handler returns, its *reply*, takes the place of the
+    /// the annotation has been read completely. The handler returns a *reply*, which replaces the
     /// annotation:
     ///
     /// - `Some` with the same annotation keeps it.
     /// - `Some` with another annotation replaces it.
     /// - `None` drops it, even if it is critical.
     ///
-    /// The reader then tests the reply: see the errors below. With `|annotation| Some(annotation)` as the handler, the
-    /// result is that of [`parse`](Self::parse).
+    /// The reader then tests the reply: see the errors below. With the handler `|annotation| Some(annotation)`, the
+    /// result is the same as the result of [`parse`](Self::parse).
     ///
     /// `calendar` is the value of the first reply with the key `u-ca`. It is a slice of this reply, which need not be a
     /// slice of the source.
@@ -97,7 +97,7 @@ impl<'a, T: EncodingType> IxdtfParser<'a, T> {
         self.read_as::<ParseError, DateTimes, F>(handler)
     }
 
-    /// Parses the remaining input as RFC 9557 has it, like [`parse_rfc9557`](Self::parse_rfc9557), and lets a handler
+    /// Parses the remaining input as a text of RFC 9557, like [`parse_rfc9557`](Self::parse_rfc9557), and lets a handler
     /// decide about each annotation.
     ///
     /// [`parse_with_annotation_handler`](Self::parse_with_annotation_handler) describes the handler.
@@ -247,7 +247,7 @@ impl<'a, T: EncodingType> IxdtfParser<'a, T> {
         self.read_as::<LocatedError, DateTimes, F>(handler)
     }
 
-    /// Parses the remaining input as RFC 9557 has it, with a handler. An error has its position.
+    /// Parses the remaining input as a text of RFC 9557, with a handler. An error has its position.
     ///
     /// This is [`parse_rfc9557_with_annotation_handler`](Self::parse_rfc9557_with_annotation_handler) with positions as
     /// in [`parse_rfc9557_located`](Self::parse_rfc9557_located).

@@ -28,8 +28,8 @@ impl<'a, T: EncodingType> IxdtfParser<'a, T> {
     /// 9557, section 4.1 (`suffix`).
     ///
     /// The record has the fields `date`, `time`, `offset` and `tz` for the parts that the text has. `calendar` is the
-    /// value of the first annotation with the key `u-ca`. All other annotations are ignored, unless they are critical:
-    /// a critical annotation has the `!`. To decide about annotations yourself, call
+    /// value of the first annotation with the key `u-ca`. An annotation is *critical* if it has the `!`. All annotations
+    /// with other keys are ignored, but a critical one is refused. To decide about annotations yourself, call
     /// [`parse_with_annotation_handler`](Self::parse_with_annotation_handler).
     ///
     /// If the call succeeds, no input remains, and a second call returns the error of the empty text. If it fails, the
@@ -94,7 +94,7 @@ impl<'a, T: EncodingType> IxdtfParser<'a, T> {
     /// - `TzLeadingChar`: the first bracket begins with a character that can begin neither a zone nor a key.
     /// - `IanaChar`: the name of a zone contains a character that a name cannot contain.
     /// - `IanaCharPostSeparator`: in the name of a zone, a `/` is not followed by a character of a name.
-    /// - `AnnotationKeyLeadingChar`: in a bracket that is not the first one, no key begins.
+    /// - `AnnotationKeyLeadingChar`: a bracket that is not the first one does not begin with a key.
     /// - `AnnotationKeyChar`: a key contains a character that a key cannot contain.
     /// - `AnnotationKeyValueSeparator`: the text ends in a key.
     /// - `AnnotationValueChar`: no value begins after the `=`, or a value contains a character that a value cannot
@@ -119,12 +119,12 @@ impl<'a, T: EncodingType> IxdtfParser<'a, T> {
         }
     }
 
-    /// Parses the remaining input as RFC 9557 has it (`date-time-ext` of section 4.1), and accepts no other text.
+    /// Parses the remaining input as a text of RFC 9557 (`date-time-ext` of section 4.1), and accepts no other text.
     ///
-    /// So this method can validate a text that has to be in the Internet Extended Date/Time Format, such as
-    /// `2024-03-02T08:48:00-05:00[America/New_York][u-ca=hebrew]`. Such a text is a date-time of RFC 3339, as in
-    /// [`parse_rfc3339`](Self::parse_rfc3339), and brackets after it (`suffix`): at most one with a time zone, which is the
-    /// first, and any number of annotations.
+    /// So this method can validate a text that must be in the Internet Extended Date/Time Format, such as
+    /// `2024-03-02T08:48:00-05:00[America/New_York][u-ca=hebrew]`. A text of this format is a date-time of RFC 3339, as in
+    /// [`parse_rfc3339`](Self::parse_rfc3339). Brackets can follow it (`suffix`). The first bracket can have a time zone.
+    /// All other brackets have annotations.
     ///
     /// [`parse`](Self::parse) accepts each of these texts too, and returns an equal record. Each text that
     /// [`parse_rfc3339`](Self::parse_rfc3339) accepts is one of them. The record has `date`, `time` and `offset`. The
@@ -148,6 +148,7 @@ impl<'a, T: EncodingType> IxdtfParser<'a, T> {
     ///     ("2024-03-02[America/New_York]", ParseError::TimeSeparator),
     ///     ("2024-03-02T08:48-05:00[America/New_York]", ParseError::TimeSeparator),
     ///     ("2024-03-02T08:48:00[America/New_York]", ParseError::OffsetNeedsSign),
+    ///     ("2024-03-02T08:48:00Z[Europe/../Paris]", ParseError::IanaChar),
     ///     ("2024-03-02T08:48:00Z[u-ca=hebrew][UTC]", ParseError::AnnotationKeyLeadingChar),
     ///     ("2024-03-02T08:48:00Z[!a=b]", ParseError::UnrecognizedCritical),
     /// ] {
@@ -161,7 +162,11 @@ impl<'a, T: EncodingType> IxdtfParser<'a, T> {
     /// The first part that is wrong decides. To get the position of the error, call
     /// [`parse_rfc9557_located`](Self::parse_rfc9557_located). The date-time has the errors that it has in
     /// [`parse_rfc3339`](Self::parse_rfc3339), and `InvalidEnd` at any character after the offset other than a `[`.
-    /// Brackets have the errors that they have in [`parse`](Self::parse).
+    /// Brackets have the errors that they have in [`parse`](Self::parse). If RFC 9557 does not have a zone that
+    /// [`parse`](Self::parse) accepts, the errors are these:
+    ///
+    /// - `IanaChar`: a part of the name of the zone begins with a digit, with `+` or with `-`, or is `.` or `..`.
+    /// - `InvalidMinutePrecisionOffset`: the offset of the zone does not have the form `+05:30`.
     #[inline(always)]
     pub fn parse_rfc9557(&mut self) -> ParserResult<IxdtfParseRecord<'a, T>> {
         let mut found = IxdtfParseRecord::default();
@@ -229,8 +234,8 @@ impl<'a, T: EncodingType> IxdtfParser<'a, T> {
     /// Parses the remaining input as a month and a day, such as `11-07`.
     ///
     /// A month and a day are `11-07`, `1107`, `--11-07` or `--1107` (ISO 8601; `DateSpecMonthDay` of the Temporal
-    /// grammar). The least day is 0, or 1 under [`Profile::Strict`](super::Profile::Strict). The greatest day is the greatest one that the
-    /// month has in any year: for February, it is 29. The same brackets as in [`parse`](Self::parse) can follow.
+    /// grammar). The least day is 0, or 1 under [`Profile::Strict`](super::Profile::Strict). The greatest day is the last day of the
+    /// month. For February, it is 29. The same brackets as in [`parse`](Self::parse) can follow.
     ///
     /// The record has the field `date`, with the year 0. The fields `tz` and `calendar` are as in
     /// [`parse`](Self::parse).
@@ -271,7 +276,7 @@ impl<'a, T: EncodingType> IxdtfParser<'a, T> {
     /// - `MonthDayHyphen`: the text begins with a hyphen, and another character than a hyphen follows it.
     /// - `DateMonth`, `DateDay`: another character occurs instead of a digit of the month, or of the day.
     /// - `InvalidMonthRange`: the month is not 01 to 12.
-    /// - `InvalidMonthDay`: the month has this day in no year, or the day is 00 under [`Profile::Strict`](super::Profile::Strict).
+    /// - `InvalidMonthDay`: the month does not have this day in any year, or the day is 00 under [`Profile::Strict`](super::Profile::Strict).
     /// - `InvalidEnd`: any other character follows the day.
     /// - `NonAsciiCodePoint`: 16-bit text has a code unit outside 1 to 126. 8-bit text never has this error.
     #[inline(always)]
@@ -333,9 +338,8 @@ impl<'a, T: EncodingType> IxdtfParser<'a, T> {
     ///
     /// The first part that is wrong decides. To get the position of the error, call
     /// [`parse_time_located`](Self::parse_time_located). Times, offsets and brackets have the errors that they have in
-    /// [`parse`](Self::parse), also at the beginning of the text. Two more errors occur only if the text does not begin
-    /// with `T` or `t`, and is a time with its offset up to its end or up to a `[`. Nothing in a bracket is read before
-    /// them:
+    /// [`parse`](Self::parse), also at the beginning of the text. Two more errors are about a text without `T` or `t` that
+    /// is a time, with or without an offset, up to its first `[` or its end. The brackets of this text are not read:
     ///
     /// - `AmbiguousTimeMonthDay`: the text begins like a month and a day.
     /// - `AmbiguousTimeYearMonth`: the text begins like a year and a month, and not like a month and a day.
@@ -391,12 +395,13 @@ impl<'a, T: EncodingType> IxdtfParser<'a, T> {
         }
     }
 
-    /// Parses the remaining input as RFC 9557 has it, like [`parse_rfc9557`](Self::parse_rfc9557). An error has its
+    /// Parses the remaining input as a text of RFC 9557, like [`parse_rfc9557`](Self::parse_rfc9557). An error has its
     /// position.
     ///
     /// The position is the number of code units before the error. It is the index of the code unit that does not fit,
     /// or the end of the input if the input ends too early. For a number out of its range, the position is after the
-    /// number. For a refused annotation, it is after its bracket.
+    /// number. For a refused annotation, it is after its bracket. So it is for a zone that [`parse`](Self::parse) accepts
+    /// and RFC 9557 does not have.
     ///
     /// # Examples
     ///
@@ -408,6 +413,7 @@ impl<'a, T: EncodingType> IxdtfParser<'a, T> {
     ///     ("2024-03-02 08:48:00Z", ParseError::TimeSeparator, 10), // where the space stands
     ///     ("2024-03-02T08:48:00[UTC]", ParseError::OffsetNeedsSign, 19), // at the bracket
     ///     ("2024-03-02T08:48:00Z[UTC", ParseError::AnnotationClose, 24), // the end
+    ///     ("2024-03-02T08:48:00Z[+05]", ParseError::InvalidMinutePrecisionOffset, 25), // after the bracket
     ///     ("2024-03-02T08:48:00Z[!a=b]", ParseError::UnrecognizedCritical, 26), // after the bracket
     /// ] {
     ///     let located = IxdtfParser::from_str(text).parse_rfc9557_located().unwrap_err();

@@ -10,7 +10,7 @@ pub returns-clause-ok : goal.returns-clause-ok
 returns-clause-ok g c = let new = c.new-checking.ensures in on_ok _ _ c.drive-driven.result.end
     (λ (flushed, end, (read, consumed, counted, does)).
     Consumes-whole _ _ read (λ bytes. Reports _ _ _ _ (lines_of bytes) × (c.drive-driven.result.bytes ≡ length bytes)) consumed end
-    (reports _ _ _ _ (lines_of read) new.request new.lines new.refused (omega (arith, counted, lines_most read)) refl refl does, counted))
+    (reports _ _ _ _ (lines_of read) new.request new.lines new.refused new.last (omega (arith, counted, lines_most read)) refl refl does, counted))
     c.drive-driven.ensures.ok
 
 pub returns-clause-read : goal.returns-clause-read
@@ -19,7 +19,7 @@ returns-clause-read g c = λ is.
     let (stopped, (read, consumed, counted, does)) = c.drive-driven.ensures.read is in (
       read,
       consumed,
-      reports _ _ _ _ (ended_lines_of read) new.request new.lines new.refused (omega (arith, counted, ended_most read)) refl refl does,
+      reports _ _ _ _ (ended_lines_of read) new.request new.lines new.refused new.last (omega (arith, counted, ended_most read)) refl refl does,
       counted,
       rw counted at stopped,
     )
@@ -30,6 +30,6 @@ returns-clause-write g c = λ is.
     let (failed, (read, consumed, counted, does)) = c.drive-driven.ensures.write is in (
       read,
       consumed,
-      reports_front _ _ _ _ (lines_of read) new.request new.lines new.refused (omega (arith, counted, lines_most read)) refl refl does,
+      reports_front _ _ _ _ (lines_of read) new.request new.lines new.refused new.last (omega (arith, counted, lines_most read)) refl refl does,
       counted,
     )

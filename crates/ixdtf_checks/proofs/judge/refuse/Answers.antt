@@ -3,5 +3,10 @@ use Rattle.ixdtf_checks.proofs.judge.refuse.Goals as goal
 use Rattle.std.proofs.Common.{refl}
 use Rattle.ixdtf_checks.proofs.VerdictLemmas.{shows_place}
 
-pub returns : goal.returns
-returns c = λ reader has printed. (_, _, has, refl, refl, shows_place c.args.part.text.now c.args.error.at)
+pub returns-clause-verdict : goal.returns-clause-verdict
+returns-clause-verdict c = λ reader has printed.
+    let reason = c.reason_of.ensures in
+    rw (reason.instant, reason.message, reason.lines) (_, _, has, refl, refl, shows_place c.args.part.text.now c.args.error.at)
+
+pub returns-clause-instant : goal.returns-clause-instant
+returns-clause-instant c = λ printed. c.reason_of.ensures.instant

@@ -14,7 +14,8 @@ returns-clause-takes g c = λ text is.
         refl,
         record {
           verdict = verdict;
-          is = c.judge.ensures text is;
+          is = c.judge.ensures.verdict text is;
+          instant = c.judge.ensures.kept printed;
           lines = c.add_line.ensures.lines;
           refused = rw (c.is_refused.ensures printed) c.add_line.ensures.refused;
           report = refl;

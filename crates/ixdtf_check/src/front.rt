@@ -1,0 +1,65 @@
+//! A reader whose first line was read ahead.
+ghost use Rattle.std.specs.Prelude.{◌≤◌};
+
+use ixdtf_buffers::place::place_of;
+use std::io;
+use std::io::Read;
+
+/// The most bytes that are read ahead. A longer first line is refused.
+const ROOM: usize = 65536;
+
+/// A reader that can read the first line of another reader ahead. It then returns all bytes of the other reader.
+#[derive(Drop)]
+pub struct Front<'r, R> {
+    inner: &'r mut R,
+    bytes: [u8; ROOM],
+    /// How many of the bytes were returned.
+    start: usize,
+    /// How many bytes were read ahead.
+    end: usize,
+    ghost order: { start ≤ end },
+    ghost within: { end ≤ 65536 },
+}
+
+impl<'r, R: Read> Front<'r, R> {
+    /// Creates a reader that has read nothing ahead.
+    pub fn new(inner: &'r mut R) -> Front<'r, R> {
+        Front {
+            inner,
+            bytes: [0; ROOM],
+            start: 0,
+            end: 0,
+        }
+    }
+
+    /// Returns the first line without its newline, or its first bytes if it is too long.
+    pub fn first_line(&mut self) -> io::Result<&[u8]> {
+        for _ in 0..ROOM {
+            if self.end == ROOM || place_of(b'\n', &self.bytes[..self.end]).is_some() {
+                break;
+            }
+            let count = self.inner.read(&mut self.bytes[self.end..])?;
+            if count == 0 {
+                break;
+            }
+            self.end = ROOM.min(self.end.saturating_add(count));
+        }
+        let read = &self.bytes[..self.end];
+        match place_of(b'\n', read) {
+            Some(place) => Ok(&read[..place]),
+            None => Ok(read),
+        }
+    }
+}
+
+impl<R: Read> Read for Front<'_, R> {
+    fn read(&mut self, buf: &mut [u8]) -> io::Result<usize> {
+        if self.start == self.end {
+            return self.inner.read(buf);
+        }
+        let count = buf.len().min(self.end - self.start);
+        buf[..count].copy_from_slice(&self.bytes[self.start..self.start + count]);
+        self.start += count;
+        Ok(count)
+    }
+}

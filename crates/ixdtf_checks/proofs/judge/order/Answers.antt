@@ -1,0 +1,10 @@
+-- A text that is too early.
+use Rattle.ixdtf_checks.proofs.judge.order.Goals as goal
+use Rattle.std.proofs.Common.{rules, refl}
+use Rattle.ixdtf_checks.specs.Order.{IsBefore}
+use Rattle.ixdtf_checks.proofs.VerdictLemmas.{shows_place}
+
+pub returns-in-Some : goal.returns-in-Some
+returns-in-Some c = λ reader timed printed.
+    let before : IsBefore c.args.instant c.in-Some.last = search rules in
+    rw c.in-Some.is (timed, before, (refl, refl, shows_place c.args.part.text.now 0))

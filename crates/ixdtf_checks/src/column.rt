@@ -1,0 +1,92 @@
+//! The field that has a name in the first line of a file.
+ghost use Rattle.std.specs.Prelude.{◌≡◌, ◌≢◌, true, false, Some, None, if◌then◌else◌, IfOk, IfErr};
+ghost use Rattle.ixdtf_checks.specs.Columns.{HasNoColumn, IsColumn};
+ghost use Rattle.ixdtf_checks.specs.Parts.{line_in};
+
+use crate::part::{front_field, line_in};
+use ixdtf_buffers::place::place_of;
+
+/// Why no field of a first line is the one with a name.
+#[derive(Clone, Copy, Debug, PartialEq)]
+pub enum ColumnError {
+    /// No field has the name.
+    Missing,
+    /// Two or more fields have the name.
+    Twice,
+}
+
+impl ColumnError {
+    /// Returns what was expected, and what was found.
+    pub fn message(self) -> &'static str {
+        match self {
+            ColumnError::Missing => {
+                "expected the name of --field in the first line, but no field there has it"
+            }
+            ColumnError::Twice => {
+                "expected the name of --field once in the first line, but two fields there have it"
+            }
+        }
+    }
+}
+
+/// Returns how many fields stand before the one that has this name in the first line of a file.
+///
+/// # Errors
+///
+/// - `ColumnError::Missing`: no field of the line has the name.
+/// - `ColumnError::Twice`: two or more fields of the line have the name.
+pub fn column_named(separator: u8, name: &[u8], first: &[u8]) -> Result<usize, ColumnError>
+    ensures ok { IfOk result (λ before. IsColumn separator name.now (line_in true first.now) before) }
+    ensures err { IfErr result (λ error. HasNoColumn error separator name.now (line_in true first.now)) }
+{
+    let line = line_in(true, first);
+    let mut found = None;
+    let mut start = 0;
+    let mut before = 0;
+    'fields: while let Some(place) = place_of(separator, &line[start..]) {
+        match one_named(
+            found,
+            before,
+            is_named(front_field(separator, &line[start..]), name),
+        ) {
+            Ok(kept) => found = kept,
+            Err(error) => return Err(error),
+        }
+        start += place + 1;
+        before += 1;
+    }
+    match one_named(
+        found,
+        before,
+        is_named(front_field(separator, &line[start..]), name),
+    ) {
+        Ok(None) => Err(ColumnError::Missing),
+        Ok(Some(column)) => Ok(column),
+        Err(error) => Err(error),
+    }
+}
+
+/// Returns whether the field has the name.
+fn is_named(field: &[u8], name: &[u8]) -> bool
+    ensures yes { result ≡ true → field.now ≡ name.now }
+    ensures no { result ≡ false → field.now ≢ name.now }
+{
+    field == name
+}
+
+/// Returns the one field that has the name, up to the field after so many others, or an error if this is a second one.
+fn one_named(
+    found: Option<usize>,
+    before: usize,
+    is_named: bool,
+) -> Result<Option<usize>, ColumnError>
+    ensures ok { IfOk result (λ kept. kept ≡ (if is_named then Some before else found)) }
+    ensures none { IfOk result (λ kept. is_named ≡ true → found ≡ None) }
+    ensures err { IfErr result (λ error. (error ≡ ColumnError.Twice) × (is_named ≡ true) × (found ≢ None)) }
+{
+    match (found, is_named) {
+        (_, false) => Ok(found),
+        (None, true) => Ok(Some(before)),
+        (Some(_), true) => Err(ColumnError::Twice),
+    }
+}

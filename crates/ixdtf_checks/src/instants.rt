@@ -1,0 +1,34 @@
+//! Reading the instant of a text.
+ghost use Rattle.std.specs.Prelude.{IfErr, IfOk};
+ghost use Rattle.ixdtf_grammar.specs.Places.{HasUnhandledFaultAt};
+ghost use Rattle.ixdtf_grammar.specs.Widths.{byte_text};
+ghost use Rattle.ixdtf_grammar.specs.table.Faults.{fault_of_located};
+ghost use Rattle.ixdtf_checks.specs.Kinds.{instant_reader_of};
+ghost use Rattle.ixdtf_checks.specs.Order.{HasInstant};
+
+use crate::kind::InstantKind;
+use ixdtf::parsers::IxdtfParser;
+use ixdtf::{Instant, LocatedError};
+
+/// Reads the text as one of the kind, and returns the instant that it names, or the error with its position. The instant is `None`
+/// if the text has no date, no time, or no offset.
+pub fn read_instant(kind: InstantKind, text: &[u8]) -> Result<Option<Instant>, LocatedError>
+    ensures ok { IfOk result (λ instant. HasInstant (instant_reader_of kind) text.now instant) }
+    ensures err { IfErr result (λ error. HasUnhandledFaultAt (instant_reader_of kind)
+        (byte_text text.now) (fault_of_located error) error.at) }
+{
+    match kind {
+        InstantKind::DateTime => match IxdtfParser::from_utf8(text).parse_located() {
+            Ok(record) => Ok(record.instant()),
+            Err(error) => Err(error),
+        },
+        InstantKind::Rfc3339 => match IxdtfParser::from_utf8(text).parse_rfc3339_located() {
+            Ok(record) => Ok(record.instant()),
+            Err(error) => Err(error),
+        },
+        InstantKind::Rfc9557 => match IxdtfParser::from_utf8(text).parse_rfc9557_located() {
+            Ok(record) => Ok(record.instant()),
+            Err(error) => Err(error),
+        },
+    }
+}

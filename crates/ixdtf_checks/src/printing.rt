@@ -1,0 +1,240 @@
+//! Reading a text, and printing its canonical text.
+ghost use Rattle.std.specs.Prelude.{◌≤◌, length, IfErr, OnOk};
+ghost use Rattle.ixdtf_grammar.specs.Handlers.{UnhandledRecord};
+ghost use Rattle.ixdtf_grammar.specs.Places.{HasUnhandledFaultAt};
+ghost use Rattle.ixdtf_grammar.specs.Widths.{byte_text};
+ghost use Rattle.ixdtf_grammar.specs.language.Readers.{parse, parse_rfc9557, parse_year_month, parse_month_day, parse_time};
+ghost use Rattle.ixdtf_grammar.specs.language.Readers.Reader.{parse_rfc3339, parse_offset, parse_identifier, parse_iana_identifier, parse_duration};
+ghost use Rattle.ixdtf_grammar.specs.table.Faults.{fault_of_located};
+ghost use Rattle.ixdtf_print.specs.Canonical.{canonical_text, zone_text};
+ghost use Rattle.ixdtf_print.specs.Durations.{IsDurationText, duration_text};
+ghost use Rattle.ixdtf_print.specs.MonthDays.{IsMonthDayText, month_day_text};
+ghost use Rattle.ixdtf_print.specs.Offsets.{IsOffsetText, utc_offset_text};
+ghost use Rattle.ixdtf_print.specs.Times.{IsTimeText, lone_time_text};
+ghost use Rattle.ixdtf_print.specs.YearMonths.{IsYearMonthText, year_month_text};
+ghost use Rattle.ixdtf_print.specs.Zones.{IsIdentifier};
+ghost use Rattle.ixdtf_checks.specs.Canonicals.{IsCanonical, IsDatedText, IsNameText, PrintsCanonical, name_text};
+ghost use Rattle.ixdtf_checks.specs.Kinds.{reader_of};
+
+use crate::kind::Kind;
+use crate::printed::PrintedText;
+use crate::reading::{duration_parser, parser};
+use ixdtf::LocatedError;
+use ixdtf::parsers::{IxdtfParser, Profile, TimeZoneParser};
+use ixdtf::records::TimeZoneRecord;
+
+/// Reads the text as one of the kind and prints its canonical text, or returns the error with its position.
+///
+/// Only the reading of date-times is inlined, since most canonical texts are theirs.
+#[inline(always)]
+pub fn read_to_print(
+    kind: Kind,
+    profile: Profile,
+    text: &[u8],
+    printed: &mut PrintedText,
+) -> Result<(), LocatedError>
+    requires { length text.now ≤ 65536 }
+    ensures ok { OnOk result (IsCanonical kind profile text.now printed.new) }
+    ensures err { IfErr result (λ error. HasUnhandledFaultAt (reader_of kind profile)
+        (byte_text text.now) (fault_of_located error) error.at) }
+{
+    match kind {
+        Kind::DateTime => print_date_time(text, printed),
+        Kind::YearMonth
+        | Kind::MonthDay
+        | Kind::Time
+        | Kind::Offset
+        | Kind::Zone
+        | Kind::ZoneName
+        | Kind::Duration
+        | Kind::Rfc3339
+        | Kind::Iana
+        | Kind::Rfc9557 => read_other_to_print(kind, profile, text, printed),
+    }
+}
+
+/// Does the same for any kind.
+#[inline(never)]
+fn read_other_to_print(
+    kind: Kind,
+    profile: Profile,
+    text: &[u8],
+    printed: &mut PrintedText,
+) -> Result<(), LocatedError>
+    requires { length text.now ≤ 65536 }
+    ensures ok { OnOk result (IsCanonical kind profile text.now printed.new) }
+    ensures err { IfErr result (λ error. HasUnhandledFaultAt (reader_of kind profile)
+        (byte_text text.now) (fault_of_located error) error.at) }
+{
+    match kind {
+        Kind::DateTime => print_date_time(text, printed),
+        Kind::YearMonth => print_year_month(text, printed),
+        Kind::MonthDay => print_month_day(profile, text, printed),
+        Kind::Time => print_time(profile, text, printed),
+        Kind::Offset => print_offset(text, printed),
+        Kind::Zone => print_zone(text, printed),
+        Kind::ZoneName => print_zone_name(text, printed),
+        Kind::Duration => print_duration(profile, text, printed),
+        Kind::Rfc3339 => print_rfc3339(text, printed),
+        Kind::Iana => print_zone_name(text, printed),
+        Kind::Rfc9557 => print_rfc9557(text, printed),
+    }
+}
+
+/// Does the same for a date-time.
+#[inline(always)]
+fn print_date_time(text: &[u8], printed: &mut PrintedText) -> Result<(), LocatedError>
+    requires { length text.now ≤ 65536 }
+    ensures { PrintsCanonical parse (UnhandledRecord parse) canonical_text text.now result printed.new }
+{
+    match IxdtfParser::from_utf8(text).parse_located() {
+        Ok(parts) => {
+            printed.print(&parts);
+            Ok(())
+        }
+        Err(error) => Err(error),
+    }
+}
+
+/// Does the same for a date-time of RFC 3339.
+#[inline(never)]
+fn print_rfc3339(text: &[u8], printed: &mut PrintedText) -> Result<(), LocatedError>
+    requires { length text.now ≤ 65536 }
+    ensures { PrintsCanonical parse_rfc3339 IsDatedText canonical_text text.now result printed.new }
+{
+    match IxdtfParser::from_utf8(text).parse_rfc3339_located() {
+        Ok(parts) => {
+            printed.print(&parts);
+            Ok(())
+        }
+        Err(error) => Err(error),
+    }
+}
+
+/// Does the same for a date-time of RFC 9557.
+#[inline(never)]
+fn print_rfc9557(text: &[u8], printed: &mut PrintedText) -> Result<(), LocatedError>
+    requires { length text.now ≤ 65536 }
+    ensures { PrintsCanonical parse_rfc9557 (UnhandledRecord parse_rfc9557) canonical_text text.now result printed.new }
+{
+    match IxdtfParser::from_utf8(text).parse_rfc9557_located() {
+        Ok(parts) => {
+            printed.print(&parts);
+            Ok(())
+        }
+        Err(error) => Err(error),
+    }
+}
+
+/// Does the same for a year and a month.
+#[inline(never)]
+fn print_year_month(text: &[u8], printed: &mut PrintedText) -> Result<(), LocatedError>
+    requires { length text.now ≤ 65536 }
+    ensures { PrintsCanonical parse_year_month IsYearMonthText year_month_text text.now result printed.new }
+{
+    match IxdtfParser::from_utf8(text).parse_year_month_located() {
+        Ok(parts) => {
+            printed.print_year_month(&parts);
+            Ok(())
+        }
+        Err(error) => Err(error),
+    }
+}
+
+/// Does the same for a month and a day.
+#[inline(never)]
+fn print_month_day(
+    profile: Profile,
+    text: &[u8],
+    printed: &mut PrintedText,
+) -> Result<(), LocatedError>
+    requires { length text.now ≤ 65536 }
+    ensures { PrintsCanonical (parse_month_day profile) (IsMonthDayText profile) month_day_text text.now result printed.new }
+{
+    match parser(profile, text).parse_month_day_located() {
+        Ok(parts) => {
+            printed.print_month_day(&parts);
+            Ok(())
+        }
+        Err(error) => Err(error),
+    }
+}
+
+/// Does the same for a time.
+#[inline(never)]
+fn print_time(profile: Profile, text: &[u8], printed: &mut PrintedText) -> Result<(), LocatedError>
+    requires { length text.now ≤ 65536 }
+    ensures { PrintsCanonical (parse_time profile) (IsTimeText profile) lone_time_text text.now result printed.new }
+{
+    match parser(profile, text).parse_time_located() {
+        Ok(parts) => {
+            printed.print_time(&parts);
+            Ok(())
+        }
+        Err(error) => Err(error),
+    }
+}
+
+/// Does the same for an offset.
+#[inline(never)]
+fn print_offset(text: &[u8], printed: &mut PrintedText) -> Result<(), LocatedError>
+    requires { length text.now ≤ 65536 }
+    ensures { PrintsCanonical parse_offset IsOffsetText utc_offset_text text.now result printed.new }
+{
+    match TimeZoneParser::from_utf8(text).parse_offset_located() {
+        Ok(offset) => {
+            printed.print_offset(&offset);
+            Ok(())
+        }
+        Err(error) => Err(error),
+    }
+}
+
+/// Does the same for a zone.
+#[inline(never)]
+fn print_zone(text: &[u8], printed: &mut PrintedText) -> Result<(), LocatedError>
+    requires { length text.now ≤ 65536 }
+    ensures { PrintsCanonical parse_identifier IsIdentifier zone_text text.now result printed.new }
+{
+    match TimeZoneParser::from_utf8(text).parse_identifier_located() {
+        Ok(zone) => {
+            printed.print_zone(&zone);
+            Ok(())
+        }
+        Err(error) => Err(error),
+    }
+}
+
+/// Does the same for the name of a zone.
+#[inline(never)]
+fn print_zone_name(text: &[u8], printed: &mut PrintedText) -> Result<(), LocatedError>
+    requires { length text.now ≤ 65536 }
+    ensures { PrintsCanonical parse_iana_identifier IsNameText name_text text.now result printed.new }
+{
+    match TimeZoneParser::from_utf8(text).parse_iana_identifier_located() {
+        Ok(name) => {
+            printed.print_zone(&TimeZoneRecord::Name(name));
+            Ok(())
+        }
+        Err(error) => Err(error),
+    }
+}
+
+/// Does the same for a duration.
+#[inline(never)]
+fn print_duration(
+    profile: Profile,
+    text: &[u8],
+    printed: &mut PrintedText,
+) -> Result<(), LocatedError>
+    requires { length text.now ≤ 65536 }
+    ensures { PrintsCanonical (parse_duration profile) (IsDurationText profile) duration_text text.now result printed.new }
+{
+    match duration_parser(profile, text).parse_located() {
+        Ok(duration) => {
+            printed.print_duration(&duration);
+            Ok(())
+        }
+        Err(error) => Err(error),
+    }
+}

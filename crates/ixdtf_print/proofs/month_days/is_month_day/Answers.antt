@@ -1,5 +1,0 @@
-use Rattle.ixdtf_print.proofs.month_days.is_month_day.Goals as goal
-use Rattle.ixdtf_print.proofs.theorems.PrintableMonthDays.{tests_month_day}
-
-pub returns : goal.returns
-returns c = tests_month_day _ c.is_spelled.ensures

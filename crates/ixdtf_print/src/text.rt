@@ -1,0 +1,229 @@
+//! What all canonical texts have in common.
+ghost use Rattle.std.specs.Prelude.{◌≡◌, ◌↔◌, ◌<◌, ◌≤◌, ◌^◌, ◌++◌, IsTrue, length, map, take, drop, None, IfSome, OnSome, OnOk};
+ghost use Rattle.std.specs.Fmt.{WritesStyledOnOk};
+ghost use Rattle.ixdtf.specs.language.Letters.{Text, Plain};
+ghost use Rattle.ixdtf_print.specs.Printing.{TestsText, PrintsOrRefuses};
+ghost use Rattle.ixdtf_print.specs.Prints.{HasRoom, Prints};
+ghost use Rattle.ixdtf_print.specs.Shown.{bytes_of};
+ghost use Rattle.ixdtf_print.specs.Tails.{tail_text};
+
+use crate::error::PrintError;
+use crate::fields::{put_brackets, put_zone};
+use crate::length::{brackets_length, length_of_zone};
+use crate::wide::put_wide;
+use crate::written::{front_of, write_brackets, write_bytes, write_zone};
+use ixdtf::encoding::Utf8;
+use ixdtf::records::{IxdtfParseRecord, TimeZoneRecord};
+use std::fmt;
+
+/// The greatest number of bytes of a core. The core of a date-time is the longest one. A date has at most 13 bytes. A time
+/// and an offset have at most 265 bytes each, with a fraction of 255 digits.
+const MOST_OF_CORE: usize = 543;
+
+/// The end of a canonical text, after its core. It has names, which can have any length.
+pub enum Tail<'a> {
+    /// There is nothing after the core.
+    Nothing,
+    /// A zone without brackets.
+    Zone(&'a TimeZoneRecord<'a, Utf8>),
+    /// The zone and the calendar of a record, in their brackets.
+    Brackets(&'a IxdtfParseRecord<'a, Utf8>),
+}
+
+/// A record that has a canonical text as one kind of record.
+///
+/// A kind says what its texts are. The trait writes, counts and displays them. A canonical text has two parts: the core,
+/// whose length is limited, and the tail.
+pub trait CanonicalText: Copy {
+    // The canonical text of the record.
+    ghost text: { Self → Text };
+
+    // The front of this text, up to the tail.
+    ghost core: { Self → Text };
+
+    // Some text stands for the record.
+    ghost IsPrintable: { Self → Type 0 };
+
+    // The record is read back from its canonical text.
+    ghost IsReadBack: { Self → Type 0 };
+
+    /// Returns whether the record has a canonical text.
+    fn is_printable(self) -> bool
+        ensures { TestsText result (IsPrintable self) (IsReadBack self) (text self) };
+
+    /// Returns the number of bytes of the core.
+    fn core_length(self) -> u16
+        ensures length { result ≡ length (core self) }
+        ensures small { result ≤ 543 };
+
+    /// Writes the core at the beginning of the slice. Returns the index after it.
+    fn put_core(self, out: &mut [u8]) -> usize
+        requires { HasRoom out.old 0 (core self) }
+        ensures { Prints out.old out.new 0 result (core self) };
+
+    /// Returns what follows the core.
+    fn tail(&self) -> Tail<'_>
+        ensures { text self.now ≡ core self.now ++ tail_text result };
+
+    /// Returns whether the canonical text has more than `room` bytes.
+    #[inline(always)]
+    fn is_too_short(self, room: usize) -> bool
+        requires { IsPrintable self }
+        ensures { IsTrue result ↔ room < length (text self) }
+    {
+        (room as u128) < self.length()
+    }
+
+    /// Returns the number of bytes of the canonical text.
+    #[inline(always)]
+    fn length(self) -> u128
+        ensures { result ≡ length (text self) }
+    {
+        u128::from(self.core_length()) + tail_length(self.tail())
+    }
+
+    /// Writes the canonical text at the beginning of the slice. Returns the index after it.
+    #[inline(always)]
+    fn put(self, out: &mut [u8]) -> usize
+        requires { HasRoom out.old 0 (text self) }
+        ensures { Prints out.old out.new 0 result (text self) }
+    {
+        let rest = self.tail();
+        let after_core = self.put_core(out);
+        put_tail(out, after_core, rest)
+    }
+
+    /// Writes the canonical text to the beginning of a slice that is long enough, and returns its length.
+    #[inline(always)]
+    fn put_in_room(self, room: &mut [u8]) -> usize
+        requires { length (text self) ≤ length room.old }
+        ensures count { result ≡ length (text self) }
+        ensures text { map Plain (take result room.new) ≡ text self }
+        ensures rest { drop result room.new ≡ drop result room.old }
+    {
+        self.put(room)
+    }
+
+    /// Writes the canonical text to the beginning of the slice, and returns its length. Returns an error if there is no
+    /// canonical text, or if the slice is shorter than the text.
+    #[inline(always)]
+    fn print(self, out: &mut [u8]) -> Result<usize, PrintError>
+        ensures prints { PrintsOrRefuses (IsPrintable self) (text self) out.old out.new result }
+        ensures read_back { OnOk result (IsReadBack self) }
+    {
+        if !self.is_printable() {
+            return Err(PrintError::NotPrintable);
+        }
+        if self.is_too_short(out.len()) {
+            return Err(PrintError::TooShort);
+        }
+        Ok(self.put(out))
+    }
+
+    /// Writes the canonical text as 16-bit code units, like `print`. It is only for texts without a tail.
+    fn print_utf16(self, out: &mut [u16]) -> Result<usize, PrintError>
+        requires { text self ≡ core self }
+        ensures prints { PrintsOrRefuses (IsPrintable self) (text self) out.old out.new result }
+        ensures read_back { OnOk result (IsReadBack self) }
+    {
+        if !self.is_printable() {
+            Err(PrintError::NotPrintable)
+        } else if self.is_too_short(out.len()) {
+            Err(PrintError::TooShort)
+        } else {
+            Ok(self.put_core_utf16(out))
+        }
+    }
+
+    /// Writes the core as 16-bit code units at the beginning of the slice. Returns the index after it.
+    fn put_core_utf16(self, out: &mut [u16]) -> usize
+        requires { HasRoom out.old 0 (core self) }
+        ensures { Prints out.old out.new 0 result (core self) }
+    {
+        let count = usize::from(self.core_length());
+        let mut bytes = [0; MOST_OF_CORE];
+        self.put_core(&mut bytes);
+        put_wide(out, front_of(&bytes, count))
+    }
+
+    /// Returns the length of the canonical text, if there is one and a `usize` can hold its length.
+    fn printed_length(self) -> Option<usize>
+        ensures length { IfSome result (λ n. n ≡ length (text self)) }
+        ensures printable { OnSome result (IsPrintable self) }
+        ensures none { (result ≡ None) ↔ ¬ (IsPrintable self × (length (text self) < 2 ^ 64)) }
+    {
+        if self.is_printable() {
+            usize::try_from(self.length()).ok()
+        } else {
+            None
+        }
+    }
+
+    /// Returns the record again, if it has a canonical text.
+    fn checked(self) -> Option<Self>
+        ensures same { IfSome result (λ canonical. canonical ≡ self) }
+        ensures shown { OnSome result (map Plain (bytes_of (text self)) ≡ text self) }
+        ensures read_back { OnSome result (IsReadBack self) }
+        ensures none { (result ≡ None) ↔ ¬ (IsPrintable self) }
+    {
+        if !self.is_printable() {
+            return None;
+        }
+        Some(self)
+    }
+
+    /// Writes the canonical text into a formatter.
+    fn write<W: fmt::Write>(self, f: &mut fmt::Formatter<W>) -> fmt::Result
+        ensures { WritesStyledOnOk W.write_str_gives f.old result (bytes_of (text self)) f.new }
+    {
+        self.write_core(f)?;
+        write_tail(f, self.tail())
+    }
+
+    /// Writes the core into a formatter.
+    fn write_core<W: fmt::Write>(self, f: &mut fmt::Formatter<W>) -> fmt::Result
+        ensures { WritesStyledOnOk W.write_str_gives f.old result (bytes_of (core self)) f.new }
+    {
+        let count = usize::from(self.core_length());
+        let mut bytes = [0; MOST_OF_CORE];
+        self.put_core(&mut bytes);
+        write_bytes(f, front_of(&bytes, count))
+    }
+}
+
+/// Returns the number of bytes of the tail.
+#[inline(always)]
+fn tail_length(tail: Tail<'_>) -> u128
+    ensures length { result ≡ length (tail_text tail.entry) }
+    ensures small { result < 2 ^ 66 }
+{
+    match tail {
+        Tail::Nothing => 0,
+        Tail::Zone(zone) => length_of_zone(zone),
+        Tail::Brackets(parsed) => brackets_length(parsed),
+    }
+}
+
+/// Writes the tail at index `at`. Returns the index after it.
+#[inline(always)]
+fn put_tail(out: &mut [u8], at: usize, tail: Tail<'_>) -> usize
+    requires { HasRoom out.old at (tail_text tail) }
+    ensures { Prints out.old out.new at result (tail_text tail.entry) }
+{
+    match tail {
+        Tail::Nothing => at,
+        Tail::Zone(zone) => put_zone(out, at, zone),
+        Tail::Brackets(parsed) => put_brackets(out, at, parsed),
+    }
+}
+
+/// Writes the tail into a formatter.
+fn write_tail<W: fmt::Write>(f: &mut fmt::Formatter<W>, tail: Tail<'_>) -> fmt::Result
+    ensures { WritesStyledOnOk W.write_str_gives f.old result (bytes_of (tail_text tail.entry)) f.new }
+{
+    match tail {
+        Tail::Nothing => Ok(()),
+        Tail::Zone(zone) => write_zone(f, zone),
+        Tail::Brackets(parsed) => write_brackets(f, parsed),
+    }
+}

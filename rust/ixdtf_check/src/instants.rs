@@ -1,0 +1,26 @@
+// Made by tools/to_rust.py of crates/ixdtf_checks/src/instants.rt. Do not edit.
+
+//! Reading the instant of a text.
+
+use crate::kind::InstantKind;
+use ixdtf::parsers::IxdtfParser;
+use ixdtf::{Instant, LocatedError};
+
+/// Reads the text as one of the kind, and returns the instant that it names, or the error with its position. The instant is `None`
+/// if the text has no date, no time, or no offset.
+pub fn read_instant(kind: InstantKind, text: &[u8]) -> Result<Option<Instant>, LocatedError> {
+    match kind {
+        InstantKind::DateTime => match IxdtfParser::from_utf8(text).parse_located() {
+            Ok(record) => Ok(record.instant()),
+            Err(error) => Err(error),
+        },
+        InstantKind::Rfc3339 => match IxdtfParser::from_utf8(text).parse_rfc3339_located() {
+            Ok(record) => Ok(record.instant()),
+            Err(error) => Err(error),
+        },
+        InstantKind::Rfc9557 => match IxdtfParser::from_utf8(text).parse_rfc9557_located() {
+            Ok(record) => Ok(record.instant()),
+            Err(error) => Err(error),
+        },
+    }
+}
