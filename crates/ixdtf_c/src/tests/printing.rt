@@ -211,7 +211,7 @@ fn prints_an_offset_and_a_zone(rt: HostRuntime) {
 }
 
 #[test]
-fn prints_a_time_a_year_and_a_month_and_a_month_and_a_day(rt: HostRuntime) {
+fn prints_a_time(rt: HostRuntime) {
     let mut record = RECORD;
     let mut out = [7; 16];
     let mut count = 9;
@@ -220,11 +220,25 @@ fn prints_a_time_a_year_and_a_month_and_a_month_and_a_day(rt: HostRuntime) {
     assert_eq!(rt; ixdtf_print_time(&record, &mut out, &mut count), 0);
     assert_eq!(rt; &out[..count.min(16)], b"12:14:00Z".as_slice());
     assert_eq!(rt; ixdtf_print_year_month(&record, &mut out, &mut count), 101);
+}
+
+#[test]
+fn prints_a_year_and_a_month(rt: HostRuntime) {
+    let mut record = RECORD;
+    let mut out = [7; 16];
+    let mut count = 9;
     assert_eq!(rt; ixdtf_parse_year_month(b"202011", &mut record), 0);
     assert_eq!(rt; ixdtf_printed_year_month_length(&record), 7);
     assert_eq!(rt; ixdtf_print_year_month(&record, &mut out, &mut count), 0);
     assert_eq!(rt; &out[..count.min(16)], b"2020-11".as_slice());
     assert_eq!(rt; ixdtf_print_month_day(&record, &mut out, &mut count), 101);
+}
+
+#[test]
+fn prints_a_month_and_a_day(rt: HostRuntime) {
+    let mut record = RECORD;
+    let mut out = [7; 16];
+    let mut count = 9;
     assert_eq!(rt; ixdtf_parse_month_day(b"--1107", &mut record), 0);
     assert_eq!(rt; ixdtf_printed_month_day_length(&record), 5);
     assert_eq!(rt; ixdtf_print_month_day(&record, &mut out, &mut count), 0);
