@@ -121,7 +121,7 @@ REMOVED = [phrase(t) for t in ['#![tactic(auto)]', '#[rattlefmt::skip]', 'use st
                                ' { match *self { ParseError::AbruptEnd { location } => location, _ => "", } } }']]
 CHANGED = [(phrase(a), phrase(b)) for a, b in [
     ('use std::marker::{Model, PhantomData};', 'use std::marker::PhantomData;'),
-    ('<W: fmt::Write>(', '('), ('fmt::Formatter<W>', "fmt::Formatter<'_>"),
+    ('<W: fmt::Write>(', '('), (', W: fmt::Write>(', '>('), ('fmt::Formatter<W>', "fmt::Formatter<'_>"),
     ('#[derive_where(', '#[derive('), ('Drop,', ''), (', Drop', ''), ('const _: () = prove!(', 'const _: () = assert!('),
     ('(rt: HostRuntime)', '()'), ('.clone()', '.try_clone()'), ('use std::process::Abort;', 'use crate::runtime::Abort;'),
     ('use std::test::Fail;', 'use crate::runtime::Fail;'), ('match str::from_utf8(', 'match std::str::from_utf8('), ('str::from_utf8(bytes).is_ok()', 'std::str::from_utf8(bytes).is_ok()'), ('str::from_utf8(units).ok()', 'core::str::from_utf8(units).ok()'),

@@ -19,7 +19,8 @@ re-exports from it. A function that is public only for the layers above, `#[doc(
 
 These rules, and no others, replace or add something:
 
-  1 fmt          `<W: fmt::Write>` after the name of a function is removed, and `fmt::Formatter<W>` becomes `fmt::Formatter<'_>`.
+  1 fmt          `<W: fmt::Write>` after the name of a function is removed, or `, W: fmt::Write` as its last type parameter, and
+                 `fmt::Formatter<W>` becomes `fmt::Formatter<'_>`.
   2 derive_where `#[derive_where(..)]` becomes `#[derive(..)]`.
   3 prove        `const _: () = prove!(..)` becomes `const _: () = assert!(..)`.
   4 ADDED        Types get attributes. These affect users of the crate, and not its own code.
@@ -151,7 +152,7 @@ UNSEEN = [phrase.split() for phrase in ['use crate :: looks :: Looks ;', 'looks 
                                         'looks : std :: mem :: replace ( & mut self . looks , Looks :: none ( ) ) ,',
                                         'self . keep_looks ( here ) ;', 'self . cursor . keep_looks ( here ) ;', 'cursor . keep_looks ( again ) ;', 'cursor . keep_looks ( front ) ;']]
 COUNT = '# [ inline ( always ) ] pub fn keep_looks ('.split()
-WRITER, FORMATTER = '< W : fmt :: Write >'.split(), 'fmt :: Formatter < W >'.split()
+WRITER, LAST_WRITER, FORMATTER = '< W : fmt :: Write >'.split(), ', W : fmt :: Write > ('.split(), 'fmt :: Formatter < W >'.split()
 USES = {'std::marker::Model': '', 'std::marker::{Model,PhantomData}': 'use std::marker::PhantomData;'}
 TEST_USES = {'std::process::Abort': 'Abort', 'std::test::Fail': 'Fail', 'std::alloc::{AllocError,Global}': '{AllocError, Global, String}', 'std::alloc::Global': 'Global'}
 CORE_TEXT = 'str :: from_utf8 ('.split()
@@ -405,6 +406,8 @@ def rewrite(tokens, module, crate):
             put(tokens, at, at, 'core::str' if crate.on_core else 'std::str')
         elif token.text == 'fn' and is_here(tokens, places, 2, WRITER):
             put(tokens, places[2], places[len(WRITER) + 1], '')
+        elif is_here(tokens, places, 0, LAST_WRITER):
+            put(tokens, at, places[len(LAST_WRITER) - 2], '>')
         elif is_here(tokens, places, 0, FORMATTER):
             put(tokens, at, places[len(FORMATTER) - 1], "fmt::Formatter<'_>")
         elif is_here(tokens, places, 0, PROVE):

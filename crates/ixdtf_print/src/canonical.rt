@@ -9,7 +9,7 @@ use crate::check::is_spelled;
 use crate::error::PrintError;
 use crate::fields::put_core;
 use crate::length::{core_length, has_plenty};
-use crate::text::{CanonicalText, Tail};
+use crate::text::{self, CanonicalText, Tail};
 use ixdtf::encoding::Utf8;
 use ixdtf::records::IxdtfParseRecord;
 use std::fmt;
@@ -71,7 +71,7 @@ pub fn print(parsed: &IxdtfParseRecord<'_, Utf8>, out: &mut [u8]) -> Result<usiz
         (length out.old < length (canonical_text (record_of parsed.now)))) }
     ensures unchanged { OnErr result (out.new ≡ out.old) }
 {
-    Canonical { parsed }.print(out)
+    text::print(Canonical { parsed }, out)
 }
 
 /// Writes the canonical text of the record to the beginning of a slice that is long enough, like [`print`]. Returns the
@@ -87,7 +87,7 @@ pub fn print_with_room(parsed: &IxdtfParseRecord<'_, Utf8>, room: &mut [u8]) -> 
     ensures text { map byte_letter (take result room.new) ≡ canonical_text (record_of parsed.now) }
     ensures rest { drop result room.new ≡ drop result room.old }
 {
-    Canonical { parsed }.put_in_room(room)
+    text::put_in_room(Canonical { parsed }, room)
 }
 
 /// Returns the number of bytes of the canonical text of the record.
@@ -113,7 +113,7 @@ pub fn printed_length(parsed: &IxdtfParseRecord<'_, Utf8>) -> Option<usize>
     ensures none { (result ≡ None) ↔ ¬ (IsPrintable (record_of parsed.now) ×
         (length (canonical_text (record_of parsed.now)) < 2 ^ 64)) }
 {
-    Canonical { parsed }.printed_length()
+    text::printed_length(Canonical { parsed })
 }
 
 /// Returns the number of bytes of the canonical text of the record.
@@ -122,7 +122,7 @@ pub fn printed_length(parsed: &IxdtfParseRecord<'_, Utf8>) -> Option<usize>
 pub fn length_of(parsed: &IxdtfParseRecord<'_, Utf8>) -> u128
     ensures { result ≡ length (canonical_text (record_of parsed.now)) }
 {
-    Canonical { parsed }.length()
+    text::length(Canonical { parsed })
 }
 
 /// A record that `Display` writes as its canonical text, such as `2024-03-02T08:48:00Z[u-ca=hebrew]`.
@@ -159,7 +159,7 @@ impl<'a> Canonical<'a> {
         ensures read_back { OnSome result (IsReadBack (record_of parsed.now)) }
         ensures none { (result ≡ None) ↔ ¬ (IsPrintable (record_of parsed.now)) }
     {
-        Canonical { parsed }.checked()
+        text::checked(Canonical { parsed })
     }
 }
 
@@ -192,7 +192,7 @@ impl<'a> CanonicalText for Canonical<'a> {
     }
 
     fn is_too_short(self, room: usize) -> bool {
-        !has_plenty(self.parsed, room) && (room as u128) < self.length()
+        !has_plenty(self.parsed, room) && (room as u128) < text::length(self)
     }
 }
 
@@ -207,6 +207,6 @@ impl<'a> fmt::Display for Canonical<'a> {
     ghost styled_output = { λ c _. Some (shown_text (record_of c.parsed.now)) };
 
     fn fmt<W: fmt::Write>(&self, f: &mut fmt::Formatter<W>) -> fmt::Result {
-        self.write(f)
+        text::write(*self, f)
     }
 }

@@ -15,7 +15,7 @@ use crate::error::PrintError;
 use crate::length::fraction_length;
 use crate::numbers::{digit_count, put_number};
 use crate::put::{put, put_byte};
-use crate::text::{CanonicalText, Tail};
+use crate::text::{self, CanonicalText, Tail};
 use ixdtf::records::{DateDurationRecord, DurationParseRecord, Fraction, Sign, TimeDurationRecord};
 use std::fmt;
 
@@ -54,7 +54,7 @@ pub fn print_duration(duration: &DurationParseRecord, out: &mut [u8]) -> Result<
     ensures prints { PrintsOrRefuses (IsPrintableDuration duration.now) (duration_text duration.now) out.old out.new result }
     ensures read_back { OnOk result (IsDurationReadBack duration.now) }
 {
-    CanonicalDuration { duration }.print(out)
+    text::print(CanonicalDuration { duration }, out)
 }
 
 /// Writes the canonical text of a duration as 16-bit code units, like [`print_duration`](crate::print_duration).
@@ -90,7 +90,7 @@ pub fn print_duration_utf16(
     ensures wide { IfOk result (λ n. wide_text (take n out.new) ≡ duration_text duration.now) }
     ensures read_back { OnOk result (IsDurationReadBack duration.now) }
 {
-    CanonicalDuration { duration }.print_utf16(out)
+    text::print_utf16(CanonicalDuration { duration }, out)
 }
 
 /// Returns the number of bytes of the canonical text of a duration. A slice of this length is long enough for
@@ -107,7 +107,7 @@ pub fn duration_length(duration: &DurationParseRecord) -> Option<usize>
     ensures length { IfSome result (λ n. n ≡ length (duration_text duration.now)) }
     ensures none { (result ≡ None) ↔ ¬ (IsPrintableDuration duration.now) }
 {
-    CanonicalDuration { duration }.printed_length()
+    text::printed_length(CanonicalDuration { duration })
 }
 
 /// Whether there is a date or a time. Any numbers fit.
@@ -142,7 +142,7 @@ impl<'a> CanonicalDuration<'a> {
         ensures read_back { OnSome result (IsDurationReadBack duration.now) }
         ensures none { (result ≡ None) ↔ ¬ (IsPrintableDuration duration.now) }
     {
-        CanonicalDuration { duration }.checked()
+        text::checked(CanonicalDuration { duration })
     }
 }
 
@@ -190,7 +190,7 @@ impl<'a> fmt::Display for CanonicalDuration<'a> {
     ghost styled_output = { λ c _. Some (bytes_of (duration_text c.duration.now)) };
 
     fn fmt<W: fmt::Write>(&self, f: &mut fmt::Formatter<W>) -> fmt::Result {
-        self.write(f)
+        text::write(*self, f)
     }
 }
 

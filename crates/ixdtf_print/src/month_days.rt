@@ -13,7 +13,7 @@ use crate::check::has_brackets;
 use crate::digits::put_two;
 use crate::error::PrintError;
 use crate::put::put_byte;
-use crate::text::{CanonicalText, Tail};
+use crate::text::{self, CanonicalText, Tail};
 use ixdtf::encoding::Utf8;
 use ixdtf::parsers::days_in_month;
 use ixdtf::records::{DateRecord, IxdtfParseRecord, TimeRecord, UtcOffsetRecordOrZ};
@@ -66,7 +66,7 @@ pub fn print_month_day(
     ensures prints { PrintsOrRefuses (IsPrintableMonthDay (record_of parsed.now)) (month_day_text (record_of parsed.now)) out.old out.new result }
     ensures read_back { OnOk result (IsMonthDayReadBack (record_of parsed.now)) }
 {
-    CanonicalMonthDay { parsed }.print(out)
+    text::print(CanonicalMonthDay { parsed }, out)
 }
 
 /// Returns the number of bytes of the canonical text of a month and a day.
@@ -89,7 +89,7 @@ pub fn month_day_length(parsed: &IxdtfParseRecord<'_, Utf8>) -> Option<usize>
     ensures none { (result ≡ None) ↔ ¬ (IsPrintableMonthDay (record_of parsed.now) ×
         (length (month_day_text (record_of parsed.now)) < 2 ^ 64)) }
 {
-    CanonicalMonthDay { parsed }.printed_length()
+    text::printed_length(CanonicalMonthDay { parsed })
 }
 
 /// A record of a month and a day that `Display` writes as its canonical text, such as `11-07[u-ca=hebrew]`.
@@ -122,7 +122,7 @@ impl<'a> CanonicalMonthDay<'a> {
         ensures read_back { OnSome result (IsMonthDayReadBack (record_of parsed.now)) }
         ensures none { (result ≡ None) ↔ ¬ (IsPrintableMonthDay (record_of parsed.now)) }
     {
-        CanonicalMonthDay { parsed }.checked()
+        text::checked(CanonicalMonthDay { parsed })
     }
 }
 
@@ -165,7 +165,7 @@ impl<'a> fmt::Display for CanonicalMonthDay<'a> {
     ghost styled_output = { λ c _. Some (bytes_of (month_day_text (record_of c.parsed.now))) };
 
     fn fmt<W: fmt::Write>(&self, f: &mut fmt::Formatter<W>) -> fmt::Result {
-        self.write(f)
+        text::write(*self, f)
     }
 }
 

@@ -10,7 +10,7 @@ use crate::check::is_shift;
 use crate::error::PrintError;
 use crate::fields::put_offset;
 use crate::length::shift_length;
-use crate::text::{CanonicalText, Tail};
+use crate::text::{self, CanonicalText, Tail};
 use ixdtf::records::{UtcOffsetRecord, UtcOffsetRecordOrZ};
 use std::fmt;
 
@@ -48,7 +48,7 @@ pub fn print_offset(offset: &UtcOffsetRecord, out: &mut [u8]) -> Result<usize, P
     ensures prints { PrintsOrRefuses (IsPrintableOffset offset.now) (utc_offset_text offset.now) out.old out.new result }
     ensures read_back { OnOk result (IsOffsetReadBack offset.now) }
 {
-    CanonicalOffset { offset }.print(out)
+    text::print(CanonicalOffset { offset }, out)
 }
 
 /// Writes the canonical text of an offset as 16-bit code units, like [`print_offset`](crate::print_offset).
@@ -81,7 +81,7 @@ pub fn print_offset_utf16(offset: &UtcOffsetRecord, out: &mut [u16]) -> Result<u
     ensures wide { IfOk result (λ n. wide_text (take n out.new) ≡ utc_offset_text offset.now) }
     ensures read_back { OnOk result (IsOffsetReadBack offset.now) }
 {
-    CanonicalOffset { offset }.print_utf16(out)
+    text::print_utf16(CanonicalOffset { offset }, out)
 }
 
 /// Returns the number of bytes of the canonical text of an offset.
@@ -102,7 +102,7 @@ pub fn offset_length(offset: &UtcOffsetRecord) -> Option<usize>
     ensures length { IfSome result (λ n. n ≡ length (utc_offset_text offset.now)) }
     ensures none { (result ≡ None) ↔ ¬ (IsPrintableOffset offset.now) }
 {
-    CanonicalOffset { offset }.printed_length()
+    text::printed_length(CanonicalOffset { offset })
 }
 
 /// An offset that `Display` writes as its canonical text, such as `-05:00`.
@@ -133,7 +133,7 @@ impl<'a> CanonicalOffset<'a> {
         ensures read_back { OnSome result (IsOffsetReadBack offset.now) }
         ensures none { (result ≡ None) ↔ ¬ (IsPrintableOffset offset.now) }
     {
-        CanonicalOffset { offset }.checked()
+        text::checked(CanonicalOffset { offset })
     }
 }
 
@@ -174,6 +174,6 @@ impl<'a> fmt::Display for CanonicalOffset<'a> {
     ghost styled_output = { λ c _. Some (bytes_of (utc_offset_text c.offset.now)) };
 
     fn fmt<W: fmt::Write>(&self, f: &mut fmt::Formatter<W>) -> fmt::Result {
-        self.write(f)
+        text::write(*self, f)
     }
 }

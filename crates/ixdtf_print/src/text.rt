@@ -32,8 +32,8 @@ pub enum Tail<'a> {
 
 /// A record that has a canonical text as one kind of record.
 ///
-/// A kind says what its texts are. The trait writes, counts and displays them. A canonical text has two parts: the core,
-/// whose length is limited, and the tail.
+/// A kind says what its texts are. The functions of this module write, count and display them. A canonical text has two
+/// parts: the core, whose length is limited, and the tail.
 pub trait CanonicalText: Copy {
     // The canonical text of the record.
     ghost text: { Self → Text };
@@ -71,124 +71,124 @@ pub trait CanonicalText: Copy {
         requires { IsPrintable self }
         ensures { IsTrue result ↔ room < length (text self) }
     {
-        (room as u128) < self.length()
+        (room as u128) < length(self)
     }
+}
 
-    /// Returns the number of bytes of the canonical text.
-    #[inline(always)]
-    fn length(self) -> u128
-        ensures { result ≡ length (text self) }
-    {
-        u128::from(self.core_length()) + tail_length(self.tail())
-    }
+/// Returns the number of bytes of the canonical text.
+#[inline(always)]
+pub fn length<T: CanonicalText>(text: T) -> u128
+    ensures { result ≡ length (T.text text) }
+{
+    u128::from(text.core_length()) + tail_length(text.tail())
+}
 
-    /// Writes the canonical text at the beginning of the slice. Returns the index after it.
-    #[inline(always)]
-    fn put(self, out: &mut [u8]) -> usize
-        requires { HasRoom out.old 0 (text self) }
-        ensures { Prints out.old out.new 0 result (text self) }
-    {
-        let rest = self.tail();
-        let after_core = self.put_core(out);
-        put_tail(out, after_core, rest)
-    }
+/// Writes the canonical text at the beginning of the slice. Returns the index after it.
+#[inline(always)]
+fn put<T: CanonicalText>(text: T, out: &mut [u8]) -> usize
+    requires { HasRoom out.old 0 (T.text text) }
+    ensures { Prints out.old out.new 0 result (T.text text) }
+{
+    let rest = text.tail();
+    let after_core = text.put_core(out);
+    put_tail(out, after_core, rest)
+}
 
-    /// Writes the canonical text to the beginning of a slice that is long enough, and returns its length.
-    #[inline(always)]
-    fn put_in_room(self, room: &mut [u8]) -> usize
-        requires { length (text self) ≤ length room.old }
-        ensures count { result ≡ length (text self) }
-        ensures text { map Plain (take result room.new) ≡ text self }
-        ensures rest { drop result room.new ≡ drop result room.old }
-    {
-        self.put(room)
-    }
+/// Writes the canonical text to the beginning of a slice that is long enough, and returns its length.
+#[inline(always)]
+pub fn put_in_room<T: CanonicalText>(text: T, room: &mut [u8]) -> usize
+    requires { length (T.text text) ≤ length room.old }
+    ensures count { result ≡ length (T.text text) }
+    ensures text { map Plain (take result room.new) ≡ T.text text }
+    ensures rest { drop result room.new ≡ drop result room.old }
+{
+    put(text, room)
+}
 
-    /// Writes the canonical text to the beginning of the slice, and returns its length. Returns an error if there is no
-    /// canonical text, or if the slice is shorter than the text.
-    #[inline(always)]
-    fn print(self, out: &mut [u8]) -> Result<usize, PrintError>
-        ensures prints { PrintsOrRefuses (IsPrintable self) (text self) out.old out.new result }
-        ensures read_back { OnOk result (IsReadBack self) }
-    {
-        if !self.is_printable() {
-            return Err(PrintError::NotPrintable);
-        }
-        if self.is_too_short(out.len()) {
-            return Err(PrintError::TooShort);
-        }
-        Ok(self.put(out))
+/// Writes the canonical text to the beginning of the slice, and returns its length. Returns an error if there is no
+/// canonical text, or if the slice is shorter than the text.
+#[inline(always)]
+pub fn print<T: CanonicalText>(text: T, out: &mut [u8]) -> Result<usize, PrintError>
+    ensures prints { PrintsOrRefuses (T.IsPrintable text) (T.text text) out.old out.new result }
+    ensures read_back { OnOk result (T.IsReadBack text) }
+{
+    if !text.is_printable() {
+        return Err(PrintError::NotPrintable);
     }
+    if text.is_too_short(out.len()) {
+        return Err(PrintError::TooShort);
+    }
+    Ok(put(text, out))
+}
 
-    /// Writes the canonical text as 16-bit code units, like `print`. It is only for texts without a tail.
-    fn print_utf16(self, out: &mut [u16]) -> Result<usize, PrintError>
-        requires { text self ≡ core self }
-        ensures prints { PrintsOrRefuses (IsPrintable self) (text self) out.old out.new result }
-        ensures read_back { OnOk result (IsReadBack self) }
-    {
-        if !self.is_printable() {
-            Err(PrintError::NotPrintable)
-        } else if self.is_too_short(out.len()) {
-            Err(PrintError::TooShort)
-        } else {
-            Ok(self.put_core_utf16(out))
-        }
+/// Writes the canonical text as 16-bit code units, like `print`. It is only for texts without a tail.
+pub fn print_utf16<T: CanonicalText>(text: T, out: &mut [u16]) -> Result<usize, PrintError>
+    requires { T.text text ≡ T.core text }
+    ensures prints { PrintsOrRefuses (T.IsPrintable text) (T.text text) out.old out.new result }
+    ensures read_back { OnOk result (T.IsReadBack text) }
+{
+    if !text.is_printable() {
+        Err(PrintError::NotPrintable)
+    } else if text.is_too_short(out.len()) {
+        Err(PrintError::TooShort)
+    } else {
+        Ok(put_core_utf16(text, out))
     }
+}
 
-    /// Writes the core as 16-bit code units at the beginning of the slice. Returns the index after it.
-    fn put_core_utf16(self, out: &mut [u16]) -> usize
-        requires { HasRoom out.old 0 (core self) }
-        ensures { Prints out.old out.new 0 result (core self) }
-    {
-        let count = usize::from(self.core_length());
-        let mut bytes = [0; MOST_OF_CORE];
-        self.put_core(&mut bytes);
-        put_wide(out, front_of(&bytes, count))
-    }
+/// Writes the core as 16-bit code units at the beginning of the slice. Returns the index after it.
+fn put_core_utf16<T: CanonicalText>(text: T, out: &mut [u16]) -> usize
+    requires { HasRoom out.old 0 (T.core text) }
+    ensures { Prints out.old out.new 0 result (T.core text) }
+{
+    let count = usize::from(text.core_length());
+    let mut bytes = [0; MOST_OF_CORE];
+    text.put_core(&mut bytes);
+    put_wide(out, front_of(&bytes, count))
+}
 
-    /// Returns the length of the canonical text, if there is one and a `usize` can hold its length.
-    fn printed_length(self) -> Option<usize>
-        ensures length { IfSome result (λ n. n ≡ length (text self)) }
-        ensures printable { OnSome result (IsPrintable self) }
-        ensures none { (result ≡ None) ↔ ¬ (IsPrintable self × (length (text self) < 2 ^ 64)) }
-    {
-        if self.is_printable() {
-            usize::try_from(self.length()).ok()
-        } else {
-            None
-        }
+/// Returns the length of the canonical text, if there is one and a `usize` can hold its length.
+pub fn printed_length<T: CanonicalText>(text: T) -> Option<usize>
+    ensures length { IfSome result (λ n. n ≡ length (T.text text)) }
+    ensures printable { OnSome result (T.IsPrintable text) }
+    ensures none { (result ≡ None) ↔ ¬ (T.IsPrintable text × (length (T.text text) < 2 ^ 64)) }
+{
+    if text.is_printable() {
+        usize::try_from(length(text)).ok()
+    } else {
+        None
     }
+}
 
-    /// Returns the record again, if it has a canonical text.
-    fn checked(self) -> Option<Self>
-        ensures same { IfSome result (λ canonical. canonical ≡ self) }
-        ensures shown { OnSome result (map Plain (bytes_of (text self)) ≡ text self) }
-        ensures read_back { OnSome result (IsReadBack self) }
-        ensures none { (result ≡ None) ↔ ¬ (IsPrintable self) }
-    {
-        if !self.is_printable() {
-            return None;
-        }
-        Some(self)
+/// Returns the record again, if it has a canonical text.
+pub fn checked<T: CanonicalText>(text: T) -> Option<T>
+    ensures same { IfSome result (λ canonical. canonical ≡ text) }
+    ensures shown { OnSome result (map Plain (bytes_of (T.text text)) ≡ T.text text) }
+    ensures read_back { OnSome result (T.IsReadBack text) }
+    ensures none { (result ≡ None) ↔ ¬ (T.IsPrintable text) }
+{
+    if !text.is_printable() {
+        return None;
     }
+    Some(text)
+}
 
-    /// Writes the canonical text into a formatter.
-    fn write<W: fmt::Write>(self, f: &mut fmt::Formatter<W>) -> fmt::Result
-        ensures { WritesStyledOnOk W.write_str_gives f.old result (bytes_of (text self)) f.new }
-    {
-        self.write_core(f)?;
-        write_tail(f, self.tail())
-    }
+/// Writes the canonical text into a formatter.
+pub fn write<T: CanonicalText, W: fmt::Write>(text: T, f: &mut fmt::Formatter<W>) -> fmt::Result
+    ensures { WritesStyledOnOk W.write_str_gives f.old result (bytes_of (T.text text)) f.new }
+{
+    write_core(text, f)?;
+    write_tail(f, text.tail())
+}
 
-    /// Writes the core into a formatter.
-    fn write_core<W: fmt::Write>(self, f: &mut fmt::Formatter<W>) -> fmt::Result
-        ensures { WritesStyledOnOk W.write_str_gives f.old result (bytes_of (core self)) f.new }
-    {
-        let count = usize::from(self.core_length());
-        let mut bytes = [0; MOST_OF_CORE];
-        self.put_core(&mut bytes);
-        write_bytes(f, front_of(&bytes, count))
-    }
+/// Writes the core into a formatter.
+fn write_core<T: CanonicalText, W: fmt::Write>(text: T, f: &mut fmt::Formatter<W>) -> fmt::Result
+    ensures { WritesStyledOnOk W.write_str_gives f.old result (bytes_of (T.core text)) f.new }
+{
+    let count = usize::from(text.core_length());
+    let mut bytes = [0; MOST_OF_CORE];
+    text.put_core(&mut bytes);
+    write_bytes(f, front_of(&bytes, count))
 }
 
 /// Returns the number of bytes of the tail.

@@ -14,7 +14,7 @@ use crate::digits::{put_fraction, put_two};
 use crate::error::PrintError;
 use crate::fields::{put_minutes, put_offset};
 use crate::length::{fraction_length, shift_length};
-use crate::text::{CanonicalText, Tail};
+use crate::text::{self, CanonicalText, Tail};
 use ixdtf::encoding::Utf8;
 use ixdtf::records::{DateRecord, IxdtfParseRecord, TimeRecord, UtcOffsetRecordOrZ};
 use std::fmt;
@@ -60,7 +60,7 @@ pub fn print_time(parsed: &IxdtfParseRecord<'_, Utf8>, out: &mut [u8]) -> Result
     ensures prints { PrintsOrRefuses (IsPrintableTime (record_of parsed.now)) (lone_time_text (record_of parsed.now)) out.old out.new result }
     ensures read_back { OnOk result (IsTimeReadBack (record_of parsed.now)) }
 {
-    CanonicalTime { parsed }.print(out)
+    text::print(CanonicalTime { parsed }, out)
 }
 
 /// Returns the number of bytes of the canonical text of a time.
@@ -83,7 +83,7 @@ pub fn time_length(parsed: &IxdtfParseRecord<'_, Utf8>) -> Option<usize>
     ensures none { (result ≡ None) ↔ ¬ (IsPrintableTime (record_of parsed.now) ×
         (length (lone_time_text (record_of parsed.now)) < 2 ^ 64)) }
 {
-    CanonicalTime { parsed }.printed_length()
+    text::printed_length(CanonicalTime { parsed })
 }
 
 /// A record of a time that `Display` writes as its canonical text, such as `08:48:00Z[u-ca=hebrew]`.
@@ -116,7 +116,7 @@ impl<'a> CanonicalTime<'a> {
         ensures read_back { OnSome result (IsTimeReadBack (record_of parsed.now)) }
         ensures none { (result ≡ None) ↔ ¬ (IsPrintableTime (record_of parsed.now)) }
     {
-        CanonicalTime { parsed }.checked()
+        text::checked(CanonicalTime { parsed })
     }
 }
 
@@ -159,7 +159,7 @@ impl<'a> fmt::Display for CanonicalTime<'a> {
     ghost styled_output = { λ c _. Some (bytes_of (lone_time_text (record_of c.parsed.now))) };
 
     fn fmt<W: fmt::Write>(&self, f: &mut fmt::Formatter<W>) -> fmt::Result {
-        self.write(f)
+        text::write(*self, f)
     }
 }
 

@@ -13,7 +13,7 @@ use crate::digits::put_two;
 use crate::error::PrintError;
 use crate::fields::put_year;
 use crate::put::put_byte;
-use crate::text::{CanonicalText, Tail};
+use crate::text::{self, CanonicalText, Tail};
 use ixdtf::encoding::Utf8;
 use ixdtf::records::{DateRecord, IxdtfParseRecord, TimeRecord, UtcOffsetRecordOrZ};
 use std::fmt;
@@ -64,7 +64,7 @@ pub fn print_year_month(
     ensures prints { PrintsOrRefuses (IsPrintableYearMonth (record_of parsed.now)) (year_month_text (record_of parsed.now)) out.old out.new result }
     ensures read_back { OnOk result (IsYearMonthReadBack (record_of parsed.now)) }
 {
-    CanonicalYearMonth { parsed }.print(out)
+    text::print(CanonicalYearMonth { parsed }, out)
 }
 
 /// Returns the number of bytes of the canonical text of a year and a month.
@@ -87,7 +87,7 @@ pub fn year_month_length(parsed: &IxdtfParseRecord<'_, Utf8>) -> Option<usize>
     ensures none { (result ≡ None) ↔ ¬ (IsPrintableYearMonth (record_of parsed.now) ×
         (length (year_month_text (record_of parsed.now)) < 2 ^ 64)) }
 {
-    CanonicalYearMonth { parsed }.printed_length()
+    text::printed_length(CanonicalYearMonth { parsed })
 }
 
 /// A record of a year and a month that `Display` writes as its canonical text, such as `2020-11[u-ca=hebrew]`.
@@ -120,7 +120,7 @@ impl<'a> CanonicalYearMonth<'a> {
         ensures read_back { OnSome result (IsYearMonthReadBack (record_of parsed.now)) }
         ensures none { (result ≡ None) ↔ ¬ (IsPrintableYearMonth (record_of parsed.now)) }
     {
-        CanonicalYearMonth { parsed }.checked()
+        text::checked(CanonicalYearMonth { parsed })
     }
 }
 
@@ -163,7 +163,7 @@ impl<'a> fmt::Display for CanonicalYearMonth<'a> {
     ghost styled_output = { λ c _. Some (bytes_of (year_month_text (record_of c.parsed.now))) };
 
     fn fmt<W: fmt::Write>(&self, f: &mut fmt::Formatter<W>) -> fmt::Result {
-        self.write(f)
+        text::write(*self, f)
     }
 }
 

@@ -9,7 +9,7 @@ ghost use Rattle.ixdtf_print.specs.Zones.{zone_in, IsPrintableZone, IsZoneReadBa
 use crate::check::is_zone;
 use crate::error::PrintError;
 use crate::length::length_of_zone;
-use crate::text::{CanonicalText, Tail};
+use crate::text::{self, CanonicalText, Tail};
 use ixdtf::encoding::Utf8;
 use ixdtf::records::TimeZoneRecord;
 use std::fmt;
@@ -51,7 +51,7 @@ pub fn print_zone(zone: &TimeZoneRecord<'_, Utf8>, out: &mut [u8]) -> Result<usi
     ensures prints { PrintsOrRefuses (IsPrintableZone (zone_in zone.now)) (zone_text (zone_in zone.now)) out.old out.new result }
     ensures read_back { OnOk result (IsZoneReadBack (zone_in zone.now)) }
 {
-    CanonicalZone { zone }.print(out)
+    text::print(CanonicalZone { zone }, out)
 }
 
 /// Returns the number of bytes of the canonical text of a time zone.
@@ -72,7 +72,7 @@ pub fn zone_length(zone: &TimeZoneRecord<'_, Utf8>) -> Option<usize>
     ensures length { IfSome result (λ n. n ≡ length (zone_text (zone_in zone.now))) }
     ensures none { (result ≡ None) ↔ ¬ (IsPrintableZone (zone_in zone.now)) }
 {
-    CanonicalZone { zone }.checked()?;
+    text::checked(CanonicalZone { zone })?;
     Some(length_of_zone(zone) as usize)
 }
 
@@ -104,7 +104,7 @@ impl<'a> CanonicalZone<'a> {
         ensures read_back { OnSome result (IsZoneReadBack (zone_in zone.now)) }
         ensures none { (result ≡ None) ↔ ¬ (IsPrintableZone (zone_in zone.now)) }
     {
-        CanonicalZone { zone }.checked()
+        text::checked(CanonicalZone { zone })
     }
 }
 
@@ -146,6 +146,6 @@ impl<'a> fmt::Display for CanonicalZone<'a> {
     ghost styled_output = { λ c _. Some (bytes_of (zone_text (zone_in c.zone.now))) };
 
     fn fmt<W: fmt::Write>(&self, f: &mut fmt::Formatter<W>) -> fmt::Result {
-        self.write(f)
+        text::write(*self, f)
     }
 }

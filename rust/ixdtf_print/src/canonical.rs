@@ -6,7 +6,7 @@ use crate::check::is_spelled;
 use crate::error::PrintError;
 use crate::fields::put_core;
 use crate::length::{core_length, has_plenty};
-use crate::text::{CanonicalText, Tail};
+use crate::text::{self, CanonicalText, Tail};
 use ixdtf::encoding::Utf8;
 use ixdtf::records::IxdtfParseRecord;
 use core::fmt;
@@ -54,7 +54,7 @@ use core::fmt;
 /// - [`PrintError::NotPrintable`]: the record has no canonical text.
 /// - [`PrintError::TooShort`]: the slice is shorter than the canonical text.
 pub fn print(parsed: &IxdtfParseRecord<'_, Utf8>, out: &mut [u8]) -> Result<usize, PrintError> {
-    Canonical { parsed }.print(out)
+    text::print(Canonical { parsed }, out)
 }
 
 /// Writes the canonical text of the record to the beginning of a slice that is long enough, like [`print`]. Returns the
@@ -65,7 +65,7 @@ pub fn print(parsed: &IxdtfParseRecord<'_, Utf8>, out: &mut [u8]) -> Result<usiz
 // For crates of this repository, and no part of the interface.
 #[doc(hidden)]
 pub fn print_with_room(parsed: &IxdtfParseRecord<'_, Utf8>, room: &mut [u8]) -> usize {
-    Canonical { parsed }.put_in_room(room)
+    text::put_in_room(Canonical { parsed }, room)
 }
 
 /// Returns the number of bytes of the canonical text of the record.
@@ -86,14 +86,14 @@ pub fn print_with_room(parsed: &IxdtfParseRecord<'_, Utf8>, room: &mut [u8]) -> 
 /// ```
 #[must_use]
 pub fn printed_length(parsed: &IxdtfParseRecord<'_, Utf8>) -> Option<usize> {
-    Canonical { parsed }.printed_length()
+    text::printed_length(Canonical { parsed })
 }
 
 /// Returns the number of bytes of the canonical text of the record.
 // For crates of this repository, and no part of the interface.
 #[doc(hidden)]
 pub fn length_of(parsed: &IxdtfParseRecord<'_, Utf8>) -> u128 {
-    Canonical { parsed }.length()
+    text::length(Canonical { parsed })
 }
 
 /// A record that `Display` writes as its canonical text, such as `2024-03-02T08:48:00Z[u-ca=hebrew]`.
@@ -123,7 +123,7 @@ impl<'a> Canonical<'a> {
     /// text.
     #[must_use]
     pub fn of(parsed: &'a IxdtfParseRecord<'a, Utf8>) -> Option<Canonical<'a>> {
-        Canonical { parsed }.checked()
+        text::checked(Canonical { parsed })
     }
 }
 
@@ -145,13 +145,13 @@ impl<'a> CanonicalText for Canonical<'a> {
     }
 
     fn is_too_short(self, room: usize) -> bool {
-        !has_plenty(self.parsed, room) && (room as u128) < self.length()
+        !has_plenty(self.parsed, room) && (room as u128) < text::length(self)
     }
 }
 
 // `Display` ignores width and fill.
 impl<'a> fmt::Display for Canonical<'a> {
     fn fmt(&self, f: &mut fmt::Formatter<'_>) -> fmt::Result {
-        self.write(f)
+        text::write(*self, f)
     }
 }

@@ -7,7 +7,7 @@ use crate::error::PrintError;
 use crate::length::fraction_length;
 use crate::numbers::{digit_count, put_number};
 use crate::put::{put, put_byte};
-use crate::text::{CanonicalText, Tail};
+use crate::text::{self, CanonicalText, Tail};
 use ixdtf::records::{DateDurationRecord, DurationParseRecord, Fraction, Sign, TimeDurationRecord};
 use core::fmt;
 
@@ -43,7 +43,7 @@ const MOST_OF_DURATION: usize = 406;
 ///
 /// After an error the slice is unchanged.
 pub fn print_duration(duration: &DurationParseRecord, out: &mut [u8]) -> Result<usize, PrintError> {
-    CanonicalDuration { duration }.print(out)
+    text::print(CanonicalDuration { duration }, out)
 }
 
 /// Writes the canonical text of a duration as 16-bit code units, like [`print_duration`](crate::print_duration).
@@ -75,7 +75,7 @@ pub fn print_duration_utf16(
     duration: &DurationParseRecord,
     out: &mut [u16],
 ) -> Result<usize, PrintError> {
-    CanonicalDuration { duration }.print_utf16(out)
+    text::print_utf16(CanonicalDuration { duration }, out)
 }
 
 /// Returns the number of bytes of the canonical text of a duration. A slice of this length is long enough for
@@ -89,7 +89,7 @@ pub fn print_duration_utf16(
 /// assert_eq!(duration_length(&duration), Some("PT1H30.5M".len()));
 /// ```
 pub fn duration_length(duration: &DurationParseRecord) -> Option<usize> {
-    CanonicalDuration { duration }.printed_length()
+    text::printed_length(CanonicalDuration { duration })
 }
 
 /// Whether there is a date or a time. Any numbers fit.
@@ -116,7 +116,7 @@ pub struct CanonicalDuration<'a> {
 impl<'a> CanonicalDuration<'a> {
     /// Returns the duration to display. Returns `None` if no text stands for it: it has neither a date nor a time.
     pub fn of(duration: &'a DurationParseRecord) -> Option<CanonicalDuration<'a>> {
-        CanonicalDuration { duration }.checked()
+        text::checked(CanonicalDuration { duration })
     }
 }
 
@@ -148,7 +148,7 @@ impl<'a> CanonicalText for CanonicalDuration<'a> {
 // Display heeds no width and no fill.
 impl<'a> fmt::Display for CanonicalDuration<'a> {
     fn fmt(&self, f: &mut fmt::Formatter<'_>) -> fmt::Result {
-        self.write(f)
+        text::write(*self, f)
     }
 }
 

@@ -6,7 +6,7 @@ use crate::check::has_brackets;
 use crate::digits::put_two;
 use crate::error::PrintError;
 use crate::put::put_byte;
-use crate::text::{CanonicalText, Tail};
+use crate::text::{self, CanonicalText, Tail};
 use ixdtf::encoding::Utf8;
 use ixdtf::parsers::days_in_month;
 use ixdtf::records::{DateRecord, IxdtfParseRecord, TimeRecord, UtcOffsetRecordOrZ};
@@ -56,7 +56,7 @@ pub fn print_month_day(
     parsed: &IxdtfParseRecord<'_, Utf8>,
     out: &mut [u8],
 ) -> Result<usize, PrintError> {
-    CanonicalMonthDay { parsed }.print(out)
+    text::print(CanonicalMonthDay { parsed }, out)
 }
 
 /// Returns the number of bytes of the canonical text of a month and a day.
@@ -74,7 +74,7 @@ pub fn print_month_day(
 /// assert_eq!(month_day_length(&record), Some("11-07[u-ca=hebrew]".len()));
 /// ```
 pub fn month_day_length(parsed: &IxdtfParseRecord<'_, Utf8>) -> Option<usize> {
-    CanonicalMonthDay { parsed }.printed_length()
+    text::printed_length(CanonicalMonthDay { parsed })
 }
 
 /// A record of a month and a day that `Display` writes as its canonical text, such as `11-07[u-ca=hebrew]`.
@@ -99,7 +99,7 @@ pub struct CanonicalMonthDay<'a> {
 impl<'a> CanonicalMonthDay<'a> {
     /// Creates a value that displays the record. Returns `None` if the record has no canonical text as a month and a day.
     pub fn of(parsed: &'a IxdtfParseRecord<'a, Utf8>) -> Option<CanonicalMonthDay<'a>> {
-        CanonicalMonthDay { parsed }.checked()
+        text::checked(CanonicalMonthDay { parsed })
     }
 }
 
@@ -124,7 +124,7 @@ impl<'a> CanonicalText for CanonicalMonthDay<'a> {
 // `Display` ignores width and fill.
 impl<'a> fmt::Display for CanonicalMonthDay<'a> {
     fn fmt(&self, f: &mut fmt::Formatter<'_>) -> fmt::Result {
-        self.write(f)
+        text::write(*self, f)
     }
 }
 

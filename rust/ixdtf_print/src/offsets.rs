@@ -6,7 +6,7 @@ use crate::check::is_shift;
 use crate::error::PrintError;
 use crate::fields::put_offset;
 use crate::length::shift_length;
-use crate::text::{CanonicalText, Tail};
+use crate::text::{self, CanonicalText, Tail};
 use ixdtf::records::{UtcOffsetRecord, UtcOffsetRecordOrZ};
 use core::fmt;
 
@@ -41,7 +41,7 @@ use core::fmt;
 /// - [`PrintError::NotPrintable`]: the offset has no canonical text, because a number of it is out of its range.
 /// - [`PrintError::TooShort`]: the slice is shorter than the canonical text.
 pub fn print_offset(offset: &UtcOffsetRecord, out: &mut [u8]) -> Result<usize, PrintError> {
-    CanonicalOffset { offset }.print(out)
+    text::print(CanonicalOffset { offset }, out)
 }
 
 /// Writes the canonical text of an offset as 16-bit code units, like [`print_offset`](crate::print_offset).
@@ -70,7 +70,7 @@ pub fn print_offset(offset: &UtcOffsetRecord, out: &mut [u8]) -> Result<usize, P
 /// - [`PrintError::NotPrintable`]: the offset has no canonical text, because a number of it is out of its range.
 /// - [`PrintError::TooShort`]: the slice is shorter than the canonical text.
 pub fn print_offset_utf16(offset: &UtcOffsetRecord, out: &mut [u16]) -> Result<usize, PrintError> {
-    CanonicalOffset { offset }.print_utf16(out)
+    text::print_utf16(CanonicalOffset { offset }, out)
 }
 
 /// Returns the number of bytes of the canonical text of an offset.
@@ -88,7 +88,7 @@ pub fn print_offset_utf16(offset: &UtcOffsetRecord, out: &mut [u16]) -> Result<u
 /// assert_eq!(offset_length(&offset), Some("+01:30:15.5".len()));
 /// ```
 pub fn offset_length(offset: &UtcOffsetRecord) -> Option<usize> {
-    CanonicalOffset { offset }.printed_length()
+    text::printed_length(CanonicalOffset { offset })
 }
 
 /// An offset that `Display` writes as its canonical text, such as `-05:00`.
@@ -113,7 +113,7 @@ pub struct CanonicalOffset<'a> {
 impl<'a> CanonicalOffset<'a> {
     /// Creates a value that displays the offset. Returns `None` if the offset has no canonical text.
     pub fn of(offset: &'a UtcOffsetRecord) -> Option<CanonicalOffset<'a>> {
-        CanonicalOffset { offset }.checked()
+        text::checked(CanonicalOffset { offset })
     }
 }
 
@@ -138,6 +138,6 @@ impl<'a> CanonicalText for CanonicalOffset<'a> {
 // `Display` ignores width and fill.
 impl<'a> fmt::Display for CanonicalOffset<'a> {
     fn fmt(&self, f: &mut fmt::Formatter<'_>) -> fmt::Result {
-        self.write(f)
+        text::write(*self, f)
     }
 }

@@ -27,8 +27,8 @@ pub enum Tail<'a> {
 
 /// A record that has a canonical text as one kind of record.
 ///
-/// A kind says what its texts are. The trait writes, counts and displays them. A canonical text has two parts: the core,
-/// whose length is limited, and the tail.
+/// A kind says what its texts are. The functions of this module write, count and display them. A canonical text has two
+/// parts: the core, whose length is limited, and the tail.
 pub trait CanonicalText: Copy {
     /// Returns whether the record has a canonical text.
     fn is_printable(self) -> bool;
@@ -45,91 +45,91 @@ pub trait CanonicalText: Copy {
     /// Returns whether the canonical text has more than `room` bytes.
     #[inline(always)]
     fn is_too_short(self, room: usize) -> bool {
-        (room as u128) < self.length()
+        (room as u128) < length(self)
     }
+}
 
-    /// Returns the number of bytes of the canonical text.
-    #[inline(always)]
-    fn length(self) -> u128 {
-        u128::from(self.core_length()) + tail_length(self.tail())
-    }
+/// Returns the number of bytes of the canonical text.
+#[inline(always)]
+pub fn length<T: CanonicalText>(text: T) -> u128 {
+    u128::from(text.core_length()) + tail_length(text.tail())
+}
 
-    /// Writes the canonical text at the beginning of the slice. Returns the index after it.
-    #[inline(always)]
-    fn put(self, out: &mut [u8]) -> usize {
-        let rest = self.tail();
-        let after_core = self.put_core(out);
-        put_tail(out, after_core, rest)
-    }
+/// Writes the canonical text at the beginning of the slice. Returns the index after it.
+#[inline(always)]
+fn put<T: CanonicalText>(text: T, out: &mut [u8]) -> usize {
+    let rest = text.tail();
+    let after_core = text.put_core(out);
+    put_tail(out, after_core, rest)
+}
 
-    /// Writes the canonical text to the beginning of a slice that is long enough, and returns its length.
-    #[inline(always)]
-    fn put_in_room(self, room: &mut [u8]) -> usize {
-        self.put(room)
-    }
+/// Writes the canonical text to the beginning of a slice that is long enough, and returns its length.
+#[inline(always)]
+pub fn put_in_room<T: CanonicalText>(text: T, room: &mut [u8]) -> usize {
+    put(text, room)
+}
 
-    /// Writes the canonical text to the beginning of the slice, and returns its length. Returns an error if there is no
-    /// canonical text, or if the slice is shorter than the text.
-    #[inline(always)]
-    fn print(self, out: &mut [u8]) -> Result<usize, PrintError> {
-        if !self.is_printable() {
-            return Err(PrintError::NotPrintable);
-        }
-        if self.is_too_short(out.len()) {
-            return Err(PrintError::TooShort);
-        }
-        Ok(self.put(out))
+/// Writes the canonical text to the beginning of the slice, and returns its length. Returns an error if there is no
+/// canonical text, or if the slice is shorter than the text.
+#[inline(always)]
+pub fn print<T: CanonicalText>(text: T, out: &mut [u8]) -> Result<usize, PrintError> {
+    if !text.is_printable() {
+        return Err(PrintError::NotPrintable);
     }
+    if text.is_too_short(out.len()) {
+        return Err(PrintError::TooShort);
+    }
+    Ok(put(text, out))
+}
 
-    /// Writes the canonical text as 16-bit code units, like `print`. It is only for texts without a tail.
-    fn print_utf16(self, out: &mut [u16]) -> Result<usize, PrintError> {
-        if !self.is_printable() {
-            Err(PrintError::NotPrintable)
-        } else if self.is_too_short(out.len()) {
-            Err(PrintError::TooShort)
-        } else {
-            Ok(self.put_core_utf16(out))
-        }
+/// Writes the canonical text as 16-bit code units, like `print`. It is only for texts without a tail.
+pub fn print_utf16<T: CanonicalText>(text: T, out: &mut [u16]) -> Result<usize, PrintError> {
+    if !text.is_printable() {
+        Err(PrintError::NotPrintable)
+    } else if text.is_too_short(out.len()) {
+        Err(PrintError::TooShort)
+    } else {
+        Ok(put_core_utf16(text, out))
     }
+}
 
-    /// Writes the core as 16-bit code units at the beginning of the slice. Returns the index after it.
-    fn put_core_utf16(self, out: &mut [u16]) -> usize {
-        let count = usize::from(self.core_length());
-        let mut bytes = [0; MOST_OF_CORE];
-        self.put_core(&mut bytes);
-        put_wide(out, front_of(&bytes, count))
-    }
+/// Writes the core as 16-bit code units at the beginning of the slice. Returns the index after it.
+fn put_core_utf16<T: CanonicalText>(text: T, out: &mut [u16]) -> usize {
+    let count = usize::from(text.core_length());
+    let mut bytes = [0; MOST_OF_CORE];
+    text.put_core(&mut bytes);
+    put_wide(out, front_of(&bytes, count))
+}
 
-    /// Returns the length of the canonical text, if there is one and a `usize` can hold its length.
-    fn printed_length(self) -> Option<usize> {
-        if self.is_printable() {
-            usize::try_from(self.length()).ok()
-        } else {
-            None
-        }
+/// Returns the length of the canonical text, if there is one and a `usize` can hold its length.
+pub fn printed_length<T: CanonicalText>(text: T) -> Option<usize> {
+    if text.is_printable() {
+        usize::try_from(length(text)).ok()
+    } else {
+        None
     }
+}
 
-    /// Returns the record again, if it has a canonical text.
-    fn checked(self) -> Option<Self> {
-        if !self.is_printable() {
-            return None;
-        }
-        Some(self)
+/// Returns the record again, if it has a canonical text.
+pub fn checked<T: CanonicalText>(text: T) -> Option<T> {
+    if !text.is_printable() {
+        return None;
     }
+    Some(text)
+}
 
-    /// Writes the canonical text into a formatter.
-    fn write(self, f: &mut fmt::Formatter<'_>) -> fmt::Result {
-        self.write_core(f)?;
-        write_tail(f, self.tail())
-    }
+/// Writes the canonical text into a formatter.
+pub fn write<T: CanonicalText>(text: T, f: &mut fmt::Formatter<'_>) -> fmt::Result {
+    write_core(text, f)?;
+    write_tail(f, text.tail())
+}
 
-    /// Writes the core into a formatter.
-    fn write_core(self, f: &mut fmt::Formatter<'_>) -> fmt::Result {
-        let count = usize::from(self.core_length());
-        let mut bytes = [0; MOST_OF_CORE];
-        self.put_core(&mut bytes);
-        write_bytes(f, front_of(&bytes, count))
-    }
+/// Writes the core into a formatter.
+fn write_core<T: CanonicalText>(text: T, f: &mut fmt::Formatter<'_>) -> fmt::Result {
+    let count = usize::from(text.core_length());
+    let mut bytes = [0; MOST_OF_CORE];
+    text.put_core(&mut bytes);
+    write_bytes(f, front_of(&bytes, count))
 }
 
 /// Returns the number of bytes of the tail.

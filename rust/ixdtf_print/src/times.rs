@@ -7,7 +7,7 @@ use crate::digits::{put_fraction, put_two};
 use crate::error::PrintError;
 use crate::fields::{put_minutes, put_offset};
 use crate::length::{fraction_length, shift_length};
-use crate::text::{CanonicalText, Tail};
+use crate::text::{self, CanonicalText, Tail};
 use ixdtf::encoding::Utf8;
 use ixdtf::records::{DateRecord, IxdtfParseRecord, TimeRecord, UtcOffsetRecordOrZ};
 use core::fmt;
@@ -50,7 +50,7 @@ use core::fmt;
 /// - [`PrintError::NotPrintable`]: the record has no canonical text. It has a date, or no time, or a part that no text has.
 /// - [`PrintError::TooShort`]: the slice is shorter than the canonical text.
 pub fn print_time(parsed: &IxdtfParseRecord<'_, Utf8>, out: &mut [u8]) -> Result<usize, PrintError> {
-    CanonicalTime { parsed }.print(out)
+    text::print(CanonicalTime { parsed }, out)
 }
 
 /// Returns the number of bytes of the canonical text of a time.
@@ -68,7 +68,7 @@ pub fn print_time(parsed: &IxdtfParseRecord<'_, Utf8>, out: &mut [u8]) -> Result
 /// assert_eq!(time_length(&record), Some("08:48:00Z[u-ca=hebrew]".len()));
 /// ```
 pub fn time_length(parsed: &IxdtfParseRecord<'_, Utf8>) -> Option<usize> {
-    CanonicalTime { parsed }.printed_length()
+    text::printed_length(CanonicalTime { parsed })
 }
 
 /// A record of a time that `Display` writes as its canonical text, such as `08:48:00Z[u-ca=hebrew]`.
@@ -93,7 +93,7 @@ pub struct CanonicalTime<'a> {
 impl<'a> CanonicalTime<'a> {
     /// Creates a value that displays the record. Returns `None` if the record has no canonical text as a time.
     pub fn of(parsed: &'a IxdtfParseRecord<'a, Utf8>) -> Option<CanonicalTime<'a>> {
-        CanonicalTime { parsed }.checked()
+        text::checked(CanonicalTime { parsed })
     }
 }
 
@@ -118,7 +118,7 @@ impl<'a> CanonicalText for CanonicalTime<'a> {
 // `Display` ignores width and fill.
 impl<'a> fmt::Display for CanonicalTime<'a> {
     fn fmt(&self, f: &mut fmt::Formatter<'_>) -> fmt::Result {
-        self.write(f)
+        text::write(*self, f)
     }
 }
 

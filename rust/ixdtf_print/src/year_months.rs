@@ -7,7 +7,7 @@ use crate::digits::put_two;
 use crate::error::PrintError;
 use crate::fields::put_year;
 use crate::put::put_byte;
-use crate::text::{CanonicalText, Tail};
+use crate::text::{self, CanonicalText, Tail};
 use ixdtf::encoding::Utf8;
 use ixdtf::records::{DateRecord, IxdtfParseRecord, TimeRecord, UtcOffsetRecordOrZ};
 use core::fmt;
@@ -55,7 +55,7 @@ pub fn print_year_month(
     parsed: &IxdtfParseRecord<'_, Utf8>,
     out: &mut [u8],
 ) -> Result<usize, PrintError> {
-    CanonicalYearMonth { parsed }.print(out)
+    text::print(CanonicalYearMonth { parsed }, out)
 }
 
 /// Returns the number of bytes of the canonical text of a year and a month.
@@ -73,7 +73,7 @@ pub fn print_year_month(
 /// assert_eq!(year_month_length(&record), Some("2020-11[u-ca=hebrew]".len()));
 /// ```
 pub fn year_month_length(parsed: &IxdtfParseRecord<'_, Utf8>) -> Option<usize> {
-    CanonicalYearMonth { parsed }.printed_length()
+    text::printed_length(CanonicalYearMonth { parsed })
 }
 
 /// A record of a year and a month that `Display` writes as its canonical text, such as `2020-11[u-ca=hebrew]`.
@@ -98,7 +98,7 @@ pub struct CanonicalYearMonth<'a> {
 impl<'a> CanonicalYearMonth<'a> {
     /// Creates a value that displays the record. Returns `None` if the record has no canonical text as a year and a month.
     pub fn of(parsed: &'a IxdtfParseRecord<'a, Utf8>) -> Option<CanonicalYearMonth<'a>> {
-        CanonicalYearMonth { parsed }.checked()
+        text::checked(CanonicalYearMonth { parsed })
     }
 }
 
@@ -123,7 +123,7 @@ impl<'a> CanonicalText for CanonicalYearMonth<'a> {
 // `Display` ignores width and fill.
 impl<'a> fmt::Display for CanonicalYearMonth<'a> {
     fn fmt(&self, f: &mut fmt::Formatter<'_>) -> fmt::Result {
-        self.write(f)
+        text::write(*self, f)
     }
 }
 

@@ -5,7 +5,7 @@
 use crate::check::is_zone;
 use crate::error::PrintError;
 use crate::length::length_of_zone;
-use crate::text::{CanonicalText, Tail};
+use crate::text::{self, CanonicalText, Tail};
 use ixdtf::encoding::Utf8;
 use ixdtf::records::TimeZoneRecord;
 use core::fmt;
@@ -44,7 +44,7 @@ use core::fmt;
 ///   offset is out of its range.
 /// - [`PrintError::TooShort`]: the slice is shorter than the canonical text.
 pub fn print_zone(zone: &TimeZoneRecord<'_, Utf8>, out: &mut [u8]) -> Result<usize, PrintError> {
-    CanonicalZone { zone }.print(out)
+    text::print(CanonicalZone { zone }, out)
 }
 
 /// Returns the number of bytes of the canonical text of a time zone.
@@ -62,7 +62,7 @@ pub fn print_zone(zone: &TimeZoneRecord<'_, Utf8>, out: &mut [u8]) -> Result<usi
 /// assert_eq!(zone_length(&zone), Some("+05:30".len()));
 /// ```
 pub fn zone_length(zone: &TimeZoneRecord<'_, Utf8>) -> Option<usize> {
-    CanonicalZone { zone }.checked()?;
+    text::checked(CanonicalZone { zone })?;
     Some(length_of_zone(zone) as usize)
 }
 
@@ -88,7 +88,7 @@ pub struct CanonicalZone<'a> {
 impl<'a> CanonicalZone<'a> {
     /// Creates a value that displays the zone. Returns `None` if the zone has no canonical text.
     pub fn of(zone: &'a TimeZoneRecord<'a, Utf8>) -> Option<CanonicalZone<'a>> {
-        CanonicalZone { zone }.checked()
+        text::checked(CanonicalZone { zone })
     }
 }
 
@@ -113,6 +113,6 @@ impl<'a> CanonicalText for CanonicalZone<'a> {
 // `Display` ignores width and fill.
 impl<'a> fmt::Display for CanonicalZone<'a> {
     fn fmt(&self, f: &mut fmt::Formatter<'_>) -> fmt::Result {
-        self.write(f)
+        text::write(*self, f)
     }
 }

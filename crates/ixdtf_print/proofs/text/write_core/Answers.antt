@@ -1,4 +1,4 @@
-use Rattle.ixdtf_print.proofs.text.CanonicalText.write_core.Goals as goal
+use Rattle.ixdtf_print.proofs.text.write_core.Goals as goal
 use Rattle.std.proofs.{Common.{ap, ◌∙◌}, Output.has_written_styled_of_eq}
 use Rattle.std.specs.Str.{encode_utf8_all}
 use Rattle.ixdtf_print.proofs.code.DisplayedBytes.{counted_bytes}

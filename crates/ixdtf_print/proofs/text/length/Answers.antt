@@ -1,4 +1,4 @@
-use Rattle.ixdtf_print.proofs.text.CanonicalText.length.Goals as goal
+use Rattle.ixdtf_print.proofs.text.length.Goals as goal
 use Rattle.std.proofs.{Common.arith, lemmas.List.length-append}
 use Rattle.ixdtf.specs.language.Letters.{Letter}
 

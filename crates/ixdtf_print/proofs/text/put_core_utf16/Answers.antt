@@ -1,4 +1,4 @@
-use Rattle.ixdtf_print.proofs.text.CanonicalText.put_core_utf16.Goals as goal
+use Rattle.ixdtf_print.proofs.text.put_core_utf16.Goals as goal
 use Rattle.std.proofs.Common.{ℕ, map, ap, ◌∙◌}
 use Rattle.ixdtf.specs.language.Letters.{Letter, Letter.Plain}
 use Rattle.ixdtf_print.proofs.code.WideUnits.{counted_spelled}

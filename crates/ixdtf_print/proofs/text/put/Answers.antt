@@ -1,4 +1,4 @@
-use Rattle.ixdtf_print.proofs.text.CanonicalText.put.Goals as goal
+use Rattle.ixdtf_print.proofs.text.put.Goals as goal
 use Rattle.ixdtf_print.proofs.code.PutBytes.{puts_then, room_first, room_then}
 
 pub put_core-after_core-requires : goal.put_core-after_core-requires

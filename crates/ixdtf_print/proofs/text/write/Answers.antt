@@ -1,4 +1,4 @@
-use Rattle.ixdtf_print.proofs.text.CanonicalText.write.Goals as goal
+use Rattle.ixdtf_print.proofs.text.write.Goals as goal
 use Rattle.std.proofs.{Common.{refl, sym, ap, ◌∙◌}, Output.{has_written_styled_append, has_written_styled_of_eq}}
 use Rattle.ixdtf_print.specs.Shown.{bytes_of}
 use Rattle.ixdtf_print.proofs.code.DisplayedBytes.{bytes-append}
