@@ -9,7 +9,7 @@ use crate::check::is_spelled;
 use crate::error::PrintError;
 use crate::fields::put_core;
 use crate::length::{core_length, has_plenty};
-use crate::text::{self, CanonicalText, Tail};
+use crate::text::{self, CanonicalText, Tail, length_of_parts};
 use ixdtf::encoding::Utf8;
 use ixdtf::records::IxdtfParseRecord;
 use std::fmt;
@@ -192,7 +192,8 @@ impl<'a> CanonicalText for Canonical<'a> {
     }
 
     fn is_too_short(self, room: usize) -> bool {
-        !has_plenty(self.parsed, room) && (room as u128) < text::length(self)
+        !has_plenty(self.parsed, room)
+            && (room as u128) < length_of_parts(self.core_length(), self.tail())
     }
 }
 

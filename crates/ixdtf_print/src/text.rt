@@ -1,5 +1,5 @@
 //! What all canonical texts have in common.
-ghost use Rattle.std.specs.Prelude.{◌≡◌, ◌↔◌, ◌<◌, ◌≤◌, ◌^◌, ◌++◌, IsTrue, length, map, take, drop, None, IfSome, OnSome, OnOk};
+ghost use Rattle.std.specs.Prelude.{◌≡◌, ◌↔◌, ◌+◌, ◌<◌, ◌≤◌, ◌^◌, ◌++◌, IsTrue, length, map, take, drop, None, IfSome, OnSome, OnOk};
 ghost use Rattle.std.specs.Fmt.{WritesStyledOnOk};
 ghost use Rattle.ixdtf.specs.language.Letters.{Text, Plain};
 ghost use Rattle.ixdtf_print.specs.Printing.{TestsText, PrintsOrRefuses};
@@ -71,7 +71,7 @@ pub trait CanonicalText: Copy {
         requires { IsPrintable self }
         ensures { IsTrue result ↔ room < length (text self) }
     {
-        (room as u128) < length(self)
+        (room as u128) < length_of_parts(self.core_length(), self.tail())
     }
 }
 
@@ -80,7 +80,18 @@ pub trait CanonicalText: Copy {
 pub fn length<T: CanonicalText>(text: T) -> u128
     ensures { result ≡ length (T.text text) }
 {
-    u128::from(text.core_length()) + tail_length(text.tail())
+    length_of_parts(text.core_length(), text.tail())
+}
+
+/// Returns the number of bytes of a core and a tail.
+///
+/// A method of the trait calls this function, because it cannot call `length`: a call of `length` could lead back to the
+/// method.
+#[inline(always)]
+pub fn length_of_parts(core_length: u16, tail: Tail<'_>) -> u128
+    ensures { result ≡ core_length + length (tail_text tail.entry) }
+{
+    u128::from(core_length) + tail_length(tail)
 }
 
 /// Writes the canonical text at the beginning of the slice. Returns the index after it.

@@ -45,14 +45,23 @@ pub trait CanonicalText: Copy {
     /// Returns whether the canonical text has more than `room` bytes.
     #[inline(always)]
     fn is_too_short(self, room: usize) -> bool {
-        (room as u128) < length(self)
+        (room as u128) < length_of_parts(self.core_length(), self.tail())
     }
 }
 
 /// Returns the number of bytes of the canonical text.
 #[inline(always)]
 pub fn length<T: CanonicalText>(text: T) -> u128 {
-    u128::from(text.core_length()) + tail_length(text.tail())
+    length_of_parts(text.core_length(), text.tail())
+}
+
+/// Returns the number of bytes of a core and a tail.
+///
+/// A method of the trait calls this function, because it cannot call `length`: a call of `length` could lead back to the
+/// method.
+#[inline(always)]
+pub fn length_of_parts(core_length: u16, tail: Tail<'_>) -> u128 {
+    u128::from(core_length) + tail_length(tail)
 }
 
 /// Writes the canonical text at the beginning of the slice. Returns the index after it.

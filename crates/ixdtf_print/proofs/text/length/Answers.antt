@@ -4,4 +4,4 @@ use Rattle.ixdtf.specs.language.Letters.{Letter}
 
 pub returns : goal.returns
 returns g c =
-    rw c.tail.ensures (omega (arith, length-append {A = Letter}, c.from.ensures, c.core_length.ensures.length, c.tail_length.ensures.length))
+    rw c.tail.ensures (omega (arith, length-append {A = Letter}, c.core_length.ensures.length, c.length_of_parts.ensures))
