@@ -60,7 +60,7 @@ parsed_by r (Some offset) (Some zone) = Some (record {
   calendar = where_there r.has_calendar r.calendar;
 })
 parsed_by r (Some offset) None = None
-parsed_by r None (Some zone) = None
+parsed_by r None (Some _) = None
 parsed_by r None None = None
 
 abbrev pub record_by : Contents → Option Parsed
