@@ -1,58 +1,62 @@
-/* ixdtf.h: functions that read date-times of RFC 9557, offsets, time zones and durations, and that
- * print date-times. This is version 2 of the interface.
+/* ixdtf.h: functions that read and print date-times of RFC 9557, years with months, months with
+ * days, times, offsets, time zones and durations. This is version 2 of the interface.
  *
  * LIBRARY. Link libixdtf.a or libixdtf.so. The library allocates no memory, keeps no state and
  * starts no thread. There are two libraries with the same functions. The proved library is for
- * Linux on x86-64 processors with SSE4.2 and POPCNT (x86-64-v2), and calls nothing. The plain
- * library is for each 64-bit system that rustc supports. It may call memcmp, memcpy and similar
- * functions of the C library. docs/C.md says what is proved about each of the two.
+ * Linux on x86-64 processors with SSE4.2 and POPCNT (x86-64-v2), and calls no function of another
+ * library. The plain library is for each 64-bit system that rustc supports. It may call memcmp,
+ * memcpy and similar functions of the C library. docs/C.md says what is proved about each of the
+ * two.
  *
- * TEXTS. A text is a pointer to its first code unit, and a length in code units. A code unit has 8
- * bits in the functions whose names begin with ixdtf_, and 16 bits in those that begin with
- * ixdtf16_. The text is exactly these code units, all of them. A function reads no other code units
- * of the memory around them, and writes none of them. A text need not end in a zero. A zero within
- * the length counts as a code unit. A text need not be UTF-8 or UTF-16. If the length is 0, the
- * pointer may be NULL. A text of 16-bit code units must have the alignment of uint16_t. A text has
- * at most PTRDIFF_MAX bytes, as every object has.
+ * TEXTS. A text is passed as a pointer to its first code unit and a length, in code units. A code
+ * unit has 8 bits in the functions whose names begin with ixdtf_, and 16 bits in the functions
+ * whose names begin with ixdtf16_. A function reads no memory before or after the text, and does
+ * not write to the text. A text need not be NUL-terminated. A NUL within the length counts as a
+ * code unit. A text need not be valid UTF-8 or UTF-16. If the length is 0, the pointer may be NULL.
+ * A text of 16-bit code units must have the alignment of uint16_t. A text has at most PTRDIFF_MAX
+ * bytes, as every object in C has.
  *
- * RESULTS. A reader is a function that reads a text. Each reader returns 0 (IXDTF_OK) if it accepts
- * the text, and otherwise the number of the error of the text. If a program ignores the result, a
- * compiler such as GCC or Clang warns.
- * After 0, every field of the record has the value that the text gives, whatever the field
- * contained before. If the text does not have a part, all fields of this part are 0, false or a
- * slice of length 0. After 0, `location` has length 0, and `place` is 0.
- * After an error, the record is unchanged, except for `location` and `place`. So its other fields
- * still say what they said before the call, for example about an earlier text.
- * - `location` says what was being parsed, such as "digit", if the error is IXDTF_ABRUPT_END: the
- *   text ends too early. After every other error, `location` has length 0.
- * - `place` is the position of the error: the number of code units before it. If a code unit does
- *   not fit, the error is at this code unit. If the text ends too early, the error is at the end of
- *   the text. If something is wrong as a whole, the error is directly after it: for example, after
- *   a number that is out of range, or after an annotation that is refused. docs/FAULTS.md has the
- *   position of each error.
+ * RESULTS. A reader is a function that reads a text. A reader returns 0 (IXDTF_OK) if it accepts
+ * the text. Otherwise it returns the number of the error, from 1 to 46. If a program ignores the
+ * result, a compiler such as GCC or Clang warns.
+ * If a reader returns 0, it has written every field of the record. The fields of a part that the
+ * text does not contain are 0, false, or a slice of length 0. The length of `location` and the
+ * value of `place` are 0 too.
+ * If a reader returns an error, the record is unchanged, except for `location` and `place`. So its
+ * other fields have the values from before the call. They can be about an earlier text.
+ * - `location` says what was being parsed, such as "digit", if the error is IXDTF_ABRUPT_END. This
+ *   error says that the text ends too early. After every other error, `location` has length 0.
+ * - `place` is the position of the error: the number of code units before it. If a code unit is
+ *   wrong, the position is before this code unit. If the text ends too early, the position is the
+ *   end of the text. If something longer than one code unit is wrong, the position is directly
+ *   after it: for example, after a number that is out of range, or after an annotation that is
+ *   refused. docs/FAULTS.md has the position of each error.
  *
- * RECORDS. The caller owns every record, array and text. A record must be initialised before it is
- * passed to a call: by zeros ({0}, calloc), by the macro of its type (IXDTF_RECORD for an
- * ixdtf_record), or by an earlier call. It must have the alignment of its type. A record may contain
- * all that an earlier call left in it, even slices of a text that no longer exists: no reader reads
- * these slices. But ixdtf_print reads the slices of the parts that are present.
- * The fields `is_there`, `form` and `has_..` say which parts are present. After 0, each `form` has
- * one of the values that are named below.
- * The memory that a call writes must not overlap anything else that is passed to the call. If a
- * length or a room is 0, its pointer may be NULL, also in a struct. No other pointer that is passed
- * may be NULL.
+ * RECORDS. The caller owns every record, array and text. Before you pass a record to a function,
+ * initialise it: with zeros ({0}, calloc), with the macro of its type (IXDTF_RECORD for an
+ * ixdtf_record), or by an earlier call. A record must have the alignment of its type. You can use a
+ * record again, even if its slices point into a text that no longer exists, because no reader
+ * follows these pointers. But the printers read the slices of the parts that are present. The
+ * fields `is_there`, `form` and `has_..` say which parts are present. If a reader returns 0, each
+ * `form` has one of the values that are named below.
+ * An array that a function writes is passed as a pointer and a capacity. The capacity is the number
+ * of elements of the array. Its parameter has the name `room`.
+ * The memory that a function writes must not overlap anything else that is passed to the function.
+ * If a length or a capacity is 0, the pointer that belongs to it may be NULL, also in a struct. No
+ * other pointer that is passed may be NULL.
  *
- * SLICES. A name, a calendar, a key or a value in a record is a slice of the text that was read: a
- * pointer into this text, and a length. No zero ends it. It is valid as long as the text exists and
- * is unchanged. The library keeps no pointer between calls. A location and the text of an error are
- * valid as long as the program runs. The pointer of a slice that a call writes is never NULL, even
- * if the length is 0.
+ * SLICES. A slice is a pointer and a length. A name, a calendar, a key or a value in a record is a
+ * slice of the text that was read. It is not NUL-terminated. It is valid as long as the text exists
+ * and is unchanged. The library keeps no pointer between calls. A location and the text of an error
+ * are valid as long as the program runs. If a function writes a slice, its pointer is never NULL,
+ * even if its length is 0.
  * The name of a time zone is the name that is written in the text. It may have the parts "." and
- * "..", as ../../etc/passwd has. Never join a name to a path without a check.
+ * "..": for example, ../../etc/passwd is such a name. Never join a name to a path without a check.
  *
  * THREADS. Any number of threads may call the library at the same time, as long as no thread writes
- * what another thread uses. No call blocks, and each call returns. Its time is linear in the length
- * of its text, or of the slices of its record. A signal handler may call the library.
+ * what another thread uses. No function blocks, and each function returns. The time of a call is
+ * linear in the length of the text, or of the slices of the record. A signal handler may call the
+ * library.
  *
  * VERSIONS. Names, numbers, sizes and the offsets of fields do not change within a version of the
  * interface, and none of them is removed. Functions and numbers may be added: this raises the
@@ -72,10 +76,11 @@ extern "C" {
 
 /* The version of the interface that this header describes. */
 #define IXDTF_INTERFACE_VERSION 2
-/* How many times functions or numbers were added within this version. */
+/* The revision: how many times functions or numbers were added within this version. */
 #define IXDTF_INTERFACE_REVISION 3
 
-/* The caller must test the result of a call: if it is an error, there is no new record. */
+/* Marks a function whose result the caller must test. If the caller ignores the result, the
+ * compiler warns. */
 #if defined(__cplusplus) && __cplusplus >= 201703L
 #define IXDTF_CHECKED_ [[nodiscard]]
 #elif !defined(__cplusplus) && defined(__STDC_VERSION__) && __STDC_VERSION__ >= 202311L
@@ -87,8 +92,8 @@ extern "C" {
 #endif
 
 /* The numbers that a reader returns. ixdtf_error_message returns the text of each error, and
- * docs/FAULTS.md says when each error is returned. No reader returns an error that is marked with -.
- * These errors keep their numbers. */
+ * docs/FAULTS.md says when each error is returned. The errors that are marked with - are never
+ * returned. They are errors of the Rust crate ixdtf 0.6.7, and keep their numbers. */
 enum {
     IXDTF_OK = 0,
     IXDTF_IMPL_ASSERT = 1, /* - */
@@ -121,8 +126,8 @@ enum {
     IXDTF_ANNOTATION_VALUE_CHAR_POST_HYPHEN = 28,
     IXDTF_ANNOTATION_VALUE_CHAR = 29,
     IXDTF_INVALID_MINUTE_PRECISION_OFFSET = 30,
-    IXDTF_CRITICAL_DUPLICATE_CALENDAR = 31, /* about an annotation or a reply */
-    IXDTF_UNRECOGNIZED_CRITICAL = 32, /* about an annotation or a reply */
+    IXDTF_CRITICAL_DUPLICATE_CALENDAR = 31, /* about an annotation of the text, or a reply */
+    IXDTF_UNRECOGNIZED_CRITICAL = 32, /* about an annotation of the text, or a reply */
     IXDTF_TZ_LEADING_CHAR = 33,
     IXDTF_IANA_CHAR_POST_SEPARATOR = 34,
     IXDTF_IANA_CHAR = 35,
@@ -139,16 +144,16 @@ enum {
     IXDTF_INVALID_MONTH_DAY = 46
 };
 
-/* The numbers that printers, ixdtf_instant and ixdtf_duration_fraction return besides IXDTF_OK. They
- * are not errors of a text. */
+/* The numbers that printers, ixdtf_instant and ixdtf_duration_fraction return if they fail. No
+ * reader returns them. */
 enum {
-    IXDTF_NOT_PRINTABLE = 101, /* the reader of such texts gives this record for no text */
-    IXDTF_TOO_SHORT = 102,     /* `room` is less than the length of the text, which is in `count` */
-    IXDTF_NO_INSTANT = 103,    /* the record has no date, no time, or no offset */
-    IXDTF_NOT_EXACT = 104      /* the fraction is no whole number of nanoseconds, or is not known */
+    IXDTF_NOT_PRINTABLE = 101, /* there is no text for which the reader writes this record */
+    IXDTF_TOO_SHORT = 102,     /* the array is too short; the length of the text is in `count` */
+    IXDTF_NO_INSTANT = 103,    /* the record has no date, no time or no offset */
+    IXDTF_NOT_EXACT = 104      /* the fraction is not known as a whole number of nanoseconds */
 };
 
-/* A slice of bytes that are valid as long as the program runs. They need not end in a zero. */
+/* A slice of bytes that are valid as long as the program runs. It need not be NUL-terminated. */
 typedef struct ixdtf_text { const char *at; size_t length; } ixdtf_text;
 
 /* A slice of code units: a part of a text that was read. */
@@ -156,43 +161,46 @@ typedef struct ixdtf_units { const uint8_t *at; size_t length; } ixdtf_units;
 typedef struct ixdtf16_units { const uint16_t *at; size_t length; } ixdtf16_units;
 
 typedef struct ixdtf_date {
-    int32_t year;  /* -999999 to 999999; 0 if only a month and a day are read */
+    int32_t year;  /* -999999 to 999999; 0 if the text has only a month and a day */
     uint8_t month; /* 1 to 12 */
-    uint8_t day;   /* 1 to 31; 1 if only a year and a month are read; 0 if the day 00 is read */
-    bool is_there; /* whether there is a date; if not, the other fields are 0 */
+    uint8_t day;   /* 1 to 31; 1 if the text has only a year and a month; 0 if its day is 00 */
+    bool is_there; /* true if a date is present; if false, the other fields are 0 */
 } ixdtf_date;
 
 typedef struct ixdtf_time {
-    uint64_t fraction;       /* the first 18 digits of the fraction, as one number; 0 without one */
-    uint8_t fraction_digits; /* how many digits it has, 255 if more; 0 without a fraction */
+    uint64_t fraction;       /* the first 18 digits of the fraction, as one number: 250 for .250 */
+    uint8_t fraction_digits; /* the number of digits, at most 255; 0 without a fraction */
     uint8_t hour;            /* 0 to 23 */
     uint8_t minute;          /* 0 to 59 */
     uint8_t second;          /* 0 to 60 */
-    bool is_there;           /* whether there is a time; if not, the other fields are 0 */
+    bool is_there;           /* true if a time is present; if false, the other fields are 0 */
 } ixdtf_time;
 
-/* The values of `form` in an offset. IXDTF_UTC is Z, which does not say what the local time is.
- * IXDTF_MINUTES is an offset without seconds, and IXDTF_SECONDS is an offset with seconds. */
+/* The values of `form` in an offset. IXDTF_NO_OFFSET says that there is no offset. IXDTF_UTC is Z,
+ * which does not say what the local time is. IXDTF_MINUTES is an offset without seconds, and
+ * IXDTF_SECONDS is an offset with seconds. */
 enum { IXDTF_NO_OFFSET = 0, IXDTF_UTC = 1, IXDTF_MINUTES = 2, IXDTF_SECONDS = 3 };
 typedef struct ixdtf_offset {
-    uint64_t fraction;       /* these two as in ixdtf_time; 0 if form is not IXDTF_SECONDS */
-    uint8_t fraction_digits;
+    uint64_t fraction;       /* as in ixdtf_time; 0 if `form` is not IXDTF_SECONDS */
+    uint8_t fraction_digits; /* as in ixdtf_time; 0 if `form` is not IXDTF_SECONDS */
     uint8_t form;            /* one of the four values above */
-    bool is_negative;        /* true for -00:00 too */
-    uint8_t hour;            /* these two and is_negative: 0 or false if form is neither */
-    uint8_t minute;          /*   IXDTF_MINUTES nor IXDTF_SECONDS */
-    uint8_t second;          /* 0 if form is not IXDTF_SECONDS */
+    bool is_negative;        /* true for -00:00 too; false without an offset, and for Z */
+    uint8_t hour;            /* 0 to 23; 0 without an offset, and for Z */
+    uint8_t minute;          /* 0 to 59; 0 without an offset, and for Z */
+    uint8_t second;          /* 0 to 59; 0 if `form` is not IXDTF_SECONDS */
 } ixdtf_offset;
 
-/* The values of `form` in a time zone. */
+/* The values of `form` in a time zone. IXDTF_NO_ZONE says that there is no zone. IXDTF_NAME is a
+ * zone with a name, such as [Europe/Berlin]. IXDTF_ZONE_OFFSET is a zone that is an offset, such as
+ * [+05:30]. */
 enum { IXDTF_NO_ZONE = 0, IXDTF_NAME = 1, IXDTF_ZONE_OFFSET = 2 };
 typedef struct ixdtf_zone {
-    ixdtf_units name; /* of length 0 if form is not IXDTF_NAME */
-    uint8_t form;     /* IXDTF_NO_ZONE, IXDTF_NAME or IXDTF_ZONE_OFFSET */
-    bool is_critical; /* whether it has a !: if so, follow the zone, or reject the text */
-    bool is_negative; /* these three: 0 or false if form is not IXDTF_ZONE_OFFSET */
-    uint8_t hour;
-    uint8_t minute;
+    ixdtf_units name; /* of length 0 if `form` is not IXDTF_NAME */
+    uint8_t form;     /* one of the three values above */
+    bool is_critical; /* true for [!..]: a program must use this zone, or reject the text */
+    bool is_negative; /* true for -00:00 too; false if `form` is not IXDTF_ZONE_OFFSET */
+    uint8_t hour;     /* 0 to 23; 0 if `form` is not IXDTF_ZONE_OFFSET */
+    uint8_t minute;   /* 0 to 59; 0 if `form` is not IXDTF_ZONE_OFFSET */
 } ixdtf_zone;
 typedef struct ixdtf16_zone {
     ixdtf16_units name;
@@ -208,10 +216,10 @@ typedef struct ixdtf_record {
     ixdtf_time time;
     ixdtf_offset offset;
     ixdtf_zone zone;
-    ixdtf_units calendar; /* of length 0 if has_calendar is false */
-    bool has_calendar;
+    ixdtf_units calendar; /* such as hebrew; of length 0 if has_calendar is false */
+    bool has_calendar;    /* true if a calendar is present */
     ixdtf_text location;  /* after IXDTF_ABRUPT_END: what was being parsed */
-    size_t place;         /* after an error: how many code units are before it; otherwise 0 */
+    size_t place;         /* after an error: the number of code units before it; otherwise 0 */
 } ixdtf_record;
 typedef struct ixdtf16_record {
     ixdtf_date date;
@@ -224,39 +232,42 @@ typedef struct ixdtf16_record {
     size_t place;
 } ixdtf16_record;
 
-/* An annotation, which is a key and a value, such as [u-ca=hebrew]; or the reply to one. */
+/* An annotation: a key and a value, such as u-ca and hebrew for [u-ca=hebrew]. `is_critical` is
+ * true for [!u-ca=hebrew]. A reply to an annotation, which ixdtf_reply checks, has this type
+ * too. */
 typedef struct ixdtf_annotation { ixdtf_units key, value; bool is_critical; } ixdtf_annotation;
 typedef struct ixdtf16_annotation {
     ixdtf16_units key, value;
     bool is_critical;
 } ixdtf16_annotation;
 
-/* The calendar that ixdtf_reply kept from the replies so far. */
+/* The calendar that ixdtf_reply has kept. If `is_there` is false, it has kept none. */
 typedef struct ixdtf_calendar { ixdtf_units value; bool is_critical, is_there; } ixdtf_calendar;
 typedef struct ixdtf16_calendar {
     ixdtf16_units value;
     bool is_critical, is_there;
 } ixdtf16_calendar;
 
-/* The values of `time_form`. IXDTF_NO_TIME says that there is no time. The others name the last
- * duration unit of the time. */
+/* The values of `time_form`. IXDTF_NO_TIME says that there is no time. The other values say which
+ * duration unit is the last one of the time. */
 enum { IXDTF_NO_TIME = 0, IXDTF_LAST_HOURS = 1, IXDTF_LAST_MINUTES = 2, IXDTF_LAST_SECONDS = 3 };
 typedef struct ixdtf_duration {
     uint64_t days;           /* 0 if has_date is false */
     uint64_t hours;          /* 0 if time_form is IXDTF_NO_TIME */
-    uint64_t minutes;        /* 0 if it is neither IXDTF_LAST_MINUTES nor IXDTF_LAST_SECONDS */
-    uint64_t seconds;        /* 0 if it is not IXDTF_LAST_SECONDS */
-    uint64_t fraction;       /* that of the last duration unit; otherwise as in ixdtf_time */
+    uint64_t minutes;        /* 0 if time_form is IXDTF_NO_TIME or IXDTF_LAST_HOURS */
+    uint64_t seconds;        /* 0 if time_form is not IXDTF_LAST_SECONDS */
+    uint64_t fraction;       /* as in ixdtf_time; a part of the last duration unit of the time */
     uint32_t years, months, weeks; /* 0 if has_date is false */
     uint8_t fraction_digits; /* as in ixdtf_time */
-    uint8_t time_form;       /* IXDTF_NO_TIME, or the last duration unit of the time */
-    bool has_date;           /* whether there are years, months, weeks or days */
+    uint8_t time_form;       /* one of the four values above */
+    bool has_date;           /* true if the text has years, months, weeks or days */
     bool is_negative;
-    ixdtf_text location;     /* these two as in ixdtf_record */
-    size_t place;
+    ixdtf_text location;     /* as in ixdtf_record */
+    size_t place;            /* as in ixdtf_record */
 } ixdtf_duration;
 
-/* Initial values of structs, as in ixdtf_record record = IXDTF_RECORD. Zeros are equally good. */
+/* Initial values of structs, as in `ixdtf_record record = IXDTF_RECORD;`. You can also initialise a
+ * struct with zeros. */
 #ifdef __cplusplus
 #define IXDTF_AT_(type, text) reinterpret_cast<const type *>(text)
 #define IXDTF_AS_(type, value) static_cast<type>(value)
@@ -282,49 +293,56 @@ typedef struct ixdtf_duration {
 #define IXDTF_DURATION { 0, 0, 0, 0, 0, 0, 0, 0, 0, 0, false, false, IXDTF_NO_TEXT_, 0 }
 #define IXDTF_TEXT IXDTF_NO_TEXT_
 
-/* Readers of 8-bit text. Each reads the complete text, and gives what docs/GRAMMAR.md says. */
+/* Readers of 8-bit text. A reader always reads the complete text. docs/GRAMMAR.md says which texts
+ * it accepts, and what it writes to `out` for each of them. "RESULTS" above says what it
+ * returns. */
 
-/* Reads a date, or a date and a time, which may have an offset. A zone and annotations may follow:
- * 2024-03-02T08:48:00-05:00[America/New_York][u-ca=hebrew]. */
+/* Reads a date, or a date and a time, which may have an offset. A zone and annotations may follow
+ * in brackets. An example is 2024-03-02T08:48:00-05:00[America/New_York][u-ca=hebrew]. */
 IXDTF_CHECKED_ uint32_t ixdtf_parse(const uint8_t *text, size_t length, ixdtf_record *out);
-/* Reads a year and a month, such as 2020-11. A zone and annotations may follow in brackets. They
- * may follow in the texts of the next two readers too. */
+/* Reads a year and a month, such as 2020-11. A zone and annotations may follow in brackets. After
+ * 0, the day is 1. */
 IXDTF_CHECKED_ uint32_t ixdtf_parse_year_month(const uint8_t *text, size_t length,
     ixdtf_record *out);
-/* Reads a month and a day, such as 11-07. */
+/* Reads a month and a day, such as 11-07. A zone and annotations may follow in brackets. After 0,
+ * the year is 0. The day can be 0, because the reader accepts the day 00. */
 IXDTF_CHECKED_ uint32_t ixdtf_parse_month_day(const uint8_t *text, size_t length,
     ixdtf_record *out);
-/* Reads a time, such as T12:30. */
+/* Reads a time, such as T12:30. It may have an offset. A zone and annotations may follow in
+ * brackets. A time without T is refused if it begins with a month and a day, or with a year and a
+ * month: 1200 could also mean month 12, day 00. */
 IXDTF_CHECKED_ uint32_t ixdtf_parse_time(const uint8_t *text, size_t length, ixdtf_record *out);
 /* Reads a date-time of RFC 3339, section 5.6, such as 2024-03-02T08:48:00.25-05:00, and accepts no
  * other text. ixdtf_parse accepts each of these texts too, and writes the same record. After 0, the
  * date, the time and the offset are present, and no other part is. */
 IXDTF_CHECKED_ uint32_t ixdtf_parse_rfc3339(const uint8_t *text, size_t length, ixdtf_record *out);
-/* Reads a date-time of RFC 9557, section 4.1, and accepts no other text. It is a date-time of RFC
- * 3339. A zone and annotations may follow, as in the texts of ixdtf_parse. But each part of the name
- * of a zone begins as RFC 9557 says, and is neither . nor .., and the offset of a zone has the form
- * +05:30. ixdtf_parse accepts each of these texts too, and writes the same record. After 0, the
- * date, the time and the offset are present. */
+/* Reads a date-time-ext of RFC 9557, section 4.1, and accepts no other text. The text begins with a
+ * date-time of RFC 3339. A zone and annotations may follow in brackets. Fewer zones are accepted
+ * than by ixdtf_parse: each part of the name of a zone must begin as RFC 9557 says, and must not be
+ * . or .., and the offset of a zone must have the form +05:30. An annotation that ixdtf_parse
+ * refuses is refused here too. ixdtf_parse accepts each text that this reader accepts, and writes
+ * the same record. After 0, the date, the time and the offset are present. */
 IXDTF_CHECKED_ uint32_t ixdtf_parse_rfc9557(const uint8_t *text, size_t length, ixdtf_record *out);
-/* Reads an offset, such as +05:30, into `offset`. After 0, its form is IXDTF_MINUTES or
- * IXDTF_SECONDS, and no other part is present. */
+/* Reads an offset, such as +05:30, into the field `offset`. The text Z is refused. After 0,
+ * offset.form is IXDTF_MINUTES or IXDTF_SECONDS, and no other part is present. */
 IXDTF_CHECKED_ uint32_t ixdtf_parse_offset(const uint8_t *text, size_t length, ixdtf_record *out);
-/* Reads a time zone into `zone`. The text is its name or its offset, such as Europe/Berlin or
- * +05:30. After 0, the zone is not critical, and no other part is present. */
+/* Reads a time zone into the field `zone`. The text is a name or an offset, such as Europe/Berlin
+ * or +05:30, without brackets. After 0, the zone is not critical, and no other part is present. */
 IXDTF_CHECKED_ uint32_t ixdtf_parse_identifier(const uint8_t *text, size_t length,
     ixdtf_record *out);
-/* Reads the name of a time zone, such as Europe/Berlin, into `zone`. After 0, its form is
- * IXDTF_NAME, the zone is not critical, and no other part is present. */
+/* Reads the name of a time zone, such as Europe/Berlin, into the field `zone`. After 0, zone.form
+ * is IXDTF_NAME, the zone is not critical, and no other part is present. */
 IXDTF_CHECKED_ uint32_t ixdtf_parse_iana_identifier(const uint8_t *text, size_t length,
     ixdtf_record *out);
 /* Reads a duration, such as -P1Y2M3W4DT5H6M7.5S. */
 IXDTF_CHECKED_ uint32_t ixdtf_parse_duration(const uint8_t *text, size_t length,
     ixdtf_duration *out);
 
-/* Readers that follow the strict profile, which has stricter rules. A month and a day cannot have
- * the day 00, and a duration cannot repeat a duration unit. So the time 1200 is accepted, because it
- * cannot mean month 12, day 00. The strict profile changes nothing for dates, for years with months,
- * for offsets and for time zones. */
+/* Readers that follow the strict profile, a set of stricter rules. ixdtf_parse_month_day_strict
+ * refuses the day 00, as in 11-00. ixdtf_parse_duration_strict refuses a repeated duration unit, as
+ * in P1Y2Y. ixdtf_parse_time_strict accepts 1200: the strict profile has no day 00, so this text
+ * cannot mean month 12, day 00. The other readers have no strict variant, because the strict
+ * profile does not change what they do. */
 IXDTF_CHECKED_ uint32_t ixdtf_parse_month_day_strict(const uint8_t *text, size_t length,
     ixdtf_record *out);
 IXDTF_CHECKED_ uint32_t ixdtf_parse_time_strict(const uint8_t *text, size_t length,
@@ -333,14 +351,19 @@ IXDTF_CHECKED_ uint32_t ixdtf_parse_duration_strict(const uint8_t *text, size_t 
     ixdtf_duration *out);
 
 /* Readers that list annotations. Each of them reads like the reader above whose name has no
- * _with_annotations. But it accepts every annotation that has a key and a value, it keeps no
- * calendar (after 0, has_calendar is false), and it lists the annotations.
- * `count` is the number of annotations before the end of the text, or before its error. It is
- * written after an error too. The first `room` annotations are written to the array `annotations`,
- * in order. The elements of the array after them are unchanged. So a loop over the array must end at
- * the smaller of `count` and `room`. If `count` is greater than `room`, call the reader again with
- * an array of `count` elements. A text of n code units has at most n / 5 annotations. docs/C.md says
- * what to do with the list ("Handlers"). */
+ * _with_annotations, with three differences:
+ * - It refuses no annotation that has a key and a value, even if this annotation is critical.
+ * - It writes no calendar into the record: after 0, has_calendar is false.
+ * - It lists the annotations of the text.
+ * The reader writes the number of annotations to `count`. If the text is accepted, these are all
+ * annotations of the text. If the text is refused, these are the annotations before its error.
+ * The reader writes the annotations to the array `annotations`, in order. `room` is the capacity of
+ * the array, in annotations. If `count` is greater than `room`, the array has only the first `room`
+ * annotations. If `count` is less than `room`, the elements after the annotations are unchanged. So
+ * a loop over the array must end at the smaller of the two numbers. If `count` is greater than
+ * `room`, call the reader again with an array of `count` annotations. A text of n code units has at
+ * most n / 5 annotations.
+ * docs/C.md shows how to use the list, in "Handlers". */
 IXDTF_CHECKED_ uint32_t ixdtf_parse_with_annotations(const uint8_t *text, size_t length,
     ixdtf_annotation *annotations, size_t room, size_t *count, ixdtf_record *out);
 IXDTF_CHECKED_ uint32_t ixdtf_parse_year_month_with_annotations(const uint8_t *text, size_t length,
@@ -356,72 +379,80 @@ IXDTF_CHECKED_ uint32_t ixdtf_parse_month_day_with_annotations_strict(const uint
 IXDTF_CHECKED_ uint32_t ixdtf_parse_time_with_annotations_strict(const uint8_t *text,
     size_t length, ixdtf_annotation *annotations, size_t room, size_t *count, ixdtf_record *out);
 
-/* Checks the reply to an annotation of the list. The reply is the annotation itself, as in a reader
- * that does not list annotations, or another annotation.
- * If the function accepts the reply, it returns 0. It keeps the first reply whose key is u-ca in
- * `calendar`. If it refuses the reply, it returns the error, IXDTF_CRITICAL_DUPLICATE_CALENDAR or
- * IXDTF_UNRECOGNIZED_CRITICAL, and `calendar` is unchanged.
- * Pass the replies in the order of the list, and pass no reply after the first error. The value that
- * is kept is a slice of the reply, and is valid as long as the code units of this slice are. No
- * record has this calendar until ixdtf_keep_calendar writes it there. ixdtf_reply_place returns the
- * position of a refused reply. */
+/* Checks the reply to an annotation of the list. The reply is the annotation itself, or another
+ * annotation. The function returns one of these:
+ * - IXDTF_OK: the reply is accepted. If the key of the reply is u-ca, and no calendar was kept
+ *   before, the function keeps the reply in `calendar`. Otherwise `calendar` is unchanged.
+ * - IXDTF_UNRECOGNIZED_CRITICAL: the reply is critical, and its key is not u-ca.
+ * - IXDTF_CRITICAL_DUPLICATE_CALENDAR: the key of the reply is u-ca, its value differs from the
+ *   value of the calendar that was kept, and at least one of the two is critical.
+ * After an error, `calendar` is unchanged.
+ * Initialise `calendar` before the first reply. Pass the replies in the order of the list, and pass
+ * no reply after the first error. calendar->value is the slice that you passed as the value of the
+ * reply, and is valid as long as the code units of this slice. ixdtf_keep_calendar writes the
+ * calendar into a record. ixdtf_reply_place returns the position of the error of a refused
+ * reply. */
 IXDTF_CHECKED_ uint32_t ixdtf_reply(ixdtf_calendar *calendar, const ixdtf_annotation *reply);
 
-/* Prints a record as its one canonical text, in ASCII. `out` has `room` bytes. The function returns
- * one of these:
- * - IXDTF_OK: the text was written into the first bytes of `out`, without a zero after it, and its
- *   length to `count`. ixdtf_parse reads this text as the same record, and no other record has this
- *   canonical text.
- * - IXDTF_NOT_PRINTABLE: ixdtf_parse gives this record for no text. For example, the record has the
- *   30th of February, or no date, or a `form` that is not named above, or a fraction whose number
- *   has more digits than `fraction_digits` says. `count` is unchanged.
- * - IXDTF_TOO_SHORT: the record can be printed, but `room` is less than the length of its text.
- *   `count` is this length, or SIZE_MAX if a size_t cannot hold the length.
- * After IXDTF_OK, the other bytes of `out` are unchanged. After the other two results, all bytes of
- * `out` are unchanged.
- * If ixdtf_parse wrote the record for a text of n bytes, the record is always printed if `room` is
- * at least n + 14. The function reads the slices of the record, so this text must still exist.
+/* Writes the canonical text of a record to the array `out`, in ASCII. The canonical text is the one
+ * text that the printer writes for this record. `room` is the capacity of `out`, in bytes. The
+ * function returns one of these:
+ * - IXDTF_OK: the function has written the text to the first bytes of `out`, and the length of the
+ *   text, in bytes, to `count`. The text is not NUL-terminated. The bytes of `out` after the text
+ *   are unchanged. ixdtf_parse reads this text as the same record.
+ * - IXDTF_NOT_PRINTABLE: there is no text for which ixdtf_parse writes this record. For example,
+ *   the date is 30 February, no date is present, a `form` has a value that is not named above, or
+ *   the fraction has more digits than `fraction_digits` says. `out` and `count` are unchanged.
+ * - IXDTF_TOO_SHORT: the record can be printed, but the array is shorter than its canonical text.
+ *   `out` is unchanged. The function has written the length of the text, in bytes, to `count`, or
+ *   SIZE_MAX if a size_t cannot hold this length.
+ * If ixdtf_parse wrote the record for a text of n bytes, a capacity of n + 14 bytes is always
+ * enough. The printer reads the slices of the record, so the text of the slices must still exist.
  * You can also write the fields of a record yourself. Then set all fields of each part that is
- * present. The values of the other fields do not matter. */
+ * present. If a part is not present, its other fields do not matter. */
 IXDTF_CHECKED_ uint32_t ixdtf_print(const ixdtf_record *record, uint8_t *out, size_t room,
     size_t *count);
 
-/* Prints a duration as its one canonical text, such as -P1Y2DT3H0.5M, in ASCII. What the function
- * returns and writes is what ixdtf_print returns and writes. ixdtf_parse_duration reads this text as
- * the same duration, and no other duration has this canonical text. The text begins with - if the
- * duration is negative. It has each unit that is not 0, and 0D if all numbers of the date are 0. The
- * last unit of the time is always written: PT0H and PT0S are two durations.
- * If ixdtf_parse_duration wrote the duration for a text of n bytes, it is always printed if `room` is
- * at least n. A canonical text of a duration has at most 406 bytes.
- * You can also write the fields of a duration yourself. IXDTF_NOT_PRINTABLE says that it has neither
- * a date nor a time, or a `time_form` that is not named above, or a fraction whose number has more
- * digits than `fraction_digits` says. */
+/* Writes the canonical text of a duration, such as -P1Y2DT3H0.5M, to the array `out`, in ASCII. The
+ * arguments and the results have the same meaning as in ixdtf_print. ixdtf_parse_duration reads the
+ * text as the same duration. The text begins with - if the duration is negative. It has each
+ * duration unit that is not 0. If the duration has a date, and all numbers of the date are 0, the
+ * text has 0D. The text always has the last unit of the time, because PT0H and PT0S are different
+ * durations. The function returns IXDTF_NOT_PRINTABLE if the duration has neither a date nor a
+ * time, if `time_form` has a value that is not named above, or if the fraction has more digits than
+ * `fraction_digits` says.
+ * If ixdtf_parse_duration wrote the duration for a text of n bytes, a capacity of n bytes is always
+ * enough. A capacity of 406 bytes is enough for every duration. */
 IXDTF_CHECKED_ uint32_t ixdtf_print_duration(const ixdtf_duration *duration, uint8_t *out,
     size_t room, size_t *count);
 
-/* Prints an offset, or a time zone without its brackets and its !, as its one canonical text in
- * ASCII, such as -05:00, +05:30:10.5 or Europe/Berlin. What the functions return and write is what
- * ixdtf_print returns and writes. ixdtf_parse_offset reads the text as the same offset, and
- * ixdtf_parse_identifier as the same zone. If one of them wrote the offset or the zone for a text of
- * n bytes, it is always printed if `room` is at least n + 3.
- * IXDTF_NOT_PRINTABLE says that the `form` of the offset is neither IXDTF_MINUTES nor IXDTF_SECONDS,
- * that the `form` of the zone is neither IXDTF_NAME nor IXDTF_ZONE_OFFSET, that a number is out of its
- * range, or that the name is no name of a time zone. */
+/* Write the canonical text of an offset, such as -05:00 or +05:30:10.5, and of a time zone, such as
+ * Europe/Berlin, to the array `out`, in ASCII. The text of a zone has neither the brackets of the
+ * zone nor its !. The arguments and the results have the same meaning as in ixdtf_print.
+ * ixdtf_parse_offset reads the text of an offset as the same offset. ixdtf_parse_identifier reads
+ * the text of a zone as the same zone, except that the zone is not critical.
+ * The functions return IXDTF_NOT_PRINTABLE if the `form` of the offset is neither IXDTF_MINUTES nor
+ * IXDTF_SECONDS, if the `form` of the zone is neither IXDTF_NAME nor IXDTF_ZONE_OFFSET, if a number
+ * is out of range, or if the grammar does not accept the name of the zone.
+ * If ixdtf_parse_offset or ixdtf_parse_identifier wrote the offset or the zone for a text of n
+ * bytes, a capacity of n + 3 bytes is always enough. */
 IXDTF_CHECKED_ uint32_t ixdtf_print_offset(const ixdtf_offset *offset, uint8_t *out, size_t room,
     size_t *count);
 IXDTF_CHECKED_ uint32_t ixdtf_print_zone(const ixdtf_zone *zone, uint8_t *out, size_t room,
     size_t *count);
 
-/* Print what ixdtf_parse_time, ixdtf_parse_year_month and ixdtf_parse_month_day write, as its one
- * canonical text in ASCII, such as 08:48:00Z[u-ca=hebrew], 2024-03[Europe/Berlin] or 03-02. What the
- * functions return and write is what ixdtf_print returns and writes. The reader of the same name reads
- * the text as the same record. The fields of a record do not say which reader wrote it: the date of
- * ixdtf_parse_month_day has the year 0, and that of ixdtf_parse_year_month has the day 1. So call the
- * function that belongs to the reader.
- * If the reader wrote the record for a text of n bytes, it is always printed if `room` is at least
- * n + 12 for a time, and n + 4 for the other two.
- * IXDTF_NOT_PRINTABLE says that the reader gives this record for no text: a part is missing or is not
- * allowed, such as a date in a time, or a `form` is not named above, or a number is out of its range. */
+/* Write the canonical text of a record of ixdtf_parse_time, ixdtf_parse_year_month or
+ * ixdtf_parse_month_day to the array `out`, in ASCII. Examples are 08:48:00Z[u-ca=hebrew],
+ * 2024-03[Europe/Berlin] and 03-02. The arguments and the results have the same meaning as in
+ * ixdtf_print. If the reader that belongs to the printer reads the text, it writes the same record.
+ * Call the printer that belongs to the reader of the record, because the fields of the record do
+ * not say which reader wrote it. The record of the text 11-01 is printed as 11-01 by
+ * ixdtf_print_month_day, as 0000-11 by ixdtf_print_year_month, and as 0000-11-01 by ixdtf_print.
+ * The functions return IXDTF_NOT_PRINTABLE if there is no text for which the reader writes this
+ * record: a part is missing, a part is present that must not be present (such as a date in the
+ * record of a time), a `form` has a value that is not named above, or a number is out of range.
+ * If the reader wrote the record for a text of n bytes, a capacity of n + 12 bytes is always enough
+ * for a time, and a capacity of n + 4 bytes for the other two. */
 IXDTF_CHECKED_ uint32_t ixdtf_print_time(const ixdtf_record *record, uint8_t *out, size_t room,
     size_t *count);
 IXDTF_CHECKED_ uint32_t ixdtf_print_year_month(const ixdtf_record *record, uint8_t *out,
@@ -429,9 +460,9 @@ IXDTF_CHECKED_ uint32_t ixdtf_print_year_month(const ixdtf_record *record, uint8
 IXDTF_CHECKED_ uint32_t ixdtf_print_month_day(const ixdtf_record *record, uint8_t *out, size_t room,
     size_t *count);
 
-/* The same functions for 16-bit text. There is no such function for a printer. A code unit outside
- * 1 to 126 stands for no character. If a reader needs a character and comes to such a code unit, the
- * error is IXDTF_NON_ASCII_CODE_POINT. */
+/* The readers and ixdtf_reply for 16-bit text. There are no printers for 16-bit text. No reader
+ * accepts a code unit outside 1 to 126. If a reader comes to such a code unit, the error is
+ * IXDTF_NON_ASCII_CODE_POINT. Otherwise these functions do what the functions for 8-bit text do. */
 IXDTF_CHECKED_ uint32_t ixdtf16_parse(const uint16_t *text, size_t length, ixdtf16_record *out);
 IXDTF_CHECKED_ uint32_t ixdtf16_parse_year_month(const uint16_t *text, size_t length,
     ixdtf16_record *out);
@@ -478,81 +509,90 @@ IXDTF_CHECKED_ uint32_t ixdtf16_parse_time_with_annotations_strict(const uint16_
     ixdtf16_record *out);
 IXDTF_CHECKED_ uint32_t ixdtf16_reply(ixdtf16_calendar *calendar, const ixdtf16_annotation *reply);
 
-/* Writes the text of an error, by its number from 1 to 46, as a slice. It is the text that
- * ixdtf_error_message returns, but without a zero after it. For any other number, the text is
- * empty. */
+/* Writes the text of an error to `out`, as a slice. `error` is the number of the error, from 1 to
+ * 46. The text is the one that ixdtf_error_message returns, but it is not NUL-terminated. For every
+ * other number, the text is empty. */
 void ixdtf_error_text(uint32_t error, ixdtf_text *out);
 
-/* Writes the name of a number that a call returns, such as "IXDTF_DATE_MONTH" or "IXDTF_OK", as a
- * slice. For any other number, the name is empty. A zero follows the name. `length` does not count
- * this zero. */
+/* Writes the name that a number has in this header to `out`, as a slice. `error` is 0, the number
+ * of an error, or 101 to 104. The name is, for example, "IXDTF_DATE_MONTH" or "IXDTF_OK". For every
+ * other number, the name is empty. The name is NUL-terminated. `length` does not count this NUL. */
 void ixdtf_error_constant(uint32_t error, ixdtf_text *out);
 
-/* Returns the nanoseconds of a fraction of a second. The digits after the ninth are dropped. The
- * result is 0 if `digits` is 0. It is also 0 if no fraction with this number of digits has this
- * value. */
+/* Returns the nanoseconds of a fraction of a second, from 0 to 999999999. The arguments are the
+ * fields `fraction` and `fraction_digits`. All digits after the ninth are dropped. If `digits` is
+ * 0, the function returns 0. It also returns 0 if the number has more digits than `digits` says,
+ * such as 10 with one digit. */
 IXDTF_CHECKED_ uint32_t ixdtf_nanoseconds(uint64_t fraction, uint8_t digits);
 
-/* Returns how many seconds local time is ahead of UTC. A fraction of a second is dropped. The result
- * is 0 for Z and if there is no offset. */
+/* Returns how many seconds local time is ahead of UTC. The number is negative if local time is
+ * behind UTC. A fraction of a second is dropped. The function also returns 0 for Z, and if there is
+ * no offset. So test `form` first. */
 IXDTF_CHECKED_ int32_t ixdtf_offset_seconds(const ixdtf_offset *offset);
 
-/* Writes the instant of a record: how many seconds it is after 1970-01-01T00:00:00Z, rounded down,
- * and how many nanoseconds after that, from 0 to 999999999. Before 1970, the seconds are below 0.
- * Leap seconds are not counted: each day has 86400 seconds. The function returns one of these:
- * - IXDTF_OK: the instant was written.
- * - IXDTF_NO_INSTANT: the record has no date, no time, or neither an offset nor Z. Then nothing is
- *   written.
- * The instant is the local time minus the offset. The time zone in brackets and the calendar do not
- * matter. Digits of a fraction after the ninth are dropped. The second 60 is the same instant as
- * the second 59, with the same fraction.
- * If you write the fields of the record yourself, a day, an hour, a minute or an offset that is out
- * of range is counted on, and a second above 59 is 59. The result is IXDTF_NO_INSTANT if the month
- * is not 1 to 12, or if a fraction or a `form` is one that no reader writes. */
+/* Writes the instant of a record. The instant is two numbers: the seconds since
+ * 1970-01-01T00:00:00Z, rounded down, and the nanoseconds after these seconds, from 0 to 999999999.
+ * Before 1970, the seconds are negative. Leap seconds are not counted: each day has 86400 seconds.
+ * The function returns one of these:
+ * - IXDTF_OK: the function has written the two numbers.
+ * - IXDTF_NO_INSTANT: the record has no date, no time, or neither an offset nor Z. The function has
+ *   written nothing.
+ * The instant is the local time of the record minus its offset. The time zone in brackets does not
+ * matter: the function looks up no zone. The calendar does not matter either. Digits of a fraction
+ * after the ninth are dropped. The second 60 is the same instant as the second 59.
+ * You can also write the fields of the record yourself. Then the function accepts a day, an hour, a
+ * minute or an offset that is out of range: hour 24 is hour 0 of the next day. A second above 59
+ * counts as 59. The function also returns IXDTF_NO_INSTANT if the month is not 1 to 12, or if a
+ * fraction or the `form` of the offset has a value that no reader writes. */
 IXDTF_CHECKED_ uint32_t ixdtf_instant(const ixdtf_record *record, int64_t *seconds,
     uint32_t *nanoseconds);
 IXDTF_CHECKED_ uint32_t ixdtf16_instant(const ixdtf16_record *record, int64_t *seconds,
     uint32_t *nanoseconds);
 
-/* Writes what the fraction of a duration is in whole seconds, and in nanoseconds after them, from 0
- * to 999999999. The fraction is a part of the last duration unit: 0.5 of PT1.5H is 1800 seconds. Both
- * numbers are 0 if the duration has no fraction. The sign of the duration does not matter. The
- * function returns one of these:
+/* Converts the fraction of a duration. The function writes two numbers: whole seconds, and the
+ * nanoseconds after them, from 0 to 999999999. The fraction is a part of the last duration unit:
+ * for PT1.5H, it is 1800 seconds and 0 nanoseconds. Without a fraction, both numbers are 0. The
+ * sign of the duration does not matter. The function returns one of these:
  * - IXDTF_OK: the two numbers are exactly the fraction.
- * - IXDTF_NOT_EXACT: the fraction is no whole number of nanoseconds, as in PT0.0000000001S, or it has
- *   more than 18 digits, of which the record has only the first 18. Then nothing is written. */
+ * - IXDTF_NOT_EXACT: the fraction is not a whole number of nanoseconds, as in PT0.0000000001S, or
+ *   it has more than 18 digits, and the struct has only the first 18. The function also returns
+ *   this number if the fraction has more digits than `fraction_digits` says. It has written
+ *   nothing. */
 IXDTF_CHECKED_ uint32_t ixdtf_duration_fraction(const ixdtf_duration *duration, uint32_t *seconds,
     uint32_t *nanoseconds);
 
-/* Writes the calendar that ixdtf_reply kept into a record, or writes that there is none. */
+/* Write the calendar that ixdtf_reply kept to the fields `calendar` and `has_calendar` of a record.
+ * If ixdtf_reply kept none, `calendar` has length 0, and `has_calendar` is false. No other field of
+ * the record changes. */
 void ixdtf_keep_calendar(ixdtf_record *record, const ixdtf_calendar *calendar);
 void ixdtf16_keep_calendar(ixdtf16_record *record, const ixdtf16_calendar *calendar);
 
-/* Returns how many bytes ixdtf_print writes for the record if there is enough room. The result is 0
- * if the record is not printable, or if its text is longer than SIZE_MAX. */
+/* Returns the length of the canonical text that ixdtf_print writes, in bytes. It returns 0 if the
+ * record cannot be printed, or if a size_t cannot hold the length. */
 IXDTF_CHECKED_ size_t ixdtf_printed_length(const ixdtf_record *record);
 
-/* Return how many bytes ixdtf_print_duration, ixdtf_print_offset and ixdtf_print_zone write if there
- * is enough room. The result is 0 if the duration, the offset or the zone is not printable. */
+/* Return the length of the canonical text that ixdtf_print_duration, ixdtf_print_offset and
+ * ixdtf_print_zone write, in bytes. They return 0 if the duration, the offset or the zone cannot be
+ * printed. */
 IXDTF_CHECKED_ size_t ixdtf_printed_duration_length(const ixdtf_duration *duration);
 IXDTF_CHECKED_ size_t ixdtf_printed_offset_length(const ixdtf_offset *offset);
 IXDTF_CHECKED_ size_t ixdtf_printed_zone_length(const ixdtf_zone *zone);
 
-/* Return how many bytes ixdtf_print_time, ixdtf_print_year_month and ixdtf_print_month_day write if
- * there is enough room. The result is 0 if the record is not printable by this function, or if its
- * text is longer than SIZE_MAX. */
+/* Return the length of the canonical text that ixdtf_print_time, ixdtf_print_year_month and
+ * ixdtf_print_month_day write, in bytes. They return 0 if this printer cannot print the record, or
+ * if a size_t cannot hold the length. */
 IXDTF_CHECKED_ size_t ixdtf_printed_time_length(const ixdtf_record *record);
 IXDTF_CHECKED_ size_t ixdtf_printed_year_month_length(const ixdtf_record *record);
 IXDTF_CHECKED_ size_t ixdtf_printed_month_day_length(const ixdtf_record *record);
 
-/* Returns the version of the interface that the library has. */
+/* Returns the version of the interface of the library. It must be IXDTF_INTERFACE_VERSION. */
 IXDTF_CHECKED_ uint32_t ixdtf_interface_version(void);
 
-/* The functions after this line are compiled into your program. They are tested, and not proved. */
+/* The functions after this line are compiled into your program. They are tested, but not proved. */
 
-/* Readers of C strings: ixdtf_parse_text, ixdtf_parse_duration_strict_text and so on, one for each
- * reader of 8-bit text. Each reads the bytes before the zero, as the reader without _text does. For
- * example:
+/* Readers of C strings. There is one for each reader of 8-bit text. Its name is the name of that
+ * reader and _text, such as ixdtf_parse_duration_strict_text. It reads the bytes before the NUL of
+ * the string, and does what the reader without _text does. For example:
  *     uint32_t ixdtf_parse_text(const char *text, ixdtf_record *out);
  *     uint32_t ixdtf_parse_with_annotations_text(const char *text, ixdtf_annotation *annotations,
  *         size_t room, size_t *count, ixdtf_record *out);
@@ -593,16 +633,17 @@ IXDTF_LISTING_READERS_(IXDTF_LISTING_OF_TEXT_)
 #undef IXDTF_OF_TEXT_
 #undef IXDTF_LISTING_OF_TEXT_
 
-/* Returns the name that ixdtf_error_constant writes, as a C string. */
+/* Returns the name that ixdtf_error_constant writes, as a C string. For a number without a name,
+ * the string is empty. */
 static inline const char *ixdtf_error_name(uint32_t error) {
     ixdtf_text name = IXDTF_TEXT;
     ixdtf_error_constant(error, &name);
     return name.at;
 }
 
-/* Returns the text of an error, such as "Invalid character while parsing month value.". For the
- * errors of texts, it is the text that ixdtf_error_text writes. The numbers that other
- * functions return have a text too. For any other number, the result is "". */
+/* Returns the text of an error as a C string, such as "Invalid character while parsing month
+ * value.". For the numbers 1 to 46, it is the text that ixdtf_error_text writes. The numbers 101 to
+ * 104 have a text too. For every other number, the string is empty. */
 static inline const char *ixdtf_error_message(uint32_t error) {
     switch (error) {
     case IXDTF_IMPL_ASSERT:
@@ -710,8 +751,9 @@ static inline const char *ixdtf_error_message(uint32_t error) {
     }
 }
 
-/* Returns the position of the error of a refused reply. `listed` is the annotation of the list to
- * which the reply belongs. The position is directly after the bracket of this annotation. */
+/* Return the position of the error of a refused reply: the number of code units before the error.
+ * The position is directly after the ] of the annotation to which the reply belongs. `text` is the
+ * text that was read. `listed` is this annotation, as the reader listed it. */
 static inline size_t ixdtf_reply_place(const uint8_t *text, const ixdtf_annotation *listed) {
     return IXDTF_AS_(size_t, listed->value.at + listed->value.length - text) + 1;
 }
@@ -719,7 +761,8 @@ static inline size_t ixdtf16_reply_place(const uint16_t *text, const ixdtf16_ann
     return IXDTF_AS_(size_t, listed->value.at + listed->value.length - text) + 1;
 }
 
-/* Sets each element of an array to the initial value. Zeros in each element are equally good. */
+/* Set each of the `room` elements of an array to IXDTF_ANNOTATION or IXDTF16_ANNOTATION. You can
+ * also initialise the elements with zeros. */
 static inline void ixdtf_set_annotations(ixdtf_annotation *annotations, size_t room) {
     const ixdtf_annotation none = IXDTF_ANNOTATION;
     size_t i;
@@ -735,8 +778,8 @@ static inline void ixdtf16_set_annotations(ixdtf16_annotation *annotations, size
     }
 }
 
-/* Asserts that this compiler lays out each struct as the library does. If not, the header does not
- * compile. */
+/* Asserts that this compiler lays out each struct as the library does. If the layout differs, the
+ * header does not compile. */
 #if defined(__cplusplus) && __cplusplus >= 201103L
 #define IXDTF_ASSERT_(what, name) static_assert(what, #name)
 #elif !defined(__cplusplus) && defined(__STDC_VERSION__) && __STDC_VERSION__ >= 201112L
@@ -827,7 +870,7 @@ IXDTF_PLACE_(ixdtf_duration, place, 72);
 #if defined(__cplusplus) && __cplusplus >= 201703L
 #include <string_view>
 
-/* The readers of C strings, for a std::string_view. */
+/* The readers whose names end in _text, for a std::string_view. */
 #define IXDTF_OF_VIEW_(reader, type) \
     [[nodiscard]] inline uint32_t reader##_text(std::string_view text, type *out) { \
         return reader(IXDTF_AT_(uint8_t, text.data()), text.size(), out); \
@@ -843,7 +886,7 @@ IXDTF_LISTING_READERS_(IXDTF_LISTING_OF_VIEW_)
 #undef IXDTF_OF_VIEW_
 #undef IXDTF_LISTING_OF_VIEW_
 
-/* Returns a slice as a std::string_view. This is valid as long as the slice is. */
+/* Return a slice as a std::string_view. The view is valid as long as the slice. */
 inline std::string_view ixdtf_view(ixdtf_units units) {
     return std::string_view(reinterpret_cast<const char *>(units.at), units.length);
 }
