@@ -1,8 +1,12 @@
-/* Rows for test.c: texts, and what the Rust crate ixdtf 0.6.7 answers to them; the texts of the errors are those that were published
- * with the table of faults. That crate has no reader of exactly RFC 3339 or RFC 9557. The answers of those rows were written by hand from
- * section 5.6 of RFC 3339, whose examples of section 5.8 are among them, and from sections 3 and 4.1 of RFC 9557. The place of an error, behind `at`, is that of tools/places.py, a model of the
- * readers. None is this library's own output. An answer shows a record part by part: a fraction as .fDIGITS:VALUE, an error by its variant, and AE with the
- * location of AbruptEnd. */
+/* The rows for test.c. A row has a text, a reader and the expected result. No expected result is the output of this library. They come from
+ * these sources:
+ * - The results of most rows are those of the Rust crate ixdtf 0.6.7.
+ * - This crate has no readers of exactly RFC 3339 and RFC 9557. A person wrote the results of the rows for these readers, from section 5.6 of
+ *   RFC 3339 and from sections 3 and 4.1 of RFC 9557. The examples of section 5.8 of RFC 3339 are among the rows.
+ * - The positions of errors, after the word `at`, come from tools/places.py, a model of the readers.
+ * - The texts of the errors are those that were published with the table of errors.
+ * A result shows the parts of a record. `.f3:250` is a fraction with 3 digits and the value 250. An error is shown by the name of its variant in
+ * Rust. `AE` stands for AbruptEnd, and is followed by its location. */
 static const struct error_row error_rows[] = {
     { 1, "ImplAssert", "Implementation error: this error must not throw." },
     { 2, "NonAsciiCodePoint", "Code point was not ASCII" },

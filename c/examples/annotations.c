@@ -1,5 +1,5 @@
-/* Lists the annotations of each argument, and keeps its calendar by a handler of its own: the key x-note is known, also where it is
- * critical, and every other annotation stands for itself.
+/* For each argument, prints its annotations and its calendar, or the error. The program knows the key x-note, and accepts it even if it is
+ * critical. It keeps every other annotation, so the library decides about it as usual.
  *
  *     cc -std=c99 annotations.c $(pkg-config --cflags --libs ixdtf) -o annotations
  *     ./annotations '2024-03-02[Europe/Paris][u-ca=hebrew][!x-note=a-b]'
@@ -17,7 +17,8 @@ static bool is_note(const ixdtf_annotation *annotation) {
     return annotation->key.length == 6 && memcmp(annotation->key.at, "x-note", 6) == 0;
 }
 
-/* Asks about each annotation of the text, in order, up to the first that is refused: then the place of the error is behind its bracket. */
+/* Prints and checks each annotation of the list, in order. Returns 0, or the error of the first annotation that is refused. Then `place` is the
+ * position of this error, directly after the bracket of the annotation. */
 static uint32_t ask(const uint8_t *text, const ixdtf_annotation *list, size_t count, ixdtf_calendar *calendar, size_t *place) {
     for (size_t i = 0; i < count; i++) {
         printf("  %s", list[i].is_critical ? "critical " : "");
@@ -26,7 +27,7 @@ static uint32_t ask(const uint8_t *text, const ixdtf_annotation *list, size_t co
         print_units(list[i].value);
         printf("\n");
         if (is_note(&list[i])) {
-            continue; /* no reply: the annotation is passed over */
+            continue; /* Without a reply, the annotation is dropped. */
         }
         uint32_t error = ixdtf_reply(calendar, &list[i]);
         if (error != IXDTF_OK) {
@@ -53,7 +54,7 @@ int main(int count, char **arguments) {
     for (int i = 1; i < count; i++) {
         const uint8_t *text = (const uint8_t *)arguments[i];
         size_t length = strlen(arguments[i]);
-        size_t room = length / 5 + 1; /* the shortest annotation has five units, as [a=b] */
+        size_t room = length / 5 + 1; /* enough, because an annotation has at least five bytes, such as [a=b] */
         ixdtf_annotation *list = malloc(room * sizeof *list);
         if (list == NULL) {
             return 1;
@@ -66,7 +67,7 @@ int main(int count, char **arguments) {
         uint32_t error = ixdtf_parse_with_annotations(text, length, list, room, &found, &record);
         size_t place = record.place;
         uint32_t refused = ask(text, list, found, &calendar, &place);
-        /* A reply that is refused stands before the end or the error of the text. */
+        /* The annotations of the list come before the error of the text. So the error of a refused reply is the first error. */
         print_outcome(refused != IXDTF_OK ? refused : error, place, &calendar);
         free(list);
     }

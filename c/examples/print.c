@@ -1,5 +1,5 @@
-/* Prints each argument, a date, or a date and a time, as its one canonical text: two texts of one record print alike. Its status is 1 where an
- * argument is refused.
+/* Each argument is a date, or a date and a time. For each one, prints its canonical text. If two texts have the same record, they also have the
+ * same canonical text. The exit status is 1 if an argument is refused.
  *
  *     cc -std=c99 print.c $(pkg-config --cflags --libs ixdtf) -o print
  *     ./print '20240302 084800,250z[!etc/utc][u-ca=hebrew][x-note=a]'
@@ -9,9 +9,9 @@
 #include <stdlib.h>
 #include <string.h>
 
-/* A day later, where the month has one more day. Else nothing is printed of the record. */
+/* Prints the record with the next day, or says that the month has no later day. */
 static void print_next_day(ixdtf_record record) {
-    uint8_t out[64]; /* a text of 64 bytes at most: a longer one is too long for this line */
+    uint8_t out[64]; /* For a longer text, only its length is printed. */
     size_t count = 0;
     record.date.day++;
     uint32_t error = ixdtf_print(&record, out, sizeof out, &count);
@@ -28,7 +28,7 @@ int main(int count, char **arguments) {
     int status = 0;
     for (int i = 1; i < count; i++) {
         size_t length = strlen(arguments[i]);
-        size_t room = length + 14; /* the canonical text has at most 14 bytes more than the text */
+        size_t room = length + 14; /* enough, because the canonical text has at most 14 bytes more than the text */
         size_t written = 0;
         uint8_t *out = malloc(room);
         ixdtf_record record = IXDTF_RECORD;
@@ -37,7 +37,7 @@ int main(int count, char **arguments) {
         }
         uint32_t error = ixdtf_parse_text(arguments[i], &record);
         if (error == IXDTF_OK) {
-            error = ixdtf_print(&record, out, room, &written); /* 0: there is a text, and room for it */
+            error = ixdtf_print(&record, out, room, &written); /* This never fails for a record that was read, because the array is large enough. */
         }
         if (error == IXDTF_OK) {
             printf("%s\n", arguments[i]);

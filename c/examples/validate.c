@@ -1,5 +1,5 @@
-/* Says of each argument whether it is a date, or a date and a time, and why not, with a mark under the place of the error. Its status is 1
- * where one is not.
+/* Says for each argument whether it is a date, or a date and a time. If not, prints the error, the text, and a mark under the position of the
+ * error. The exit status is 1 if an argument is refused.
  *
  *     cc -std=c99 validate.c $(pkg-config --cflags --libs ixdtf) -o validate
  *     ./validate 2024-03-02T08:48:00Z 2024-02-30
@@ -10,9 +10,9 @@
 static void print_error(const char *text, uint32_t error, const ixdtf_record *record) {
     printf("%s: %s", text, ixdtf_error_message(error));
     if (error == IXDTF_ABRUPT_END) {
-        printf(" What it broke off in: %.*s.", (int)record->location.length, record->location.at);
+        printf(" This was being parsed: %.*s.", (int)record->location.length, record->location.at);
     }
-    /* The place counts bytes, which are the columns of a text in ASCII. */
+    /* The position is a number of bytes. For a text in ASCII, it is also the number of columns before the mark. */
     printf("\n%s\n%*s\n", text, (int)record->place + 1, "^");
 }
 

@@ -1,5 +1,5 @@
-/* Says of each argument whether it is a date, or a date and a time, and why not, with a mark under the place of the error: validate.c as
- * C++17. Its status is 1 where one is not.
+/* The program validate.c, written in C++17. It says for each argument whether it is a date, or a date and a time. If not, it prints the error,
+ * the text, and a mark under the position of the error. The exit status is 1 if an argument is refused.
  *
  *     c++ -std=c++17 validate.cc $(pkg-config --cflags --libs ixdtf) -o validate
  *     ./validate 2024-03-02T08:48:00Z 2024-02-30
@@ -13,9 +13,9 @@
 static void print_error(std::string_view text, uint32_t error, const ixdtf_record &record) {
     std::cout << text << ": " << ixdtf_error_message(error);
     if (error == IXDTF_ABRUPT_END) {
-        std::cout << " What it broke off in: " << ixdtf_view(record.location) << ".";
+        std::cout << " This was being parsed: " << ixdtf_view(record.location) << ".";
     }
-    // The place counts bytes, which are the columns of a text in ASCII.
+    // The position is a number of bytes. For a text in ASCII, it is also the number of columns before the mark.
     std::cout << "\n" << text << "\n" << std::setw(static_cast<int>(record.place) + 1) << "^" << "\n";
 }
 
