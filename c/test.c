@@ -1,5 +1,6 @@
-/* Tests of the library through ixdtf.h, as C99 and as C++: every call in both widths, every error, every optional part, and the layout of each
- * struct. c/test compiles and runs this with every compiler that is there. It prints what fails, and how many checks were made. */
+/* Tests of the library through ixdtf.h. They test every function, for 8-bit and for 16-bit text, every error, every part of a record, and the layout
+ * of each struct. This file is valid C99 and valid C++. c/test compiles and runs it with every installed compiler. The program prints each check
+ * that fails, and the number of checks. */
 #if !defined(_DEFAULT_SOURCE)
 #define _DEFAULT_SOURCE
 #endif
@@ -14,11 +15,11 @@
 #define COUNT(array) (sizeof(array) / sizeof((array)[0]))
 #define TEXT(literal) literal, sizeof(literal) - 1
 
-/* An error's number, its variant and its text. */
+/* The number of an error, the name of its variant in Rust, and its text. */
 struct error_row { uint32_t number; const char *name, *text; };
-/* A reader's word, a text and what the reader gives of it. In a text \uXXXX is one unit of 16 bits. */
+/* The word for a reader, a text, and the expected result. In a text, \uXXXX is one code unit of 16 bits. */
 struct row { const char *reader; const char *text; size_t length; const char *answer; };
-/* The same with a handler, and the annotations that it is asked about. */
+/* A row with a handler. `answer` is the expected result, and `calls` are the annotations with which the handler must be called. */
 struct handler_row { const char *reader, *handler; const char *text; size_t length; const char *answer, *calls; };
 
 #include "test_rows.h"
@@ -30,7 +31,7 @@ static void check(int holds, const char *what) {
     checks++;
     if (!holds) {
         failures++;
-        printf("failed: %s (at \"%s\")\n", what, row_shown);
+        printf("failed, at \"%s\". Expected: %s\n", row_shown, what);
     }
 }
 
@@ -38,11 +39,11 @@ static void is(const char *found, const char *wanted, const char *reader, const 
     checks++;
     if (strcmp(found, wanted) != 0) {
         failures++;
-        printf("failed: %s of \"%s\"\n    wanted %s\n    found  %s\n", reader, text, wanted, found);
+        printf("failed: %s of \"%s\"\n    expected %s\n    found    %s\n", reader, text, wanted, found);
     }
 }
 
-/* A line that is written part by part. */
+/* A line of text, to which `show` appends. */
 struct line { char text[2048]; size_t length; };
 
 static void show(struct line *line, const char *format, ...) {
@@ -52,7 +53,7 @@ static void show(struct line *line, const char *format, ...) {
     written = vsnprintf(line->text + line->length, sizeof(line->text) - line->length, format, parts);
     va_end(parts);
     if (written < 0 || (size_t)written >= sizeof(line->text) - line->length) {
-        puts("a line is too long");
+        puts("expected a line of at most 2047 bytes; make struct line larger");
         exit(2);
     }
     line->length += (size_t)written;
@@ -69,7 +70,7 @@ static void show_offset(struct line *line, const ixdtf_offset *offset) {
         show(line, "Z");
         return;
     }
-    check(offset->form == IXDTF_MINUTES || offset->form == IXDTF_SECONDS, "an offset has minutes or seconds");
+    check(offset->form == IXDTF_MINUTES || offset->form == IXDTF_SECONDS, "the form of the offset is IXDTF_MINUTES or IXDTF_SECONDS");
     show(line, "%c%u,%u", offset->is_negative ? '-' : '+', offset->hour, offset->minute);
     if (offset->form == IXDTF_SECONDS) {
         show(line, ",%u", offset->second);
@@ -91,7 +92,7 @@ static void show_duration(struct line *line, const ixdtf_duration *it) {
         if (it->time_form == IXDTF_LAST_SECONDS) {
             show(line, ",%llu", (unsigned long long)it->seconds);
         }
-        check(it->time_form <= IXDTF_LAST_SECONDS, "a duration has one of three last units");
+        check(it->time_form <= IXDTF_LAST_SECONDS, "the time_form of the duration has one of the values of the header");
         show_fraction(line, it->fraction_digits, it->fraction);
     }
 }
@@ -100,7 +101,7 @@ static unsigned char is_met[47];
 
 static void show_error(struct line *line, uint32_t error, ixdtf_text location, size_t place) {
     if (error < 1 || error > COUNT(error_rows)) {
-        show(line, "error without a name: %lu", (unsigned long)error);
+        show(line, "unknown error: %lu", (unsigned long)error);
         return;
     }
     is_met[error] = 1;
@@ -108,7 +109,7 @@ static void show_error(struct line *line, uint32_t error, ixdtf_text location, s
         show(line, "error AE %.*s", (int)location.length, location.at);
     } else {
         show(line, "error %s", error_rows[error - 1].name);
-        check(location.length == 0, "an error of the text that is no end has no location");
+        check(location.length == 0, "location has length 0, because the error is not IXDTF_ABRUPT_END");
     }
     show(line, " at %lu", (unsigned long)place);
 }
@@ -131,31 +132,31 @@ static int same_offset(const ixdtf_offset *a, const ixdtf_offset *b) {
         && a->hour == b->hour && a->minute == b->minute && a->second == b->second;
 }
 
-/* Of a part that is not there, each field is zero. */
+/* The next functions check that the fields of a part that is not present are 0. */
 static void check_cleared_date(const ixdtf_date *it) {
-    check(it->is_there || (it->year == 0 && it->month == 0 && it->day == 0), "a date that is not there is zero");
+    check(it->is_there || (it->year == 0 && it->month == 0 && it->day == 0), "the fields of a date that is not present are 0");
 }
 
 static void check_cleared_time(const ixdtf_time *it) {
-    check(it->fraction_digits != 0 || it->fraction == 0, "a fraction that is not there is zero");
-    check(it->is_there || (it->fraction_digits == 0 && it->hour == 0 && it->minute == 0 && it->second == 0), "a time that is not there is zero");
+    check(it->fraction_digits != 0 || it->fraction == 0, "the number of a fraction without digits is 0");
+    check(it->is_there || (it->fraction_digits == 0 && it->hour == 0 && it->minute == 0 && it->second == 0), "the fields of a time that is not present are 0");
 }
 
 static void check_cleared_offset(const ixdtf_offset *it) {
-    check(it->form <= IXDTF_SECONDS, "the form of an offset has a name");
-    check(it->fraction_digits != 0 || it->fraction == 0, "a fraction that is not there is zero");
-    check(it->form == IXDTF_SECONDS || (it->fraction_digits == 0 && it->second == 0), "a second that is not there is zero");
-    check(it->form >= IXDTF_MINUTES || (!it->is_negative && it->hour == 0 && it->minute == 0), "an offset that is not there is zero");
+    check(it->form <= IXDTF_SECONDS, "the form of the offset has one of the values of the header");
+    check(it->fraction_digits != 0 || it->fraction == 0, "the number of a fraction without digits is 0");
+    check(it->form == IXDTF_SECONDS || (it->fraction_digits == 0 && it->second == 0), "the second and the fraction of an offset without seconds are 0");
+    check(it->form >= IXDTF_MINUTES || (!it->is_negative && it->hour == 0 && it->minute == 0), "the fields of an offset that is not present are 0");
 }
 
 static void check_cleared_duration(const ixdtf_duration *it) {
-    check(it->time_form <= IXDTF_LAST_SECONDS, "the form of a duration has a name");
-    check(it->has_date || (it->years == 0 && it->months == 0 && it->weeks == 0 && it->days == 0), "a date that is not there is zero");
-    check(it->fraction_digits != 0 || it->fraction == 0, "a fraction that is not there is zero");
-    check(it->time_form != IXDTF_NO_TIME || (it->hours == 0 && it->fraction_digits == 0), "a time that is not there is zero");
-    check(it->time_form >= IXDTF_LAST_MINUTES || it->minutes == 0, "minutes that are not there are zero");
-    check(it->time_form == IXDTF_LAST_SECONDS || it->seconds == 0, "seconds that are not there are zero");
-    check(it->location.length == 0 && it->place == 0, "a duration that is read has no location and no place");
+    check(it->time_form <= IXDTF_LAST_SECONDS, "the time_form of the duration has one of the values of the header");
+    check(it->has_date || (it->years == 0 && it->months == 0 && it->weeks == 0 && it->days == 0), "the fields of a date that is not present are 0");
+    check(it->fraction_digits != 0 || it->fraction == 0, "the number of a fraction without digits is 0");
+    check(it->time_form != IXDTF_NO_TIME || (it->hours == 0 && it->fraction_digits == 0), "the fields of a time that is not present are 0");
+    check(it->time_form >= IXDTF_LAST_MINUTES || it->minutes == 0, "the minutes of a duration without minutes are 0");
+    check(it->time_form == IXDTF_LAST_SECONDS || it->seconds == 0, "the seconds of a duration without seconds are 0");
+    check(it->location.length == 0 && it->place == 0, "after 0, location has length 0, and place is 0");
 }
 
 static int same_duration_but_error(const ixdtf_duration *a, const ixdtf_duration *b) {
@@ -164,7 +165,8 @@ static int same_duration_but_error(const ixdtf_duration *a, const ixdtf_duration
         && a->time_form == b->time_form && a->has_date == b->has_date && a->is_negative == b->is_negative;
 }
 
-/* The unit at the front of a row's text, and how many bytes of the text it takes. */
+/* Writes the first code unit of the text of a row to `unit`. Returns how many bytes of the text stand for it: 6 for \uXXXX, and otherwise 1. `width`
+ * is the number of bytes of a code unit. */
 static size_t row_unit(const char *text, size_t length, size_t width, uint16_t *unit) {
     if (width == 2 && length >= 6 && text[0] == '\\' && text[1] == 'u') {
         char digits[5];
@@ -177,7 +179,8 @@ static size_t row_unit(const char *text, size_t length, size_t width, uint16_t *
     return 1;
 }
 
-/* Whether a row of 8-bit units says the same of 16-bit units: those from 1 to 126 are the letters of both. */
+/* Whether a row for 8-bit text is also a row for text of this width. For 16-bit text, all code units must be 1 to 126, because the other ones are
+ * refused there. */
 static int is_shared(const char *text, size_t length, size_t width) {
     size_t i;
     for (i = 0; i < length; i++) {
@@ -188,7 +191,8 @@ static int is_shared(const char *text, size_t length, size_t width) {
     return 1;
 }
 
-/* Bytes that have none before and none behind them that can be read. */
+/* An array of ROOM bytes. The memory before and after it cannot be accessed. So an access outside the array ends the program. `behind` points directly
+ * after the array. */
 #define ROOM ((size_t)4 << 12)
 static unsigned char *room;
 static const char *behind;
@@ -197,29 +201,30 @@ static void make_room(void) {
     size_t page = (size_t)sysconf(_SC_PAGESIZE);
     unsigned char *all;
     if (ROOM % page != 0) {
-        puts("a page is larger than the room");
+        puts("expected ROOM to be a multiple of the page size");
         exit(2);
     }
     all = (unsigned char *)mmap(NULL, ROOM + 2 * page, PROT_NONE, MAP_PRIVATE | MAP_ANONYMOUS, -1, 0);
     if ((void *)all == MAP_FAILED || mprotect(all + page, ROOM, PROT_READ | PROT_WRITE) != 0) {
-        puts("there is no memory for the tests");
+        puts("expected mmap and mprotect to succeed: there is no memory for the tests");
         exit(2);
     }
     room = all + page;
     behind = (const char *)room + ROOM;
 }
 
-/* A duration in which every part stands already, with a location that cannot be read. */
+/* A duration as an earlier call may have left it: every part is present, and its location cannot be read. */
 static ixdtf_duration used_duration(void) {
     ixdtf_duration it = { 1, 2, 3, 4, 5, 6, 7, 8, 9, IXDTF_LAST_SECONDS, true, true, { "", 4 }, 99 };
     it.location.at = behind;
     return it;
 }
 
-/* A line of tools/places.tsv: a text whose error has a place that was counted by hand. */
+/* A line of tools/places.tsv: a text, its error, and the position of this error, which a person counted. `width` is the number of bytes of a code
+ * unit. */
 struct place_row { const char *reader; int strict; size_t width; const char *text, *error; size_t place; };
 
-/* Takes a cell off a line, and ends it with a zero. */
+/* Returns the first cell of a line, as a NUL-terminated string, and moves `line` to the next cell. */
 static char *cell(char **line) {
     char *it = *line;
     size_t length = strcspn(it, "\t\n");
@@ -228,7 +233,7 @@ static char *cell(char **line) {
     return it;
 }
 
-/* The word that the rows have for a reader of that file. */
+/* Returns the word of test_rows.h for a reader of tools/places.tsv. */
 static const char *reader_word(const char *name) {
     static const char *words[][2] = {
         { "parse_year_month", "year-month" }, { "parse_month_day", "month-day" }, { "parse_time", "time" }, { "parse_offset", "offset" },
@@ -249,16 +254,16 @@ static struct place_row place_row(char *line) {
     row.reader = reader_word(cell(&line));
     row.strict = !strcmp(cell(&line), "strict");
     row.width = (size_t)atoi(cell(&line)) / 8;
-    cell(&line); /* the line of the fault table, and the row of it */
+    cell(&line); /* the line of the table of errors, and its row */
     cell(&line);
     row.text = cell(&line);
-    cell(&line); /* the front of the text */
+    cell(&line); /* the prefix of the text */
     row.error = cell(&line);
     row.place = (size_t)atoi(cell(&line));
     return row;
 }
 
-/* Texts with their instants. The seconds are those of `date -u +%s` of GNU, and of the limits of ECMAScript's Date. */
+/* Texts, and the expected results of ixdtf_instant. The seconds come from `date -u +%s` of GNU, and from the limits of Date in ECMAScript. */
 static const struct { const char *text; uint32_t result; int64_t seconds; uint32_t nanoseconds; } instant_rows[] = {
     { "1970-01-01T00:00:00Z", IXDTF_OK, 0, 0 },
     { "2024-03-02T08:48:00.25Z", IXDTF_OK, 1709369280, 250000000 },
@@ -300,10 +305,10 @@ static void test_errors(void) {
     for (i = 0; i < COUNT(error_rows); i++) {
         ixdtf_text text = IXDTF_TEXT;
         row_shown = error_rows[i].name;
-        check(error_rows[i].number == i + 1, "errors are numbered in order");
+        check(error_rows[i].number == i + 1, "the errors have the numbers 1, 2, 3 and so on");
         ixdtf_error_text(error_rows[i].number, &text);
-        check(text.length == strlen(error_rows[i].text) && !memcmp(text.at, error_rows[i].text, text.length), "the text of an error");
-        check(!strcmp(ixdtf_error_message(error_rows[i].number), error_rows[i].text), "the message of an error is its text");
+        check(text.length == strlen(error_rows[i].text) && !memcmp(text.at, error_rows[i].text, text.length), "ixdtf_error_text writes the text of the error");
+        check(!strcmp(ixdtf_error_message(error_rows[i].number), error_rows[i].text), "ixdtf_error_message returns the text of the error");
     }
     row_shown = "";
     for (i = 0; i < COUNT(others); i++) {
@@ -311,33 +316,33 @@ static void test_errors(void) {
         text.at = behind;
         text.length = 4;
         ixdtf_error_text(others[i], &text);
-        check(text.length == 0 && text.at != NULL, "another number has the empty text");
-        check((ixdtf_error_message(others[i])[0] != 0) == (others[i] >= 101 && others[i] <= 104), "what calls return has a message, and no other number");
+        check(text.length == 0 && text.at != NULL, "for another number, ixdtf_error_text writes an empty text");
+        check((ixdtf_error_message(others[i])[0] != 0) == (others[i] >= 101 && others[i] <= 104), "only 101 to 104 have a message besides the errors");
         check(!strcmp(ixdtf_error_name(others[i]), others[i] == 0 ? "IXDTF_OK" : others[i] == 101 ? "IXDTF_NOT_PRINTABLE"
                       : others[i] == 102 ? "IXDTF_TOO_SHORT" : others[i] == 103 ? "IXDTF_NO_INSTANT"
-                      : others[i] == 104 ? "IXDTF_NOT_EXACT" : ""), "another number has no name, but for those that are named");
+                      : others[i] == 104 ? "IXDTF_NOT_EXACT" : ""), "only 0 and 101 to 104 have a name besides the errors");
     }
 }
 
-/* What the library tells as the name of each number is what the header tells, a C string. */
+/* ixdtf_error_constant of the library and ixdtf_error_name of the header give the same name for each number. */
 static void test_names(void) {
     uint32_t number;
     for (number = 0; number < 300; number++) {
         ixdtf_text name = IXDTF_TEXT;
         ixdtf_error_constant(number, &name);
-        check(name.at != NULL && name.at[name.length] == 0 && name.length == strlen(name.at), "a zero stands behind a name");
-        check(!strcmp(name.at, ixdtf_error_name(number)), "the name of the library is that of the header");
-        check((name.length != 0) == (number <= 46 || (number >= 101 && number <= 104)), "what a call returns has a name, and no other number");
+        check(name.at != NULL && name.at[name.length] == 0 && name.length == strlen(name.at), "the name is NUL-terminated");
+        check(!strcmp(name.at, ixdtf_error_name(number)), "ixdtf_error_constant and ixdtf_error_name give the same name");
+        check((name.length != 0) == (number <= 46 || (number >= 101 && number <= 104)), "only 0 to 46 and 101 to 104 have a name");
     }
 }
 
-/* The functions on fractions and offsets. */
+/* Tests ixdtf_nanoseconds and ixdtf_offset_seconds. */
 static void test_functions(void) {
     static const struct { uint64_t fraction; uint8_t digits; uint32_t nanoseconds; } fractions[] = {
         { 0, 0, 0 }, { UINT64_MAX, 0, 0 }, { 5, 1, 500000000 }, { 0, 1, 0 }, { 250, 3, 250000000 }, { 1, 9, 1 }, { 987654321, 9, 987654321 },
         { 9876543219, 10, 987654321 }, { 1, 10, 0 }, { 123456789987654321, 18, 123456789 }, { 999999999999999999, 18, 999999999 },
         { 123456789987654321, 19, 123456789 }, { 999999999999999999, 255, 999999999 }, { 1, 18, 0 }, { 0, 255, 0 },
-        /* no fraction: a number of more digits */
+        /* not a fraction: the number has more digits than `digits` says */
         { 10, 1, 0 }, { 1000000000, 9, 0 }, { UINT64_MAX, 18, 0 }, { UINT64_MAX, 255, 0 },
     };
     static const struct { const char *text; int32_t seconds; } offsets[] = {
@@ -347,24 +352,24 @@ static void test_functions(void) {
     size_t i;
     ixdtf_record record = narrow_used_record();
     for (i = 0; i < COUNT(fractions); i++) {
-        check(ixdtf_nanoseconds(fractions[i].fraction, fractions[i].digits) == fractions[i].nanoseconds, "the nanoseconds of a fraction");
+        check(ixdtf_nanoseconds(fractions[i].fraction, fractions[i].digits) == fractions[i].nanoseconds, "ixdtf_nanoseconds returns the nanoseconds of the fraction");
     }
     record.offset.form = IXDTF_NO_OFFSET;
-    check(ixdtf_offset_seconds(&record.offset) == 0, "no offset has no seconds");
+    check(ixdtf_offset_seconds(&record.offset) == 0, "ixdtf_offset_seconds returns 0 without an offset");
     record.offset.form = IXDTF_UTC;
-    check(ixdtf_offset_seconds(&record.offset) == 0, "Z has no seconds");
+    check(ixdtf_offset_seconds(&record.offset) == 0, "ixdtf_offset_seconds returns 0 for Z");
     record.offset.form = IXDTF_MINUTES;
-    check(ixdtf_offset_seconds(&record.offset) == -(11 * 3600 + 22 * 60), "an offset in minutes has no seconds of its own");
+    check(ixdtf_offset_seconds(&record.offset) == -(11 * 3600 + 22 * 60), "for IXDTF_MINUTES, ixdtf_offset_seconds ignores the field second");
     for (i = 0; i < COUNT(offsets); i++) {
         row_shown = offsets[i].text;
         check(ixdtf_parse_offset((const uint8_t *)offsets[i].text, strlen(offsets[i].text), &record) == IXDTF_OK
                 && ixdtf_offset_seconds(&record.offset) == offsets[i].seconds,
-            "the seconds of an offset");
+            "ixdtf_offset_seconds returns the seconds of the offset");
     }
     row_shown = "";
 }
 
-/* Whether two records are alike in all but the location and the place of an error, wherever their empty slices point. */
+/* Whether two records are equal in all fields except `location` and `place`. The pointers of slices of length 0 may differ. */
 static int reads_alike(ixdtf_record a, ixdtf_record b) {
     if (a.zone.name.length == 0 && b.zone.name.length == 0) {
         b.zone.name.at = a.zone.name.at;
@@ -375,19 +380,19 @@ static int reads_alike(ixdtf_record a, ixdtf_record b) {
     return narrow_same_but_error(&a, &b);
 }
 
-/* Each reader of C strings reads as the reader of bytes does. */
+/* Tests that each reader of C strings returns and writes what the reader of bytes returns and writes. */
 static void test_texts(void) {
 #define READ_ALIKE(reader, type, initial, text) do { \
         type by_bytes = initial, by_text = initial; \
         uint32_t error = reader((const uint8_t *)text, strlen(text), &by_bytes); \
-        check(reader##_text(text, &by_text) == error, "what the reader of a C string returns"); \
-        check(by_text.place == by_bytes.place && same_text(by_text.location, by_bytes.location), "the place that it tells"); \
+        check(reader##_text(text, &by_text) == error, "the reader of a C string returns what the reader of bytes returns"); \
+        check(by_text.place == by_bytes.place && same_text(by_text.location, by_bytes.location), "the reader of a C string writes the same place and location"); \
     } while (0)
 #define READ_RECORD_ALIKE(reader) do { \
         ixdtf_record by_bytes = IXDTF_RECORD, by_text = IXDTF_RECORD; \
         READ_ALIKE(reader, ixdtf_record, IXDTF_RECORD, texts[i]); \
         error = reader((const uint8_t *)texts[i], strlen(texts[i]), &by_bytes); \
-        check(reader##_text(texts[i], &by_text) == error && reads_alike(by_bytes, by_text), "the record that it writes"); \
+        check(reader##_text(texts[i], &by_text) == error && reads_alike(by_bytes, by_text), "the reader of a C string writes the same record"); \
     } while (0)
 #define LISTED_ALIKE(reader) do { \
         ixdtf_record by_bytes = IXDTF_RECORD, by_text = IXDTF_RECORD; \
@@ -396,9 +401,9 @@ static void test_texts(void) {
         ixdtf_set_annotations(list, 2); \
         error = reader((const uint8_t *)texts[i], strlen(texts[i]), list, 2, &count_by_bytes, &by_bytes); \
         ixdtf_set_annotations(list, 2); \
-        check(reader##_text(texts[i], list, 2, &count_by_text, &by_text) == error && count_by_text == count_by_bytes, "what it lists"); \
-        check(reads_alike(by_bytes, by_text) && by_text.place == by_bytes.place, "the record beside the list"); \
-        check((count_by_text > 0) == (list[0].key.length > 0), "the list is that of the caller"); \
+        check(reader##_text(texts[i], list, 2, &count_by_text, &by_text) == error && count_by_text == count_by_bytes, "the reader of a C string lists as many annotations"); \
+        check(reads_alike(by_bytes, by_text) && by_text.place == by_bytes.place, "the reader of a C string that lists annotations writes the same record"); \
+        check((count_by_text > 0) == (list[0].key.length > 0), "the reader of a C string writes to the array of the caller"); \
     } while (0)
     static const char *const texts[] = {
         "", "2024-03-02T08:48:00-05:00[Europe/Paris][u-ca=hebrew][a=b]", "2024-03-02[!a=b]", "2024-11[u-ca=iso8601]", "11-00[a=b]", "--11-07[a=b][c=d]",
@@ -435,23 +440,24 @@ static void test_texts(void) {
 #undef READ_RECORD_ALIKE
 #undef LISTED_ALIKE
 #if defined(__cplusplus) && __cplusplus >= 201703L
-    /* a part of a longer text, and the empty one of C++, which is at NULL */
+    /* A std::string_view of a part of a longer text, and an empty one, whose pointer is NULL. */
     ixdtf_record record = IXDTF_RECORD;
     ixdtf_duration duration = IXDTF_DURATION;
     std::string_view whole = "2024-03-02[u-ca=hebrew]junk";
-    check(ixdtf_parse_text(whole.substr(0, 23), &record) == IXDTF_OK && ixdtf_view(record.calendar) == "hebrew", "a text of C++ is read");
-    check(ixdtf_parse_text(whole, &record) == IXDTF_INVALID_END && record.place == 23, "a text of C++ has its length");
-    check(ixdtf_parse_duration_text(std::string_view(), &duration) == IXDTF_ABRUPT_END && ixdtf_view(duration.location) == "DurationStart", "the empty text of C++");
+    check(ixdtf_parse_text(whole.substr(0, 23), &record) == IXDTF_OK && ixdtf_view(record.calendar) == "hebrew", "a std::string_view is read, and ixdtf_view returns the calendar");
+    check(ixdtf_parse_text(whole, &record) == IXDTF_INVALID_END && record.place == 23, "the complete std::string_view is read");
+    check(ixdtf_parse_duration_text(std::string_view(), &duration) == IXDTF_ABRUPT_END && ixdtf_view(duration.location) == "DurationStart", "an empty std::string_view is an empty text");
 #endif
 }
 
-/* Each line of tools/places.tsv, in its width, and where its units are letters of both in both. */
+/* Tests each line of tools/places.tsv, for the width of its code units. A line for 8-bit text whose code units are all 1 to 126 is also tested as
+ * 16-bit text. */
 static void test_places(const char *path) {
     char line[512];
     unsigned long rows = 0;
     FILE *lines = fopen(path, "r");
     if (lines == NULL || fgets(line, sizeof line, lines) == NULL) {
-        puts("the file of places is not there");
+        printf("expected the file %s, which is tools/places.tsv\n", path);
         exit(2);
     }
     while (fgets(line, sizeof line, lines) != NULL) {
@@ -467,10 +473,10 @@ static void test_places(const char *path) {
     }
     fclose(lines);
     row_shown = "";
-    check(rows >= 300, "the file of places has its rows");
+    check(rows >= 300, "tools/places.tsv has at least 300 rows");
 }
 
-/* The numbers of the header beside the variants, each written out once more. */
+/* Tests the number and the name of each error. The list here repeats the constants of the header, so that a changed constant is found. */
 static void test_numbers(void) {
 #define NAMED(number, variant) { number, variant, #number }
     static const struct { uint32_t number; const char *variant, *name; } named[] = {
@@ -498,17 +504,18 @@ static void test_numbers(void) {
     };
 #undef NAMED
     size_t i;
-    check(COUNT(named) == COUNT(error_rows), "each error is named");
+    check(COUNT(named) == COUNT(error_rows), "the list has each error");
     for (i = 0; i < COUNT(named); i++) {
         row_shown = named[i].name;
-        check(named[i].number == error_rows[i].number && !strcmp(named[i].variant, error_rows[i].name), "the number of an error");
-        check(!strcmp(ixdtf_error_name(named[i].number), named[i].name), "the name of an error");
+        check(named[i].number == error_rows[i].number && !strcmp(named[i].variant, error_rows[i].name), "the constant of the error has its number");
+        check(!strcmp(ixdtf_error_name(named[i].number), named[i].name), "ixdtf_error_name returns the name of the constant");
     }
     row_shown = "";
     check(ixdtf_interface_version() == IXDTF_INTERFACE_VERSION, "the library has the version of the header");
 }
 
-/* Each field of a record holds another number, so that a field at another place than the library's shows. The bytes behind the structs stay. */
+/* Tests the layout of the structs. Each field gets another value, so the test finds a field whose offset differs from the one in the library. It also
+ * tests that the bytes after the structs are unchanged. */
 static void test_layout(void) {
     static const char *text = "-123456-07-08T09:10:11.1213-14:15:16.17181[!Abc/d][u-ca=ef-g]";
     static const char *spoken = "-P1Y2M3W4DT5H6M7.890S";
@@ -521,36 +528,37 @@ static void test_layout(void) {
     memset(&two, 0xa5, sizeof two);
     one.record = record;
     two.duration = duration;
-    check(ixdtf_parse((const uint8_t *)text, strlen(text), &one.record) == 0, "a text with every part");
-    check(one.record.date.year == -123456 && one.record.date.month == 7 && one.record.date.day == 8 && one.record.date.is_there, "a date");
+    check(ixdtf_parse((const uint8_t *)text, strlen(text), &one.record) == 0, "a text with every part is accepted");
+    check(one.record.date.year == -123456 && one.record.date.month == 7 && one.record.date.day == 8 && one.record.date.is_there, "the fields of the date");
     check(one.record.time.hour == 9 && one.record.time.minute == 10 && one.record.time.second == 11 && one.record.time.fraction == 1213
             && one.record.time.fraction_digits == 4 && one.record.time.is_there,
-        "a time");
+        "the fields of the time");
     check(one.record.offset.form == IXDTF_SECONDS && one.record.offset.is_negative && one.record.offset.hour == 14
             && one.record.offset.minute == 15 && one.record.offset.second == 16 && one.record.offset.fraction == 17181
             && one.record.offset.fraction_digits == 5,
-        "an offset");
+        "the fields of the offset");
     check(one.record.zone.form == IXDTF_NAME && one.record.zone.is_critical && one.record.zone.name.length == 5
             && !memcmp(one.record.zone.name.at, "Abc/d", 5),
-        "a zone");
-    check(one.record.has_calendar && one.record.calendar.length == 4 && !memcmp(one.record.calendar.at, "ef-g", 4), "a calendar");
+        "the fields of the zone");
+    check(one.record.has_calendar && one.record.calendar.length == 4 && !memcmp(one.record.calendar.at, "ef-g", 4), "the fields of the calendar");
     text = "2020-01-01[-12:34]";
-    check(ixdtf_parse((const uint8_t *)text, strlen(text), &one.record) == 0, "a zone by its offset");
+    check(ixdtf_parse((const uint8_t *)text, strlen(text), &one.record) == 0, "a text with an offset as its zone is accepted");
     check(one.record.zone.form == IXDTF_ZONE_OFFSET && !one.record.zone.is_critical && one.record.zone.is_negative && one.record.zone.hour == 12
             && one.record.zone.minute == 34 && !one.record.time.is_there && one.record.offset.form == IXDTF_NO_OFFSET
             && !one.record.has_calendar,
-        "a zone by its offset alone");
-    check(ixdtf_parse_duration((const uint8_t *)spoken, strlen(spoken), &two.duration) == 0, "a duration with every part");
+        "the fields of a zone that is an offset");
+    check(ixdtf_parse_duration((const uint8_t *)spoken, strlen(spoken), &two.duration) == 0, "a duration with every part is accepted");
     check(two.duration.is_negative && two.duration.has_date && two.duration.years == 1 && two.duration.months == 2 && two.duration.weeks == 3
             && two.duration.days == 4 && two.duration.time_form == IXDTF_LAST_SECONDS && two.duration.hours == 5 && two.duration.minutes == 6
             && two.duration.seconds == 7 && two.duration.fraction == 890 && two.duration.fraction_digits == 3,
-        "a duration");
+        "the fields of the duration");
     for (i = 0; i < 64; i++) {
-        check(one.behind[i] == 0xa5 && two.behind[i] == 0xa5, "nothing behind a struct is written");
+        check(one.behind[i] == 0xa5 && two.behind[i] == 0xa5, "the bytes after the struct are unchanged");
     }
 }
 
-/* What ixdtf_print gives of a record, into bytes with none behind them that can be read, for every room up to one more than the text takes. */
+/* Tests ixdtf_print with every capacity from 0 to one byte more than the length of the text. The array ends before memory that cannot be accessed.
+ * `wanted` is the expected result if the array is long enough. */
 static void test_printed(const ixdtf_record *record, uint32_t wanted, const char *canonical) {
     ixdtf_record before = *record;
     size_t length = strlen(canonical), places, i;
@@ -560,19 +568,20 @@ static void test_printed(const ixdtf_record *record, uint32_t wanted, const char
         uint32_t error, found = wanted == IXDTF_OK && places < length ? (uint32_t)IXDTF_TOO_SHORT : wanted;
         memset(room, 0xa5, ROOM);
         error = ixdtf_print(record, out, places, &count);
-        check(error == found, "what printing returns");
-        check(count == (wanted == IXDTF_OK ? length : 7), "the count of what is printed");
-        check(error != IXDTF_OK || !memcmp(out, canonical, length), "the canonical text");
+        check(error == found, "ixdtf_print returns the expected number");
+        check(count == (wanted == IXDTF_OK ? length : 7), "count is the length of the text, or unchanged if the value cannot be printed");
+        check(error != IXDTF_OK || !memcmp(out, canonical, length), "the canonical text is written");
         for (i = error == IXDTF_OK ? length : 0; i < places; i++) {
-            check(out[i] == 0xa5, "the other bytes stay");
+            check(out[i] == 0xa5, "the other bytes of the array are unchanged");
         }
-        check(places == ROOM || out[-1] == 0xa5, "nothing before the bytes is written");
+        check(places == ROOM || out[-1] == 0xa5, "the byte before the array is unchanged");
     }
-    check(ixdtf_printed_length(record) == length, "the length of what is printed, and 0 where nothing is");
-    check(narrow_same_but_error(&before, record) && same_text(before.location, record->location) && before.place == record->place, "a record that is printed stays");
+    check(ixdtf_printed_length(record) == length, "the function for the length returns the length, or 0 if the value cannot be printed");
+    check(narrow_same_but_error(&before, record) && same_text(before.location, record->location) && before.place == record->place, "the printer does not change the record");
 }
 
-/* What ixdtf_print_duration gives of a duration, for every room up to one more than the text takes. */
+/* Tests ixdtf_print_duration with every capacity from 0 to one byte more than the length of the text. `wanted` is the expected result if the array is
+ * long enough. */
 static void test_printed_duration(const ixdtf_duration *duration, uint32_t wanted, const char *canonical) {
     size_t length = strlen(canonical), places, i;
     for (places = 0; places <= length + 1; places++) {
@@ -581,18 +590,19 @@ static void test_printed_duration(const ixdtf_duration *duration, uint32_t wante
         uint32_t error, found = wanted == IXDTF_OK && places < length ? (uint32_t)IXDTF_TOO_SHORT : wanted;
         memset(room, 0xa5, ROOM);
         error = ixdtf_print_duration(duration, out, places, &count);
-        check(error == found, "what printing a duration returns");
-        check(count == (wanted == IXDTF_OK ? length : 7), "the count of what is printed");
-        check(error != IXDTF_OK || !memcmp(out, canonical, length), "the canonical text of a duration");
+        check(error == found, "ixdtf_print_duration returns the expected number");
+        check(count == (wanted == IXDTF_OK ? length : 7), "count is the length of the text, or unchanged if the value cannot be printed");
+        check(error != IXDTF_OK || !memcmp(out, canonical, length), "the canonical text of the duration is written");
         for (i = error == IXDTF_OK ? length : 0; i < places; i++) {
-            check(out[i] == 0xa5, "the other bytes stay");
+            check(out[i] == 0xa5, "the other bytes of the array are unchanged");
         }
-        check(places == ROOM || out[-1] == 0xa5, "nothing before the bytes is written");
+        check(places == ROOM || out[-1] == 0xa5, "the byte before the array is unchanged");
     }
-    check(ixdtf_printed_duration_length(duration) == length, "the length of what is printed, and 0 where nothing is");
+    check(ixdtf_printed_duration_length(duration) == length, "the function for the length returns the length, or 0 if the value cannot be printed");
 }
 
-/* Texts of durations and their canonical texts, written out by the rules of docs/GRAMMAR.md; and durations that are filled in by hand. */
+/* Tests the printer of durations. A person wrote the canonical texts by the rules of docs/GRAMMAR.md. Then some fields of a duration are changed, and
+ * the durations of the rows are printed and read again. */
 static void test_durations(void) {
     static const struct { const char *text, *canonical; } texts[] = {
         { "+p1y0m03dt04,50m", "P1Y3DT4.50M" }, { "-P0Y", "-P0D" }, { "P0WT0H0S", "P0DT0S" }, { "PT0H", "PT0H" }, { "PT0H0M", "PT0M" },
@@ -605,13 +615,13 @@ static void test_durations(void) {
     for (i = 0; i < COUNT(texts); i++) {
         ixdtf_duration duration = used_duration();
         row_shown = texts[i].text;
-        check(ixdtf_parse_duration_text(texts[i].text, &duration) == IXDTF_OK, "a duration that is printed");
+        check(ixdtf_parse_duration_text(texts[i].text, &duration) == IXDTF_OK, "the text of the duration is accepted");
         test_printed_duration(&duration, IXDTF_OK, texts[i].canonical);
     }
     test_printed_duration(&full, IXDTF_NOT_PRINTABLE, "");
     memset(&it, 0, sizeof it);
     test_printed_duration(&it, IXDTF_NOT_PRINTABLE, "");
-    check(ixdtf_parse_duration_text("P1DT2H3M4.5S", &full) == IXDTF_OK, "a duration with a date and a time");
+    check(ixdtf_parse_duration_text("P1DT2H3M4.5S", &full) == IXDTF_OK, "a duration with a date and a time is accepted");
 #define CHANGED(change, wanted, text) \
     it = full; \
     change; \
@@ -643,15 +653,16 @@ static void test_durations(void) {
             || ixdtf_parse_duration((const uint8_t *)rows[i].text, rows[i].length, &duration) != IXDTF_OK) {
             continue;
         }
-        check(ixdtf_print_duration(&duration, out, rows[i].length, &count) == IXDTF_OK && count <= rows[i].length, "a duration that was read is printed");
-        check(ixdtf_parse_duration(out, count, &again) == IXDTF_OK, "what is printed is read");
+        check(ixdtf_print_duration(&duration, out, rows[i].length, &count) == IXDTF_OK && count <= rows[i].length, "a duration that was read is printed, and its text is not longer than the text that was read");
+        check(ixdtf_parse_duration(out, count, &again) == IXDTF_OK, "the canonical text is accepted");
         narrow_show_outcome(&line, "duration", 0, &none, &again);
-        is(line.text, rows[i].answer, "what is printed", rows[i].text);
+        is(line.text, rows[i].answer, "the record of the canonical text", rows[i].text);
     }
     row_shown = "";
 }
 
-/* What a printer gives of a part, which has a length, for every room up to one more than the text takes. */
+/* Tests another printer and its function for the length, with every capacity from 0 to one byte more than the length of the text. `wanted` is the
+ * expected result if the array is long enough. */
 #define TEST_PRINTED_PART(printer, printed_length, part, wanted, canonical) do { \
         size_t length_ = strlen(canonical), places_; \
         for (places_ = 0; places_ <= length_ + 1; places_++) { \
@@ -660,17 +671,17 @@ static void test_durations(void) {
             uint32_t error_; \
             memset(room, 0xa5, ROOM); \
             error_ = printer(part, out_, places_, &count_); \
-            check(error_ == ((uint32_t)(wanted) == 0 && places_ < length_ ? (uint32_t)IXDTF_TOO_SHORT : (uint32_t)(wanted)), "what printing a part returns"); \
-            check(count_ == ((uint32_t)(wanted) == 0 ? length_ : 7), "the count of what is printed"); \
-            check(error_ != IXDTF_OK || !memcmp(out_, canonical, length_), "the canonical text of a part"); \
-            check(places_ <= length_ || error_ != IXDTF_OK || out_[length_] == 0xa5, "the other bytes stay"); \
+            check(error_ == ((uint32_t)(wanted) == 0 && places_ < length_ ? (uint32_t)IXDTF_TOO_SHORT : (uint32_t)(wanted)), "the printer returns the expected number"); \
+            check(count_ == ((uint32_t)(wanted) == 0 ? length_ : 7), "count is the length of the text, or unchanged if the value cannot be printed"); \
+            check(error_ != IXDTF_OK || !memcmp(out_, canonical, length_), "the printer writes the canonical text"); \
+            check(places_ <= length_ || error_ != IXDTF_OK || out_[length_] == 0xa5, "the other bytes of the array are unchanged"); \
         } \
-        check(printed_length(part) == length_, "the length of what is printed, and 0 where nothing is"); \
+        check(printed_length(part) == length_, "the function for the length returns the length, or 0 if the value cannot be printed"); \
     } while (0)
 #define TEST_OFFSET(wanted, canonical) TEST_PRINTED_PART(ixdtf_print_offset, ixdtf_printed_offset_length, &record.offset, wanted, canonical)
 #define TEST_ZONE(wanted, canonical) TEST_PRINTED_PART(ixdtf_print_zone, ixdtf_printed_zone_length, &record.zone, wanted, canonical)
 
-/* Offsets and zones, and their canonical texts, written out by the rules of docs/GRAMMAR.md. */
+/* Tests the printers of offsets and zones. A person wrote the canonical texts by the rules of docs/GRAMMAR.md. */
 static void test_parts(void) {
     static const struct { const char *text, *canonical; } offsets[] = {
         { "+05", "+05:00" }, { "-0530", "-05:30" }, { "-00:00", "-00:00" }, { "+053010", "+05:30:10" }, { "-23:59:59,50", "-23:59:59.50" },
@@ -683,12 +694,12 @@ static void test_parts(void) {
     size_t i;
     for (i = 0; i < COUNT(offsets); i++) {
         row_shown = offsets[i].text;
-        check(ixdtf_parse_offset_text(offsets[i].text, &record) == IXDTF_OK, "an offset that is printed");
+        check(ixdtf_parse_offset_text(offsets[i].text, &record) == IXDTF_OK, "the text of the offset is accepted");
         TEST_OFFSET(IXDTF_OK, offsets[i].canonical);
     }
     for (i = 0; i < COUNT(zones); i++) {
         row_shown = zones[i].text;
-        check(ixdtf_parse_identifier_text(zones[i].text, &record) == IXDTF_OK, "a zone that is printed");
+        check(ixdtf_parse_identifier_text(zones[i].text, &record) == IXDTF_OK, "the text of the zone is accepted");
         TEST_ZONE(IXDTF_OK, zones[i].canonical);
         record.zone.is_critical = true;
         TEST_ZONE(IXDTF_OK, zones[i].canonical);
@@ -719,7 +730,7 @@ static void test_parts(void) {
 #define TEST_YEAR_MONTH(wanted, canonical) TEST_PRINTED_PART(ixdtf_print_year_month, ixdtf_printed_year_month_length, &record, wanted, canonical)
 #define TEST_MONTH_DAY(wanted, canonical) TEST_PRINTED_PART(ixdtf_print_month_day, ixdtf_printed_month_day_length, &record, wanted, canonical)
 
-/* Times, year-months and month-days, and their canonical texts, written out by the rules of docs/GRAMMAR.md. */
+/* Tests the printers of times, of years with months, and of months with days. A person wrote the canonical texts by the rules of docs/GRAMMAR.md. */
 static void test_times_and_parts_of_dates(void) {
     static const struct { const char *text, *canonical; } times[] = {
         { "T1214", "12:14:00" }, { "084800,25z", "08:48:00.25Z" }, { "12+01[!+01][x=y][u-ca=hebrew]", "12:00:00+01:00[!+01:00][u-ca=hebrew]" },
@@ -734,21 +745,21 @@ static void test_times_and_parts_of_dates(void) {
     size_t i;
     for (i = 0; i < COUNT(times); i++) {
         row_shown = times[i].text;
-        check(ixdtf_parse_time_text(times[i].text, &record) == IXDTF_OK, "a time that is printed");
+        check(ixdtf_parse_time_text(times[i].text, &record) == IXDTF_OK, "the text of the time is accepted");
         TEST_TIME(IXDTF_OK, times[i].canonical);
         TEST_YEAR_MONTH(IXDTF_NOT_PRINTABLE, "");
         TEST_MONTH_DAY(IXDTF_NOT_PRINTABLE, "");
     }
     for (i = 0; i < COUNT(year_months); i++) {
         row_shown = year_months[i].text;
-        check(ixdtf_parse_year_month_text(year_months[i].text, &record) == IXDTF_OK, "a year and a month that are printed");
+        check(ixdtf_parse_year_month_text(year_months[i].text, &record) == IXDTF_OK, "the text of the year and the month is accepted");
         TEST_YEAR_MONTH(IXDTF_OK, year_months[i].canonical);
         TEST_TIME(IXDTF_NOT_PRINTABLE, "");
         TEST_MONTH_DAY(IXDTF_NOT_PRINTABLE, "");
     }
     for (i = 0; i < COUNT(month_days); i++) {
         row_shown = month_days[i].text;
-        check(ixdtf_parse_month_day_text(month_days[i].text, &record) == IXDTF_OK, "a month and a day that are printed");
+        check(ixdtf_parse_month_day_text(month_days[i].text, &record) == IXDTF_OK, "the text of the month and the day is accepted");
         TEST_MONTH_DAY(IXDTF_OK, month_days[i].canonical);
         TEST_TIME(IXDTF_NOT_PRINTABLE, "");
         TEST_YEAR_MONTH(IXDTF_NOT_PRINTABLE, "");
@@ -784,7 +795,7 @@ static void test_times_and_parts_of_dates(void) {
     TEST_MONTH_DAY(IXDTF_NOT_PRINTABLE, "");
 }
 
-/* Durations, and their fractions in seconds and nanoseconds, which were reckoned by hand. */
+/* Tests ixdtf_duration_fraction. A person calculated the seconds and the nanoseconds. */
 static void test_last_fractions(void) {
     static const struct { const char *text; uint32_t result, seconds, nanoseconds; } texts[] = {
         { "P1D", IXDTF_OK, 0, 0 }, { "PT5H", IXDTF_OK, 0, 0 }, { "PT1.5H", IXDTF_OK, 1800, 0 }, { "-PT1,5M", IXDTF_OK, 30, 0 }, { "PT0.5S", IXDTF_OK, 0, 500000000 },
@@ -803,24 +814,24 @@ static void test_last_fractions(void) {
         row_shown = texts[i].text;
         seconds = 77;
         nanoseconds = 78;
-        check(ixdtf_parse_duration_text(texts[i].text, &duration) == IXDTF_OK, "a duration with a fraction");
-        check(ixdtf_duration_fraction(&duration, &seconds, &nanoseconds) == texts[i].result, "whether a fraction is exact");
+        check(ixdtf_parse_duration_text(texts[i].text, &duration) == IXDTF_OK, "the text of the duration is accepted");
+        check(ixdtf_duration_fraction(&duration, &seconds, &nanoseconds) == texts[i].result, "ixdtf_duration_fraction returns the expected number");
         check(seconds == (texts[i].result == IXDTF_OK ? texts[i].seconds : 77) && nanoseconds == (texts[i].result == IXDTF_OK ? texts[i].nanoseconds : 78),
-            "the fraction of the last unit, or nothing");
+            "the seconds and the nanoseconds are those of the fraction, or unchanged after an error");
     }
     row_shown = "";
     it.time_form = IXDTF_LAST_SECONDS;
     it.fraction = 10;
     it.fraction_digits = 1;
-    check(ixdtf_duration_fraction(&it, &seconds, &nanoseconds) == IXDTF_NOT_EXACT, "a number with more digits than it says is no fraction");
+    check(ixdtf_duration_fraction(&it, &seconds, &nanoseconds) == IXDTF_NOT_EXACT, "IXDTF_NOT_EXACT for a fraction with more digits than fraction_digits says");
     it.time_form = IXDTF_NO_TIME;
-    check(ixdtf_duration_fraction(&it, &seconds, &nanoseconds) == IXDTF_OK && seconds == 0 && nanoseconds == 0, "without a time there is no fraction");
+    check(ixdtf_duration_fraction(&it, &seconds, &nanoseconds) == IXDTF_OK && seconds == 0 && nanoseconds == 0, "0 seconds and 0 nanoseconds for a duration without a time");
     it.time_form = IXDTF_LAST_HOURS;
     it.fraction_digits = 0;
-    check(ixdtf_duration_fraction(&it, &seconds, &nanoseconds) == IXDTF_OK && seconds == 0 && nanoseconds == 0, "no digits are no fraction");
+    check(ixdtf_duration_fraction(&it, &seconds, &nanoseconds) == IXDTF_OK && seconds == 0 && nanoseconds == 0, "0 seconds and 0 nanoseconds for a fraction without digits");
 }
 
-/* A calendar that was kept is printed with the record, and a place for one that was not has none. */
+/* Tests ixdtf_set_annotations and ixdtf_keep_calendar. If ixdtf_reply kept a calendar, it is printed with the record, and otherwise no calendar is. */
 static void test_kept_calendar(void) {
     static const char *text = "2024-03-02T08:48[!u-ca=hebrew][a=b]";
     ixdtf_annotation list[8];
@@ -831,21 +842,21 @@ static void test_kept_calendar(void) {
     ixdtf_set_annotations(list, 7);
     for (i = 0; i < 7; i++) {
         check(list[i].key.at != NULL && list[i].key.length == 0 && list[i].value.at != NULL && list[i].value.length == 0 && !list[i].is_critical,
-            "each place is set");
+            "each of the first seven elements is set");
     }
-    check(list[7].key.length != 0, "no other place is set");
-    check(ixdtf_parse_with_annotations((const uint8_t *)text, strlen(text), list, 7, &count, &record) == IXDTF_OK && count == 2, "a text with a calendar");
+    check(list[7].key.length != 0, "the element after them is unchanged");
+    check(ixdtf_parse_with_annotations((const uint8_t *)text, strlen(text), list, 7, &count, &record) == IXDTF_OK && count == 2, "the text has two annotations");
     ixdtf_keep_calendar(&record, &calendar);
     test_printed(&record, IXDTF_OK, "2024-03-02T08:48:00");
-    check(ixdtf_reply(&calendar, &list[0]) == IXDTF_OK && ixdtf_reply(&calendar, &list[1]) == IXDTF_OK, "replies that are taken");
+    check(ixdtf_reply(&calendar, &list[0]) == IXDTF_OK && ixdtf_reply(&calendar, &list[1]) == IXDTF_OK, "both replies are accepted");
     ixdtf_keep_calendar(&record, &calendar);
     test_printed(&record, IXDTF_OK, "2024-03-02T08:48:00[u-ca=hebrew]");
     calendar.is_there = false;
     ixdtf_keep_calendar(&record, &calendar);
-    check(!record.has_calendar && record.calendar.length == 0 && record.calendar.at != NULL, "no calendar has no units");
+    check(!record.has_calendar && record.calendar.length == 0 && record.calendar.at != NULL, "without a kept calendar, has_calendar is false, and calendar is a slice of length 0");
 }
 
-/* Texts and their canonical texts, written out by the rules of docs/GRAMMAR.md. */
+/* Tests ixdtf_print with records that were read. A person wrote the canonical texts by the rules of docs/GRAMMAR.md. */
 static void test_canonical(void) {
     static const struct { const char *text, *canonical; } texts[] = {
         { "20240302", "2024-03-02" },
@@ -874,13 +885,14 @@ static void test_canonical(void) {
     for (i = 0; i < COUNT(texts); i++) {
         ixdtf_record record = narrow_used_record();
         row_shown = texts[i].text;
-        check(ixdtf_parse((const uint8_t *)texts[i].text, strlen(texts[i].text), &record) == IXDTF_OK, "a text that is printed");
+        check(ixdtf_parse((const uint8_t *)texts[i].text, strlen(texts[i].text), &record) == IXDTF_OK, "the text is accepted");
         test_printed(&record, IXDTF_OK, texts[i].canonical);
     }
     row_shown = "";
 }
 
-/* Every record of the rows is printed, in at most 14 bytes more than its text, and what is printed is read as the same record. */
+/* Tests that ixdtf_print prints the record of each row of ixdtf_parse, in at most 14 bytes more than the text of the row, and that ixdtf_parse reads the
+ * canonical text as the same record. */
 static void test_read_back(void) {
     size_t i;
     for (i = 0; i < COUNT(rows); i++) {
@@ -894,21 +906,22 @@ static void test_read_back(void) {
             || ixdtf_parse((const uint8_t *)rows[i].text, rows[i].length, &record) != IXDTF_OK) {
             continue;
         }
-        check(ixdtf_print(&record, out, rows[i].length + 14, &count) == IXDTF_OK && count <= rows[i].length + 14, "a record that was read is printed");
-        check(ixdtf_parse(out, count, &again) == IXDTF_OK, "what is printed is read");
+        check(ixdtf_print(&record, out, rows[i].length + 14, &count) == IXDTF_OK && count <= rows[i].length + 14, "a record that was read is printed, in at most 14 bytes more than its text");
+        check(ixdtf_parse(out, count, &again) == IXDTF_OK, "the canonical text is accepted");
         narrow_show_outcome(&line, "parse", 0, &again, &none);
-        is(line.text, rows[i].answer, "what is printed", rows[i].text);
+        is(line.text, rows[i].answer, "the record of the canonical text", rows[i].text);
     }
     row_shown = "";
 }
 
-/* Records that are filled in by hand: what no text has is not printed, and what is not there is not read. */
+/* Tests ixdtf_print with records whose fields were changed. A record that no text gives is not printed. The printer does not read the fields of a part
+ * that is not present. */
 static void test_by_hand(void) {
     static const char *whole = "2024-02-29T23:59:60.5-23:59:59.25[!Abc/d][u-ca=ef-g]";
     ixdtf_record full = IXDTF_RECORD, it = IXDTF_RECORD;
-    check(ixdtf_parse((const uint8_t *)whole, strlen(whole), &full) == IXDTF_OK, "a text with every part");
+    check(ixdtf_parse((const uint8_t *)whole, strlen(whole), &full) == IXDTF_OK, "a text with every part is accepted");
     test_printed(&full, IXDTF_OK, whole);
-    test_printed(&it, IXDTF_NOT_PRINTABLE, ""); /* no date */
+    test_printed(&it, IXDTF_NOT_PRINTABLE, ""); /* The record has no date. */
     it = narrow_used_record();
     it.zone.form = IXDTF_ZONE_OFFSET;
     it.has_calendar = false;
@@ -934,7 +947,7 @@ static void test_by_hand(void) {
     CHANGED((it.time.fraction = UINT64_MAX, it.time.fraction_digits = 255), IXDTF_NOT_PRINTABLE, "");
     CHANGED((it.time.fraction = UINT64_MAX, it.time.fraction_digits = 0), IXDTF_OK, "2024-02-29T23:59:60-23:59:59.25[!Abc/d][u-ca=ef-g]");
     CHANGED(it.time.fraction_digits = 3, IXDTF_OK, "2024-02-29T23:59:60.005-23:59:59.25[!Abc/d][u-ca=ef-g]");
-    CHANGED(it.time.is_there = false, IXDTF_NOT_PRINTABLE, ""); /* an offset stands behind a time alone */
+    CHANGED(it.time.is_there = false, IXDTF_NOT_PRINTABLE, ""); /* An offset needs a time. */
     CHANGED((it.time.is_there = false, it.offset.form = IXDTF_NO_OFFSET), IXDTF_OK, "2024-02-29[!Abc/d][u-ca=ef-g]");
     CHANGED(it.offset.form = IXDTF_NO_OFFSET, IXDTF_OK, "2024-02-29T23:59:60.5[!Abc/d][u-ca=ef-g]");
     CHANGED(it.offset.form = IXDTF_UTC, IXDTF_OK, "2024-02-29T23:59:60.5Z[!Abc/d][u-ca=ef-g]");
@@ -968,7 +981,7 @@ static void test_by_hand(void) {
     row_shown = "";
 }
 
-/* A record of zeros is filled in by hand and printed. A name and a calendar without units are those of no text, also where they are NULL. */
+/* Tests structs that were initialised with zeros. No text has a name or a calendar of length 0, so such a record is not printed. */
 static void test_zeros(void) {
     ixdtf_record record;
     ixdtf_text text;
@@ -976,13 +989,13 @@ static void test_zeros(void) {
     memset(&record, 0, sizeof record);
     memset(&text, 0, sizeof text);
     ixdtf_error_text(IXDTF_DATE_MONTH, &text);
-    check(text.length == 44 && !memcmp(text.at, ixdtf_error_message(IXDTF_DATE_MONTH), 44), "the text of an error, into zeros");
+    check(text.length == 44 && !memcmp(text.at, ixdtf_error_message(IXDTF_DATE_MONTH), 44), "ixdtf_error_text writes to a slice of zeros");
     test_printed(&record, IXDTF_NOT_PRINTABLE, "");
     record.date.is_there = true;
     record.date.month = 3;
     record.date.day = 2;
     test_printed(&record, IXDTF_OK, "0000-03-02");
-    check(ixdtf_print(&record, NULL, 0, &count) == IXDTF_TOO_SHORT && count == 10, "room 0 is NULL");
+    check(ixdtf_print(&record, NULL, 0, &count) == IXDTF_TOO_SHORT && count == 10, "the array may be NULL if its capacity is 0");
     record.zone.form = IXDTF_ZONE_OFFSET;
     test_printed(&record, IXDTF_OK, "0000-03-02[+00:00]");
     record.zone.form = IXDTF_NAME;
@@ -992,7 +1005,7 @@ static void test_zeros(void) {
     test_printed(&record, IXDTF_NOT_PRINTABLE, "");
 }
 
-/* Each error that a text can have came, and no other. */
+/* Tests that the rows have each error that a reader can return. The errors in `never` must not occur. */
 static void test_met(void) {
     static const unsigned char never[] = { 1, 3, 12, 13, 20, 21, 22, 24 };
     size_t i, j;
@@ -1002,15 +1015,15 @@ static void test_met(void) {
             comes = comes && never[j] != i;
         }
         row_shown = error_rows[i - 1].name;
-        check(is_met[i] == comes, "an error comes from some row, or from none at all");
+        check(is_met[i] == comes, "some row has the error, if and only if a reader can return it");
     }
     row_shown = "";
 }
 
-/* Its argument is the path of tools/places.tsv. */
+/* The argument of the program is the path of tools/places.tsv. */
 int main(int count, char **arguments) {
     if (count != 2) {
-        puts("the file of places is not named");
+        puts("expected one argument: the path of tools/places.tsv");
         return 2;
     }
     make_room();

@@ -1,12 +1,13 @@
-/* The tests of one width. test.c includes this file once for each, with
+/* The tests for one width of code units. test.c includes this file twice, for 8-bit and for 16-bit text. Before, it defines these macros:
  *
- *     UNIT         the type of a unit
- *     CALL(name)   a call or a type of the header: ixdtf_name or ixdtf16_name
- *     OWN(name)    a function of this file in this width
- *     NEW_RECORD, NEW_ANNOTATION, NEW_CALENDAR   the initial values of the header
+ *     UNIT         the type of a code unit
+ *     CALL(name)   a function or a type of the header: ixdtf_name or ixdtf16_name
+ *     OWN(name)    a function of this file for this width: narrow_name or wide_name
+ *     NEW_RECORD, NEW_ANNOTATION, NEW_CALENDAR   the initial values of the structs, as in the header
  */
 
-/* A text of a row as units, which stand right before bytes that cannot be read, or right behind such. */
+/* Writes the text of a row to the array `room`, as code units: to its end if `at_end` is true, and otherwise to its beginning. The memory directly
+ * after the array, or directly before it, cannot be accessed. Returns the first code unit, and writes the number of code units to `units`. */
 static const UNIT *OWN(placed)(const char *text, size_t length, int at_end, size_t *units) {
     UNIT *at;
     size_t i, count = 0;
@@ -39,7 +40,7 @@ static void OWN(show_zone)(struct line *line, const CALL(zone) *zone) {
     if (zone->form == IXDTF_NAME) {
         OWN(show_units)(line, zone->name);
     } else {
-        check(zone->form == IXDTF_ZONE_OFFSET, "a zone is a name or an offset");
+        check(zone->form == IXDTF_ZONE_OFFSET, "the form of the zone is IXDTF_NAME or IXDTF_ZONE_OFFSET");
         show(line, "%c%u,%u", zone->is_negative ? '-' : '+', zone->hour, zone->minute);
     }
 }
@@ -67,7 +68,7 @@ static void OWN(show_record)(struct line *line, const CALL(record) *record) {
     }
 }
 
-/* Calls a reader by the word of a row. */
+/* Calls the reader that a row names. */
 static uint32_t OWN(read)(const char *reader, int strict, const UNIT *text, size_t length, CALL(record) *out, ixdtf_duration *duration) {
     if (!strcmp(reader, "parse")) {
         return CALL(parse)(text, length, out);
@@ -88,11 +89,11 @@ static uint32_t OWN(read)(const char *reader, int strict, const UNIT *text, size
     } else if (!strcmp(reader, "iana")) {
         return CALL(parse_iana_identifier)(text, length, out);
     }
-    check(!strcmp(reader, "duration"), "a row names a reader");
+    check(!strcmp(reader, "duration"), "the row names a reader");
     return strict ? CALL(parse_duration_strict)(text, length, duration) : CALL(parse_duration)(text, length, duration);
 }
 
-/* Calls a reader that lists. */
+/* Calls the reader that a row names, in its variant that lists annotations. `places` is the capacity of the array. */
 static uint32_t OWN(list)(const char *reader, int strict, const UNIT *text, size_t length, CALL(annotation) *list, size_t places,
     size_t *count, CALL(record) *out) {
     if (!strcmp(reader, "parse")) {
@@ -105,12 +106,12 @@ static uint32_t OWN(list)(const char *reader, int strict, const UNIT *text, size
         return strict ? CALL(parse_month_day_with_annotations_strict)(text, length, list, places, count, out)
                       : CALL(parse_month_day_with_annotations)(text, length, list, places, count, out);
     }
-    check(!strcmp(reader, "time"), "a row names a reader that lists");
+    check(!strcmp(reader, "time"), "the row names a reader that lists annotations");
     return strict ? CALL(parse_time_with_annotations_strict)(text, length, list, places, count, out)
                   : CALL(parse_time_with_annotations)(text, length, list, places, count, out);
 }
 
-/* What a reader gave, as the rows show it. */
+/* Writes the result of a reader to a line, as the rows show it. */
 static void OWN(show_outcome)(struct line *line, const char *reader, uint32_t error, const CALL(record) *record, const ixdtf_duration *duration) {
     line->length = 0;
     if (error != 0) {
@@ -143,7 +144,7 @@ static int OWN(same_units)(CALL(units) left, CALL(units) right) {
     return left.at == right.at && left.length == right.length;
 }
 
-/* Whether two records are alike in all but the location and the place of an error. */
+/* Whether two records are equal in all fields except `location` and `place`. */
 static int OWN(same_but_error)(const CALL(record) *a, const CALL(record) *b) {
     return same_date(&a->date, &b->date) && same_time(&a->time, &b->time) && same_offset(&a->offset, &b->offset)
         && OWN(same_units)(a->zone.name, b->zone.name) && a->zone.form == b->zone.form && a->zone.is_critical == b->zone.is_critical
@@ -151,27 +152,27 @@ static int OWN(same_but_error)(const CALL(record) *a, const CALL(record) *b) {
         && OWN(same_units)(a->calendar, b->calendar) && a->has_calendar == b->has_calendar;
 }
 
-/* Of what a text does not have, each field is zero. */
+/* Checks that the fields of each part that is not present are 0. */
 static void OWN(check_cleared)(const CALL(record) *it) {
     check_cleared_date(&it->date);
     check_cleared_time(&it->time);
     check_cleared_offset(&it->offset);
-    check(it->zone.form <= IXDTF_ZONE_OFFSET, "the form of a zone has a name");
-    check(it->zone.form == IXDTF_NAME || it->zone.name.length == 0, "a name that is not there has no units");
+    check(it->zone.form <= IXDTF_ZONE_OFFSET, "the form of the zone has one of the values of the header");
+    check(it->zone.form == IXDTF_NAME || it->zone.name.length == 0, "the name of a zone without a name has length 0");
     check(it->zone.form == IXDTF_ZONE_OFFSET || (!it->zone.is_negative && it->zone.hour == 0 && it->zone.minute == 0),
-        "an offset of a zone that is not there is zero");
-    check(it->zone.form != IXDTF_NO_ZONE || !it->zone.is_critical, "a zone that is not there is not critical");
-    check(it->has_calendar || it->calendar.length == 0, "a calendar that is not there has no units");
-    check(it->location.length == 0 && it->place == 0, "a record that is read has no location and no place");
-    check(it->zone.name.at != NULL && it->calendar.at != NULL && it->location.at != NULL, "no slice is NULL");
+        "the offset of a zone without an offset is 0");
+    check(it->zone.form != IXDTF_NO_ZONE || !it->zone.is_critical, "a zone that is not present is not critical");
+    check(it->has_calendar || it->calendar.length == 0, "a calendar that is not present has length 0");
+    check(it->location.length == 0 && it->place == 0, "after 0, location has length 0, and place is 0");
+    check(it->zone.name.at != NULL && it->calendar.at != NULL && it->location.at != NULL, "no slice has the pointer NULL");
 }
 
-/* Whether nothing stands in a record but its offset and its zone. */
+/* Whether a record has neither a date nor a time nor a calendar. */
 static int OWN(has_no_more)(const CALL(record) *it) {
     return !it->date.is_there && !it->time.is_there && !it->has_calendar;
 }
 
-/* A record in which every part stands already, with slices that cannot be read. */
+/* A record as an earlier call may have left it: every part is present, and its slices cannot be read. */
 static CALL(record) OWN(used_record)(void) {
     CALL(record) record = NEW_RECORD;
     ixdtf_date date = { -271821, 4, 20, true };
@@ -196,7 +197,8 @@ static CALL(record) OWN(used_record)(void) {
     return record;
 }
 
-/* A row, in a new record, in one that was used before and in one of zeros, and with the text at either end of what can be read. */
+/* Tests a row three times: with a new record, with a record that was used before, and with a record of zeros. The first time, the text is at the
+ * beginning of the array `room`. Then it is at the end. */
 static void OWN(test_row)(const struct row *row, int strict) {
     int used;
     for (used = 0; used < 3; used++) {
@@ -221,26 +223,27 @@ static void OWN(test_row)(const struct row *row, int strict) {
         OWN(show_outcome)(&line, row->reader, error, &record, &duration);
         is(line.text, row->answer, row->reader, row->text);
         if (error != 0) {
-            check(OWN(same_but_error)(&record, &before), "a refusal leaves the record");
-            check(same_duration_but_error(&duration, &duration_before), "a refusal leaves the duration");
+            check(OWN(same_but_error)(&record, &before), "after an error, the record is unchanged");
+            check(same_duration_but_error(&duration, &duration_before), "after an error, the duration is unchanged");
         } else if (!strcmp(row->reader, "duration")) {
             check_cleared_duration(&duration);
         } else {
             OWN(check_cleared)(&record);
-            check(record.zone.form != IXDTF_NAME || OWN(is_part)(record.zone.name, text, length), "a name is a part of the text");
-            check(!record.has_calendar || OWN(is_part)(record.calendar, text, length), "a calendar is a part of the text");
+            check(record.zone.form != IXDTF_NAME || OWN(is_part)(record.zone.name, text, length), "the name is a slice of the text");
+            check(!record.has_calendar || OWN(is_part)(record.calendar, text, length), "the calendar is a slice of the text");
             if (!strcmp(row->reader, "offset")) {
-                check(OWN(has_no_more)(&record) && record.zone.form == IXDTF_NO_ZONE, "an offset stands alone");
+                check(OWN(has_no_more)(&record) && record.zone.form == IXDTF_NO_ZONE, "the record has only an offset");
             } else if (!strcmp(row->reader, "zone") || !strcmp(row->reader, "iana")) {
-                check(OWN(has_no_more)(&record) && record.offset.form == IXDTF_NO_OFFSET, "a zone stands alone");
-                check(!record.zone.is_critical, "a zone alone is not critical");
-                check(record.zone.form == IXDTF_NAME || !strcmp(row->reader, "zone"), "the name of a zone is a name");
+                check(OWN(has_no_more)(&record) && record.offset.form == IXDTF_NO_OFFSET, "the record has only a zone");
+                check(!record.zone.is_critical, "the zone is not critical");
+                check(record.zone.form == IXDTF_NAME || !strcmp(row->reader, "zone"), "the reader of names of zones writes a name");
             }
         }
     }
 }
 
-/* What a handler of the rows replies to the annotation of a number; 0 where it passes it over. */
+/* Writes the reply of a handler of the rows to an annotation. `number` is the index of the annotation, from 0. Returns 0 if the handler drops the
+ * annotation, and otherwise 1. */
 static int OWN(replies)(const char *handler, size_t number, const CALL(annotation) *it, CALL(annotation) *reply) {
     static const UNIT key[] = { 'u', '-', 'c', 'a' };
     static const UNIT first[] = { 'a' };
@@ -263,12 +266,12 @@ static int OWN(replies)(const char *handler, size_t number, const CALL(annotatio
             reply->is_critical = number == 0 ? false : it->is_critical;
         }
     } else {
-        check(!strcmp(handler, "id"), "a row names a handler");
+        check(!strcmp(handler, "id"), "the row names a handler");
     }
     return 1;
 }
 
-/* Lists the annotations in arrays of every length up to all of them, and two places more. */
+/* Tests the reader with arrays of every capacity, from 0 to two more than the number of annotations. Returns the number of annotations. */
 static size_t OWN(test_listing)(const struct handler_row *row, const UNIT *text, size_t length) {
     CALL(annotation) all[64], some[64];
     CALL(annotation) none = NEW_ANNOTATION;
@@ -276,8 +279,8 @@ static size_t OWN(test_listing)(const struct handler_row *row, const UNIT *text,
     CALL(record) used = OWN(used_record)();
     size_t count = 7, places, i;
     uint32_t error = OWN(list)(row->reader, 0, text, length, all, 0, &count, &record);
-    check(count <= 60, "a row has few annotations");
-    none.key.at = (const UNIT *)(const void *)behind; /* what stands in the array before is not read */
+    check(count <= 60, "the row has at most 60 annotations");
+    none.key.at = (const UNIT *)(const void *)behind; /* The reader must not follow this pointer. */
     none.key.length = 5;
     for (places = 0; places <= count + 2; places++) {
         size_t found = 7;
@@ -287,9 +290,9 @@ static size_t OWN(test_listing)(const struct handler_row *row, const UNIT *text,
         if (error == 0) {
             again = used;
         }
-        check(OWN(list)(row->reader, 0, text, length, some, places, &found, &again) == error, "the room changes no outcome");
-        check(found == count, "the room changes no count");
-        check(OWN(same_but_error)(&record, &again) && record.place == again.place, "the room changes no record");
+        check(OWN(list)(row->reader, 0, text, length, some, places, &found, &again) == error, "the result does not depend on the capacity");
+        check(found == count, "count does not depend on the capacity");
+        check(OWN(same_but_error)(&record, &again) && record.place == again.place, "the record does not depend on the capacity");
         if (error == 0) {
             OWN(check_cleared)(&again);
         }
@@ -298,18 +301,18 @@ static size_t OWN(test_listing)(const struct handler_row *row, const UNIT *text,
                 check(OWN(is_part)(some[i].key, text, length) && OWN(is_part)(some[i].value, text, length)
                         && some[i].key.at + some[i].key.length + 1 == some[i].value.at && some[i].key.at[some[i].key.length] == '='
                         && some[i].is_critical == (some[i].key.at[-1] == '!'),
-                    "an annotation is a part of the text");
+                    "the key and the value are slices of the text, and is_critical is true if there is a !");
             } else {
                 check(OWN(same_units)(some[i].key, none.key) && OWN(same_units)(some[i].value, none.value) && !some[i].is_critical,
-                    "the other places stay");
+                    "the other elements of the array are unchanged");
             }
         }
     }
     return count;
 }
 
-/* Lists, asks the handler about each annotation in order, and stops at the first reply that is refused; in a list, a record and a calendar of
- * zeros. */
+/* Tests a row with a handler, as docs/C.md describes in "Handlers": lists the annotations, passes the reply of the handler for each annotation to
+ * ixdtf_reply, and stops at the first error. The list, the record and the calendar were initialised with zeros. */
 static void OWN(test_handler)(const struct handler_row *row) {
     struct line line, calls;
     size_t length, count = 0, found, i;
@@ -324,7 +327,7 @@ static void OWN(test_handler)(const struct handler_row *row) {
     memset(&calendar, 0, sizeof calendar);
     found = OWN(test_listing)(row, text, length);
     error = OWN(list)(row->reader, 0, text, length, list, 64, &count, &record);
-    check(count == found, "the count is always the same");
+    check(count == found, "count does not depend on the capacity");
     calls.length = 0;
     show(&calls, "%s", "");
     for (i = 0; i < count && refused == 0; i++) {
@@ -337,27 +340,28 @@ static void OWN(test_handler)(const struct handler_row *row) {
         if (OWN(replies)(row->handler, i, &list[i], &reply)) {
             CALL(calendar) before = calendar;
             refused = CALL(reply)(&calendar, &reply);
-            check(refused == 0 || refused == IXDTF_CRITICAL_DUPLICATE_CALENDAR || refused == IXDTF_UNRECOGNIZED_CRITICAL, "a reply's error");
+            check(refused == 0 || refused == IXDTF_CRITICAL_DUPLICATE_CALENDAR || refused == IXDTF_UNRECOGNIZED_CRITICAL, "ixdtf_reply returns 0, IXDTF_CRITICAL_DUPLICATE_CALENDAR or IXDTF_UNRECOGNIZED_CRITICAL");
             check((refused == 0 && !before.is_there) || (OWN(same_units)(before.value, calendar.value) && before.is_critical == calendar.is_critical
                       && before.is_there == calendar.is_there),
-                "the first calendar is kept");
+                "the calendar is unchanged after an error, or if one was kept before");
         }
     }
     if (refused != 0) {
-        /* The place is behind the bracket of the annotation that was asked about last. */
+        /* The position of the error is directly after the bracket of the last annotation. */
         ixdtf_text nothing = IXDTF_TEXT;
         error = refused;
         record.location = nothing;
         record.place = CALL(reply_place)(text, &list[i - 1]);
     } else if (error == 0) {
-        check(!record.has_calendar, "a reader that lists keeps no calendar");
+        check(!record.has_calendar, "a reader that lists annotations writes no calendar");
         CALL(keep_calendar)(&record, &calendar);
-        check(calendar.is_there || record.calendar.length == 0, "no calendar has no units");
+        check(calendar.is_there || record.calendar.length == 0, "without a kept calendar, calendar has length 0");
     }
     OWN(show_outcome)(&line, row->reader, error, &record, &duration);
     is(line.text, row->answer, row->handler, row->text);
     is(calls.text, row->calls, row->handler, row->text);
-    /* The strict profile lists alike, where it accepts the text. */
+    /* If the reader gives the same result in both profiles, it also lists as many annotations. The results may differ only because of the day 00: the
+     * strict profile refuses it, and so accepts times such as 1200. */
     if (!strcmp(row->reader, "month-day") || !strcmp(row->reader, "time")) {
         size_t strict_count = 0;
         CALL(record) strict = NEW_RECORD;
@@ -365,11 +369,11 @@ static void OWN(test_handler)(const struct handler_row *row) {
         uint32_t plain_error = OWN(list)(row->reader, 0, text, length, list, 64, &count, &record);
         check(strict_error == plain_error ? strict_count == count
                                           : strict_error == IXDTF_INVALID_MONTH_DAY || plain_error == IXDTF_AMBIGUOUS_TIME_MONTH_DAY,
-            "the strict profile lists alike");
+            "the strict reader lists as many annotations");
     }
 }
 
-/* A strict row through the reader that lists, which reads a text without annotations alike. */
+/* Tests a row of the strict profile with the reader that lists annotations. If the text has no annotations, the result is the same. */
 static void OWN(test_strict_listing)(const struct row *row) {
     struct line line;
     size_t length, count = 7;
@@ -388,7 +392,7 @@ static void OWN(test_strict_listing)(const struct row *row) {
     }
 }
 
-/* A text whose error and place are known: through its reader, in a record that was used before. */
+/* Tests a line of tools/places.tsv: a text, its error and the position of the error. The record was used before. */
 static void OWN(test_place)(const struct place_row *row) {
     struct line line, wanted;
     size_t length;
@@ -411,18 +415,18 @@ static void OWN(test_texts)(void) {
     CALL(annotation) critical = NEW_ANNOTATION;
     CALL(calendar) calendar = NEW_CALENDAR;
     size_t count = 7;
-    check(CALL(parse)(nothing, 0, &record) == IXDTF_ABRUPT_END, "a text without units");
-    check(record.location.length == 5 && !memcmp(record.location.at, "digit", 5) && record.place == 0, "the location of a text without units");
-    check(CALL(parse)(date, 10, &record) == IXDTF_OK && record.date.is_there && record.date.day == 2, "a text ends at its length");
-    check(CALL(parse)(date, 11, &record) == (sizeof(UNIT) == 1 ? IXDTF_INVALID_END : IXDTF_NON_ASCII_CODE_POINT), "a zero is a unit");
-    check(record.location.length == 0 && record.place == 10, "another error has a place and no location");
-    check(CALL(parse_with_annotations)(date, 10, list, 0, &count, &record) == IXDTF_OK && count == 0, "a text without annotations");
-    check(CALL(reply)(&calendar, &critical) == IXDTF_OK && !calendar.is_there, "a reply without units");
+    check(CALL(parse)(nothing, 0, &record) == IXDTF_ABRUPT_END, "an empty text is refused with IXDTF_ABRUPT_END");
+    check(record.location.length == 5 && !memcmp(record.location.at, "digit", 5) && record.place == 0, "the location of the error of an empty text is digit");
+    check(CALL(parse)(date, 10, &record) == IXDTF_OK && record.date.is_there && record.date.day == 2, "no code unit after the length is read");
+    check(CALL(parse)(date, 11, &record) == (sizeof(UNIT) == 1 ? IXDTF_INVALID_END : IXDTF_NON_ASCII_CODE_POINT), "a NUL within the length is a code unit");
+    check(record.location.length == 0 && record.place == 10, "after an error that is not IXDTF_ABRUPT_END, location has length 0");
+    check(CALL(parse_with_annotations)(date, 10, list, 0, &count, &record) == IXDTF_OK && count == 0, "a text without annotations has the count 0");
+    check(CALL(reply)(&calendar, &critical) == IXDTF_OK && !calendar.is_there, "a reply with an empty key is accepted, and not kept");
     critical.is_critical = true;
-    check(CALL(reply)(&calendar, &critical) == IXDTF_UNRECOGNIZED_CRITICAL && !calendar.is_there, "a critical reply without units");
+    check(CALL(reply)(&calendar, &critical) == IXDTF_UNRECOGNIZED_CRITICAL && !calendar.is_there, "a critical reply with an empty key is refused");
 }
 
-/* NULL with length 0 is the text without units, and the list without room. */
+/* Tests that a text may be NULL if its length is 0, and that a list may be NULL if its capacity is 0. */
 static void OWN(test_null)(void) {
     static const char *readers[] = { "parse", "year-month", "month-day", "time", "rfc9557", "rfc3339", "offset", "zone", "iana", "duration" };
     static const UNIT nothing[1] = { 0 };
@@ -444,7 +448,7 @@ static void OWN(test_null)(void) {
                 memset(&zeros, 0, sizeof zeros);
                 OWN(show_outcome)(&line, readers[i], OWN(list)(readers[i], strict, NULL, 0, NULL, 0, &count, &zeros), &zeros, &zero);
                 is(line.text, wanted.text, readers[i], "NULL, with a list");
-                check(count == 0, "a text without units has no annotations");
+                check(count == 0, "an empty text has no annotations");
             }
         }
     }
@@ -452,36 +456,36 @@ static void OWN(test_null)(void) {
         CALL(record) zeros;
         memset(&zeros, 0, sizeof zeros);
         count = 7;
-        check(CALL(parse_with_annotations)(listed, COUNT(listed), NULL, 0, &count, &zeros) == IXDTF_OK && count == 2, "a list without room is NULL");
+        check(CALL(parse_with_annotations)(listed, COUNT(listed), NULL, 0, &count, &zeros) == IXDTF_OK && count == 2, "the list may be NULL if its capacity is 0");
         OWN(check_cleared)(&zeros);
     }
 }
 
-/* Replies of zeros, beside a calendar of zeros, and slices without units and without a pointer. */
+/* Tests ixdtf_reply with a reply and a calendar of zeros, whose slices have length 0 and the pointer NULL. */
 static void OWN(test_zero_replies)(void) {
     static const UNIT key[] = { 'u', '-', 'c', 'a' };
     CALL(annotation) reply;
     CALL(calendar) calendar;
     memset(&reply, 0, sizeof reply);
     memset(&calendar, 0, sizeof calendar);
-    check(CALL(reply)(&calendar, &reply) == IXDTF_OK && !calendar.is_there, "a reply of zeros");
+    check(CALL(reply)(&calendar, &reply) == IXDTF_OK && !calendar.is_there, "a reply of zeros is accepted, and not kept");
     reply.is_critical = true;
-    check(CALL(reply)(&calendar, &reply) == IXDTF_UNRECOGNIZED_CRITICAL && !calendar.is_there, "a critical reply of zeros");
+    check(CALL(reply)(&calendar, &reply) == IXDTF_UNRECOGNIZED_CRITICAL && !calendar.is_there, "a critical reply of zeros is refused");
     reply.key.at = key;
     reply.key.length = 4;
     reply.is_critical = false;
-    check(CALL(reply)(&calendar, &reply) == IXDTF_OK && calendar.is_there && calendar.value.length == 0 && !calendar.is_critical, "a calendar without units");
+    check(CALL(reply)(&calendar, &reply) == IXDTF_OK && calendar.is_there && calendar.value.length == 0 && !calendar.is_critical, "a calendar of length 0 is kept");
     calendar.value.at = NULL;
     reply.is_critical = true;
-    check(CALL(reply)(&calendar, &reply) == IXDTF_OK && !calendar.is_critical, "the same calendar, critical");
+    check(CALL(reply)(&calendar, &reply) == IXDTF_OK && !calendar.is_critical, "a critical reply with the same calendar is accepted, and the first calendar stays");
     reply.value.at = key;
     reply.value.length = 1;
-    check(CALL(reply)(&calendar, &reply) == IXDTF_CRITICAL_DUPLICATE_CALENDAR && calendar.value.length == 0, "another calendar, critical");
+    check(CALL(reply)(&calendar, &reply) == IXDTF_CRITICAL_DUPLICATE_CALENDAR && calendar.value.length == 0, "a critical reply with another calendar is refused");
     reply.is_critical = false;
-    check(CALL(reply)(&calendar, &reply) == IXDTF_OK && calendar.value.length == 0 && calendar.is_there, "another calendar");
+    check(CALL(reply)(&calendar, &reply) == IXDTF_OK && calendar.value.length == 0 && calendar.is_there, "a reply with another calendar is accepted, and the first calendar stays");
 }
 
-/* The instant of a record that was read, and of one in which a field was changed by hand. */
+/* Tests the instants of records that were read, and of records in which a field was changed. */
 static void OWN(test_instants)(void) {
     size_t i, length;
     int64_t seconds = 77;
@@ -493,15 +497,15 @@ static void OWN(test_instants)(void) {
         row_shown = instant_rows[i].text;
         seconds = 77;
         nanoseconds = 78;
-        check(CALL(parse)(text, length, &record) == IXDTF_OK, "a text of an instant is read");
-        check(CALL(instant)(&record, &seconds, &nanoseconds) == instant_rows[i].result, "whether there is an instant");
+        check(CALL(parse)(text, length, &record) == IXDTF_OK, "the text is accepted");
+        check(CALL(instant)(&record, &seconds, &nanoseconds) == instant_rows[i].result, "ixdtf_instant returns the expected number");
         check(seconds == (instant_rows[i].result == IXDTF_OK ? instant_rows[i].seconds : 77)
                 && nanoseconds == (instant_rows[i].result == IXDTF_OK ? instant_rows[i].nanoseconds : 78),
-            "the instant, or nothing");
+            "the seconds and the nanoseconds are those of the instant, or unchanged after an error");
     }
     {
         const UNIT *text = OWN(placed)("1970-01-01T00:00:00.5+00:00:00.25[UTC]", 38, 1, &length);
-        check(CALL(parse)(text, length, &full) == IXDTF_OK, "a text with two fractions");
+        check(CALL(parse)(text, length, &full) == IXDTF_OK, "a text with two fractions is accepted");
     }
 #define CHANGED(change, wanted, wanted_seconds, wanted_nanoseconds) \
     it = full; \
@@ -509,7 +513,7 @@ static void OWN(test_instants)(void) {
     row_shown = #change; \
     seconds = 77; \
     nanoseconds = 78; \
-    check(CALL(instant)(&it, &seconds, &nanoseconds) == wanted && seconds == wanted_seconds && nanoseconds == wanted_nanoseconds, "a changed record")
+    check(CALL(instant)(&it, &seconds, &nanoseconds) == wanted && seconds == wanted_seconds && nanoseconds == wanted_nanoseconds, "the result and the instant of a record with a changed field")
     CHANGED(it.zone.form = 7, IXDTF_OK, 0, 250000000);
     CHANGED(it.date.is_there = false, IXDTF_NO_INSTANT, 77, 78);
     CHANGED(it.time.is_there = false, IXDTF_NO_INSTANT, 77, 78);
