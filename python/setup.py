@@ -1,6 +1,7 @@
-"""Builds the package: first the library for C, by c/build, and then the extension that is linked with it.
+"""Builds the package: first the library for C, with c/build, and then the extension, which is linked with this library.
 
-IXDTF_LIBRARY=proved in the environment has `rt` build the library, which proves it. Without it cargo builds the same bodies as plain Rust."""
+The environment variable IXDTF_LIBRARY says which library is built. With `proved`, `rt` builds the proved library. With `plain`, or without the
+variable, cargo builds the plain library, which has the same function bodies. Nothing is proved about the plain library."""
 import os
 import pathlib
 import subprocess
@@ -12,12 +13,12 @@ HERE = pathlib.Path(__file__).resolve().parent
 
 
 class BuildWithLibrary(build_ext):
-    """Builds the library for C into the build folder, and links it."""
+    """Builds the library for C in the build folder, and links the extension with it."""
 
     def build_extension(self, ext):
         kind = os.environ.get('IXDTF_LIBRARY', 'plain')
         if kind not in ('plain', 'proved'):
-            raise SystemExit(f'IXDTF_LIBRARY is plain or proved, and not {kind}')
+            raise SystemExit(f'expected the environment variable IXDTF_LIBRARY to be plain or proved, and found {kind!r}')
         folder = pathlib.Path(self.build_temp).resolve() / kind
         subprocess.run([str(HERE.parent / 'c' / 'build'), f'--{kind}', str(folder)], check=True)
         ext.include_dirs = [str(folder)]

@@ -1,4 +1,5 @@
-"""The tests of the package. Run them with the package on the path: python3 -m unittest discover -s python/tests"""
+"""The tests of the package. python/test builds the package and runs them. If the package is installed, you can also run them with
+python3 -m unittest discover -s python/tests"""
 import copy
 import csv
 import datetime
@@ -45,16 +46,16 @@ UTC = datetime.timezone.utc
 
 
 def refusal(call, *arguments, **keywords):
-    """The error that a call raises."""
+    """Returns the IxdtfError that a call raises. Fails if the call raises none."""
     try:
         call(*arguments, **keywords)
     except IxdtfError as error:
         return error
-    raise AssertionError(f"{arguments} is accepted")
+    raise AssertionError(f"expected IxdtfError, but {arguments} is accepted")
 
 
 class Rows(unittest.TestCase):
-    """Each row of the fault table, with its error and its position, as they were counted by hand."""
+    """Each row of tools/places.tsv for 8-bit text: a text, its error, and the position of the error, which a person counted."""
 
     def test_rows(self):
         seen = 0
@@ -75,7 +76,7 @@ class Rows(unittest.TestCase):
 
 
 class Texts(unittest.TestCase):
-    """A text is str or bytes, of any characters, and is kept as long as it is needed."""
+    """A text is str or bytes, and may contain any characters. A record keeps its text as long as the record exists."""
 
     def test_positions_are_code_points(self):
         for front in ("", "\u00e9", "\u20ac", "\U0001f600", "\ud800"):
@@ -129,7 +130,7 @@ class Texts(unittest.TestCase):
 
 
 class Records(unittest.TestCase):
-    """What a record is as a Python value."""
+    """Records as Python values: their parts, comparison, hash, repr, pickle, and the constructor."""
 
     FULL = "2024-03-02T08:48:00.25-05:00[!America/New_York][u-ca=hebrew]"
 
@@ -165,7 +166,7 @@ class Records(unittest.TestCase):
 
     def test_match(self):
         if sys.version_info < (3, 10):
-            self.skipTest("match is of Python 3.10")
+            self.skipTest("the match statement needs Python 3.10 or later")
         names = {"record": ixdtf.parse(self.FULL), "Record": Record, "Date": Date, "Zone": Zone}
         exec("match record:\n case Record(date=Date(year, 3), zone=Zone(name=str(name))): found = year, name", names)
         self.assertEqual(names["found"], (2024, "America/New_York"))
@@ -192,7 +193,7 @@ class Records(unittest.TestCase):
 
 
 class Instants(unittest.TestCase):
-    """The instants of records, beside those of datetime."""
+    """The instants of records. Some of them are compared with those of datetime."""
 
     def test_known(self):
         for text, seconds, nanoseconds in (("1970-01-01T00:00Z", 0, 0), ("1969-12-31T23:59:59.5Z", -1, 500_000_000),
@@ -363,7 +364,8 @@ class Datetimes(unittest.TestCase):
              "Europe/Moscow", "Pacific/Apia", "Pacific/Auckland", "Pacific/Kiritimati", "America/Santiago")
 
     def test_each_change_of_offset(self):
-        """Two hours before and behind each change from 1950 to 2035: the offset that the zone has is taken, and another one is refused."""
+        """Tests instants up to two hours before and after each change of the offset of a zone, from 1950 to 2035. The offset that the zone has is accepted,
+        and another one is refused."""
         changes = 0
         for name in self.ZONES:
             zone = zoneinfo.ZoneInfo(name)
@@ -387,7 +389,8 @@ class Datetimes(unittest.TestCase):
 
 
 def changes_of(zone):
-    """The instants at which a zone's offset changes, by halving between days that have different ones."""
+    """Yields the instants at which the offset of a zone changes. It compares the offsets at the beginnings of two days, and finds the second of the change
+    by bisection."""
     begin = datetime.datetime(1950, 1, 1, tzinfo=UTC)
     offset = begin.astimezone(zone).utcoffset()
     for day in range(1, 85 * 365):
@@ -496,7 +499,7 @@ class Calls(unittest.TestCase):
 
 
 class Runs(unittest.TestCase):
-    """Nothing leaks, and threads and interpreters do not disturb one another."""
+    """The package does not leak memory, and it works in several threads and in several interpreters."""
 
     def test_nothing_leaks(self):
         def work():
@@ -522,7 +525,7 @@ class Runs(unittest.TestCase):
         for _ in range(4000):
             work()
         gc.collect()
-        # a leak of one block in each turn would be 4000
+        # If each call of work() leaked one block, 4000 blocks would be left.
         self.assertLess(sys.getallocatedblocks() - before, 2000)
 
     def test_threads(self):
@@ -549,7 +552,7 @@ class Runs(unittest.TestCase):
             try:
                 import _interpreters as interpreters
             except ImportError:
-                self.skipTest("this Python has no module of interpreters")
+                self.skipTest("this Python has no module for sub-interpreters")
         for _ in range(3):
             try:
                 other = interpreters.create("legacy") if hasattr(interpreters, "new_config") else interpreters.create(isolated=False)
@@ -561,7 +564,7 @@ class Runs(unittest.TestCase):
 
 
 def load_tests(loader, tests, pattern):
-    """The examples of the package and of the page are tests too."""
+    """Adds the examples in the docstring of the package and in docs/PYTHON.md to the tests."""
     tests.addTests(doctest.DocTestSuite(ixdtf))
     page = TOP / "docs" / "PYTHON.md"
     if page.exists():

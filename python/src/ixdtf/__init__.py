@@ -9,7 +9,7 @@
     >>> ixdtf.canonical(record)
     '2024-03-02T08:48:00.25-05:00[America/New_York][u-ca=hebrew]'
 
-A text that is refused raises IxdtfError, which says where and why:
+If a text is refused, IxdtfError is raised. It has the reason and the position of the error:
 
     >>> ixdtf.parse("2024-13-01")
     Traceback (most recent call last):

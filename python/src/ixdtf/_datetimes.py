@@ -1,4 +1,4 @@
-"""Records as datetime.datetime."""
+"""Converts records to datetime.datetime."""
 from __future__ import annotations
 
 import datetime as _datetime
@@ -11,15 +11,15 @@ if TYPE_CHECKING:
 
 
 class ZoneConflictError(ValueError):
-    """The offset of a record is not the one that its zone has at this time (RFC 9557, section 3.4)."""
+    """Raised if the offset of a record differs from the offset that its zone has at this time (RFC 9557, section 3.4)."""
 
     __module__ = "ixdtf"
 
 
 def to_datetime(record: Record, on_conflict: str = "error", truncate: bool = False) -> _datetime.datetime:
-    """The datetime of a record; Record.to_datetime says how."""
+    """Returns the datetime of a record. Record.to_datetime calls this function, and its documentation describes the arguments and the errors."""
     if on_conflict not in ("error", "offset", "zone"):
-        raise ValueError(f"on_conflict is 'error', 'offset' or 'zone', and not {on_conflict!r}")
+        raise ValueError(f"expected on_conflict to be 'error', 'offset' or 'zone', and found {on_conflict!r}")
     local = _local(record, truncate)
     if record.zone is None:
         return local if record.offset is None else local.replace(tzinfo=_fixed(record.offset, truncate))
@@ -33,32 +33,33 @@ def to_datetime(record: Record, on_conflict: str = "error", truncate: bool = Fal
 
 
 def _local(record: Record, truncate: bool) -> _datetime.datetime:
-    """The date and the time of a record, without a tzinfo."""
+    """Returns the local time of a record, without a tzinfo. Raises ValueError if a datetime cannot hold it."""
     date, time = record.date, record.time
     if date is None or time is None:
         raise ValueError(f"the record has no {'date' if date is None else 'time'}")
     if not 1 <= date.year <= 9999:
-        raise ValueError(f"the year {date.year} is not 1 to 9999, as in a datetime")
+        raise ValueError(f"the year of a datetime is 1 to 9999, but the year of the record is {date.year}")
     if date.day == 0:
-        raise ValueError("the record has the day 00, which a datetime has not")
+        raise ValueError("the day of a datetime is at least 1, but the day of the record is 0")
     if time.second == 60 and not truncate:
-        raise ValueError("the second is 60, which a datetime has not; truncate=True makes it 59")
+        raise ValueError("the second of a datetime is at most 59, but the second of the record is 60. With truncate=True, it becomes 59.")
     return _datetime.datetime(date.year, date.month, date.day, time.hour, time.minute, min(time.second, 59), _microsecond(time.fraction, truncate))
 
 
 def _microsecond(fraction: Optional[Fraction], truncate: bool) -> int:
-    """The microseconds of a fraction of a second."""
+    """Returns the microseconds of a fraction of a second. Unless `truncate` is true, raises ValueError if the fraction has digits other than 0 after the
+    sixth, or more than 18 digits."""
     if fraction is None:
         return 0
     known = min(fraction.digits, 18)
     whole, rest = divmod(fraction.value * 10**6, 10**known)
     if (rest or fraction.digits > 18) and not truncate:
-        raise ValueError("a fraction has more than the six digits of a datetime; truncate=True drops the others")
+        raise ValueError("the fraction of the record does not fit into the six digits of a datetime. With truncate=True, further digits are dropped.")
     return int(whole)
 
 
 def _fixed(offset: Union[Offset, _Utc], truncate: bool) -> _datetime.timezone:
-    """The tzinfo of an offset."""
+    """Returns the tzinfo of an offset."""
     if isinstance(offset, _Utc):
         return _datetime.timezone.utc
     seconds = offset.hour * 3600 + offset.minute * 60 + (offset.second or 0)
@@ -66,7 +67,7 @@ def _fixed(offset: Union[Offset, _Utc], truncate: bool) -> _datetime.timezone:
 
 
 def _zone_info(zone: Zone) -> _datetime.tzinfo:
-    """The tzinfo of a zone: a ZoneInfo of a name, which raises ZoneInfoNotFoundError for an unknown one."""
+    """Returns the tzinfo of a zone. For a name, it is a ZoneInfo. Raises ZoneInfoNotFoundError for an unknown name."""
     if zone.offset is not None:
         return _fixed(zone.offset, False)
     from zoneinfo import ZoneInfo
@@ -75,14 +76,15 @@ def _zone_info(zone: Zone) -> _datetime.tzinfo:
 
 
 def _is_negative_zero(offset: Offset) -> bool:
-    """Whether an offset is -00:00, which says the same as Z: the time is in UTC, and local time is not known (RFC 9557, section 2)."""
+    """Returns whether an offset is -00:00. It means the same as Z: the time is in UTC, and local time is not known (RFC 9557, section 2)."""
     return offset.sign < 0 and not (offset.hour or offset.minute or offset.second or (offset.fraction and offset.fraction.value))
 
 
 def _agreed(
     local: _datetime.datetime, instant: _datetime.datetime, offset: Offset, zone: _datetime.tzinfo, on_conflict: str
 ) -> _datetime.datetime:
-    """The local time in the zone, if the zone has this offset then; `fold` says which of two such times it is."""
+    """Returns the local time in the zone, if the zone has this offset at this time. If the local time occurs twice, sets `fold`, so that the result has
+    this offset. Otherwise `on_conflict` decides what is returned or raised."""
     for fold in (0, 1):
         found = local.replace(tzinfo=zone, fold=fold)
         if _fits(_offset_at(found), offset) and found.astimezone(_datetime.timezone.utc).astimezone(zone).replace(tzinfo=None) == local:
@@ -95,12 +97,13 @@ def _agreed(
 
 
 def _offset_at(local: _datetime.datetime) -> _datetime.timedelta:
-    """The offset of a datetime that has a tzinfo."""
+    """Returns the offset of a datetime that has a tzinfo."""
     return local.utcoffset() or _datetime.timedelta(0)
 
 
 def _fits(delta: _datetime.timedelta, offset: Offset) -> bool:
-    """Whether a zone's offset is the one that is written. If only minutes are written, they may be rounded, as ECMAScript's Temporal writes them."""
+    """Returns whether `delta`, the offset of a zone, agrees with the offset of the text. If the offset of the text has no seconds, `delta` is rounded to
+    minutes before the comparison, because ECMAScript's Temporal writes rounded offsets."""
     written = _fixed(offset, True).utcoffset(None)
     if delta == written:
         return True
@@ -113,12 +116,12 @@ def _fits(delta: _datetime.timedelta, offset: Offset) -> bool:
 
 
 def _delta_text(delta: _datetime.timedelta) -> str:
-    """A timedelta as an offset."""
+    """Returns a timedelta as the text of an offset, such as -05:00."""
     sign, whole = ("-", -delta) if delta < _datetime.timedelta(0) else ("+", delta)
     minutes, seconds = divmod(int(whole.total_seconds()), 60)
     return f"{sign}{minutes // 60:02}:{minutes % 60:02}" + (f":{seconds:02}" if seconds else "")
 
 
 def _offset_text(offset: Offset) -> str:
-    """An offset as it is written."""
+    """Returns the text of an offset, without its fraction."""
     return _delta_text(_fixed(offset, True).utcoffset(None))

@@ -1,17 +1,17 @@
-"""The error of a text that is refused."""
+"""The exception IxdtfError."""
 from typing import Union
 
 
 class IxdtfError(ValueError):
-    """Says why a text is refused, and where.
+    """Raised if a text is refused. It has these attributes:
 
     text      the text, as str or bytes
     name      the name of the error, such as "DATE_MONTH"
     reason    the error in words
-    position  how many code points of a str, or bytes of bytes, stand before the position of the error
-    within    what the text broke off in, such as "digit", if it ended too early, and else ""
+    position  the number of code points (of a str) or bytes (of bytes) before the error
+    within    what was being parsed, such as "digit", if the text ends too early; otherwise ""
 
-    str() has the reason, the text and a mark under the position.
+    str() returns three lines: the reason, the text, and a mark under the position.
     """
 
     __module__ = "ixdtf"
@@ -29,7 +29,7 @@ class IxdtfError(ValueError):
 
 
 def _shown(text: Union[str, bytes]) -> str:
-    """A text in one line: each character that cannot be printed is written as in a Python string."""
+    """Returns a text on one line. A character that cannot be printed is written as an escape sequence of Python, such as \\n."""
     if isinstance(text, str):
         return "".join(it if it.isprintable() else ascii(it)[1:-1] for it in text)
     return "".join(it if " " <= it <= "~" else ascii(it)[1:-1] for it in text.decode("latin-1"))

@@ -1,12 +1,12 @@
-/* The readers of the library for C, and the record that they return, for Python. Everything that is not needed for speed is written in
- * Python, in the other modules of this package. */
+/* The extension of the package: the functions that call the readers and printers of the library for C, and the type Record. Code that need not be
+ * fast is written in Python, in the other modules of this package. */
 #define PY_SSIZE_T_CLEAN
 #include <Python.h>
 #include <datetime.h>
 #include <ixdtf.h>
 #include <string.h>
 
-/* Of Python 3.10 and later. */
+/* Python 3.10 added this function. */
 #if PY_VERSION_HEX < 0x030A0000
 static inline PyObject *Py_NewRef(PyObject *object) {
     Py_INCREF(object);
@@ -14,31 +14,32 @@ static inline PyObject *Py_NewRef(PyObject *object) {
 }
 #endif
 
-/* Texts of more bytes than this are read while other threads run. Below it, letting them run takes longer than reading. */
+/* If a text has more bytes than this and there is no handler, the GIL is released while the text is read, so that other threads can run. For a shorter
+ * text, releasing the GIL takes longer than reading the text. */
 #define LONG_TEXT 4096
 
 typedef struct {
-    PyObject *error;       /* IxdtfError, of _errors.py */
-    PyObject *make_date;   /* the functions of _records.py that make a part of a record */
+    PyObject *error;       /* IxdtfError of _errors.py */
+    PyObject *make_date;   /* this and the next five: functions of _records.py */
     PyObject *make_time;
     PyObject *make_offset;
     PyObject *make_zone;
     PyObject *make_duration;
     PyObject *make_instant;
-    PyObject *duration_type; /* Duration, Offset and Zone, of _records.py */
+    PyObject *duration_type; /* this and the next two: Duration, Offset and Zone of _records.py */
     PyObject *offset_type;
     PyObject *zone_type;
-    PyObject *to_datetime; /* of _datetimes.py */
-    PyObject *describe;    /* of _records.py: what repr() shows */
+    PyObject *to_datetime; /* a function of _datetimes.py */
+    PyObject *describe;    /* a function of _records.py, which returns the text of repr() */
     PyObject *record_type;
-    PyObject *last_zone;   /* the tzinfo that was made last, of `last_seconds`, or NULL */
+    PyObject *last_zone;   /* the last tzinfo that fixed_zone made, for the offset of `last_seconds` seconds; or NULL */
     int32_t last_seconds;
 } module_state;
 
 typedef struct {
     PyObject_HEAD
-    ixdtf_record fields; /* its slices are parts of `source` */
-    PyObject *source;    /* a str that is ASCII, or bytes; it never changes */
+    ixdtf_record fields; /* Its slices point into `source`. */
+    PyObject *source;    /* an ASCII str, or bytes: an object that never changes */
 } record_object;
 
 static struct PyModuleDef module_definition;
@@ -47,14 +48,14 @@ static module_state *state_of(PyObject *module) {
     return (module_state *)PyModule_GetState(module);
 }
 
-/* The type cannot have subclasses, so its own module is the one. */
+/* Record has no subclasses. So the module of the type of `self` is this module. */
 static module_state *state_of_record(PyObject *self) {
     return (module_state *)PyType_GetModuleState(Py_TYPE(self));
 }
 
 /* ---- Texts ---- */
 
-/* Before Python 3.12 a str may be there without its characters. */
+/* Before Python 3.12, the characters of a str may be missing until PyUnicode_READY is called. Returns 0, with an exception, if this call fails. */
 static int is_ready(PyObject *text) {
 #if PY_VERSION_HEX < 0x030C0000
     return PyUnicode_READY(text) == 0;
@@ -64,14 +65,15 @@ static int is_ready(PyObject *text) {
 #endif
 }
 
-/* The bytes of a text, and the object that keeps them. */
+/* The bytes of a text, and a reference to the object that contains them. */
 typedef struct {
     const uint8_t *at;
     Py_ssize_t length;
     PyObject *owner;
 } text_bytes;
 
-/* The bytes of a str, bytes or other object with a buffer. An object that can change is copied. */
+/* Writes the bytes of a text to `out`. The text is a str, bytes, or another object with a buffer. An object that can change is copied. Returns 0, or -1
+ * with an exception. */
 static int take_text(PyObject *text, text_bytes *out) {
     if (PyUnicode_Check(text)) {
         if (!is_ready(text)) {
@@ -83,14 +85,14 @@ static int take_text(PyObject *text, text_bytes *out) {
             out->owner = Py_NewRef(text);
             return 0;
         }
-        /* No reader accepts such a text. A surrogate that stands alone has bytes too, so that the error has a position. */
+        /* No reader accepts such a text, but its error needs a position. So unpaired surrogates are encoded too, with "surrogatepass". */
         out->owner = PyUnicode_AsEncodedString(text, "utf-8", "surrogatepass");
     } else if (PyBytes_Check(text)) {
         out->owner = Py_NewRef(text);
     } else if (PyObject_CheckBuffer(text)) {
         out->owner = PyBytes_FromObject(text);
     } else {
-        PyErr_Format(PyExc_TypeError, "a text is str or bytes, and not %.100s", Py_TYPE(text)->tp_name);
+        PyErr_Format(PyExc_TypeError, "expected a text to be str or bytes, and found %.100s", Py_TYPE(text)->tp_name);
         return -1;
     }
     if (out->owner == NULL) {
@@ -106,7 +108,8 @@ static int take_text(PyObject *text, text_bytes *out) {
 typedef uint32_t read_record(const uint8_t *text, size_t length, ixdtf_record *out);
 typedef uint32_t list_record(const uint8_t *text, size_t length, ixdtf_annotation *annotations, size_t room, size_t *count, ixdtf_record *out);
 
-/* A kind of text, with its readers in both profiles. `list` is NULL where a text of the kind has no annotations. */
+/* A kind of text, with its readers for both profiles. `list` and `list_strict` are the readers that list annotations. They are NULL if a text of this
+ * kind has no annotations. */
 typedef struct {
     const char *name;
     read_record *read, *read_strict;
@@ -156,7 +159,8 @@ static uint32_t run_duration(int strict, const text_bytes *text, ixdtf_duration 
 
 /* ---- Errors ---- */
 
-/* Raises the IxdtfError of a text. Its position is counted in code points of a str, and in bytes of any other text. */
+/* Raises an IxdtfError for a text, and returns NULL. The position of the error is a number of code points for a str, and a number of bytes for any other
+ * text. `place` is a number of bytes. */
 static PyObject *raise_error(module_state *state, PyObject *text, const text_bytes *bytes, uint32_t number, size_t place, ixdtf_text location) {
     Py_ssize_t position = (Py_ssize_t)place;
     if (PyUnicode_Check(text) && !PyUnicode_IS_ASCII(text)) {
@@ -331,8 +335,9 @@ static PyObject *record_reduce(PyObject *self, PyObject *nothing) {
     return parts == NULL ? NULL : Py_BuildValue("ON", (PyObject *)Py_TYPE(self), parts);
 }
 
-/* ---- A record of its parts ---- */
+/* ---- Making a record from its parts ---- */
 
+/* Writes an attribute, which must be a number from `least` to `most`, to `out`. Returns 0, or -1 with an exception. */
 static int number_of(PyObject *object, const char *name, long long least, long long most, long long *out) {
     PyObject *value = PyObject_GetAttrString(object, name);
     if (value == NULL) {
@@ -345,13 +350,13 @@ static int number_of(PyObject *object, const char *name, long long least, long l
         return -1;
     }
     if (overflow != 0 || *out < least || *out > most) {
-        PyErr_Format(PyExc_ValueError, "%s is a number from %lld to %lld", name, least, most);
+        PyErr_Format(PyExc_ValueError, "expected %s to be a number from %lld to %lld", name, least, most);
         return -1;
     }
     return 0;
 }
 
-/* The number and the count of digits of a part's fraction; both are 0 where the fraction is None. */
+/* Writes the value and the number of digits of the fraction of a part. Both are 0 if the fraction is None. Returns 0, or -1 with an exception. */
 static int fraction_of(PyObject *part, uint64_t *number, uint8_t *digits) {
     PyObject *fraction = PyObject_GetAttrString(part, "fraction");
     if (fraction == NULL) {
@@ -399,14 +404,14 @@ static int set_time(ixdtf_record *out, PyObject *part) {
     return 0;
 }
 
-/* The sign, hour and minute of an offset. */
+/* Writes the sign, the hour and the minute of an offset. Returns 0, or -1 with an exception. */
 static int minutes_of(PyObject *part, bool *is_negative, uint8_t *hour, uint8_t *minute) {
     long long sign, hours, minutes;
     if (number_of(part, "sign", -1, 1, &sign) < 0 || number_of(part, "hour", 0, 23, &hours) < 0 || number_of(part, "minute", 0, 59, &minutes) < 0) {
         return -1;
     }
     if (sign == 0) {
-        PyErr_SetString(PyExc_ValueError, "sign is 1 or -1");
+        PyErr_SetString(PyExc_ValueError, "expected sign to be 1 or -1");
         return -1;
     }
     *is_negative = sign < 0;
@@ -444,10 +449,10 @@ static int set_offset(ixdtf_record *out, PyObject *part) {
     return 0;
 }
 
-/* The bytes of a name or a calendar, which is an ASCII str. */
+/* Writes the bytes of a name, a key or a value, which must be an ASCII str. `what` describes it in the exception. Returns 0, or -1 with an exception. */
 static int name_bytes(PyObject *name, const char *what, const char **at, Py_ssize_t *length) {
     if (!PyUnicode_Check(name) || !is_ready(name) || !PyUnicode_IS_ASCII(name)) {
-        PyErr_Format(PyExc_ValueError, "%s is a str of ASCII characters", what);
+        PyErr_Format(PyExc_ValueError, "expected %s to be a str of ASCII characters", what);
         return -1;
     }
     *at = (const char *)PyUnicode_1BYTE_DATA(name);
@@ -455,7 +460,7 @@ static int name_bytes(PyObject *name, const char *what, const char **at, Py_ssiz
     return 0;
 }
 
-/* The zone, and its name in `name`, a new reference or NULL. */
+/* Writes the zone, except its name. `name` becomes a new reference to the name, or NULL if the zone has none. Returns 0, or -1 with an exception. */
 static int set_zone(ixdtf_record *out, PyObject *part, PyObject **name) {
     *name = NULL;
     if (part == Py_None) {
@@ -482,7 +487,8 @@ static int set_zone(ixdtf_record *out, PyObject *part, PyObject **name) {
     return *name == NULL ? -1 : 0;
 }
 
-/* Puts the slices of the zone's name and of the calendar into bytes that the record keeps. */
+/* Returns new bytes with the name of the zone and the calendar, and makes the slices of `out` point into these bytes. Returns NULL, with an exception, if
+ * this fails. */
 static PyObject *joined_names(ixdtf_record *out, PyObject *name, PyObject *calendar) {
     const char *name_at = "", *calendar_at = "";
     Py_ssize_t name_length = 0, calendar_length = 0;
@@ -526,7 +532,7 @@ static PyObject *record_new(PyTypeObject *type, PyObject *arguments, PyObject *k
 
 /* ---- datetime ---- */
 
-/* The microseconds of a fraction of a second, or -1 where it has digits other than 0 behind the sixth. */
+/* Returns the microseconds of a fraction of a second. Returns -1 if the fraction has digits other than 0 after the sixth, or more than 18 digits. */
 static long microseconds_of(uint64_t fraction, uint8_t digits) {
     unsigned known = digits < 18 ? digits : 18;
     if (known == 0) {
@@ -544,7 +550,7 @@ static long microseconds_of(uint64_t fraction, uint8_t digits) {
     return digits > 18 ? -1 : (long)fraction;
 }
 
-/* The tzinfo of an offset of whole seconds, or of Z. That of the last call is kept, since most texts of a list have one offset. */
+/* Returns the tzinfo of Z, or of an offset of whole seconds. The last tzinfo is kept, because the texts of a list often have the same offset. */
 static PyObject *fixed_zone(module_state *state, const ixdtf_offset *offset) {
     int32_t seconds = ixdtf_offset_seconds(offset);
     if (seconds == 0) {
@@ -566,7 +572,8 @@ static PyObject *fixed_zone(module_state *state, const ixdtf_offset *offset) {
     return zone;
 }
 
-/* to_datetime() of the records that need no decision: in range, without a zone, exact in microseconds. Else NULL without an error. */
+/* Returns the datetime of a record that has no zone, no fraction in its offset, and only values that a datetime can hold exactly. For any other record,
+ * returns NULL without an exception. If an object cannot be made, returns NULL with an exception. */
 static PyObject *plain_datetime(module_state *state, const ixdtf_record *fields) {
     const ixdtf_date *date = &fields->date;
     const ixdtf_time *time = &fields->time;
@@ -585,7 +592,8 @@ static PyObject *plain_datetime(module_state *state, const ixdtf_record *fields)
     return made;
 }
 
-/* Without arguments most records need nothing of Python; the others go to _datetimes.py, which checks the arguments too. */
+/* If there are no arguments, plain_datetime makes most datetimes. For the others, the function in _datetimes.py is called, which checks the arguments
+ * too. */
 static PyObject *record_to_datetime(PyObject *self, PyObject *const *arguments, Py_ssize_t count, PyObject *keywords) {
     if (count == 0 && keywords == NULL) {
         PyObject *made = plain_datetime(state_of_record(self), &((record_object *)self)->fields);
@@ -618,18 +626,21 @@ static PyMethodDef record_methods[] = {
     { "to_datetime", (PyCFunction)(void (*)(void))record_to_datetime, METH_FASTCALL | METH_KEYWORDS,
       "to_datetime($self, /, on_conflict='error', truncate=False)\n--\n\n"
       "Returns the datetime.datetime of a record that has a date and a time.\n\n"
-      "Without an offset and a zone it has no tzinfo. With an offset alone its tzinfo is a datetime.timezone, with a zone a\n"
-      "zoneinfo.ZoneInfo. If the offset and the zone do not fit, on_conflict says what counts: 'error' raises\n"
-      "ZoneConflictError, 'offset' takes the instant that the offset gives, 'zone' takes the local time in the zone.\n\n"
-      "ValueError is raised if a part is missing, if the year is not 1 to 9999, and, unless truncate is true, if the second is\n"
-      "60 or a fraction has more than six digits. With truncate the second 60 becomes 59, and further digits are dropped." },
+      "If the record has neither an offset nor a zone, the datetime has no tzinfo. If it has only an offset, or a zone that is an\n"
+      "offset, tzinfo is a datetime.timezone. If it has a zone with a name, tzinfo is a zoneinfo.ZoneInfo. If the offset and the\n"
+      "zone disagree, on_conflict decides. 'error' raises ZoneConflictError. 'offset' returns the instant that the offset gives,\n"
+      "in the zone. 'zone' ignores the offset, and returns the local time in the zone.\n\n"
+      "Raises ValueError if the date or the time is missing, if the year is not 1 to 9999, or if the day is 0. Unless truncate is\n"
+      "true, also raises ValueError if the second is 60, or if a fraction has digits other than 0 after the sixth, or more than 18\n"
+      "digits. With truncate=True, the second 60 becomes 59, and digits after the sixth are dropped. Raises\n"
+      "zoneinfo.ZoneInfoNotFoundError if the name of the zone is unknown." },
     { "__reduce__", record_reduce, METH_NOARGS, NULL },
     { NULL, NULL, 0, NULL },
 };
 
 static PyType_Slot record_slots[] = {
-    { Py_tp_doc, "Record(date=None, time=None, offset=None, zone=None, calendar=None)\n--\n\nWhat a text says. It never changes.\n\n"
-                 "Each part is None where the text does not have it." },
+    { Py_tp_doc, "Record(date=None, time=None, offset=None, zone=None, calendar=None)\n--\n\nThe parts of a text that was read. A Record never changes.\n\n"
+                 "A part is None if the text does not have it." },
     { Py_tp_new, record_new },
     { Py_tp_dealloc, record_dealloc },
     { Py_tp_repr, record_repr },
@@ -644,7 +655,8 @@ static PyType_Spec record_spec = { "ixdtf.Record", sizeof(record_object), 0, Py_
 
 /* ---- Handlers ---- */
 
-/* The units of an attribute of a reply, which has to be an ASCII str. */
+/* Writes the code units of an attribute of a reply, which must be an ASCII str. `kept` becomes a reference to the str. Returns 0, or -1 with an
+ * exception. */
 static int reply_units(PyObject *reply, const char *name, ixdtf_units *out, PyObject **kept) {
     const char *at;
     Py_ssize_t length;
@@ -657,8 +669,8 @@ static int reply_units(PyObject *reply, const char *name, ixdtf_units *out, PyOb
     return 0;
 }
 
-/* Hands one annotation to the handler and its reply to the library. The calendar's units are kept in `kept`, where it is a reply's. 1: go on,
- * 0: the reply is refused with `error`, -1: an exception. */
+/* Calls the handler with one annotation, and passes the reply to the library. The list `kept` gets the value of the reply, because the calendar can point
+ * into it. Returns 1 if the reply is accepted or None, 0 if it is refused with the error `error`, and -1 with an exception. */
 static int ask(PyObject *handler, PyObject *make, const ixdtf_annotation *listed, ixdtf_calendar *calendar, PyObject *kept, uint32_t *error) {
     PyObject *annotation = PyObject_CallFunction(make, "NNO", units_as_str(listed->key), units_as_str(listed->value), listed->is_critical ? Py_True : Py_False);
     PyObject *reply = annotation == NULL ? NULL : PyObject_CallFunctionObjArgs(handler, annotation, NULL);
@@ -689,7 +701,7 @@ static int ask(PyObject *handler, PyObject *make, const ixdtf_annotation *listed
     return went;
 }
 
-/* Reads a text with a handler: lists the annotations, asks about each in order, and keeps the calendar. */
+/* Reads a text with a handler: lists the annotations, calls the handler for each of them in order, and writes the calendar to the record. */
 static PyObject *read_handled(module_state *state, const kind *what, int strict, PyObject *text, const text_bytes *bytes, PyObject *handler) {
     size_t room = (size_t)bytes->length / 5 + 1, count = 0;
     ixdtf_annotation *list = PyMem_Calloc(room, sizeof *list);
@@ -723,7 +735,7 @@ static PyObject *read_handled(module_state *state, const kind *what, int strict,
     if (!calendar.is_there) {
         result = new_record(state, &fields, bytes->owner);
     } else {
-        /* the calendar is a slice of a reply, so the record gets a copy of both names */
+        /* The calendar points into a reply. So the record gets a copy of the name of its zone and of its calendar. */
         PyObject *name = fields.zone.form == IXDTF_NAME ? units_as_str(fields.zone.name) : NULL;
         PyObject *value = units_as_str(fields.calendar);
         PyObject *source = value == NULL || PyErr_Occurred() ? NULL : joined_names(&fields, name, value);
@@ -760,13 +772,13 @@ static PyObject *read_kind(PyObject *module, const kind *what, PyObject *text, i
     return result;
 }
 
-/* A call of one positional text, and perhaps the keywords strict and handler. Without keywords nothing is parsed. */
+/* Reads one text, which is the only positional argument. `has_strict` and `has_handler` say which of the keywords strict and handler are allowed. */
 static PyObject *call_kind(PyObject *module, PyObject *const *arguments, Py_ssize_t count, PyObject *keywords, const kind *what, const char *name,
     int has_strict, int has_handler) {
     PyObject *handler = NULL;
     int strict = 0;
     if (count != 1) {
-        return PyErr_Format(PyExc_TypeError, "%s() takes one text, and was given %zd arguments by position", name, count);
+        return PyErr_Format(PyExc_TypeError, "%s() expects one positional argument, the text, and found %zd", name, count);
     }
     for (Py_ssize_t i = 0; keywords != NULL && i < PyTuple_GET_SIZE(keywords); i++) {
         PyObject *keyword = PyTuple_GET_ITEM(keywords, i);
@@ -775,7 +787,7 @@ static PyObject *call_kind(PyObject *module, PyObject *const *arguments, Py_ssiz
         } else if (has_handler && PyUnicode_CompareWithASCIIString(keyword, "handler") == 0) {
             handler = arguments[count + i];
         } else {
-            return PyErr_Format(PyExc_TypeError, "%s() has no keyword %R", name, keyword);
+            return PyErr_Format(PyExc_TypeError, "%s() has no keyword argument %R", name, keyword);
         }
         if (strict < 0) {
             return NULL;
@@ -795,7 +807,7 @@ READER(parse_time, TIME, 1, 1)
 READER(parse_rfc3339, RFC3339, 0, 0)
 READER(parse_rfc9557, RFC9557, 0, 1)
 
-/* The offset or the zone of a text that is nothing else. */
+/* Returns the Offset or the Zone of a text that is only an offset or a zone. */
 static PyObject *read_part(PyObject *module, PyObject *text, const kind *what) {
     module_state *state = state_of(module);
     text_bytes bytes;
@@ -854,7 +866,7 @@ static PyObject *parse_duration(PyObject *module, PyObject *arguments, PyObject 
     return result;
 }
 
-/* Which kind a name is, RECORD_KINDS for a duration, or -1 with an exception. */
+/* Returns the number of the kind with this name. It is RECORD_KINDS for a duration. Returns -1, with an exception, if there is no such kind. */
 static int kind_number(PyObject *name) {
     if (PyUnicode_Check(name)) {
         for (int i = 0; i < RECORD_KINDS; i++) {
@@ -866,7 +878,7 @@ static int kind_number(PyObject *name) {
             return RECORD_KINDS;
         }
     }
-    PyErr_Format(PyExc_ValueError, "%R is no kind of text: the kinds are date-time, year-month, month-day, time, rfc3339, rfc9557, offset, zone, zone-name and duration", name);
+    PyErr_Format(PyExc_ValueError, "expected a kind of text, which is date-time, year-month, month-day, time, rfc3339, rfc9557, offset, zone, zone-name or duration, and found %R", name);
     return -1;
 }
 
@@ -891,7 +903,7 @@ static PyObject *is_valid(PyObject *module, PyObject *const *arguments, Py_ssize
     (void)module;
     int number = DATE_TIME, strict = 0;
     if (count < 1 || count > 2) {
-        return PyErr_Format(PyExc_TypeError, "is_valid() takes a text and a kind, and was given %zd arguments by position", count);
+        return PyErr_Format(PyExc_TypeError, "is_valid() expects one or two positional arguments, the text and the kind, and found %zd", count);
     }
     if (count == 2 && (number = kind_number(arguments[1])) < 0) {
         return NULL;
@@ -903,7 +915,7 @@ static PyObject *is_valid(PyObject *module, PyObject *const *arguments, Py_ssize
         } else if (PyUnicode_CompareWithASCIIString(keyword, "strict") == 0) {
             strict = PyObject_IsTrue(arguments[count + i]);
         } else {
-            return PyErr_Format(PyExc_TypeError, "is_valid() has no keyword %R", keyword);
+            return PyErr_Format(PyExc_TypeError, "is_valid() has no keyword argument %R", keyword);
         }
         if (number < 0 || strict < 0) {
             return NULL;
@@ -912,7 +924,8 @@ static PyObject *is_valid(PyObject *module, PyObject *const *arguments, Py_ssize
     return valid_of_kind(arguments[0], number, strict);
 }
 
-/* A number of a duration, of which *there says whether it is not None. */
+/* Writes a number of a duration, which must be at most `most`, to `out`. If the attribute is None, writes 0 to `out` and to `there`. Otherwise writes 1 to
+ * `there`. Returns 0, or -1 with an exception. */
 static int unit_of(PyObject *duration, const char *name, unsigned long long most, unsigned long long *out, int *there) {
     PyObject *value = PyObject_GetAttrString(duration, name);
     if (value == NULL) {
@@ -932,11 +945,11 @@ static int unit_of(PyObject *duration, const char *name, unsigned long long most
     } else if (*out <= most) {
         return 0;
     }
-    PyErr_Format(PyExc_ValueError, "%s is a number from 0 to %llu, or None", name, most);
+    PyErr_Format(PyExc_ValueError, "expected %s to be a number from 0 to %llu, or None", name, most);
     return -1;
 }
 
-/* The fields of a Duration. */
+/* Writes the fields of a Duration to a struct. Returns 0, or -1 with an exception. */
 static int duration_fields(PyObject *duration, ixdtf_duration *out) {
     static const char *const names[7] = { "years", "months", "weeks", "days", "hours", "minutes", "seconds" };
     unsigned long long numbers[7];
@@ -955,8 +968,8 @@ static int duration_fields(PyObject *duration, ixdtf_duration *out) {
     }
     if (sign == 0 || there[0] != there[1] || there[0] != there[2] || there[0] != there[3] || there[4] < there[5] || there[5] < there[6]
         || (out->fraction_digits != 0 && !there[4])) {
-        PyErr_SetString(PyExc_ValueError, "this is the Duration of no text: its sign is 1 or -1, its years, months, weeks and days are all None or all numbers, "
-                                          "and its hours, minutes, seconds and fraction are None from some place on");
+        PyErr_SetString(PyExc_ValueError, "no text gives this Duration. Its sign must be 1 or -1. Either all or none of years, months, weeks and days must be None. "
+                                          "If hours is None, minutes and fraction must be None, and if minutes is None, seconds must be None");
         return -1;
     }
     out->is_negative = sign < 0;
@@ -974,7 +987,7 @@ static int duration_fields(PyObject *duration, ixdtf_duration *out) {
 
 static PyObject *canonical_duration(PyObject *duration) {
     ixdtf_duration fields = IXDTF_DURATION;
-    uint8_t text[512]; /* it has at most 406 bytes */
+    uint8_t text[512]; /* large enough: the text has at most 406 bytes */
     size_t count = 0;
     if (duration_fields(duration, &fields) < 0) {
         return NULL;
@@ -986,7 +999,7 @@ static PyObject *canonical_duration(PyObject *duration) {
     return PyUnicode_DecodeASCII((const char *)text, (Py_ssize_t)count, NULL);
 }
 
-/* The printers of records, by the names of the kinds, and the function that reads the texts. */
+/* The printers of records. Each has the name of its kind, and the name of the function of this module that reads its texts. */
 static const struct { const char *kind, *reader; uint32_t (*print)(const ixdtf_record *, uint8_t *, size_t, size_t *); } PRINTERS[] = {
     { "date-time", "parse", ixdtf_print },
     { "year-month", "parse_year_month", ixdtf_print_year_month },
@@ -1007,14 +1020,14 @@ static PyObject *canonical_record(const ixdtf_record *fields, int number) {
     PyObject *made = PyUnicode_New((Py_ssize_t)count, 127);
     if (made != NULL && PRINTERS[number].print(fields, PyUnicode_1BYTE_DATA(made), count, &count) != IXDTF_OK) {
         Py_CLEAR(made);
-        PyErr_SetString(PyExc_SystemError, "the canonical text has another length than was counted");
+        PyErr_SetString(PyExc_SystemError, "expected the length of the canonical text to be the length that the library counted before");
     }
     return made;
 }
 
 static PyObject *canonical_offset(PyObject *offset) {
     ixdtf_record fields = IXDTF_RECORD;
-    uint8_t text[512]; /* it has at most 265 bytes */
+    uint8_t text[512]; /* large enough: the text has at most 265 bytes */
     size_t count = 0;
     if (set_offset(&fields, offset) < 0) {
         return NULL;
@@ -1046,14 +1059,14 @@ static PyObject *canonical_zone(PyObject *zone) {
     return made;
 }
 
-/* The number of a printer of records, or -1 with an exception. */
+/* Returns the index of the printer for this kind in PRINTERS. Returns -1, with an exception, if there is no such printer. */
 static int printer_number(PyObject *name) {
     for (int i = 0; PyUnicode_Check(name) && i < (int)(sizeof PRINTERS / sizeof *PRINTERS); i++) {
         if (PyUnicode_CompareWithASCIIString(name, PRINTERS[i].kind) == 0) {
             return i;
         }
     }
-    PyErr_Format(PyExc_ValueError, "%R is no kind of record: the kinds are date-time, year-month, month-day and time", name);
+    PyErr_Format(PyExc_ValueError, "expected a kind of record, which is date-time, year-month, month-day or time, and found %R", name);
     return -1;
 }
 
@@ -1069,7 +1082,7 @@ static PyObject *canonical(PyObject *module, PyObject *arguments, PyObject *keyw
         return number < 0 ? NULL : canonical_record(&((record_object *)record)->fields, number);
     }
     if (kind != NULL) {
-        PyErr_SetString(PyExc_TypeError, "canonical() takes a kind only with a Record");
+        PyErr_SetString(PyExc_TypeError, "canonical() accepts a kind only for a Record");
         return NULL;
     }
     if (PyObject_TypeCheck(record, (PyTypeObject *)state->duration_type)) {
@@ -1081,22 +1094,22 @@ static PyObject *canonical(PyObject *module, PyObject *arguments, PyObject *keyw
     if (PyObject_TypeCheck(record, (PyTypeObject *)state->zone_type)) {
         return canonical_zone(record);
     }
-    return PyErr_Format(PyExc_TypeError, "canonical() takes a Record, a Duration, an Offset or a Zone, and not %.100s", Py_TYPE(record)->tp_name);
+    return PyErr_Format(PyExc_TypeError, "canonical() expects a Record, a Duration, an Offset or a Zone, and found %.100s", Py_TYPE(record)->tp_name);
 }
 
 static PyObject *instant(PyObject *module, PyObject *record) {
     module_state *state = state_of(module);
     if (!PyObject_TypeCheck(record, (PyTypeObject *)state->record_type)) {
-        return PyErr_Format(PyExc_TypeError, "instant() takes a Record, and not %.100s", Py_TYPE(record)->tp_name);
+        return PyErr_Format(PyExc_TypeError, "instant() expects a Record, and found %.100s", Py_TYPE(record)->tp_name);
     }
     const ixdtf_record *fields = &((record_object *)record)->fields;
     int64_t seconds = 0;
     uint32_t nanoseconds = 0;
     if (ixdtf_instant(fields, &seconds, &nanoseconds) != IXDTF_OK) {
-        PyErr_SetString(PyExc_ValueError, !fields->date.is_there ? "the record has no date, and so no instant"
-                : !fields->time.is_there                         ? "the record has no time, and so no instant"
-                : fields->offset.form == IXDTF_NO_OFFSET         ? "the record has no offset, and so no instant"
-                                                                 : "a fraction has more digits than it says, so the record has no instant");
+        PyErr_SetString(PyExc_ValueError, !fields->date.is_there ? "the record has no date, so it has no instant"
+                : !fields->time.is_there                         ? "the record has no time, so it has no instant"
+                : fields->offset.form == IXDTF_NO_OFFSET         ? "the record has no offset, so it has no instant"
+                                                                 : "the value of a fraction has more digits than its field digits says, so the record has no instant");
         return NULL;
     }
     return PyObject_CallFunction(state->make_instant, "LI", (long long)seconds, (unsigned)nanoseconds);
@@ -1107,37 +1120,43 @@ static PyObject *instant(PyObject *module, PyObject *record) {
 static PyMethodDef module_methods[] = {
     { "parse", FAST(parse),
       "parse(text, /, *, handler=None)\n--\n\n"
-      "Returns the Record of a date, or of a date and a time, with an offset, a zone and annotations.\n\n"
-      "The text is str or bytes, such as '2024-03-02T08:48:00-05:00[America/New_York][u-ca=hebrew]'. If it is refused, IxdtfError is\n"
-      "raised. A handler is called with each Annotation in order. It returns this annotation, another one, or None to drop it." },
-    { "parse_year_month", FAST(parse_year_month), "parse_year_month(text, /, *, handler=None)\n--\n\nReturns the Record of a year and a month, such as '2020-11'. Its day is 1." },
+      "Reads a date, or a date and a time, and returns its Record. The text may have an offset, a zone and annotations.\n\n"
+      "The text is str or bytes, such as '2024-03-02T08:48:00-05:00[America/New_York][u-ca=hebrew]'. Raises IxdtfError if the text is\n"
+      "refused. handler is a function. It is called with each Annotation in order, up to the first error. It returns this\n"
+      "annotation, another annotation, or None to drop this annotation." },
+    { "parse_year_month", FAST(parse_year_month), "parse_year_month(text, /, *, handler=None)\n--\n\nReads a year and a month, such as '2020-11', and returns its Record. The day of the Record is 1." },
     { "parse_month_day", FAST(parse_month_day),
-      "parse_month_day(text, /, *, strict=False, handler=None)\n--\n\nReturns the Record of a month and a day, such as '11-07'. Its year is 0. The strict profile refuses the day 00." },
+      "parse_month_day(text, /, *, strict=False, handler=None)\n--\n\nReads a month and a day, such as '11-07', and returns its Record. The year of the Record is 0.\n"
+      "With strict=True, the day 00 is refused." },
     { "parse_time", FAST(parse_time),
-      "parse_time(text, /, *, strict=False, handler=None)\n--\n\nReturns the Record of a time, such as 'T12:30'. Without T a time that could be a month and a day, or a year and a month, is\n"
-      "refused. In the strict profile there is no day 00, so that '1200' is a time." },
+      "parse_time(text, /, *, strict=False, handler=None)\n--\n\nReads a time, such as 'T12:30', and returns its Record.\n\n"
+      "A time without T is refused if it begins with a month and a day, or with a year and a month. '1200' is refused, because it\n"
+      "could also mean month 12, day 00. With strict=True, there is no day 00, so '1200' is accepted." },
     { "parse_rfc3339", FAST(parse_rfc3339),
-      "parse_rfc3339(text, /)\n--\n\nReturns the Record of a date-time of RFC 3339, section 5.6, such as '2024-03-02T08:48:00.25-05:00'. It refuses every other text.\n"
-      "parse() accepts each of these texts too, and returns an equal Record." },
+      "parse_rfc3339(text, /)\n--\n\nReads a date-time of RFC 3339, section 5.6, such as '2024-03-02T08:48:00.25-05:00', and returns its Record.\n\n"
+      "Every other text is refused. parse() accepts each of these texts too, and returns an equal Record." },
     { "parse_rfc9557", FAST(parse_rfc9557),
-      "parse_rfc9557(text, /, *, handler=None)\n--\n\nReturns the Record of a date-time of RFC 9557, section 4.1, such as\n"
-      "'2024-03-02T08:48:00-05:00[America/New_York][u-ca=hebrew]'. It refuses every other text.\n"
-      "parse() accepts each of these texts too, and returns an equal Record." },
-    { "parse_offset", parse_offset, METH_O, "parse_offset(text, /)\n--\n\nReturns the Offset of a text such as '+05:30'." },
-    { "parse_zone", parse_zone, METH_O, "parse_zone(text, /)\n--\n\nReturns the Zone of a name or an offset, such as 'Europe/Berlin' or '+05:30'." },
-    { "parse_zone_name", parse_zone_name, METH_O, "parse_zone_name(text, /)\n--\n\nReturns the Zone of a name, such as 'Europe/Berlin'." },
+      "parse_rfc9557(text, /, *, handler=None)\n--\n\nReads a date-time-ext of RFC 9557, section 4.1, such as\n"
+      "'2024-03-02T08:48:00-05:00[America/New_York][u-ca=hebrew]', and returns its Record.\n\n"
+      "Every other text is refused. parse() accepts each of these texts too, and returns an equal Record." },
+    { "parse_offset", parse_offset, METH_O, "parse_offset(text, /)\n--\n\nReads an offset, such as '+05:30', and returns it as an Offset. 'Z' is refused." },
+    { "parse_zone", parse_zone, METH_O, "parse_zone(text, /)\n--\n\nReads a time zone, which is a name or an offset, such as 'Europe/Berlin' or '+05:30', and returns its Zone." },
+    { "parse_zone_name", parse_zone_name, METH_O, "parse_zone_name(text, /)\n--\n\nReads the name of a time zone, such as 'Europe/Berlin', and returns its Zone." },
     { "parse_duration", (PyCFunction)(void (*)(void))parse_duration, METH_VARARGS | METH_KEYWORDS,
-      "parse_duration(text, /, *, strict=False)\n--\n\nReturns the Duration of a text such as '-P1Y2M3W4DT5H6M7.5S'. The strict profile refuses a unit that stands twice." },
+      "parse_duration(text, /, *, strict=False)\n--\n\nReads a duration, such as '-P1Y2M3W4DT5H6M7.5S', and returns its Duration. With strict=True, a repeated unit is\n"
+      "refused, as in 'P1Y2Y'." },
     { "is_valid", FAST(is_valid),
       "is_valid(text, /, kind='date-time', *, strict=False)\n--\n\n"
-      "Returns whether a text is accepted. The kinds are date-time, year-month, month-day, time, rfc3339, rfc9557, offset, zone, zone-name and duration." },
+      "Returns whether a text of this kind is accepted. The kinds are date-time, year-month, month-day, time, rfc3339, rfc9557, offset, zone, zone-name and duration." },
     { "canonical", (PyCFunction)(void (*)(void))canonical, METH_VARARGS | METH_KEYWORDS,
-      "canonical(record, /, kind='date-time')\n--\n\nReturns the one canonical text of a Record, a Duration, an Offset or a Zone. parse(), parse_duration(), parse_offset() and\n"
-      "parse_zone() read it back as an equal value. The text of a Zone does not say whether it is critical. ValueError is raised if\n"
-      "they return this value for no text. The kind says which reader the Record is for: date-time, year-month, month-day or time." },
+      "canonical(record, /, kind='date-time')\n--\n\nReturns the canonical text of a Record, a Duration, an Offset or a Zone: the one text that the library writes for this value.\n\n"
+      "kind says which function reads the text of a Record: parse() for date-time, parse_year_month() for year-month,\n"
+      "parse_month_day() for month-day, and parse_time() for time. parse_duration(), parse_offset() and parse_zone() read the texts\n"
+      "of the other three types. The function that reads the text returns an equal value, except that the text of a Zone does not\n"
+      "say whether the Zone is critical. Raises ValueError if there is no text for which this function returns the value." },
     { "instant", instant, METH_O,
       "instant(record, /)\n--\n\nReturns the Instant of a Record: the seconds since 1970-01-01T00:00:00Z, rounded down, and the nanoseconds after them.\n\n"
-      "ValueError is raised if the record has no date, no time or no offset. The zone does not count. The second 60 is the same\n"
+      "Raises ValueError if the record has no date, no time or no offset. The time zone does not matter. The second 60 is the same\n"
       "instant as the second 59." },
     { NULL, NULL, 0, NULL },
 };
@@ -1169,7 +1188,7 @@ static int execute(PyObject *module) {
     static const char *const errors[] = { "IxdtfError" };
     static const char *const datetimes[] = { "to_datetime" };
     if (ixdtf_interface_version() != IXDTF_INTERFACE_VERSION) {
-        PyErr_SetString(PyExc_ImportError, "the library for C has another version than its header");
+        PyErr_SetString(PyExc_ImportError, "expected the version of the library for C to be the version of its header");
         return -1;
     }
     PyDateTime_IMPORT;
@@ -1240,7 +1259,7 @@ static PyModuleDef_Slot module_slots[] = {
 };
 
 static struct PyModuleDef module_definition = {
-    PyModuleDef_HEAD_INIT, "ixdtf._reader", "The readers, over the library for C.", sizeof(module_state), module_methods, module_slots, traverse, clear, NULL,
+    PyModuleDef_HEAD_INIT, "ixdtf._reader", "The functions that call the library for C, and the type Record.", sizeof(module_state), module_methods, module_slots, traverse, clear, NULL,
 };
 
 PyMODINIT_FUNC PyInit__reader(void) {

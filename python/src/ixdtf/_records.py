@@ -1,13 +1,14 @@
-"""The parts of a record, and durations. All are named tuples: they never change, and are equal if their fields are."""
+"""The parts of a record, durations and instants. All of them except Z are named tuples: they never change, and two of them are equal if their fields
+are equal."""
 import datetime as _datetime
 from typing import Any, NamedTuple, Optional, Union
 
 
 class Fraction(NamedTuple):
-    """The digits behind a point or a comma.
+    """The digits after a point or a comma.
 
-    digits  how many digits there are, 255 if there are more
-    value   the number of the first 18 digits: 250 of ".250"
+    digits  the number of digits; 255 if there are more than 255
+    value   the first 18 digits as one number, such as 250 for ".250"
     """
 
     digits: int
@@ -15,13 +16,14 @@ class Fraction(NamedTuple):
 
     @property
     def nanosecond(self) -> int:
-        """The nanoseconds of a fraction of a second. Digits behind the ninth are dropped."""
+        """The nanoseconds of a fraction of a second. Digits after the ninth are dropped."""
         known = min(self.digits, 18)
         return int(self.value * 10 ** (9 - known) if known < 9 else self.value // 10 ** (known - 9))
 
 
 class Date(NamedTuple):
-    """A date. The year is -999999 to 999999. The year of a month and a day is 0, the day of a year and a month is 1."""
+    """A date. The year is -999999 to 999999. If the text has only a month and a day, the year is 0, and the day can be 0. If it has only a year and a month,
+    the day is 1."""
 
     year: int
     month: int
@@ -29,7 +31,7 @@ class Date(NamedTuple):
 
 
 class Time(NamedTuple):
-    """A time of day. The second is 0 to 60, the fraction is None if the text has none."""
+    """A time of day. The second is 0 to 60. If the text has no fraction, `fraction` is None."""
 
     hour: int
     minute: int
@@ -38,16 +40,18 @@ class Time(NamedTuple):
 
     @property
     def nanosecond(self) -> int:
-        """The nanoseconds of the fraction. Digits behind the ninth are dropped."""
+        """The nanoseconds of the fraction. Digits after the ninth are dropped."""
         return 0 if self.fraction is None else self.fraction.nanosecond
 
 
 class Offset(NamedTuple):
     """How far local time is ahead of UTC.
 
-    sign      1 or -1; of "-00:00" it is -1
-    second    None if the offset has only hours and minutes
-    fraction  None if the offset has no fraction
+    sign      1 or -1; for "-00:00" it is -1
+    hour      0 to 23
+    minute    0 to 59
+    second    0 to 59, or None if the offset has only hours and minutes
+    fraction  the fraction of the second, or None if the offset has none
     """
 
     sign: int
@@ -58,17 +62,17 @@ class Offset(NamedTuple):
 
     @property
     def is_utc(self) -> bool:
-        """False: an offset says how far local time is ahead of UTC."""
+        """False. It is True for Z."""
         return False
 
     def to_timedelta(self) -> _datetime.timedelta:
-        """The offset as a timedelta. ValueError is raised if the fraction is no whole number of microseconds."""
+        """Returns the offset as a timedelta. Raises ValueError if the fraction is not a whole number of microseconds, or has more than 18 digits."""
         seconds = self.hour * 3600 + self.minute * 60 + (self.second or 0)
         return self.sign * _datetime.timedelta(seconds=seconds, microseconds=_microseconds(self.fraction, 1))
 
 
 class _Utc:
-    """Z: the time is in UTC, and nothing is said of local time."""
+    """The type of Z, which says that the time is in UTC, and does not say what the local time is."""
 
     __slots__ = ()
     is_utc = True
@@ -85,7 +89,8 @@ Z = _Utc()
 
 
 class Zone(NamedTuple):
-    """A time zone: either the name or the offset is not None. If it is critical, whoever reads the text has to honour it or reject the text."""
+    """A time zone. It has a name or an offset, and the other one of the two is None. If it is critical, a program must use this zone, or reject the
+    text."""
 
     name: Optional[str] = None
     offset: Optional[Offset] = None
@@ -93,7 +98,7 @@ class Zone(NamedTuple):
 
 
 class Annotation(NamedTuple):
-    """A key and its value, such as [u-ca=hebrew]; it is critical if a "!" stands before the key."""
+    """A key and a value, such as "u-ca" and "hebrew" for [u-ca=hebrew]. It is critical if there is a "!" before the key."""
 
     key: str
     value: str
@@ -104,9 +109,9 @@ class Duration(NamedTuple):
     """A duration.
 
     sign                           1 or -1
-    years, months, weeks, days     None in all four if the text has none of them
-    hours, minutes, seconds        None behind the last one that the text has; all None if it has no time
-    fraction                       of the last of hours, minutes and seconds that is not None
+    years, months, weeks, days     numbers, or None for all four if the text has none of them
+    hours, minutes, seconds        numbers up to the last unit of the time that the text has, and None after it. All three are None without a time.
+    fraction                       the fraction of the last unit of the time, or None if it has none
     """
 
     sign: int = 1
@@ -120,10 +125,10 @@ class Duration(NamedTuple):
     fraction: Optional[Fraction] = None
 
     def to_timedelta(self) -> _datetime.timedelta:
-        """The duration as a timedelta.
+        """Returns the duration as a timedelta.
 
-        ValueError is raised if it has years or months, whose lengths differ, or if it is no whole number of microseconds. OverflowError is raised if
-        it is longer than a timedelta can be.
+        Raises ValueError if the duration has years or months other than 0, because their lengths differ. Raises ValueError if the fraction is not a
+        whole number of microseconds, or has more than 18 digits. Raises OverflowError if the duration is too long for a timedelta.
         """
         if self.years or self.months:
             raise ValueError("a duration with years or months has no fixed length")
@@ -134,9 +139,9 @@ class Duration(NamedTuple):
 
 
 class Instant(NamedTuple):
-    """A point in time. Of two instants, the earlier one is the smaller one.
+    """A point in time. If one instant is earlier than another, it is also less in a comparison with `<`.
 
-    seconds      the seconds since 1970-01-01T00:00:00Z, rounded down; below 0 before 1970; leap seconds are not counted
+    seconds      the seconds since 1970-01-01T00:00:00Z, rounded down; negative before 1970; leap seconds are not counted
     nanoseconds  the nanoseconds after these seconds, 0 to 999,999,999
     """
 
@@ -149,14 +154,14 @@ for _part in (Fraction, Date, Time, Offset, Zone, Annotation, Duration, Instant)
 
 
 def _microseconds(fraction: Optional[Fraction], seconds: int) -> int:
-    """The microseconds of a fraction of so many seconds. ValueError is raised if they are no whole number."""
+    """Returns the microseconds of a fraction of a unit with this number of seconds. Raises ValueError if the number of microseconds is not whole."""
     if fraction is None:
         return 0
     if fraction.digits > 18:
-        raise ValueError("a fraction has more than 18 digits, of which only the first 18 are known")
+        raise ValueError("the fraction has more than 18 digits, and only the first 18 are known")
     whole, rest = divmod(fraction.value * seconds * 10**6, 10**fraction.digits)
     if rest:
-        raise ValueError("a fraction is no whole number of microseconds")
+        raise ValueError("the fraction is not a whole number of microseconds")
     return int(whole)
 
 
@@ -165,22 +170,22 @@ def _fraction(digits: int, value: int) -> Optional[Fraction]:
 
 
 def make_instant(seconds: int, nanoseconds: int) -> Instant:
-    """The instant of a record, for the reader."""
+    """Makes an Instant. The extension ixdtf._reader calls this function and the other ones whose names begin with make_."""
     return Instant(seconds, nanoseconds)
 
 
 def make_date(year: int, month: int, day: int) -> Date:
-    """The date of a record, for the reader."""
+    """Makes the Date of a record."""
     return Date(year, month, day)
 
 
 def make_time(hour: int, minute: int, second: int, digits: int, value: int) -> Time:
-    """The time of a record, for the reader."""
+    """Makes the Time of a record."""
     return Time(hour, minute, second, _fraction(digits, value))
 
 
 def make_offset(form: int, is_negative: int, hour: int, minute: int, second: int, digits: int, value: int) -> Union[Offset, _Utc]:
-    """The offset of a record, for the reader: form is 1 for Z, 2 for minutes, 3 for seconds."""
+    """Makes the Offset of a record, or returns Z. `form` is 1 for Z, 2 for an offset without seconds, and 3 for an offset with seconds."""
     if form == 1:
         return Z
     sign = -1 if is_negative else 1
@@ -188,7 +193,7 @@ def make_offset(form: int, is_negative: int, hour: int, minute: int, second: int
 
 
 def make_zone(is_critical: int, name: Optional[str], is_negative: int, hour: int, minute: int) -> Zone:
-    """The zone of a record, for the reader."""
+    """Makes the Zone of a record. If the name is None, the zone is an offset."""
     return Zone(name, Offset(-1 if is_negative else 1, hour, minute) if name is None else None, bool(is_critical))
 
 
@@ -206,7 +211,7 @@ def make_duration(
     digits: int,
     value: int,
 ) -> Duration:
-    """A duration, for the reader: last is 0 if there is no time, 1 for hours, 2 for minutes, 3 for seconds."""
+    """Makes a Duration. `last` is the last unit of the time: 0 if there is no time, 1 for hours, 2 for minutes, and 3 for seconds."""
     duration = Duration(
         sign=-1 if is_negative else 1,
         hours=hours if last > 0 else None,
@@ -218,6 +223,6 @@ def make_duration(
 
 
 def describe(date: Any, time: Any, offset: Any, zone: Any, calendar: Any) -> str:
-    """What repr() of a record shows: the parts that it has."""
+    """Returns what repr() of a record returns: a call of Record with the parts that are present."""
     parts = {"date": date, "time": time, "offset": offset, "zone": zone, "calendar": calendar}
     return f"Record({', '.join(f'{name}={part!r}' for name, part in parts.items() if part is not None)})"
