@@ -399,10 +399,11 @@ IXDTF_CHECKED_ uint32_t ixdtf_reply(ixdtf_calendar *calendar, const ixdtf_annota
  * function returns one of these:
  * - IXDTF_OK: the function has written the text to the first bytes of `out`, and the length of the
  *   text, in bytes, to `count`. The text is not NUL-terminated. The bytes of `out` after the text
- *   are unchanged. ixdtf_parse reads this text as the same record.
+ *   are unchanged. ixdtf_parse reads this text as the same record. So two records whose present
+ *   parts differ never have the same canonical text.
  * - IXDTF_NOT_PRINTABLE: there is no text for which ixdtf_parse writes this record. For example,
  *   the date is 30 February, no date is present, a `form` has a value that is not named above, or
- *   the fraction has more digits than `fraction_digits` says. `out` and `count` are unchanged.
+ *   `fraction` has more digits than `fraction_digits` says. `out` and `count` are unchanged.
  * - IXDTF_TOO_SHORT: the record can be printed, but the array is shorter than its canonical text.
  *   `out` is unchanged. The function has written the length of the text, in bytes, to `count`, or
  *   SIZE_MAX if a size_t cannot hold this length.
@@ -415,11 +416,12 @@ IXDTF_CHECKED_ uint32_t ixdtf_print(const ixdtf_record *record, uint8_t *out, si
 
 /* Writes the canonical text of a duration, such as -P1Y2DT3H0.5M, to the array `out`, in ASCII. The
  * arguments and the results have the same meaning as in ixdtf_print. ixdtf_parse_duration reads the
- * text as the same duration. The text begins with - if the duration is negative. It has each
- * duration unit that is not 0. If the duration has a date, and all numbers of the date are 0, the
- * text has 0D. The text always has the last unit of the time, because PT0H and PT0S are different
- * durations. The function returns IXDTF_NOT_PRINTABLE if the duration has neither a date nor a
- * time, if `time_form` has a value that is not named above, or if the fraction has more digits than
+ * text as the same duration. So two durations whose present parts differ never have the same
+ * canonical text. The text begins with - if the duration is negative. It has each duration unit
+ * that is not 0. If the duration has a date, and all numbers of the date are 0, the text has 0D.
+ * The text always has the last unit of the time, because PT0H and PT0S are different durations. The
+ * function returns IXDTF_NOT_PRINTABLE if the duration has neither a date nor a time, if
+ * `time_form` has a value that is not named above, or if `fraction` has more digits than
  * `fraction_digits` says.
  * If ixdtf_parse_duration wrote the duration for a text of n bytes, a capacity of n bytes is always
  * enough. A capacity of 406 bytes is enough for every duration. */
@@ -460,9 +462,10 @@ IXDTF_CHECKED_ uint32_t ixdtf_print_year_month(const ixdtf_record *record, uint8
 IXDTF_CHECKED_ uint32_t ixdtf_print_month_day(const ixdtf_record *record, uint8_t *out, size_t room,
     size_t *count);
 
-/* The readers and ixdtf_reply for 16-bit text. There are no printers for 16-bit text. No reader
- * accepts a code unit outside 1 to 126. If a reader comes to such a code unit, the error is
- * IXDTF_NON_ASCII_CODE_POINT. Otherwise these functions do what the functions for 8-bit text do. */
+/* The readers and ixdtf_reply for 16-bit text. There are no printers for 16-bit text. No reader of
+ * 16-bit text accepts a code unit outside 1 to 126. If a reader comes to such a code unit, the
+ * error is IXDTF_NON_ASCII_CODE_POINT. Otherwise these functions do what the functions for 8-bit
+ * text do. */
 IXDTF_CHECKED_ uint32_t ixdtf16_parse(const uint16_t *text, size_t length, ixdtf16_record *out);
 IXDTF_CHECKED_ uint32_t ixdtf16_parse_year_month(const uint16_t *text, size_t length,
     ixdtf16_record *out);
@@ -556,7 +559,7 @@ IXDTF_CHECKED_ uint32_t ixdtf16_instant(const ixdtf16_record *record, int64_t *s
  * - IXDTF_OK: the two numbers are exactly the fraction.
  * - IXDTF_NOT_EXACT: the fraction is not a whole number of nanoseconds, as in PT0.0000000001S, or
  *   it has more than 18 digits, and the struct has only the first 18. The function also returns
- *   this number if the fraction has more digits than `fraction_digits` says. It has written
+ *   this number if `fraction` has more digits than `fraction_digits` says. It has written
  *   nothing. */
 IXDTF_CHECKED_ uint32_t ixdtf_duration_fraction(const ixdtf_duration *duration, uint32_t *seconds,
     uint32_t *nanoseconds);
