@@ -4,7 +4,8 @@
 The workloads are always those of crates/ixdtf_bench in the checkout of this file, and not those of CHECKOUT. So two checkouts are
 measured with the same workloads. They are made by the rules of tools/to_rust.py. bench/runtime.rs has what they need from the library of
 Rattle. The programs in rust/ have no libraries of their own, so this tool makes two libraries from their files, `ixdtf_answers` and
-`ixdtf_checks`, like the proved crates of these names. The tool writes only to CHECKOUT/bench/out. It prints the path of the program."""
+`ixdtf_checks`, like the proved crates of these names. The tool writes only to CHECKOUT/bench/out. It prints the path of the program. The exit
+status is 1 if cargo fails."""
 import os
 import re
 import subprocess
