@@ -9,9 +9,9 @@ The tool keeps the tokens of the sources, in their order. It removes these:
   ghost items    `ghost use ..;`, `ghost NAME = { .. };`, `ghost NAME: { .. };` and `ghost NAME: { .. },`, with their doc comments
   models         `impl .. Model for .. { .. }` (it has only ghost items), and `Model` in a `use`
   attributes     `#[tactic(..)]`, `#[rattlefmt::skip]`, and `Drop` in a `#[derive(..)]`
-  modules        those that a crate of CRATES omits, with the modules in them and the `use` of each. No other module calls their code.
-  phrases        those of UNSEEN, with the comments right before them. Only contracts need them: the count of accesses (with the module
-                 `looks` and `Cursor::keep_looks`).
+  modules        the modules that a crate of CRATES omits, the modules in these, and each `use` of them. No other module calls their code.
+  phrases        the sequences of tokens in UNSEEN, with the comments right before them. They count accesses, and only contracts need this
+                 count. The module `looks` and the function `Cursor::keep_looks` are removed for the same reason.
 
 The library consists of layers (LAYERS), which are crates in Rattle and together one crate in Rust. LAYERS says where each module of a
 layer goes. A path through a layer becomes a path through `crate`. The root file of a layer is replaced by what the root of the library
@@ -48,11 +48,14 @@ Tests (TESTS) have two more rules:
 The tool refuses what it does not know: an attribute, a macro, a keyword, or a name of the standard library that is not in its lists. For
 each name in the lists, a person looked up once that it means the same in Rust and in Rattle. A method of a crate can have the name of a
 method of `core` (core_methods.txt). The tool accepts a call of it only if the receiver is known to have a type of the crate with this
-method, or to be the characters of a text (ON_CHARACTERS)."""
+method, or to be the characters of a text (ON_CHARACTERS).
+
+The tool prints nothing if all is right. The exit status is 1 if it refuses a source, or if --check finds a difference."""
 import functools
 import os
 import re
 import sys
+from typing import NamedTuple
 
 TOP = os.path.join(os.path.dirname(os.path.abspath(__file__)), '..')
 
@@ -80,9 +83,10 @@ PLACES = {(layer, place.rpartition('/')[2]): place for layer, places in LAYERS.i
 
 
 class Crate:
-    """A crate that is made: its sources, its folder, the modules that are left out, the file that is its root, and the head and the end of
-    that file. `tests`: it is made by the rules for tests. `above`: it uses the library. `layer`: it is a part of the library. `on_core`: it
-    does not use the standard library. `exports`: it has functions for C."""
+    """A crate that the tool makes. It has the folder of its sources, the folder of the result, the modules that are left out, the name of its
+    root file, and the head and the end of this file. Some fields are true or false: `tests` means that the rules for tests apply, `above` that
+    the crate uses the library, `on_core` that it does not use the standard library, and `exports` that it has functions for C. `layer` is the
+    name of the layer, if the crate is a part of the library."""
 
     def __init__(self, source, target, omitted=(), root='lib', ends=('', ''), tests=False, above=False, layer=None,
                  exports=False):
@@ -95,7 +99,7 @@ class Crate:
         if not self.layer:
             return module
         if (self.layer, module) not in PLACES:
-            raise SystemExit(f'to_rust.py: {self.source}/{module}.rt: LAYERS does not have this module')
+            raise SystemExit(f'to_rust.py: {self.source}/{module}.rt: expected a module of LAYERS, found {module}')
         return PLACES[self.layer, module]
 
     def omits(self, module):
@@ -164,7 +168,8 @@ REFUSED = set('unsafe extern dyn async await macro_rules union yield move box ra
               ' requires ensures ghost Model tactic derive_where invariant decreases alloc Global'.split())
 TEST_REFUSED = REFUSED - {'alloc', 'Global'}
 KEYWORDS = set('pub if match while for in return let else'.split())
-# the handler of a reader, and the functions in src/slices.rs of the library for C and in src/place.rs of the buffers
+# names of functions that no source declares: the handler of a reader, and the functions of src/slices.rs of the library for C and of
+# src/place.rs of the buffers
 CALLED = {'handler', 'to_c', 'from_c', 'place_of', 'pass_many'}
 STD_PATHS = {'std::str::from_utf8', 'std::fmt', 'std::error::Error', 'std::marker::PhantomData', 'std::mem::replace', 'std::fmt::Debug', 'std::io::{Read,Write}',
              'std::io::Write', 'std::io::Read', 'std::fmt::Write', 'std::str', 'std::hash::Hash', 'std::hash::{Hash,Hasher}'}
@@ -202,10 +207,12 @@ CLAUSE = re.compile(r'(?:requires|ensures)(?: [a-z_]+)? (?=\{)')
 
 
 class Refused(Exception):
-    pass
+    """A source has something that the tool does not know. The text says what."""
 
 
 class Token:
+    """A token: its kind, its text, and its index in the source."""
+
     def __init__(self, kind, text, at):
         self.kind, self.text, self.at = kind, text, at
 
@@ -219,10 +226,10 @@ def end_of_block(text, at):
         if text[at] == '"':
             end = text.find('"', at + 1)
             if end < 0 or '\\' in text[at:end] or '\n' in text[at:end]:
-                raise Refused('a ghost text has a string with an escape or a line break, or without an end')
+                raise Refused('a string in a ghost text must have an end, and must not have an escape or a line break')
             at = end
         elif text[at] == "'" or text.startswith(('//', '/*', '--', '{-'), at):
-            raise Refused('a ghost text has a quote or a comment')
+            raise Refused('a ghost text must not have a single quote or a comment')
         elif text[at] == '{':
             depth += 1
         elif text[at] == '}':
@@ -288,6 +295,7 @@ def gone(tokens, first, last):
 
 
 def put(tokens, first, last, text):
+    """Replaces the tokens from one index to another by this text."""
     tokens[first:last + 1] = [Token('put', text, tokens[first].at)]
 
 
@@ -306,6 +314,7 @@ def group(tokens, at):
 
 
 def attribute(tokens, at, crate):
+    """Keeps, rewrites or removes the attribute that begins at this index. Refuses an unknown one."""
     inner = tokens[at + 1].text == '!'
     start = at + 1 + inner
     if tokens[start].text != '[':
@@ -383,7 +392,7 @@ def rewrite(tokens, module, crate):
             if 'Model' in head and head[head.index('Model') + 1] == 'for' and tokens[i].text == '{':
                 last = group(tokens, i)
                 if any(t.kind not in ('space', 'ghost', 'doc', 'comment') for t in tokens[i + 1:last]):
-                    raise Refused('a model has code')
+                    raise Refused('a model must have only ghost items')
                 gone(tokens, at, last)
         elif token.kind == 'word' and token.text == 'use':
             last = next(i for i in range(at, len(tokens)) if tokens[i].text == ';')
@@ -424,7 +433,7 @@ def rewrite(tokens, module, crate):
             added = None if crate.tests else '\n'.join(['#[derive(PartialEq)]'] * (name in DERIVED) + [ADDED.get(name)] * (name in ADDED))
             if added:
                 if tokens[at - 2].text != 'pub' or not tokens[at - 3].text.endswith('\n'):
-                    raise Refused('a type of this list must be public')
+                    raise Refused('a type of ADDED or DERIVED must be public')
                 tokens.insert(at - 2, Token('put', added + '\n', token.at))
                 at += 1
         at += 1
@@ -532,7 +541,7 @@ def export(tokens, at):
         unit = ''.join(t.text for t in tokens[places[bracket] + 1:places[-1]])
         pointer, made = ('*mut', 'slice_mut') if 'mut' in borrow else ('*const', 'slice')
         between = tokens[opening + 1].text if tokens[opening + 1].kind == 'space' else ' '
-        lines.insert(0, f'\n    // SAFETY: so the header has it.\n    let {name} = unsafe {{ crate::slices::{made}({name}, {name}_length) }};')
+        lines.insert(0, f'\n    // SAFETY: the header requires this of the caller.\n    let {name} = unsafe {{ crate::slices::{made}({name}, {name}_length) }};')
         tokens[places[0]:places[-1] + 1] = [Token('put', f'{name}: {pointer} {unit},{between}{name}_length: usize', tokens[start].at)]
         body += places[0] - places[-1]
     if lines:
@@ -607,11 +616,18 @@ def lay_out(tokens):
 
 def declared(words, files):
     """The names that the crates declare after these words."""
-    return {name for text in files for name in re.findall(rf'\b(?:{words}) ([A-Za-z_0-9]+)', text)}
+    return frozenset().union(*(declared_in(words, text) for text in files))
+
+
+@functools.cache
+def declared_in(words, text):
+    """The names that a file declares after these words."""
+    return frozenset(re.findall(rf'\b(?:{words}) ([A-Za-z_0-9]+)', text))
 
 
 @functools.cache
 def solid_tokens(text):
+    """The tokens of a text that are not spaces, comments or literals of characters and strings."""
     return [t for t in scan(text) if t.kind not in ('space', 'comment', 'doc', 'string', 'char')]
 
 
@@ -658,10 +674,22 @@ class Types:
                     # Two functions of one name that are not methods are known only if both return the same type.
                     self.methods[owner, method] = head if self.methods.get((owner, method), head) == head else ''
 
+    def __eq__(self, other):
+        return (self.fields, self.methods) == (other.fields, other.methods)
 
+    def __hash__(self):
+        return hash((frozenset(self.fields), frozenset(self.methods)))
+
+
+@functools.cache
 def items(text):
     """The structs and functions of a file: the index, the kind, the name, and the words of the fields or of the signature. The name
     of a function comes with the name of its type or trait, which is empty if there is none."""
+    return tuple(each_item(text))
+
+
+def each_item(text):
+    """The items of `items`, one after another."""
     words = [t.text for t in solid_tokens(text)]
     owners, depth, at = [], 0, 0
     while at < len(words):
@@ -696,6 +724,7 @@ def items(text):
 
 
 def close(words, at):
+    """The index of the bracket that closes the bracket at this index."""
     depth = 0
     for i in range(at, len(words)):
         depth += (words[i] in '([{') - (words[i] in ')]}')
@@ -721,7 +750,7 @@ def receivers(text, types):
     words = [t.text for t in solid_tokens(text)]
     own = {method for _, method in types.methods}
     if 'chars' in own:
-        raise Refused('the crate has a method `chars`')
+        raise Refused('no type may have a method `chars`, because this tool takes `chars` for the method of a text')
     known, owner = {}, ''
     functions = {at: (name, signature) for at, kind, name, signature in items(text) if kind == 'fn'}
     for at, word in enumerate(words):
@@ -756,8 +785,8 @@ def receivers(text, types):
 
 
 def made_by(words, at, types):
-    """The head of the type that a call of `NAME(..)`, `TYPE::NAME(..)` or `TYPE::<..>::NAME(..)` gives, or a chain of calls from
-    `.chars()` on, where its `)` stands here."""
+    """The head of the type that a call returns. The `)` of the call is at this index. The call is `NAME(..)`, `TYPE::NAME(..)`,
+    `TYPE::<..>::NAME(..)`, or a chain of calls that begins with `.chars()`."""
     depth, start = 0, at
     while start >= 0:
         depth += (words[start] in ')') - (words[start] in '(')
@@ -810,15 +839,15 @@ def allowed(text, functions, types, crate):
         if word in refused and words[i:i + 2] != ['extern', 'crate'] and not (crate.exports and in_export(words, i)):
             raise Refused(f'the word `{word}` is not in the lists of this tool')
         if word == 'Formatter' and words[i + 1:i + 4] != ['<', "'_", '>']:
-            raise Refused('a Formatter has a form that rule 1 does not have')
+            raise Refused(f"expected `Formatter<'_>` after rule 1, found `Formatter{''.join(words[i + 1:i + 4])}`")
         if word == 'static' and after == 'mut':
-            raise Refused('a static is `mut`')
+            raise Refused('a static must not be `mut`')
         if after == '!' and words[i + 2] in '([{' and word not in macros:
             raise Refused(f'the macro `{word}` is not in the lists of this tool')
         if crate.tests:
             continue
         if word == 'size_of' and words[i - 2:i] != ['!', '(']:
-            raise Refused('a size is used outside of prove!, and can be different in Rust')
+            raise Refused('`size_of` must be in `prove!`, because a size can be different in Rust')
         in_attribute = before == '[' and words[i - 2] in '#!' or words[i - 2:i + 1] == ['cfg_attr', '(', 'not']
         if after == '(' and not in_attribute and before not in ('.', '::', 'fn', 'pub') and not word[0].isupper() and word not in functions | KEYWORDS | CALLED:
             raise Refused(f'the function `{word}` is not in the lists of this tool')
@@ -840,6 +869,24 @@ def allowed(text, functions, types, crate):
                 raise Refused(f'the function `{path}` is not in the lists of this tool')
 
 
+class Known(NamedTuple):
+    """What the sources of all crates declare: the names of functions, the names of types and modules, and the types with their methods."""
+    functions: frozenset
+    names: frozenset
+    types: Types
+
+
+def check(files, known):
+    """Refuses what is not known, in files as they would be written. Each file is found by its crate and its module."""
+    for (crate, module), plain in files.items():
+        try:
+            allowed(plain, known.functions, known.names, crate)
+            if not crate.tests:
+                receivers(plain, known.types)
+        except Refused as why:
+            raise SystemExit(f'to_rust.py: {crate.source}/{module}.rt: {why}')
+
+
 def sources(crate):
     """The sources of a crate, by the names of their modules."""
     found = {}
@@ -848,7 +895,7 @@ def sources(crate):
         for name in names:
             path = os.path.relpath(os.path.join(folder, name), top)
             if not path.endswith('.rt'):
-                raise SystemExit(f'to_rust.py: {crate.source}/{path}: no source')
+                raise SystemExit(f'to_rust.py: {crate.source}/{path}: expected a source, whose name ends with .rt')
             if not crate.omits(path[:-3]):
                 with open(os.path.join(folder, name), encoding='utf-8') as file:
                     found[path[:-3]] = file.read()
@@ -879,6 +926,7 @@ def text_of(path):
 
 
 def source_of(crate, module):
+    """The source of a module of a crate."""
     return text_of(f'crates/{crate}/src/{module}.rt')
 
 
@@ -908,22 +956,15 @@ def made():
             if not crate.tests:
                 texts.append(out[crate, module])
                 added += sum(out[crate, module].count(a) for a in set(ADDED.values()))
-    functions, names = declared('fn', texts), declared('struct|enum|trait|mod|type', texts)
-    types = Types(texts)
-    for (crate, module), plain in out.items():
-        try:
-            allowed(plain, functions, names, crate)
-            if not crate.tests:
-                receivers(plain, types)
-        except Refused as why:
-            raise SystemExit(f'to_rust.py: {crate.source}/{module}.rt: {why}')
+    check(out, Known(declared('fn', texts), declared('struct|enum|trait|mod|type', texts), Types(texts)))
     if added != len(ADDED):
-        raise SystemExit(f'to_rust.py: {added} of {len(ADDED)} types of ADDED were found')
+        raise SystemExit(f'to_rust.py: expected the {len(ADDED)} types of ADDED, found {added} of them')
     return {f'{crate.target}/{crate.place(module)}.rs': MADE.format(f'{crate.source}/{module}.rt') + headed(crate, module, plain)
             for (crate, module), plain in out.items()}
 
 
 def main():
+    """Writes the files, or checks them."""
     if sys.argv[1:] not in ([], ['--check']):
         raise SystemExit(__doc__)
     files = made()

@@ -1,11 +1,13 @@
-//! Adds up the times of the arguments, which are durations without years, months, weeks and days, in seconds and nanoseconds.
+//! Prints the sum of the durations that are its arguments, in seconds and nanoseconds. The durations have no years, months, weeks or days.
 //!
 //!     cargo run --example durations -- PT1H30M -PT0.5S PT1.25M
 use ixdtf::parsers::IsoDurationParser;
 use ixdtf::records::{Fraction, Sign, TimeDurationRecord};
 
-/// The nanoseconds of a fraction of a unit of so many seconds, where they are a whole number; `None` where they are not, or where
-/// the fraction has more than 18 digits, of which a record has the first 18.
+/// Returns the nanoseconds of a fraction. It is a fraction of a duration unit that has `unit` seconds.
+///
+/// Returns `None` if the number of nanoseconds is not a whole number. Also returns `None` if the fraction has more than 18 digits, because
+/// a record keeps only the first 18.
 fn nanoseconds_of(fraction: Option<Fraction>, unit: u128) -> Option<i128> {
     let Some(fraction) = fraction else {
         return Some(0);
@@ -18,8 +20,9 @@ fn nanoseconds_of(fraction: Option<Fraction>, unit: u128) -> Option<i128> {
     (parts % whole == 0).then(|| (parts / whole) as i128)
 }
 
-/// The nanoseconds of a duration's text; `None` where it is none, where it has years, months, weeks or days, and where it has no whole
-/// number of nanoseconds.
+/// Returns the nanoseconds of a duration.
+///
+/// Returns `None` if the text is not a duration, if it has years, months, weeks or days, or if the number of nanoseconds is not a whole number.
 fn nanoseconds(text: &str) -> Option<i128> {
     let duration = IsoDurationParser::from_str(text).parse().ok()?;
     if duration.date.is_some() {

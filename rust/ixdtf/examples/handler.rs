@@ -1,11 +1,11 @@
-//! Reads the annotations of each argument by a handler of its own: it knows the key `x-note`, also where it is critical, and takes
-//! the calendar `gregorian` for `gregory`.
+//! Reads the annotations of each argument with a handler. The handler accepts the key `x-note`, even if the annotation is critical. It
+//! replaces the calendar `gregorian` by `gregory`.
 //!
 //!     cargo run --example handler -- '2024-03-02[u-ca=gregorian][!x-note=draft]'
 use ixdtf::ParseError;
 use ixdtf::parsers::IxdtfParser;
 
-/// What is kept of the annotations of a text.
+/// The values of the annotations of a text that the program uses.
 #[derive(Debug, Default, PartialEq)]
 struct Found<'a> {
     note: Option<&'a [u8]>,
@@ -17,13 +17,13 @@ fn read(text: &str) -> Result<Found<'_>, ParseError> {
     let record = IxdtfParser::from_str(text).parse_with_annotation_handler(|mut annotation| {
         if annotation.key == b"x-note" {
             note = Some(annotation.value);
-            // The annotation is dropped: it is not refused, although nobody else knows its key.
+            // `None` drops the annotation. So the reader does not refuse it, although the reader does not know its key.
             return None;
         }
         if annotation.key == b"u-ca" && annotation.value == b"gregorian" {
             annotation.value = b"gregory";
         }
-        // What is returned stands in the place of the annotation.
+        // The returned annotation replaces the annotation of the text.
         Some(annotation)
     })?;
     Ok(Found { note, calendar: record.calendar })

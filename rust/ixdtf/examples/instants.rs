@@ -1,4 +1,5 @@
-//! Writes the instant of each line: its seconds, its nanoseconds and its text, or `none`. `tools/compare_instants.py` runs it.
+//! Writes the instant of each line of standard input: its seconds, its nanoseconds and its text. If a line has no instant, writes `none`.
+//! `tools/compare_instants.py` runs this example.
 
 use ixdtf::parsers::IxdtfParser;
 use std::io::{BufRead, BufWriter, Write, stdin, stdout};

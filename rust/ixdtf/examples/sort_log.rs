@@ -1,14 +1,14 @@
-//! Sorts the lines of standard input by the time with which each begins. A line begins with a date and a time with `Z` or an offset, up
-//! to the first space. Lines of one time stay in their order, and lines without a time come last.
+//! Sorts the lines of standard input by time. A line begins with a date and a time with `Z` or an offset, which end at the first space. Lines
+//! with the same time keep their order, and lines without a time come last.
 //!
 //!     cargo run --example sort_log < service.log
 use ixdtf::parsers::IxdtfParser;
 use ixdtf::records::{DateRecord, Sign};
 use std::io::Read;
 
-/// The days from 1970-01-01 to a date of the proleptic Gregorian calendar.
+/// Returns the number of days from 1970-01-01 to a date of the proleptic Gregorian calendar.
 fn days(date: DateRecord) -> i64 {
-    // A year begins in March here, so that a leap day is its last day.
+    // Here, a year begins in March. So a leap day is the last day of its year.
     let (year, month) = match date.month {
         1 | 2 => (i64::from(date.year) - 1, i64::from(date.month) + 9),
         month => (i64::from(date.year), i64::from(month) - 3),
@@ -17,7 +17,7 @@ fn days(date: DateRecord) -> i64 {
     365 * year + leap_days + (153 * month + 2) / 5 + i64::from(date.day) - 719_469
 }
 
-/// The seconds and nanoseconds from 1970-01-01T00:00:00Z to the time that a text stands for; `None` where it stands for none.
+/// Returns the seconds and nanoseconds from 1970-01-01T00:00:00Z to the time of a text. Returns `None` if the text has no such time.
 fn instant(text: &str) -> Option<(i64, u32)> {
     let record = IxdtfParser::from_str(text).parse().ok()?;
     let time = record.time?;
@@ -29,10 +29,10 @@ fn instant(text: &str) -> Option<(i64, u32)> {
     Some((days(record.date?) * 86_400 + clock(time.hour, time.minute, time.second) - ahead, nanoseconds))
 }
 
-/// The lines in the order of their times.
+/// Returns the lines in the order of their times.
 fn sorted(log: &str) -> Vec<&str> {
     let mut lines: Vec<&str> = log.lines().collect();
-    // `None` is put behind each `Some`.
+    // The lines without a time come after all others, because `false` is less than `true`.
     lines.sort_by_cached_key(|line| {
         let instant = instant(line.split(' ').next().unwrap_or(""));
         (instant.is_none(), instant)
@@ -66,7 +66,7 @@ fn sorts() {
 #[test]
 fn knows_instants() {
     assert_eq!(instant("1970-01-01T00:00:00Z"), Some((0, 0)));
-    // 2000-03-01 is the day 11017, and the day before it is a leap day
+    // 2000-03-01 is the day 11017. The day before it is a leap day.
     assert_eq!(instant("2000-03-01T00:00:00.5Z"), Some((11_017 * 86_400, 500_000_000)));
     assert_eq!(instant("2000-02-29T23:59:59-00:00:01"), Some((11_017 * 86_400, 0)));
     assert_eq!(instant("1969-12-31T23:59:59Z"), Some((-1, 0)));

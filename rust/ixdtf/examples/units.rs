@@ -1,12 +1,13 @@
-//! Reads texts of any code units: each line has the name of a reader, the bits of a code unit, and the code units in hexadecimal. It writes
-//! `ok`, or `error`, the text of the error and its position. `tools/compare_rfc_patterns.py` runs it.
+//! Reads texts of any code units. Each line of standard input has the name of a reader, the number of bits of a code unit, and the code units
+//! in hexadecimal. For each line, it writes `ok`, or `error` with the text of the error and its position. `tools/compare_rfc_patterns.py` runs
+//! this example.
 //!
 //!     echo 'rfc3339 8 32 30 32 34' | cargo run --example units
 use ixdtf::encoding::{EncodingType, Utf8, Utf16};
 use ixdtf::parsers::IxdtfParser;
 use std::io::{BufRead, BufWriter, Write, stdin, stdout};
 
-/// What a reader says of a text.
+/// Returns the answer for a text: the result of the reader.
 fn answer<T: EncodingType>(reader: &str, units: &[T::CodeUnit]) -> String {
     let mut parser = IxdtfParser::<T>::new(units);
     let found = match reader {
@@ -17,7 +18,7 @@ fn answer<T: EncodingType>(reader: &str, units: &[T::CodeUnit]) -> String {
     found.map_or_else(|error| format!("error {error}"), |_| String::from("ok"))
 }
 
-/// The answer to a line, or none if it is not such a line.
+/// Returns the answer to a line. Returns `None` if the line does not have this form.
 fn answer_line(line: &str) -> Option<String> {
     let mut parts = line.split_ascii_whitespace();
     let (reader, bits) = (parts.next()?, parts.next()?);
@@ -37,7 +38,7 @@ fn main() -> std::io::Result<()> {
 }
 
 #[cfg(test)]
-/// The line of a text that has the same code units in both widths.
+/// Returns the line for an ASCII text, which has the same code units in both widths.
 fn line_of(reader: &str, bits: u32, text: &str) -> String {
     let units: Vec<String> = text.bytes().map(|unit| format!("{unit:x}")).collect();
     format!("{reader} {bits} {}", units.join(" "))

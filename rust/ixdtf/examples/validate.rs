@@ -1,9 +1,9 @@
-//! Says of each argument whether it is a date, or a date and a time, and why not, with a mark under the place of the error.
+//! Prints for each argument whether it is a valid date, or a valid date and time. If it is not, prints the error, and a mark under its position.
 //!
 //!     cargo run --example validate -- 2024-03-02T08:48:00Z 2024-02-30
 use ixdtf::parsers::IxdtfParser;
 
-/// One line for a text that is read, and for another one its error, the text and the mark.
+/// Returns one line if the text is accepted. Otherwise returns the error, the text, and the mark under the position of the error.
 fn report(text: &str) -> String {
     match IxdtfParser::from_str(text).parse_located() {
         Ok(_) => format!("{text}: valid"),

@@ -1,4 +1,4 @@
-//! Reads each argument as 8-bit and as 16-bit code units, by one function that is generic over the encoding, and says what both give.
+//! Reads each argument as 8-bit text and as 16-bit text, with one function that is generic over the encoding. Prints both results.
 //!
 //!     cargo run --example widths -- 2024-03-02 '２０２４-03-02'
 use ixdtf::ParserResult;
@@ -8,12 +8,12 @@ use ixdtf::encoding::{EncodingType, Utf8, Utf16};
 use ixdtf::parsers::IxdtfParser;
 use ixdtf::records::DateRecord;
 
-/// The date of a text of either width.
+/// Reads the date of a text of 8-bit or of 16-bit code units.
 fn date_of<T: EncodingType>(source: &[T::CodeUnit]) -> ParserResult<Option<DateRecord>> {
     Ok(IxdtfParser::<T>::new(source).parse()?.date)
 }
 
-/// What the two widths of a text give.
+/// Reads a text as 8-bit text and as 16-bit text. Returns both results.
 fn in_both(text: &str) -> (ParserResult<Option<DateRecord>>, ParserResult<Option<DateRecord>>) {
     let units: Vec<u16> = text.encode_utf16().collect();
     (date_of::<Utf8>(text.as_bytes()), date_of::<Utf16>(&units))

@@ -1,5 +1,7 @@
-//! Offsets and durations from texts, by the traits of `core`. A person wrote this file: in Rattle, a crate cannot have an impl of a
-//! foreign trait for a foreign type, and the readers are in crates above the crate of the records.
+//! Implements `FromStr` and `TryFrom<&str>` for offsets and for durations.
+//!
+//! A person wrote this file, because Rattle cannot have it. There, the records and the readers are in different crates, and a crate cannot
+//! implement a trait of `core` for a type of another crate.
 
 use crate::parsers::{IsoDurationParser, TimeZoneParser};
 use crate::records::{DurationParseRecord, UtcOffsetRecord};
@@ -9,7 +11,7 @@ use core::str::FromStr;
 impl FromStr for UtcOffsetRecord {
     type Err = ParseError;
 
-    /// Parses a text as an offset from UTC. It returns what [`TimeZoneParser::parse_offset`] returns.
+    /// Parses a text as an offset from UTC, such as `-05:30`. The result is that of [`TimeZoneParser::parse_offset`].
     ///
     /// # Examples
     ///
@@ -23,7 +25,7 @@ impl FromStr for UtcOffsetRecord {
     ///
     /// # Errors
     ///
-    /// The errors of [`TimeZoneParser::parse_offset`].
+    /// This function has the errors of [`TimeZoneParser::parse_offset`].
     fn from_str(text: &str) -> ParserResult<UtcOffsetRecord> {
         TimeZoneParser::from_str(text).parse_offset()
     }
@@ -32,11 +34,11 @@ impl FromStr for UtcOffsetRecord {
 impl TryFrom<&str> for UtcOffsetRecord {
     type Error = ParseError;
 
-    /// Parses a text as an offset from UTC. It returns what [`TimeZoneParser::parse_offset`] returns.
+    /// Parses a text as an offset from UTC, such as `-05:30`. The result is that of [`TimeZoneParser::parse_offset`].
     ///
     /// # Errors
     ///
-    /// The errors of [`TimeZoneParser::parse_offset`].
+    /// This function has the errors of [`TimeZoneParser::parse_offset`].
     fn try_from(text: &str) -> ParserResult<UtcOffsetRecord> {
         text.parse()
     }
@@ -45,7 +47,7 @@ impl TryFrom<&str> for UtcOffsetRecord {
 impl FromStr for DurationParseRecord {
     type Err = ParseError;
 
-    /// Parses a text as a duration. It returns what [`IsoDurationParser::parse`] of a new parser returns.
+    /// Parses a text as a duration, such as `P2W`. The result is that of [`IsoDurationParser::parse`] of a new parser.
     ///
     /// # Examples
     ///
@@ -59,7 +61,7 @@ impl FromStr for DurationParseRecord {
     ///
     /// # Errors
     ///
-    /// The errors of [`IsoDurationParser::parse`].
+    /// This function has the errors of [`IsoDurationParser::parse`].
     fn from_str(text: &str) -> ParserResult<DurationParseRecord> {
         IsoDurationParser::from_str(text).parse()
     }
@@ -68,11 +70,11 @@ impl FromStr for DurationParseRecord {
 impl TryFrom<&str> for DurationParseRecord {
     type Error = ParseError;
 
-    /// Parses a text as a duration. It returns what [`IsoDurationParser::parse`] of a new parser returns.
+    /// Parses a text as a duration, such as `P2W`. The result is that of [`IsoDurationParser::parse`] of a new parser.
     ///
     /// # Errors
     ///
-    /// The errors of [`IsoDurationParser::parse`].
+    /// This function has the errors of [`IsoDurationParser::parse`].
     fn try_from(text: &str) -> ParserResult<DurationParseRecord> {
         text.parse()
     }

@@ -1,8 +1,10 @@
-//! What the tests, which are made of those of the proved library, take from their own toolchain's standard library.
+//! What the tests need from the standard library of Rattle.
+//!
+//! The tests are made from the tests of the proved library. A person wrote this file.
 
 pub use std::string::String as Text;
 
-/// What a test hands to those it calls.
+/// What a Rattle test gets from the system. The test passes it to the functions that it calls.
 pub struct HostRuntime;
 
 impl HostRuntime {
@@ -11,18 +13,18 @@ impl HostRuntime {
     }
 }
 
-/// What may end a test.
+/// The permission to end a test.
 pub trait Abort {}
 
 impl Abort for HostRuntime {}
 
 impl<A: Abort> Abort for &A {}
 
-/// What memory is taken of.
+/// The allocator.
 #[derive(Clone, Copy)]
 pub struct Global;
 
-/// Why no memory was to be had, which does not come here.
+/// The error for missing memory. It never occurs here.
 #[derive(Debug, PartialEq)]
 pub enum AllocError {}
 
@@ -34,10 +36,10 @@ impl std::fmt::Display for AllocError {
 
 impl std::error::Error for AllocError {}
 
-/// Why a test fails.
+/// The reason why a test fails.
 pub type Fail = std::boxed::Box<dyn std::error::Error>;
 
-/// A text that grows by results.
+/// A string whose growth returns a result.
 pub struct String(Text);
 
 impl String {
@@ -59,7 +61,7 @@ impl String {
     }
 }
 
-/// A clone as a result.
+/// Clones a value, and returns a result.
 pub trait TryClone: Clone {
     fn try_clone(&self) -> Result<Self, AllocError> {
         Ok(self.clone())

@@ -1,4 +1,4 @@
-//! The instant of each day and its text, beside a walk that counts day after day.
+//! Compares the instant of each day, and its text, with a walk that counts day after day.
 
 use ixdtf::Instant;
 use ixdtf::encoding::Utf8;
@@ -7,7 +7,7 @@ use std::fmt::Write;
 
 const DAY: i64 = 86_400;
 
-/// The length of a month.
+/// The number of days of a month.
 fn month_length(year: i32, month: u8) -> u8 {
     let leap = (year % 4 == 0 && year % 100 != 0) || year % 400 == 0;
     match (month, leap) {
@@ -18,7 +18,7 @@ fn month_length(year: i32, month: u8) -> u8 {
     }
 }
 
-/// The seconds of midnight in UTC.
+/// The seconds of the instant at midnight in UTC.
 fn midnight(year: i32, month: u8, day: u8) -> i64 {
     let mut record = IxdtfParseRecord::<Utf8>::default();
     record.date = Some(DateRecord { year, month, day });
@@ -27,7 +27,7 @@ fn midnight(year: i32, month: u8, day: u8) -> i64 {
     record.instant().unwrap().seconds
 }
 
-/// Writes midnight of a date as `Display` of an instant has to write it.
+/// Writes midnight of a date in the form in which `Display` of an instant must write it.
 fn write_midnight(text: &mut String, year: i32, month: u8, day: u8) {
     let written = match year {
         0..=9999 => write!(text, "{year:04}-{month:02}-{day:02}T00:00:00Z"),
@@ -36,8 +36,8 @@ fn write_midnight(text: &mut String, year: i32, month: u8, day: u8) {
     written.unwrap();
 }
 
-/// Walks from 1 January of a year to 31 December of another one. `seconds` is that of the first day. Returns the seconds after the
-/// last day, and how many days there were.
+/// Walks from 1 January of the year `first` to 31 December of the year `last`. `seconds` are those of the first midnight. Returns the seconds
+/// of the midnight after the last day, and the number of days.
 fn walk(first: i32, last: i32, mut seconds: i64) -> (i64, u32) {
     let mut days = 0;
     let (mut found, mut wanted) = (String::new(), String::new());
@@ -58,7 +58,7 @@ fn walk(first: i32, last: i32, mut seconds: i64) -> (i64, u32) {
     (seconds, days)
 }
 
-/// The seconds of 1 January of a year from -999,999 on, from the days of the years between it and 1970.
+/// The seconds of 1 January of a year before 1970. They are counted from the days of the years between it and 1970.
 fn first_of(year: i32) -> i64 {
     let days: i64 = (year..1970).map(|year| (1..=12).map(|month| i64::from(month_length(year, month))).sum::<i64>()).sum();
     -days * DAY
@@ -74,7 +74,7 @@ fn days_before_1970() {
     assert_eq!(walk(-2000, 1969, first_of(-2000)).0, 0);
 }
 
-/// The texts are those of a count of years in Python, and of the last second of 64 bits that other programs name.
+/// The texts were computed with a count of years in Python. Other programs give the same text for the last second of 64 bits.
 #[test]
 fn texts_of_instants() {
     for (seconds, nanoseconds, text) in [
@@ -94,7 +94,7 @@ fn texts_of_instants() {
     }
 }
 
-/// 730 million days, in minutes: `cargo test --release --test each_day -- --ignored`.
+/// Tests 730 million days, which takes minutes: `cargo test --release --test each_day -- --ignored`.
 #[test]
 #[ignore]
 fn each_day_that_a_reader_returns() {

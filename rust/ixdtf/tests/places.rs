@@ -1,12 +1,12 @@
-//! The error and the place of each located reader, in both widths, for the rows of `tools/places.tsv`: each row of the fault table by texts
-//! whose place was counted by hand.
+//! Tests the error and the position of each `*_located` reader, for 8-bit and for 16-bit text, on the texts of `tools/places.tsv`. This list
+//! has texts for each row of the fault table. A person counted the positions.
 use ixdtf::encoding::{EncodingType, Utf8, Utf16};
 use ixdtf::parsers::{IsoDurationParser, IxdtfParser, Profile, TimeZoneParser};
 use ixdtf::{LocatedError, ParseError, ParserResult};
 
 const ROWS: &str = include_str!("places.tsv");
 
-/// A row: what is read, by which reader, and the error and its place.
+/// A row of the list: a reader, the code units of a text, the error, and its position (`place`).
 struct Row {
     line: &'static str,
     reader: &'static str,
@@ -34,13 +34,13 @@ impl Row {
         }
     }
 
-    /// The bytes of a row whose units stand for the same letters in both widths.
+    /// The code units of a row as bytes. All of them are from 1 to 126, so they mean the same in both widths.
     fn bytes(&self) -> Vec<u8> {
         assert!(self.units.iter().all(|&unit| 1 <= unit && unit <= 126), "{}", self.line);
         self.units.iter().map(|&unit| unit as u8).collect()
     }
 
-    /// Whether an error is that of the row: it is written as its variant, and `AbruptEnd` with its location behind it.
+    /// Whether an error is that of the row. The row has the name of the variant. After `AbruptEnd`, it also has the location.
     fn has(&self, error: ParseError) -> bool {
         match error {
             ParseError::AbruptEnd { location } => self.error == format!("AbruptEnd {location}"),
@@ -49,12 +49,12 @@ impl Row {
     }
 }
 
-/// The rows, without the names of their columns.
+/// The rows. The first line is left out, because it has the names of the columns.
 fn rows() -> impl Iterator<Item = Row> {
     ROWS.lines().skip(1).map(Row::of)
 }
 
-/// The units of a text in which `\uXXXX` is a unit.
+/// The code units of a text in which `\uXXXX` is one code unit.
 fn units_of(spelled: &str) -> Vec<u16> {
     let mut parts = spelled.split("\\u");
     let mut units: Vec<u16> = parts.next().unwrap().encode_utf16().collect();
@@ -66,7 +66,7 @@ fn units_of(spelled: &str) -> Vec<u16> {
     units
 }
 
-/// What a reader and its located forms refused a text with.
+/// The errors that a reader and its `*_located` variants return for a text.
 struct Refusals {
     plain: ParseError,
     located: Vec<LocatedError>,
@@ -83,7 +83,7 @@ impl Refusals {
     }
 }
 
-/// Asks the reader of a row, and then its located forms: after an error a parser still has its text.
+/// Calls the reader of a row, and then its `*_located` variants with the same parser. After an error, a parser still has its text.
 fn refusals<T: EncodingType>(row: &Row, units: &[T::CodeUnit]) -> Refusals {
     let mut text = IxdtfParser::<T>::new(units).with_profile(row.profile);
     let mut zone = TimeZoneParser::<T>::new(units);

@@ -1,19 +1,21 @@
-//! Looking for a byte. The proved crate looks at sixteen bytes at once by `std::simd`, which stable Rust does not have. Here a search looks
-//! at the eight bytes of a word at once. Bytes that are counted are left to the compiler, which makes vectors of the loop.
+//! The search for a byte.
+//!
+//! A person wrote this file. The proved crate compares sixteen bytes at once with `std::simd`, which stable Rust does not have. Here, a search
+//! compares the eight bytes of a word at once. The loop that counts bytes has no words, because the compiler makes vector code from it.
 
-/// How many bytes a word has.
+/// The number of bytes of a word.
 const WORD: usize = 8;
 
-/// The word whose bytes are all 1.
+/// The word in which each byte is 1.
 const ONES: u64 = u64::MAX / 255;
 
-/// The highest bit of each byte of a word.
+/// The word in which each byte has only its highest bit.
 const HIGHS: u64 = ONES << 7;
 
-/// The index of the first byte that is this one.
+/// Returns the index of the first byte that is equal to `wanted`.
 ///
-/// A byte at the front is looked at first: where many fields or lines are empty, the look at many bytes at once would wait each time
-/// for what the look before it found.
+/// The first byte is compared separately. If many fields or lines are empty, each comparison of many bytes would otherwise have to wait for
+/// the result of the comparison before it.
 pub fn place_of(wanted: u8, bytes: &[u8]) -> Option<usize> {
     match bytes {
         [] => None,
@@ -23,7 +25,9 @@ pub fn place_of(wanted: u8, bytes: &[u8]) -> Option<usize> {
     }
 }
 
-/// The same of at least as many bytes as a word has. The last look goes up to the end, over bytes that may have been looked at before.
+/// Does the work of `place_of` for at least `WORD` bytes.
+///
+/// The last comparison takes the last `WORD` bytes, some of which can have been compared before.
 #[inline(always)]
 fn place_in_many(wanted: u8, bytes: &[u8]) -> Option<usize> {
     let last = bytes.len() - WORD;
@@ -43,10 +47,13 @@ fn place_in_many(wanted: u8, bytes: &[u8]) -> Option<usize> {
     }
 }
 
-/// Looks at the eight bytes from there on: 0 where none is this one, and otherwise a word whose lowest bit stands in the first that is.
+/// Compares the eight bytes from the index `start` on with `wanted`.
 ///
-/// The first byte is the lowest of the word, on each processor. A byte that is this one becomes zero, and the subtraction sets its highest
-/// bit. It borrows from the byte above a zero, so that a 1 there has a mark too. Such a mark is never the lowest.
+/// Returns 0 if no byte is equal to `wanted`. Otherwise the lowest 1 bit of the result is in the first byte that is equal to `wanted`.
+///
+/// On each processor, the byte at `start` is the lowest byte of the word. The exclusive or turns each byte that is equal to `wanted` into 0.
+/// The subtraction then sets the highest bit of this byte, which is its mark. At a byte 0, the subtraction borrows from the next byte. If the
+/// next byte is 1, it gets a mark too, although it is not equal to `wanted`. This mark is never the lowest one.
 #[inline(always)]
 fn marks_from(wanted: u8, bytes: &[u8], start: usize) -> u64 {
     let word = match bytes[start..].first_chunk() {
@@ -56,16 +63,18 @@ fn marks_from(wanted: u8, bytes: &[u8], start: usize) -> u64 {
     word.wrapping_sub(ONES) & !word & HIGHS
 }
 
-/// Where so many bytes that are this one were passed over, but for some that are left.
+/// How far `pass_many` went.
 #[derive(Clone, Copy)]
 pub struct Passed {
-    /// How many bytes were passed over.
+    /// The number of bytes that were skipped.
     pub place: usize,
-    /// How many of those that are this one are left.
+    /// The number of bytes equal to `wanted` that still have to be skipped.
     pub left: usize,
 }
 
-/// Passes over bytes, as many at once as are looked at at once, as long as fewer of them are this one than are left.
+/// Skips bytes up to the byte number `count` that is equal to `wanted`, as far as this is possible in steps of 16 bytes.
+///
+/// It stops before a step that contains this byte, and if fewer than 16 bytes are left.
 pub fn pass_many(wanted: u8, count: usize, bytes: &[u8]) -> Passed {
     let mut passed = Passed {
         place: 0,

@@ -1,19 +1,20 @@
-//! `place_of` and `pass_many`, which are written by hand and not proved, beside the plainest forms of both.
+//! Compares `place_of` and `pass_many` with simple functions that go byte by byte. A person wrote both functions, and they are not proved.
 //!
-//! Words of eight bytes and looks at sixteen go wrong at their ends, and at bytes beside the one that is looked for: so each length has all
-//! places, and each byte has its neighbours and those that differ from it in one bit.
+//! A search by words of eight bytes, or by steps of sixteen, can go wrong at the ends of a word, and at bytes that are similar to the wanted one.
+//! So the tests have the wanted byte at each index of slices of many lengths. The other bytes are the wanted byte plus or minus 1, bytes that
+//! differ from it in one bit, and some more.
 
 use ixdtf_buffers::place::{pass_many, place_of};
 
-/// Lengths at both sides of one word, of one look, and of several.
+/// Lengths from 0 to a few words, and lengths near the ends of later words and steps.
 fn lengths() -> impl Iterator<Item = usize> {
     (0..=40).chain(62..=66)
 }
 
-/// Bytes that are looked for: those of the programs, and the ends of the ranges.
+/// The bytes to search for: those that the programs search for, and bytes at the ends of ranges.
 const WANTED: [u8; 10] = [b'\n', b' ', b',', b';', 0x00, 0x01, 0x7f, 0x80, 0xfe, 0xff];
 
-/// Bytes that are mistaken for the wanted one where a word is not looked at rightly.
+/// Bytes that a wrong search can take for the wanted one.
 fn others(wanted: u8) -> Vec<u8> {
     let mut found = vec![wanted.wrapping_add(1), wanted.wrapping_sub(1), !wanted, 0x00, 0x01, 0x7f, 0x80, 0x81, 0xff, b'x'];
     found.extend((0..8).map(|bit| wanted ^ (1 << bit)));
@@ -21,7 +22,7 @@ fn others(wanted: u8) -> Vec<u8> {
     found
 }
 
-/// The index of the first byte that is this one, byte by byte.
+/// Does the work of `place_of`, byte by byte.
 fn plain_place(wanted: u8, bytes: &[u8]) -> Option<usize> {
     for (place, byte) in bytes.iter().enumerate() {
         if *byte == wanted {
@@ -31,7 +32,7 @@ fn plain_place(wanted: u8, bytes: &[u8]) -> Option<usize> {
     None
 }
 
-/// What `pass_many` promises, byte by byte: it passes over sixteen bytes as long as fewer of them are this one than are left.
+/// Does the work of `pass_many`, byte by byte. It skips sixteen bytes, as long as fewer of them are equal to `wanted` than are left.
 fn plain_passed(wanted: u8, count: usize, bytes: &[u8]) -> (usize, usize) {
     let (mut place, mut left) = (0, count);
     loop {
@@ -50,7 +51,7 @@ fn plain_passed(wanted: u8, count: usize, bytes: &[u8]) -> (usize, usize) {
     }
 }
 
-/// Compares both functions on these bytes.
+/// Compares both functions with the simple ones on these bytes.
 fn check(wanted: u8, bytes: &[u8]) {
     assert_eq!(place_of(wanted, bytes), plain_place(wanted, bytes), "{wanted} in {bytes:?}");
     for count in [0, 1, 2, 15, 16, 17] {
@@ -85,7 +86,7 @@ fn finds_one_in_each_place() {
     }
 }
 
-/// A byte beside the wanted one, on either side, may be taken for it: of a word from which 1 is taken away, a byte borrows from the next.
+/// A wrong search can take a byte right before or after the wanted one for it, because a subtraction from a word borrows from the next byte.
 #[test]
 fn finds_the_first_of_two_beside_each_other_byte() {
     for wanted in WANTED {
@@ -107,7 +108,7 @@ fn finds_the_first_of_two_beside_each_other_byte() {
     }
 }
 
-/// The bytes before and behind the slice are not looked at, wherever it lies in memory.
+/// The bytes before and after the slice do not change the result, for each address of the slice.
 #[test]
 fn looks_at_the_slice_alone() {
     for wanted in WANTED {
@@ -121,7 +122,7 @@ fn looks_at_the_slice_alone() {
     }
 }
 
-/// Bytes that look random: each byte is looked for in each of them, with few and with many kinds of bytes.
+/// Slices of pseudorandom bytes. Some have all 256 bytes, others only two or four different bytes.
 #[test]
 fn agrees_on_bytes_that_look_random() {
     let mut state = 0x2545_f491_4f6c_dd1d_u64;

@@ -19,7 +19,7 @@ use ixdtf::parsers::{DateTimes, InternetDateTimes, MonthDays, Profile, Times, Ye
 /// Reads a date, or a date and a time, and the brackets after it.
 #[unsafe(no_mangle)]
 pub unsafe extern "C" fn ixdtf_parse<'a>(text: *const u8, text_length: usize, out: &mut Record<'a>) -> u32 {
-    // SAFETY: so the header has it.
+    // SAFETY: the header requires this of the caller.
     let text = unsafe { crate::slices::slice(text, text_length) };
     read_into::<Utf8, DateTimes, _>(text, Profile::Crate, out)
 }
@@ -27,7 +27,7 @@ pub unsafe extern "C" fn ixdtf_parse<'a>(text: *const u8, text_length: usize, ou
 /// Reads a year and a month, and the brackets after it.
 #[unsafe(no_mangle)]
 pub unsafe extern "C" fn ixdtf_parse_year_month<'a>(text: *const u8, text_length: usize, out: &mut Record<'a>) -> u32 {
-    // SAFETY: so the header has it.
+    // SAFETY: the header requires this of the caller.
     let text = unsafe { crate::slices::slice(text, text_length) };
     read_into::<Utf8, YearMonths, _>(text, Profile::Crate, out)
 }
@@ -35,7 +35,7 @@ pub unsafe extern "C" fn ixdtf_parse_year_month<'a>(text: *const u8, text_length
 /// Reads a month and a day, and the brackets after it.
 #[unsafe(no_mangle)]
 pub unsafe extern "C" fn ixdtf_parse_month_day<'a>(text: *const u8, text_length: usize, out: &mut Record<'a>) -> u32 {
-    // SAFETY: so the header has it.
+    // SAFETY: the header requires this of the caller.
     let text = unsafe { crate::slices::slice(text, text_length) };
     read_into::<Utf8, MonthDays, _>(text, Profile::Crate, out)
 }
@@ -43,7 +43,7 @@ pub unsafe extern "C" fn ixdtf_parse_month_day<'a>(text: *const u8, text_length:
 /// Reads a time, and the brackets after it.
 #[unsafe(no_mangle)]
 pub unsafe extern "C" fn ixdtf_parse_time<'a>(text: *const u8, text_length: usize, out: &mut Record<'a>) -> u32 {
-    // SAFETY: so the header has it.
+    // SAFETY: the header requires this of the caller.
     let text = unsafe { crate::slices::slice(text, text_length) };
     read_into::<Utf8, Times, _>(text, Profile::Crate, out)
 }
@@ -51,7 +51,7 @@ pub unsafe extern "C" fn ixdtf_parse_time<'a>(text: *const u8, text_length: usiz
 /// Reads a month and a day, and the brackets after it, under the strict profile.
 #[unsafe(no_mangle)]
 pub unsafe extern "C" fn ixdtf_parse_month_day_strict<'a>(text: *const u8, text_length: usize, out: &mut Record<'a>) -> u32 {
-    // SAFETY: so the header has it.
+    // SAFETY: the header requires this of the caller.
     let text = unsafe { crate::slices::slice(text, text_length) };
     read_into::<Utf8, MonthDays, _>(text, Profile::Strict, out)
 }
@@ -59,7 +59,7 @@ pub unsafe extern "C" fn ixdtf_parse_month_day_strict<'a>(text: *const u8, text_
 /// Reads a time, and the brackets after it, under the strict profile.
 #[unsafe(no_mangle)]
 pub unsafe extern "C" fn ixdtf_parse_time_strict<'a>(text: *const u8, text_length: usize, out: &mut Record<'a>) -> u32 {
-    // SAFETY: so the header has it.
+    // SAFETY: the header requires this of the caller.
     let text = unsafe { crate::slices::slice(text, text_length) };
     read_into::<Utf8, Times, _>(text, Profile::Strict, out)
 }
@@ -67,7 +67,7 @@ pub unsafe extern "C" fn ixdtf_parse_time_strict<'a>(text: *const u8, text_lengt
 /// Reads a date-time of RFC 3339, section 5.6.
 #[unsafe(no_mangle)]
 pub unsafe extern "C" fn ixdtf_parse_rfc3339<'a>(text: *const u8, text_length: usize, out: &mut Record<'a>) -> u32 {
-    // SAFETY: so the header has it.
+    // SAFETY: the header requires this of the caller.
     let text = unsafe { crate::slices::slice(text, text_length) };
     rfc3339_into::<Utf8, _>(text, out)
 }
@@ -75,7 +75,7 @@ pub unsafe extern "C" fn ixdtf_parse_rfc3339<'a>(text: *const u8, text_length: u
 /// Reads a date-time of RFC 9557, section 4.1.
 #[unsafe(no_mangle)]
 pub unsafe extern "C" fn ixdtf_parse_rfc9557<'a>(text: *const u8, text_length: usize, out: &mut Record<'a>) -> u32 {
-    // SAFETY: so the header has it.
+    // SAFETY: the header requires this of the caller.
     let text = unsafe { crate::slices::slice(text, text_length) };
     read_into::<Utf8, InternetDateTimes, _>(text, Profile::Crate, out)
 }
@@ -83,7 +83,7 @@ pub unsafe extern "C" fn ixdtf_parse_rfc9557<'a>(text: *const u8, text_length: u
 /// Reads an offset.
 #[unsafe(no_mangle)]
 pub unsafe extern "C" fn ixdtf_parse_offset<'a>(text: *const u8, text_length: usize, out: &mut Record<'a>) -> u32 {
-    // SAFETY: so the header has it.
+    // SAFETY: the header requires this of the caller.
     let text = unsafe { crate::slices::slice(text, text_length) };
     offset_into::<Utf8, _>(text, out)
 }
@@ -91,7 +91,7 @@ pub unsafe extern "C" fn ixdtf_parse_offset<'a>(text: *const u8, text_length: us
 /// Reads a time zone.
 #[unsafe(no_mangle)]
 pub unsafe extern "C" fn ixdtf_parse_identifier<'a>(text: *const u8, text_length: usize, out: &mut Record<'a>) -> u32 {
-    // SAFETY: so the header has it.
+    // SAFETY: the header requires this of the caller.
     let text = unsafe { crate::slices::slice(text, text_length) };
     zone_into::<Utf8, _>(text, out)
 }
@@ -99,7 +99,7 @@ pub unsafe extern "C" fn ixdtf_parse_identifier<'a>(text: *const u8, text_length
 /// Reads the name of a time zone.
 #[unsafe(no_mangle)]
 pub unsafe extern "C" fn ixdtf_parse_iana_identifier<'a>(text: *const u8, text_length: usize, out: &mut Record<'a>) -> u32 {
-    // SAFETY: so the header has it.
+    // SAFETY: the header requires this of the caller.
     let text = unsafe { crate::slices::slice(text, text_length) };
     name_into::<Utf8, _>(text, out)
 }
@@ -107,7 +107,7 @@ pub unsafe extern "C" fn ixdtf_parse_iana_identifier<'a>(text: *const u8, text_l
 /// Reads a duration.
 #[unsafe(no_mangle)]
 pub unsafe extern "C" fn ixdtf_parse_duration(text: *const u8, text_length: usize, out: &mut Duration<'_>) -> u32 {
-    // SAFETY: so the header has it.
+    // SAFETY: the header requires this of the caller.
     let text = unsafe { crate::slices::slice(text, text_length) };
     duration_into::<Utf8>(text, Profile::Crate, out)
 }
@@ -115,7 +115,7 @@ pub unsafe extern "C" fn ixdtf_parse_duration(text: *const u8, text_length: usiz
 /// Reads a duration, under the strict profile.
 #[unsafe(no_mangle)]
 pub unsafe extern "C" fn ixdtf_parse_duration_strict(text: *const u8, text_length: usize, out: &mut Duration<'_>) -> u32 {
-    // SAFETY: so the header has it.
+    // SAFETY: the header requires this of the caller.
     let text = unsafe { crate::slices::slice(text, text_length) };
     duration_into::<Utf8>(text, Profile::Strict, out)
 }
@@ -130,9 +130,9 @@ pub unsafe extern "C" fn ixdtf_parse_with_annotations<'a>(
     count: &mut usize,
     out: &mut Record<'a>,
 ) -> u32 {
-    // SAFETY: so the header has it.
+    // SAFETY: the header requires this of the caller.
     let text = unsafe { crate::slices::slice(text, text_length) };
-    // SAFETY: so the header has it.
+    // SAFETY: the header requires this of the caller.
     let annotations = unsafe { crate::slices::slice_mut(annotations, annotations_length) };
     narrow_annotations::list_into::<DateTimes>(text, Profile::Crate, annotations, count, out)
 }
@@ -147,9 +147,9 @@ pub unsafe extern "C" fn ixdtf_parse_year_month_with_annotations<'a>(
     count: &mut usize,
     out: &mut Record<'a>,
 ) -> u32 {
-    // SAFETY: so the header has it.
+    // SAFETY: the header requires this of the caller.
     let text = unsafe { crate::slices::slice(text, text_length) };
-    // SAFETY: so the header has it.
+    // SAFETY: the header requires this of the caller.
     let annotations = unsafe { crate::slices::slice_mut(annotations, annotations_length) };
     narrow_annotations::list_into::<YearMonths>(text, Profile::Crate, annotations, count, out)
 }
@@ -164,9 +164,9 @@ pub unsafe extern "C" fn ixdtf_parse_month_day_with_annotations<'a>(
     count: &mut usize,
     out: &mut Record<'a>,
 ) -> u32 {
-    // SAFETY: so the header has it.
+    // SAFETY: the header requires this of the caller.
     let text = unsafe { crate::slices::slice(text, text_length) };
-    // SAFETY: so the header has it.
+    // SAFETY: the header requires this of the caller.
     let annotations = unsafe { crate::slices::slice_mut(annotations, annotations_length) };
     narrow_annotations::list_into::<MonthDays>(text, Profile::Crate, annotations, count, out)
 }
@@ -181,9 +181,9 @@ pub unsafe extern "C" fn ixdtf_parse_time_with_annotations<'a>(
     count: &mut usize,
     out: &mut Record<'a>,
 ) -> u32 {
-    // SAFETY: so the header has it.
+    // SAFETY: the header requires this of the caller.
     let text = unsafe { crate::slices::slice(text, text_length) };
-    // SAFETY: so the header has it.
+    // SAFETY: the header requires this of the caller.
     let annotations = unsafe { crate::slices::slice_mut(annotations, annotations_length) };
     narrow_annotations::list_into::<Times>(text, Profile::Crate, annotations, count, out)
 }
@@ -198,9 +198,9 @@ pub unsafe extern "C" fn ixdtf_parse_rfc9557_with_annotations<'a>(
     count: &mut usize,
     out: &mut Record<'a>,
 ) -> u32 {
-    // SAFETY: so the header has it.
+    // SAFETY: the header requires this of the caller.
     let text = unsafe { crate::slices::slice(text, text_length) };
-    // SAFETY: so the header has it.
+    // SAFETY: the header requires this of the caller.
     let annotations = unsafe { crate::slices::slice_mut(annotations, annotations_length) };
     narrow_annotations::list_into::<InternetDateTimes>(
         text,
@@ -221,9 +221,9 @@ pub unsafe extern "C" fn ixdtf_parse_month_day_with_annotations_strict<'a>(
     count: &mut usize,
     out: &mut Record<'a>,
 ) -> u32 {
-    // SAFETY: so the header has it.
+    // SAFETY: the header requires this of the caller.
     let text = unsafe { crate::slices::slice(text, text_length) };
-    // SAFETY: so the header has it.
+    // SAFETY: the header requires this of the caller.
     let annotations = unsafe { crate::slices::slice_mut(annotations, annotations_length) };
     narrow_annotations::list_into::<MonthDays>(text, Profile::Strict, annotations, count, out)
 }
@@ -238,9 +238,9 @@ pub unsafe extern "C" fn ixdtf_parse_time_with_annotations_strict<'a>(
     count: &mut usize,
     out: &mut Record<'a>,
 ) -> u32 {
-    // SAFETY: so the header has it.
+    // SAFETY: the header requires this of the caller.
     let text = unsafe { crate::slices::slice(text, text_length) };
-    // SAFETY: so the header has it.
+    // SAFETY: the header requires this of the caller.
     let annotations = unsafe { crate::slices::slice_mut(annotations, annotations_length) };
     narrow_annotations::list_into::<Times>(text, Profile::Strict, annotations, count, out)
 }
@@ -255,7 +255,7 @@ pub extern "C" fn ixdtf_reply<'a>(calendar: &mut Calendar<'a>, reply: &Annotatio
 /// Reads a date, or a date and a time, and the brackets after it.
 #[unsafe(no_mangle)]
 pub unsafe extern "C" fn ixdtf16_parse<'a>(text: *const u16, text_length: usize, out: &mut wide::Record<'a>) -> u32 {
-    // SAFETY: so the header has it.
+    // SAFETY: the header requires this of the caller.
     let text = unsafe { crate::slices::slice(text, text_length) };
     read_into::<Utf16, DateTimes, _>(text, Profile::Crate, out)
 }
@@ -263,7 +263,7 @@ pub unsafe extern "C" fn ixdtf16_parse<'a>(text: *const u16, text_length: usize,
 /// Reads a year and a month, and the brackets after it.
 #[unsafe(no_mangle)]
 pub unsafe extern "C" fn ixdtf16_parse_year_month<'a>(text: *const u16, text_length: usize, out: &mut wide::Record<'a>) -> u32 {
-    // SAFETY: so the header has it.
+    // SAFETY: the header requires this of the caller.
     let text = unsafe { crate::slices::slice(text, text_length) };
     read_into::<Utf16, YearMonths, _>(text, Profile::Crate, out)
 }
@@ -271,7 +271,7 @@ pub unsafe extern "C" fn ixdtf16_parse_year_month<'a>(text: *const u16, text_len
 /// Reads a month and a day, and the brackets after it.
 #[unsafe(no_mangle)]
 pub unsafe extern "C" fn ixdtf16_parse_month_day<'a>(text: *const u16, text_length: usize, out: &mut wide::Record<'a>) -> u32 {
-    // SAFETY: so the header has it.
+    // SAFETY: the header requires this of the caller.
     let text = unsafe { crate::slices::slice(text, text_length) };
     read_into::<Utf16, MonthDays, _>(text, Profile::Crate, out)
 }
@@ -279,7 +279,7 @@ pub unsafe extern "C" fn ixdtf16_parse_month_day<'a>(text: *const u16, text_leng
 /// Reads a time, and the brackets after it.
 #[unsafe(no_mangle)]
 pub unsafe extern "C" fn ixdtf16_parse_time<'a>(text: *const u16, text_length: usize, out: &mut wide::Record<'a>) -> u32 {
-    // SAFETY: so the header has it.
+    // SAFETY: the header requires this of the caller.
     let text = unsafe { crate::slices::slice(text, text_length) };
     read_into::<Utf16, Times, _>(text, Profile::Crate, out)
 }
@@ -291,7 +291,7 @@ pub unsafe extern "C" fn ixdtf16_parse_month_day_strict<'a>(
     text_length: usize,
     out: &mut wide::Record<'a>,
 ) -> u32 {
-    // SAFETY: so the header has it.
+    // SAFETY: the header requires this of the caller.
     let text = unsafe { crate::slices::slice(text, text_length) };
     read_into::<Utf16, MonthDays, _>(text, Profile::Strict, out)
 }
@@ -299,7 +299,7 @@ pub unsafe extern "C" fn ixdtf16_parse_month_day_strict<'a>(
 /// Reads a time, and the brackets after it, under the strict profile.
 #[unsafe(no_mangle)]
 pub unsafe extern "C" fn ixdtf16_parse_time_strict<'a>(text: *const u16, text_length: usize, out: &mut wide::Record<'a>) -> u32 {
-    // SAFETY: so the header has it.
+    // SAFETY: the header requires this of the caller.
     let text = unsafe { crate::slices::slice(text, text_length) };
     read_into::<Utf16, Times, _>(text, Profile::Strict, out)
 }
@@ -307,7 +307,7 @@ pub unsafe extern "C" fn ixdtf16_parse_time_strict<'a>(text: *const u16, text_le
 /// Reads a date-time of RFC 3339, section 5.6.
 #[unsafe(no_mangle)]
 pub unsafe extern "C" fn ixdtf16_parse_rfc3339<'a>(text: *const u16, text_length: usize, out: &mut wide::Record<'a>) -> u32 {
-    // SAFETY: so the header has it.
+    // SAFETY: the header requires this of the caller.
     let text = unsafe { crate::slices::slice(text, text_length) };
     rfc3339_into::<Utf16, _>(text, out)
 }
@@ -315,7 +315,7 @@ pub unsafe extern "C" fn ixdtf16_parse_rfc3339<'a>(text: *const u16, text_length
 /// Reads a date-time of RFC 9557, section 4.1.
 #[unsafe(no_mangle)]
 pub unsafe extern "C" fn ixdtf16_parse_rfc9557<'a>(text: *const u16, text_length: usize, out: &mut wide::Record<'a>) -> u32 {
-    // SAFETY: so the header has it.
+    // SAFETY: the header requires this of the caller.
     let text = unsafe { crate::slices::slice(text, text_length) };
     read_into::<Utf16, InternetDateTimes, _>(text, Profile::Crate, out)
 }
@@ -323,7 +323,7 @@ pub unsafe extern "C" fn ixdtf16_parse_rfc9557<'a>(text: *const u16, text_length
 /// Reads an offset.
 #[unsafe(no_mangle)]
 pub unsafe extern "C" fn ixdtf16_parse_offset<'a>(text: *const u16, text_length: usize, out: &mut wide::Record<'a>) -> u32 {
-    // SAFETY: so the header has it.
+    // SAFETY: the header requires this of the caller.
     let text = unsafe { crate::slices::slice(text, text_length) };
     offset_into::<Utf16, _>(text, out)
 }
@@ -331,7 +331,7 @@ pub unsafe extern "C" fn ixdtf16_parse_offset<'a>(text: *const u16, text_length:
 /// Reads a time zone.
 #[unsafe(no_mangle)]
 pub unsafe extern "C" fn ixdtf16_parse_identifier<'a>(text: *const u16, text_length: usize, out: &mut wide::Record<'a>) -> u32 {
-    // SAFETY: so the header has it.
+    // SAFETY: the header requires this of the caller.
     let text = unsafe { crate::slices::slice(text, text_length) };
     zone_into::<Utf16, _>(text, out)
 }
@@ -343,7 +343,7 @@ pub unsafe extern "C" fn ixdtf16_parse_iana_identifier<'a>(
     text_length: usize,
     out: &mut wide::Record<'a>,
 ) -> u32 {
-    // SAFETY: so the header has it.
+    // SAFETY: the header requires this of the caller.
     let text = unsafe { crate::slices::slice(text, text_length) };
     name_into::<Utf16, _>(text, out)
 }
@@ -351,7 +351,7 @@ pub unsafe extern "C" fn ixdtf16_parse_iana_identifier<'a>(
 /// Reads a duration.
 #[unsafe(no_mangle)]
 pub unsafe extern "C" fn ixdtf16_parse_duration(text: *const u16, text_length: usize, out: &mut Duration<'_>) -> u32 {
-    // SAFETY: so the header has it.
+    // SAFETY: the header requires this of the caller.
     let text = unsafe { crate::slices::slice(text, text_length) };
     duration_into::<Utf16>(text, Profile::Crate, out)
 }
@@ -359,7 +359,7 @@ pub unsafe extern "C" fn ixdtf16_parse_duration(text: *const u16, text_length: u
 /// Reads a duration, under the strict profile.
 #[unsafe(no_mangle)]
 pub unsafe extern "C" fn ixdtf16_parse_duration_strict(text: *const u16, text_length: usize, out: &mut Duration<'_>) -> u32 {
-    // SAFETY: so the header has it.
+    // SAFETY: the header requires this of the caller.
     let text = unsafe { crate::slices::slice(text, text_length) };
     duration_into::<Utf16>(text, Profile::Strict, out)
 }
@@ -374,9 +374,9 @@ pub unsafe extern "C" fn ixdtf16_parse_with_annotations<'a>(
     count: &mut usize,
     out: &mut wide::Record<'a>,
 ) -> u32 {
-    // SAFETY: so the header has it.
+    // SAFETY: the header requires this of the caller.
     let text = unsafe { crate::slices::slice(text, text_length) };
-    // SAFETY: so the header has it.
+    // SAFETY: the header requires this of the caller.
     let annotations = unsafe { crate::slices::slice_mut(annotations, annotations_length) };
     wide_annotations::list_into::<DateTimes>(text, Profile::Crate, annotations, count, out)
 }
@@ -391,9 +391,9 @@ pub unsafe extern "C" fn ixdtf16_parse_year_month_with_annotations<'a>(
     count: &mut usize,
     out: &mut wide::Record<'a>,
 ) -> u32 {
-    // SAFETY: so the header has it.
+    // SAFETY: the header requires this of the caller.
     let text = unsafe { crate::slices::slice(text, text_length) };
-    // SAFETY: so the header has it.
+    // SAFETY: the header requires this of the caller.
     let annotations = unsafe { crate::slices::slice_mut(annotations, annotations_length) };
     wide_annotations::list_into::<YearMonths>(text, Profile::Crate, annotations, count, out)
 }
@@ -408,9 +408,9 @@ pub unsafe extern "C" fn ixdtf16_parse_month_day_with_annotations<'a>(
     count: &mut usize,
     out: &mut wide::Record<'a>,
 ) -> u32 {
-    // SAFETY: so the header has it.
+    // SAFETY: the header requires this of the caller.
     let text = unsafe { crate::slices::slice(text, text_length) };
-    // SAFETY: so the header has it.
+    // SAFETY: the header requires this of the caller.
     let annotations = unsafe { crate::slices::slice_mut(annotations, annotations_length) };
     wide_annotations::list_into::<MonthDays>(text, Profile::Crate, annotations, count, out)
 }
@@ -425,9 +425,9 @@ pub unsafe extern "C" fn ixdtf16_parse_time_with_annotations<'a>(
     count: &mut usize,
     out: &mut wide::Record<'a>,
 ) -> u32 {
-    // SAFETY: so the header has it.
+    // SAFETY: the header requires this of the caller.
     let text = unsafe { crate::slices::slice(text, text_length) };
-    // SAFETY: so the header has it.
+    // SAFETY: the header requires this of the caller.
     let annotations = unsafe { crate::slices::slice_mut(annotations, annotations_length) };
     wide_annotations::list_into::<Times>(text, Profile::Crate, annotations, count, out)
 }
@@ -442,9 +442,9 @@ pub unsafe extern "C" fn ixdtf16_parse_rfc9557_with_annotations<'a>(
     count: &mut usize,
     out: &mut wide::Record<'a>,
 ) -> u32 {
-    // SAFETY: so the header has it.
+    // SAFETY: the header requires this of the caller.
     let text = unsafe { crate::slices::slice(text, text_length) };
-    // SAFETY: so the header has it.
+    // SAFETY: the header requires this of the caller.
     let annotations = unsafe { crate::slices::slice_mut(annotations, annotations_length) };
     wide_annotations::list_into::<InternetDateTimes>(text, Profile::Crate, annotations, count, out)
 }
@@ -459,9 +459,9 @@ pub unsafe extern "C" fn ixdtf16_parse_month_day_with_annotations_strict<'a>(
     count: &mut usize,
     out: &mut wide::Record<'a>,
 ) -> u32 {
-    // SAFETY: so the header has it.
+    // SAFETY: the header requires this of the caller.
     let text = unsafe { crate::slices::slice(text, text_length) };
-    // SAFETY: so the header has it.
+    // SAFETY: the header requires this of the caller.
     let annotations = unsafe { crate::slices::slice_mut(annotations, annotations_length) };
     wide_annotations::list_into::<MonthDays>(text, Profile::Strict, annotations, count, out)
 }
@@ -476,9 +476,9 @@ pub unsafe extern "C" fn ixdtf16_parse_time_with_annotations_strict<'a>(
     count: &mut usize,
     out: &mut wide::Record<'a>,
 ) -> u32 {
-    // SAFETY: so the header has it.
+    // SAFETY: the header requires this of the caller.
     let text = unsafe { crate::slices::slice(text, text_length) };
-    // SAFETY: so the header has it.
+    // SAFETY: the header requires this of the caller.
     let annotations = unsafe { crate::slices::slice_mut(annotations, annotations_length) };
     wide_annotations::list_into::<Times>(text, Profile::Strict, annotations, count, out)
 }

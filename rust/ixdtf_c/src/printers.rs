@@ -16,7 +16,7 @@ pub unsafe extern "C" fn ixdtf_print_duration(
     out_length: usize,
     count: &mut usize,
 ) -> u32 {
-    // SAFETY: so the header has it.
+    // SAFETY: the header requires this of the caller.
     let out = unsafe { crate::slices::slice_mut(out, out_length) };
     print_into(given, out, count)
 }
@@ -31,7 +31,7 @@ pub extern "C" fn ixdtf_printed_duration_length(given: &Duration<'_>) -> usize {
 /// text stands for it, and else 102 where the bytes are fewer than those of the text, and the count is then how many these are.
 #[unsafe(no_mangle)]
 pub unsafe extern "C" fn ixdtf_print_offset(given: &Offset, out: *mut u8, out_length: usize, count: &mut usize) -> u32 {
-    // SAFETY: so the header has it.
+    // SAFETY: the header requires this of the caller.
     let out = unsafe { crate::slices::slice_mut(out, out_length) };
     print_into(given, out, count)
 }
@@ -46,7 +46,7 @@ pub extern "C" fn ixdtf_printed_offset_length(given: &Offset) -> usize {
 /// text stands for it, and else 102 where the bytes are fewer than those of the text, and the count is then how many these are.
 #[unsafe(no_mangle)]
 pub unsafe extern "C" fn ixdtf_print_zone(given: &Zone<'_>, out: *mut u8, out_length: usize, count: &mut usize) -> u32 {
-    // SAFETY: so the header has it.
+    // SAFETY: the header requires this of the caller.
     let out = unsafe { crate::slices::slice_mut(out, out_length) };
     print_into(given, out, count)
 }
@@ -61,7 +61,7 @@ pub extern "C" fn ixdtf_printed_zone_length(given: &Zone<'_>) -> usize {
 /// text stands for it, and else 102 where the bytes are fewer than those of the text, and the count is then how many these are.
 #[unsafe(no_mangle)]
 pub unsafe extern "C" fn ixdtf_print_time(given: &Record<'_>, out: *mut u8, out_length: usize, count: &mut usize) -> u32 {
-    // SAFETY: so the header has it.
+    // SAFETY: the header requires this of the caller.
     let out = unsafe { crate::slices::slice_mut(out, out_length) };
     print_into(&AsTime { record: given }, out, count)
 }
@@ -81,7 +81,7 @@ pub unsafe extern "C" fn ixdtf_print_year_month(
     out_length: usize,
     count: &mut usize,
 ) -> u32 {
-    // SAFETY: so the header has it.
+    // SAFETY: the header requires this of the caller.
     let out = unsafe { crate::slices::slice_mut(out, out_length) };
     print_into(&AsYearMonth { record: given }, out, count)
 }
@@ -101,7 +101,7 @@ pub unsafe extern "C" fn ixdtf_print_month_day(
     out_length: usize,
     count: &mut usize,
 ) -> u32 {
-    // SAFETY: so the header has it.
+    // SAFETY: the header requires this of the caller.
     let out = unsafe { crate::slices::slice_mut(out, out_length) };
     print_into(&AsMonthDay { record: given }, out, count)
 }

@@ -155,7 +155,7 @@ fn print_found(found: &IxdtfParseRecord<'_, Utf8>, out: &mut [u8], count: &mut u
 /// how many these are.
 #[unsafe(no_mangle)]
 pub unsafe extern "C" fn ixdtf_print(given: &Record<'_>, out: *mut u8, out_length: usize, count: &mut usize) -> u32 {
-    // SAFETY: so the header has it.
+    // SAFETY: the header requires this of the caller.
     let out = unsafe { crate::slices::slice_mut(out, out_length) };
     let Some(found) = record_of(given) else {
         return 101;

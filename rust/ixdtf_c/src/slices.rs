@@ -1,11 +1,11 @@
-//! Slices of what C hands in and gets back.
+//! Slices that are passed between C and Rust. A person wrote this file, because it has `unsafe` code.
 
 use core::marker::PhantomData;
 
 #[cfg(not(target_pointer_width = "64"))]
 compile_error!("ixdtf_c is for 64-bit targets");
 
-/// A slice in a struct, which C has as a pointer and a length. Of one without units the pointer may be `NULL`.
+/// A slice in a struct. C has it as a pointer and a length. If the length is 0, the pointer may be `NULL`.
 #[derive(Clone, Copy)]
 #[repr(C)]
 pub struct Slice<'a, U> {
@@ -14,7 +14,7 @@ pub struct Slice<'a, U> {
     units: PhantomData<&'a [U]>,
 }
 
-/// The slice as C has it.
+/// Returns the slice as C has it.
 #[inline(always)]
 pub fn to_c<'a, U>(slice: &'a [U]) -> Slice<'a, U> {
     Slice {
@@ -24,37 +24,37 @@ pub fn to_c<'a, U>(slice: &'a [U]) -> Slice<'a, U> {
     }
 }
 
-/// The slice that C hands in. Of one without units the pointer, which C may have as `NULL`, is not handed on.
+/// Returns the slice that C passes. If its length is 0, the pointer is not used, because C may pass `NULL`.
 #[inline(always)]
 pub fn from_c<'a, U>(given: Slice<'a, U>) -> &'a [U] {
-    // SAFETY: so the header has it.
+    // SAFETY: the header requires this of the caller.
     unsafe { slice(given.at, given.length) }
 }
 
-/// The slice of so many places from the pointer on, and an empty one where there are none.
+/// Returns the slice of `length` items at the pointer. If `length` is 0, returns an empty slice, and does not use the pointer.
 ///
 /// # Safety
 ///
-/// Where there are some, all of them can be read, and stay as they are while the slice is used.
+/// If `length` is not 0, all items can be read, and nothing changes them while the slice is used.
 #[inline(always)]
 pub unsafe fn slice<'a, T>(at: *const T, length: usize) -> &'a [T] {
     if length == 0 {
         return &[];
     }
-    // SAFETY: what is asked for.
+    // SAFETY: the caller guarantees this, as the doc comment requires.
     unsafe { core::slice::from_raw_parts(at, length) }
 }
 
-/// The slice of so many places from the pointer on, and an empty one where there are none.
+/// Returns the mutable slice of `length` items at the pointer. If `length` is 0, returns an empty slice, and does not use the pointer.
 ///
 /// # Safety
 ///
-/// Where there are some, all of them can be read and written, and nothing else uses them while the slice is used.
+/// If `length` is not 0, all items can be read and written, and nothing else uses them while the slice is used.
 #[inline(always)]
 pub unsafe fn slice_mut<'a, T>(at: *mut T, length: usize) -> &'a mut [T] {
     if length == 0 {
         return &mut [];
     }
-    // SAFETY: what is asked for.
+    // SAFETY: the caller guarantees this, as the doc comment requires.
     unsafe { core::slice::from_raw_parts_mut(at, length) }
 }

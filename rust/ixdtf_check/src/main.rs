@@ -1,4 +1,6 @@
-//! Checks the lines of files: which are wrong, where, and why.
+//! Reports the lines of files that are not valid, with the position and the text of each error.
+//!
+//! A person wrote this file.
 #![forbid(unsafe_code)]
 
 mod arguments;
@@ -77,7 +79,7 @@ argument is wrong, or if a file or standard output failed.";
 
 const VERSION: &str = concat!("ixdtf_check ", env!("CARGO_PKG_VERSION"));
 
-/// What the checks of all files came to.
+/// The results of the checks of all files.
 struct Outcome {
     total: Tally,
     has_failed: bool,
@@ -85,14 +87,14 @@ struct Outcome {
     most_reports: u64,
     /// Whether lines that are refused are reported.
     shows_refusals: bool,
-    /// Whether standard output takes nothing more.
+    /// Whether a write to standard output has failed. No file is checked after this.
     is_closed: bool,
-    /// Whether standard output is a pipe that nobody reads. The program then writes nothing more, also to standard error.
+    /// Whether standard output is a pipe that nobody reads. Then the program writes nothing more, not even to standard error.
     is_quiet: bool,
 }
 
 impl Outcome {
-    /// Allows the next file only the reports that the files before it have left.
+    /// Limits the reports of the next file to those that the files before it have left.
     fn limit_reports(&mut self, request: &mut Request<'_>) {
         self.most_reports = request.most_reports;
         self.shows_refusals = !request.is_quiet;
@@ -149,7 +151,7 @@ fn main() -> ExitCode {
     ExitCode::from(status_of(outcome.has_failed, refused))
 }
 
-/// Shows a text that was asked for.
+/// Writes the usage or the version to standard output.
 fn show(text: &str) -> ExitCode {
     match writeln!(stdout(), "{text}") {
         Ok(()) => ExitCode::SUCCESS,
@@ -157,7 +159,7 @@ fn show(text: &str) -> ExitCode {
     }
 }
 
-/// Says what is wrong with a word, and which word was probably meant.
+/// Reports what is wrong with an argument, and which argument was probably meant.
 fn refuse_word(word: &str, wrong: Wrong) -> ExitCode {
     eprintln!("ixdtf_check: {word}: {}", wrong.message());
     if let Some(meant) = meant_by(word, wrong) {
@@ -166,22 +168,22 @@ fn refuse_word(word: &str, wrong: Wrong) -> ExitCode {
     point_to_help()
 }
 
-/// Says what is wrong with the arguments together.
+/// Reports what is wrong with the arguments.
 fn refuse(message: &str) -> ExitCode {
     eprintln!("ixdtf_check: {message}");
     point_to_help()
 }
 
-/// Says how to see the usage.
+/// Writes how to see the usage. Returns the exit status 2.
 fn point_to_help() -> ExitCode {
     eprintln!("ixdtf_check --help shows the options.");
     ExitCode::from(2)
 }
 
-/// Standard output, without the buffer that Rust puts before it. What the program writes waited already, and that buffer, which ends with
-/// the last line that is whole, would cut each write in two.
+/// Returns standard output without Rust's buffer, as a second file descriptor of the same output.
 ///
-/// It is a second descriptor of the same output. Where there is none to be had, it is standard output as Rust has it.
+/// The program has its own buffer. Rust's buffer writes everything up to the last complete line, and keeps the rest, so it would cut each
+/// write of the program in two. If the system gives no second file descriptor, this function returns standard output with Rust's buffer.
 fn standard_output() -> Box<dyn Write> {
     #[cfg(unix)]
     if let Ok(descriptor) = std::os::fd::AsFd::as_fd(&stdout()).try_clone_to_owned() {
@@ -190,7 +192,7 @@ fn standard_output() -> Box<dyn Write> {
     Box::new(stdout().lock())
 }
 
-/// Checks the file of this name; `-` is standard input.
+/// Checks the file with this name. The name `-` means standard input.
 fn check_file<W: Write>(options: &Options, field_name: Option<&[u8]>, name: &str, output: &mut W, outcome: &mut Outcome) {
     let Some(request) = options.request(name) else {
         return;
@@ -204,7 +206,7 @@ fn check_file<W: Write>(options: &Options, field_name: Option<&[u8]>, name: &str
     }
 }
 
-/// Checks what the reader gives. If the field that is read has a name, the reader's first line says which field it is.
+/// Checks the lines of the reader. If the option `--field` has a name, the first line of the reader says which field has this name.
 fn check_reader<R: Read, W: Write>(
     reader: &mut R,
     options: &Options,
@@ -230,7 +232,7 @@ fn check_reader<R: Read, W: Write>(
     }
 }
 
-/// The first line of what the reader gives, or its first bytes if it is too long, and perhaps some bytes behind it.
+/// Reads the first line, and perhaps some bytes after it. If the first line is too long, reads only its first bytes.
 fn front_of<R: Read>(reader: &mut R) -> io::Result<Vec<u8>> {
     let mut front = vec![0; LINE_LIMIT];
     let mut count = 0;
@@ -244,7 +246,7 @@ fn front_of<R: Read>(reader: &mut R) -> io::Result<Vec<u8>> {
     Ok(front)
 }
 
-/// Checks what the reader gives, as the request says.
+/// Checks the lines of the reader, as the request says.
 fn check_request<R: Read, W: Write>(reader: &mut R, mut request: Request<'_>, output: &mut W, outcome: &mut Outcome) {
     let name = request.name;
     outcome.limit_reports(&mut request);
@@ -269,7 +271,7 @@ fn check_request<R: Read, W: Write>(reader: &mut R, mut request: Request<'_>, ou
     }
 }
 
-/// Says what failed, and why.
+/// Reports what failed, and why.
 fn complain<D: Display>(name: &str, why: D, outcome: &mut Outcome) {
     outcome.has_failed = true;
     eprintln!("ixdtf_check: {name}: {why}");
@@ -282,7 +284,7 @@ struct Watched<'r, R> {
 }
 
 impl<R> Watched<'_, R> {
-    /// Keeps the error of a call, if the call failed. What the caller gets has the same kind.
+    /// Keeps the error of a call, if the call failed. The caller gets an error of the same kind.
     fn keep<T>(&mut self, result: io::Result<T>) -> io::Result<T> {
         result.map_err(|error| {
             let kind = error.kind();

@@ -1,4 +1,6 @@
-//! Answers each line of standard input by a line on standard output.
+//! Reads lines from standard input, and writes one line with the answer to each of them to standard output.
+//!
+//! A person wrote this file.
 #![forbid(unsafe_code)]
 
 mod answer;
@@ -29,10 +31,10 @@ fn main() -> ExitCode {
     }
 }
 
-/// Standard output, without the buffer that Rust puts before it. What the program writes waited already, and that buffer, which ends with
-/// the last line that is whole, would cut each write in two.
+/// Returns standard output without Rust's buffer, as a second file descriptor of the same output.
 ///
-/// It is a second descriptor of the same output. Where there is none to be had, it is standard output as Rust has it.
+/// The program has its own buffer. Rust's buffer writes everything up to the last complete line, and keeps the rest, so it would cut each
+/// write of the program in two. If the system gives no second file descriptor, this function returns standard output with Rust's buffer.
 fn standard_output() -> Box<dyn Write> {
     #[cfg(unix)]
     if let Ok(descriptor) = std::os::fd::AsFd::as_fd(&stdout()).try_clone_to_owned() {
@@ -41,12 +43,13 @@ fn standard_output() -> Box<dyn Write> {
     Box::new(stdout().lock())
 }
 
-/// What a line of the input is, for whoever gave arguments in its place.
+/// The usage, which says what a line of the input is.
 const USAGE: &str = "usage: a line of standard input is a word, a space and a text, and the words are \
     parse, year-month, month-day, time, offset, zone, iana, duration, strict-month-day, \
     strict-time, strict-duration, rfc3339, rfc9557, zone-name, instant, canonical, canonical-time, \
     canonical-year-month, canonical-month-day, canonical-offset, canonical-zone, canonical-duration";
 
+/// Reports that reading or writing failed.
 fn failed(what: &str) -> ExitCode {
     eprintln!("ixdtf_lines: {what} failed");
     ExitCode::from(1)

@@ -1,5 +1,5 @@
-//! The writes of the program. Its standard output is a socket here that keeps each write as one message, and that takes a message of
-//! 4,096 bytes, as on Linux.
+//! Tests the writes of the program. Here, its standard output is a socket that keeps each write as one message. On Linux, a message can have
+//! 4,096 bytes.
 #![cfg(target_os = "linux")]
 
 use std::fs::{self, File};
@@ -8,7 +8,7 @@ use std::os::unix::net::UnixDatagram;
 use std::process::{Command, Stdio};
 use std::thread;
 
-/// What the program writes when it reads this, write by write.
+/// Runs the program on an input. Returns what it writes to standard output, write by write.
 fn writes(input: File) -> Vec<Vec<u8>> {
     let (ours, its) = UnixDatagram::pair().unwrap();
     let reader = thread::spawn(move || {
@@ -42,6 +42,6 @@ fn no_write_is_cut_in_two() {
     fs::remove_file(&path).unwrap();
     let bytes: usize = found.iter().map(Vec::len).sum();
     assert_eq!(found.concat().iter().filter(|byte| **byte == b'\n').count(), 40_000);
-    // one write for each 4,096 bytes that waited, and one for what waits before each read of as many
+    // There is one write for each 4,096 bytes in the buffer. There is also one write of the buffered bytes before each read of 4,096 bytes.
     assert!(found.len() <= bytes / 4_096 + lines.len() / 4_096 + 2, "{} writes of {bytes} bytes", found.len());
 }

@@ -1,10 +1,10 @@
-//! Durations printed as their canonical texts are read back as equal durations: those of texts of a seeded generator, and those
-//! of seeded fields.
+//! Tests that a duration is equal to the duration that is read back from its canonical text. Some durations are read from generated texts,
+//! and others have generated fields.
 use ixdtf::parsers::{IsoDurationParser, Profile};
 use ixdtf::records::{DateDurationRecord, DurationParseRecord, Fraction, Sign, TimeDurationRecord};
 use ixdtf_print::{duration_length, print_duration, CanonicalDuration, PrintError};
 
-/// The canonical text, counted, printed and displayed alike.
+/// Returns the canonical text. Checks that it has the length that is counted, and that `Display` writes the same text.
 fn printed(duration: &DurationParseRecord) -> Result<String, PrintError> {
     let mut out = [7; 512];
     let count = print_duration(duration, &mut out)?;
@@ -17,7 +17,7 @@ fn printed(duration: &DurationParseRecord) -> Result<String, PrintError> {
     Ok(text)
 }
 
-/// The duration is read back from its canonical text under each profile.
+/// Checks that the duration is read back from its canonical text under each profile. Returns this text.
 fn check_read_back(duration: &DurationParseRecord) -> String {
     let text = printed(duration).unwrap();
     for profile in [Profile::Crate, Profile::Strict] {
@@ -55,7 +55,7 @@ fn refuses_an_empty_duration() {
     assert!(CanonicalDuration::of(&empty).is_none());
 }
 
-/// Numbers that look random, and are the same in each run.
+/// Pseudorandom numbers. They are the same in each run.
 struct Numbers(u64);
 
 impl Numbers {
@@ -68,7 +68,7 @@ impl Numbers {
         self.next() % most
     }
 
-    /// A number of any size up to a greatest one, and often none or a power of ten.
+    /// A number up to `greatest`. It is often 0, or a power of ten.
     fn number(&mut self, greatest: u64) -> u64 {
         let power = 10u64.pow(self.below(20) as u32);
         let number = match self.below(6) {
@@ -139,7 +139,7 @@ fn reads_back_made_durations() {
     }
 }
 
-/// The canonical text of what was read is at most as long as the text.
+/// The canonical text of a duration is not longer than the text that was read.
 #[test]
 fn is_at_most_as_long() {
     let mut numbers = Numbers(70);

@@ -1,5 +1,6 @@
-//! Offsets, zones, times, year-months and month-days printed as their canonical texts are read back as equal records: those of
-//! seeded fields, and those of texts of a seeded generator. What is printed is compared with what `format!` writes.
+//! Tests that a record is equal to the record that is read back from its canonical text, for offsets, zones, times, year-months and
+//! month-days. Some records have generated fields, and others are read from generated texts. The canonical texts are compared with texts that
+//! `format!` writes.
 use ixdtf::encoding::Utf8;
 use ixdtf::parsers::{IxdtfParser, Profile, TimeZoneParser};
 use ixdtf::records::{
@@ -12,7 +13,8 @@ use ixdtf_print::{print_time, print_year_month, time_length, year_month_length, 
 
 type Record<'a> = IxdtfParseRecord<'a, Utf8>;
 
-/// The canonical text, counted, printed and displayed alike; or the refusal, by all three.
+/// Returns the canonical text. Checks that it has the length that is counted, and that `Display` writes the same text. If there is no
+/// canonical text, returns the error, and checks that there is no length and no `Display` either.
 fn printed(
     print: impl Fn(&mut [u8]) -> Result<usize, PrintError>,
     length: Option<usize>,
@@ -93,7 +95,7 @@ fn prints_canonical_texts() {
     }
 }
 
-/// What one reader returns is refused by the printers of the others, but for the first day of a month in the year 0.
+/// A printer refuses the records of the other readers. There is one exception: the first day of a month in the year 0.
 #[test]
 fn refuses_what_another_reader_returns() {
     let refused = Err(PrintError::NotPrintable);
@@ -116,7 +118,7 @@ fn refuses_what_another_reader_returns() {
     assert_eq!(printed_month_day(&both).as_deref(), Ok("11-01"));
 }
 
-/// Numbers that look random, and are the same in each run.
+/// Pseudorandom numbers. They are the same in each run.
 struct Numbers(u64);
 
 const NAMES: [&[u8]; 6] = [b"UTC", b"Europe/Paris", b"_a/.b+1-0", b"a/b/c/d/e/f/g/h/i/j/k/l/m/n/o/p/q/r/s/t", b"Etc/GMT-14", b"z"];
@@ -138,7 +140,7 @@ impl Numbers {
         parts[self.below(parts.len())]
     }
 
-    /// A number up to a greatest one, and now and then one past it.
+    /// A number up to `greatest`, and sometimes a greater one.
     fn up_to(&mut self, greatest: u8) -> u8 {
         match self.below(200) {
             0 => greatest + 1,
@@ -181,7 +183,7 @@ impl Numbers {
         }
     }
 
-    /// A record with a zone and a calendar, or without.
+    /// A record that can have a zone, and can have a calendar.
     fn record(&mut self) -> Record<'static> {
         let mut record = Record::default();
         if self.below(2) == 0 {
@@ -203,7 +205,7 @@ fn note() -> TimeZoneAnnotation<'static, Utf8> {
     IxdtfParser::from_str("2020-01-01[z]").parse().unwrap().tz.unwrap()
 }
 
-// ---- what `format!` writes
+// ---- the texts that `format!` writes
 
 fn fraction_text(fraction: Option<Fraction>) -> String {
     let Some(fraction) = fraction else {
@@ -276,14 +278,14 @@ fn month_day_text(record: &Record<'_>) -> Option<String> {
     is_day.then_some(format!("{:02}-{:02}{}", date.month, date.day, brackets_text(record)?))
 }
 
-// ---- made records
+// ---- generated records
 
-/// How many records of each kind are made.
+/// The number of generated records of each kind.
 fn count() -> usize {
     std::env::var("RECORDS").map_or(20_000, |count| count.parse().unwrap())
 }
 
-/// Prints made records, and reads them back. Most of them have a text.
+/// Generates records, prints them and reads them back. Most of them have a canonical text.
 fn check_made<R>(
     make: impl Fn(&mut Numbers) -> R,
     printed: impl Fn(&R) -> Result<String, PrintError>,
@@ -375,9 +377,9 @@ fn reads_back_made_month_days() {
     });
 }
 
-// ---- texts
+// ---- generated texts
 
-/// The canonical text of what was read is at most so many bytes longer than the text, and as many for some texts.
+/// Checks that a canonical text is at most `most` bytes longer than the text that was read, and exactly `most` bytes longer for some texts.
 fn check_longer(most: usize, seed: u64, parts: &[&[&str]], canonical: impl Fn(&str) -> Option<String>) {
     let mut numbers = Numbers(seed);
     let mut read = 0;

@@ -1,4 +1,4 @@
-//! What is printed is read back as an equal record, on the texts of the documentation and on texts of a seeded generator.
+//! Tests that a record is equal to the record that is read back from its canonical text, on texts of the documents and on generated texts.
 use ixdtf::parsers::IxdtfParser;
 use ixdtf::records::IxdtfParseRecord;
 use ixdtf_print::{print, printed_length, Canonical, PrintError};
@@ -34,7 +34,7 @@ fn refuses() {
     assert_eq!(out, [7; 39]);
 }
 
-/// The text is as long as `printed_length` says, and is displayed as it is printed, whatever the width.
+/// The text has the length that `printed_length` returns. `Display` writes the same text, and ignores the width of the format.
 #[test]
 fn displays_what_it_prints() -> Result<(), Box<dyn Error>> {
     for text in ["20240302 084800z[!u-ca=hebrew]", "-0000010101t00[!-05]", "2020-01-01[a/b]"] {
@@ -51,7 +51,8 @@ fn displays_what_it_prints() -> Result<(), Box<dyn Error>> {
     Ok(())
 }
 
-/// What a record does not keep is not printed, and what is no date is printed as one or not at all.
+/// The printer cannot print what a record does not keep, such as annotations with other keys. It prints a year-month or a month-day as a date,
+/// or refuses it.
 #[test]
 fn says_what_is_lost() {
     assert_eq!(printed("2020-01-01[!u-ca=x][a=b]").as_deref(), Ok("2020-01-01[u-ca=x]"));
@@ -67,7 +68,7 @@ fn says_what_is_lost() {
     assert_eq!(print(&time, &mut out), Err(PrintError::NotPrintable));
 }
 
-/// Numbers that look random, and are the same in each run.
+/// Pseudorandom numbers. They are the same in each run.
 struct Numbers(u64);
 
 impl Numbers {

@@ -1,7 +1,8 @@
-//! The printer is a crate of its own here, above this one: what it prints is read back in its own tests.
+//! Stands in for the tests of the printer. In Rust, the printer is a crate that depends on this one, so these tests cannot call it. The tests
+//! of the printer read back what it prints.
 
 use super::Record;
 use crate::runtime::Abort;
 
-/// Nothing: the printer can't be named here.
+/// Does nothing, because this crate cannot call the printer.
 pub(super) fn check_read_back(_rt: &impl Abort, _parsed: &Record) {}
