@@ -492,7 +492,7 @@ def definitions(tree: Tree) -> list[str]:
 
 
 def lines_of_definitions(tree: Tree) -> list[str]:
-    """Their lines."""
+    """The lines of the files of the definitions."""
     return [line for it in definitions(tree) for line in tree.read(it).splitlines()]
 
 
@@ -866,7 +866,7 @@ def findings_in_code(tree: Tree) -> Iterator[Finding]:
 
 
 def main() -> int:
-    """The program."""
+    """Checks the documents, and prints the findings. Returns the exit status."""
     found = list(findings(Tree(ROOT)))
     for it in found:
         print(it)

@@ -16,9 +16,9 @@ The tool also checks the names of the mutations, crates/*/must-fail/FILE.FUNCTIO
 FUNCTION the function that contains the text after `old:`. The type of the function may come before it. For a mutation of a definition,
 FILE and FUNCTION are the file and the definition.
 
-The tool also looks at the comparisons of the library. Each access of a code unit is counted, and a comparison of code units makes some
-accesses. So only the functions of `COMPARE` may compare something that is not a literal, by `==` or by a method. Code units have a type that
-is a parameter, so a code unit is never compared with a literal.
+The tool also checks the comparisons of the library. The library counts each access of a code unit, and a comparison of code units accesses
+them. So only the functions of `COMPARE` may compare two values of which neither is a literal, with `==`, `!=` or a method. The type of a code
+unit is a parameter, so no code unit is compared with a literal.
 
 The tool prints each difference as one line, and then how many rows, mutations and functions it read. The exit status is 1 if there is a
 difference. It is also 1 if a source has fewer rows than `LEAST` says, because then a table is probably no longer read."""
@@ -518,7 +518,7 @@ def as_list(meaning: Meaning) -> list:
     """The meaning as a list. Raises ValueError if it is not a list."""
     if isinstance(meaning, list):
         return meaning
-    raise ValueError(f'no list: {meaning}')
+    raise ValueError(f'expected a list, found {meaning}')
 
 
 def reader_of(meaning: Meaning) -> tuple[str, list[bool]]:
@@ -672,7 +672,8 @@ def findings_in_edits() -> tuple[list[str], int]:
 
 # the crates of the library whose functions have code units
 LIBRARY = ('ixdtf_reading', 'ixdtf_times', 'ixdtf_brackets', 'ixdtf_durations', 'ixdtf')
-# the functions that may compare: the first compares code units, and `has_same_units` counts them; the other a byte with a byte that was read
+# The functions that may compare. The first one compares code units, and `has_same_units` counts these accesses. The second one compares a byte
+# with a byte that was read.
 COMPARE = {('cursor', 'are_equal'), ('cursor', 'fixed_letter')}
 NO_CODE = re.compile(r'//[^\n]*|b?"(?:[^"\\]|\\.)*"')
 LITERAL = r"(?:b?'(?:[^'\\]|\\.)+'|\b\d\w*)"
@@ -681,23 +682,23 @@ BY_METHOD = re.compile(r'(?:\.|::)(eq|ne|cmp|partial_cmp|starts_with|ends_with|c
 
 
 def comparisons_in(body: str) -> Iterator[str]:
-    """The comparisons in a body whose sides may both be of code units: those of which no side is a literal, and the calls of methods."""
+    """The comparisons in a body that can compare code units: operators of which neither side is a literal, and calls of methods."""
     code = NO_CODE.sub(' ', body)
     yield from (found[2] for found in EQUALITY.finditer(code) if not (found[1] or found[3]))
     yield from (found[1] for found in BY_METHOD.finditer(code))
 
 
 def findings_in_comparisons(path: str, source: str) -> Iterator[str]:
-    """The functions of a source that compare, and may not."""
+    """The functions of a source that compare, although they are not in `COMPARE`."""
     file = os.path.splitext(os.path.basename(path))[0]
     for _, _, part in functions_in(source.splitlines()):
         if part.kind == 'function' and (file, part.name) not in COMPARE:
-            yield from (f'{path}: {part.name} compares by `{mark}`: only `has_same_units` compares code units, since it counts them'
+            yield from (f'{path}: {part.name} compares with `{mark}`. Only `has_same_units` may compare code units, because it counts the accesses'
                         for mark in comparisons_in(part.text))
 
 
 def findings_in_readers() -> tuple[list[str], int]:
-    """What is found in the readers of the library, and how many functions they have."""
+    """The findings in the comparisons of the library, and the number of its functions."""
     sources = {path: read(path) for crate in LIBRARY for path in files(f'crates/{crate}/src', '.rt')}
     found = [what for path, source in sources.items() for what in findings_in_comparisons(path, source)]
     return found, sum(part.kind == 'function' for source in sources.values() for _, _, part in functions_in(source.splitlines()))
@@ -752,7 +753,7 @@ def all_rows() -> dict[str, list[Row]]:
 
 
 def main() -> int:
-    """The program."""
+    """Compares the rows, and prints the findings. Returns the exit status."""
     rows = all_rows()
     found = [it for of_source in rows.values() for row in of_source for it in findings(row)]
     found += [f'{source}: {len(rows[source])} rows were read, and at least {least} were expected' for source, least in LEAST.items()

@@ -1,9 +1,15 @@
 #!/usr/bin/env python3
 """compare_instants.py [COUNT [SEED]]: compares the instants of random texts with those of Python's `datetime`.
 
-It makes COUNT texts (100000, if none is given) with a date, a time and an offset or `Z`, and has the example `instants` of `rust/ixdtf` write
-the instant of each, and its text. A date before the year 1 or after 9999, where `datetime` does not reach, is moved by whole cycles of 400
-years, which have 146097 days each. It prints how many texts there were, and ends with status 1 at the first difference."""
+The tool makes COUNT texts, each with a date, a time, and an offset or `Z`. If you do not give COUNT, it is 100000. If you do not give SEED, it
+is 1. The tool builds the example `instants` of `rust/ixdtf` with cargo. The example writes the instant of each text, and the text of this
+instant. The tool computes both with `datetime`, and compares.
+
+`datetime` has only the years 1 to 9999. For any other year, the tool computes with a year that is a multiple of 400 years earlier or later.
+A cycle of 400 years always has 146097 days.
+
+At the end, the tool prints the number of texts. At the first difference, it prints the text, the expected line and the line that the example
+wrote, and ends with the exit status 1."""
 import datetime
 import os
 import random
@@ -18,7 +24,7 @@ DAYS_OF_A_CYCLE = 146097
 
 
 def fraction(rng: random.Random) -> tuple[str, int]:
-    """A fraction or none, and its nanoseconds: those of its first nine digits."""
+    """A fraction or an empty text, and its nanoseconds. Only the first nine digits count."""
     if rng.random() < 0.5:
         return '', 0
     digits = ''.join(rng.choice('0123456789') for _ in range(rng.randint(1, 20)))
@@ -26,7 +32,7 @@ def fraction(rng: random.Random) -> tuple[str, int]:
 
 
 def offset(rng: random.Random) -> tuple[str, int]:
-    """An offset or `Z`, and how many nanoseconds local time is ahead."""
+    """An offset or `Z`, and the nanoseconds by which local time is ahead of UTC."""
     if rng.random() < 0.25:
         return rng.choice('Zz'), 0
     sign, hour, minute, second = rng.choice('+-'), rng.randint(0, 23), rng.randint(0, 59), rng.randint(0, 59)
@@ -45,7 +51,7 @@ def year_text(year: int) -> str:
 
 
 def text_of(count: int) -> str:
-    """The date and the time in UTC, so many nanoseconds after 1970-01-01T00:00:00Z."""
+    """The date and the time in UTC, `count` nanoseconds after 1970-01-01T00:00:00Z."""
     seconds, nanoseconds = divmod(count, SECOND)
     days, second = divmod(seconds, 86400)
     cycles, rest = divmod(days, DAYS_OF_A_CYCLE)
@@ -56,7 +62,7 @@ def text_of(count: int) -> str:
 
 
 def example(rng: random.Random) -> tuple[str, str]:
-    """A text, and what the example has to write for it."""
+    """A text, and the line that the example must write for it."""
     year = rng.randint(1, 9999) if rng.random() < 0.5 else rng.randint(-999999, 999999)
     cycles = 0 if 1 <= year <= 9999 else (year - 1) // 400
     date = None
@@ -64,7 +70,7 @@ def example(rng: random.Random) -> tuple[str, str]:
         try:
             date = datetime.date(year - 400 * cycles, rng.randint(1, 12), rng.randint(1, 31))
         except ValueError:
-            # the month does not have the day: another one
+            # The month does not have this day. So choose another month and another day.
             pass
     days = (date - EPOCH).days + cycles * DAYS_OF_A_CYCLE
     hour, minute, second = rng.randint(0, 23), rng.randint(0, 59), rng.randint(0, 60)
@@ -78,6 +84,7 @@ def example(rng: random.Random) -> tuple[str, str]:
 
 
 def main() -> int:
+    """Builds the example, and compares its lines. Returns the exit status."""
     count = int(sys.argv[1]) if len(sys.argv) > 1 else 100000
     seed = int(sys.argv[2]) if len(sys.argv) > 2 else 1
     crate = os.path.join(TOP, 'rust', 'ixdtf')
@@ -98,7 +105,7 @@ def main() -> int:
         text, wanted = example(rng)
         found = program.stdout.readline().rstrip('\n')
         if found != wanted:
-            print(f'{text}: {found}, and not {wanted}')
+            print(f'{text}: expected {wanted}, found {found}')
             program.kill()
             return 1
     sender.join()

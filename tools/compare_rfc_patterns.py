@@ -2,10 +2,15 @@
 """compare_rfc_patterns.py [COUNT [SEED]]: compares the readers of exact standards with two models: rfc_patterns.py, the patterns of the
 ABNF, and places.py.
 
-For each reader it makes COUNT texts (100000, if none is given) of 8-bit code units, and as many of 16-bit ones. Each is put together from
-parts that are right or nearly right, and half of them are changed in one to three places. The example `units` of `rust/ixdtf` reads them. A
-reader has to accept the texts that fit the patterns, and no other. It has to refuse each other text with the error and at the position that
-places.py gives. The tool prints how many texts there were and how many were accepted, and ends with status 1 at the first difference."""
+For each reader, the tool makes COUNT texts of 8-bit code units, and COUNT texts of 16-bit code units. If you do not give COUNT, it is 100000.
+If you do not give SEED, it is 1. Each text consists of parts that are valid or almost valid. Half of the texts then get one to three
+changes. The tool builds the example `units` of `rust/ixdtf` with cargo, and this example reads the texts.
+
+A reader must accept the texts that match the patterns, and no others. It must refuse each other text with the error and at the position that
+places.py gives.
+
+For each reader and width, the tool prints the number of texts and the number of accepted texts. At the first difference, it prints the text,
+the expected result and the result of the reader, and ends with the exit status 1."""
 import os
 import random
 import subprocess
@@ -19,7 +24,7 @@ import places
 import rfc_patterns
 
 class Reader(NamedTuple):
-    """A reader: whether a text fits its patterns, its name in places.py, and the share of its texts that have brackets."""
+    """A reader: the function that says whether a text matches its patterns, its name in places.py, and the share of its texts with brackets."""
     fits: Callable[[str], bool]
     name: str
     bracketed: float
@@ -36,12 +41,12 @@ READERS = {
 # Making texts
 
 def choose(rng: random.Random, right: str, *wrong: str) -> str:
-    """The right part most of the time, else one of the others."""
+    """The right part in most cases. Otherwise one of the wrong parts."""
     return right if rng.random() < 0.96 else rng.choice(wrong)
 
 
 def two_digits(rng: random.Random, least: int, most: int) -> str:
-    """A number of two digits: any in the range, or one at or just outside of its ends, or one that has another number of digits."""
+    """A number with two digits in this range. Sometimes a number at one of its ends or just outside of it, or any number with one to three digits."""
     kind = rng.random()
     if kind < 0.93:
         return f'{rng.randint(least, most):02}'
@@ -51,13 +56,13 @@ def two_digits(rng: random.Random, least: int, most: int) -> str:
 
 
 def year(rng: random.Random) -> str:
-    """A year, often one whose February is worth a look."""
+    """A year. It is often one for which the rule of leap years matters."""
     number = rng.choice((0, 4, 100, 400, 1900, 1996, 2000, 2023, 2024, 2100, 9999, rng.randint(0, 9999)))
     return choose(rng, f'{number:04}', f'+{number:06}', f'-{number:06}', f'{number:05}', f'{number % 1000:03}')
 
 
 def date(rng: random.Random) -> str:
-    """A date, extended or nearly so."""
+    """A date in the extended format, or almost in it."""
     hyphen = choose(rng, '-', '', '--', '/')
     second_hyphen = hyphen if rng.random() < 0.97 else '-'
     month = rng.choice((2, 4, 12, rng.randint(1, 12)))
@@ -66,20 +71,20 @@ def date(rng: random.Random) -> str:
 
 
 def fraction(rng: random.Random) -> str:
-    """A fraction, a mark alone, or nothing."""
+    """A fraction or nothing, and sometimes almost a fraction."""
     digits = ''.join(rng.choice('0123456789') for _ in range(rng.choice((1, 3, 6, 9, 18, 19, rng.randint(1, 300)))))
     return '' if rng.random() < 0.6 else choose(rng, '.' + digits, ',' + digits, '.', digits)
 
 
 def time(rng: random.Random) -> str:
-    """A time, in columns or nearly so."""
+    """A time with colons, or almost such a time."""
     colon = choose(rng, ':', '', '.')
     minute, second = colon + two_digits(rng, 0, 59), colon + two_digits(rng, 0, 60)
     return two_digits(rng, 0, 23) + choose(rng, minute + second + fraction(rng), minute, '')
 
 
 def offset(rng: random.Random) -> str:
-    """An offset, `Z`, or nothing."""
+    """An offset or `Z`. It is sometimes nothing, or almost an offset."""
     sign, hour, minute = choose(rng, rng.choice('+-'), '', '\u2212'), two_digits(rng, 0, 23), two_digits(rng, 0, 59)
     number = sign + hour + choose(rng, ':' + minute, minute, '', f':{minute}:00', f':{minute}:00.5')
     return choose(rng, rng.choice(('Z', 'Z', 'z', number, number, number)), '', ' ' + number, 'Z' + number, 'UTC')
@@ -92,13 +97,13 @@ NO_TAGS = ('x=', '=y', 'X=y', 'x=-y', 'x=y-', 'x=y--z', 'x=y=z', 'x=y_z', 'x', '
 
 
 def bracket(rng: random.Random, part: str, critical: float) -> str:
-    """A bracket with this inside, right or nearly so. `critical` is the share of those that are critical."""
+    """A bracket with this part in it. The bracket is valid or almost valid. `critical` is the share of critical brackets."""
     flag = choose(rng, '!' if rng.random() < critical else '', '!!', '! ')
     return choose(rng, '[', '', ' [') + flag + part + choose(rng, ']', '', '] ')
 
 
 def suffix(rng: random.Random) -> str:
-    """Brackets: a zone and annotations, right or nearly so."""
+    """The brackets of a text: a zone and annotations, valid or almost valid."""
     zone = bracket(rng, rng.choice(NO_ZONES if rng.random() < 0.15 else ZONES), 0.3) if rng.random() < 0.6 else ''
     critical, kinds = rng.choice((0, 0.2, 0.6)), TAGS[:rng.choice((2, 3, 9))]
     tags = [bracket(rng, rng.choice(NO_TAGS if rng.random() < 0.05 else kinds), critical) for _ in range(rng.choice((0, 1, 1, 2, 3)))]
@@ -106,7 +111,7 @@ def suffix(rng: random.Random) -> str:
 
 
 def made(rng: random.Random, bracketed: float) -> str:
-    """A text that is put together from parts. `bracketed` is the share of those with brackets."""
+    """A text that consists of such parts. `bracketed` is the share of texts with brackets."""
     core = date(rng) + choose(rng, rng.choice('TTTt'), ' ', '', '_', '\u3000') + time(rng) + offset(rng)
     return core + (suffix(rng) if rng.random() < bracketed else '')
 
@@ -115,7 +120,7 @@ LETTERS = '0123456789' * 2 + '-:.+TZtz ,[]!=/_aPW\0\n\x7f'
 
 
 def letter(rng: random.Random, wide: bool) -> str:
-    """A code unit: one that texts have, or any. Some of 16 bits have in their low half one that texts have."""
+    """A code unit. Most are in LETTERS. The lower 8 bits of some 16-bit code units are in LETTERS too."""
     if rng.random() < 0.85:
         return rng.choice(LETTERS)
     if not wide:
@@ -125,7 +130,7 @@ def letter(rng: random.Random, wide: bool) -> str:
 
 
 def changed(rng: random.Random, text: str, wide: bool) -> str:
-    """A text with one place of it changed."""
+    """The text with a change at one position: a code unit is inserted, replaced or removed, two are exchanged, or one side is removed."""
     at = rng.randrange(len(text) + 1)
     before, behind = text[:at], text[at:]
     return rng.choice((lambda: before + letter(rng, wide) + behind, lambda: before + letter(rng, wide) + behind[1:], lambda: before + behind[1:],
@@ -133,7 +138,7 @@ def changed(rng: random.Random, text: str, wide: bool) -> str:
 
 
 def texts(reader: str, count: int, seed: int, wide: bool) -> Iterator[str]:
-    """The texts for a reader of a width. Each character of a text is one code unit."""
+    """The texts for a reader, with 8-bit or with 16-bit code units. Each character of a text is one code unit."""
     rng = random.Random(f'{reader} {seed} {wide}')
     for _ in range(count):
         text = made(rng, READERS[reader].bracketed)
@@ -146,7 +151,7 @@ def texts(reader: str, count: int, seed: int, wide: bool) -> Iterator[str]:
 # Comparing
 
 class Difference(Exception):
-    """A text for which a reader and a model differ."""
+    """A text for which a reader and a model, or the two models, have different results."""
 
 
 class Counts(NamedTuple):
@@ -156,16 +161,16 @@ class Counts(NamedTuple):
 
 
 def wanted(reader: str, text: str, wide: bool) -> str:
-    """What the example has to write for a text. Raises Difference if the two models differ."""
+    """The line that the example must write for a text. Raises Difference if the two models have different results."""
     fits = READERS[reader].fits(text)
     found = places.outcome(READERS[reader].name, [ord(it) for it in text], wide)
     if fits != (found == places.OK):
-        raise Difference(f'{reader} of {ascii(text)}: the patterns say {fits}, and places.py says {found}')
+        raise Difference(f'{reader} of {ascii(text)}: the patterns {"accept" if fits else "refuse"} it, and places.py has {found}')
     return places.OK if found == places.OK else f'error {found}'
 
 
 def compared(program: str, reader: str, wide: bool, count: int, seed: int) -> Counts:
-    """Compares a reader of a width with the models. Raises Difference at the first difference."""
+    """Compares a reader for one width with the models. Raises Difference at the first difference."""
     ran = subprocess.Popen([program], stdin=subprocess.PIPE, stdout=subprocess.PIPE, text=True)
 
     def send() -> None:
@@ -179,20 +184,21 @@ def compared(program: str, reader: str, wide: bool, count: int, seed: int) -> Co
         found, right = ran.stdout.readline().rstrip('\n'), wanted(reader, text, wide)
         if found != right:
             ran.kill()
-            raise Difference(f'{reader} of {ascii(text)}: {found}, and not {right}')
+            raise Difference(f'{reader} of {ascii(text)}: expected {right}, found {found}')
         accepted += found == places.OK
     ran.wait()
     return Counts(count, accepted)
 
 
 def built() -> str:
-    """The path of the example, once cargo has built it."""
+    """Builds the example with cargo. Returns the path of the program."""
     crate = os.path.join(TOOLS, '..', 'rust', 'ixdtf')
     subprocess.run(['cargo', 'build', '--quiet', '--offline', '--release', '--example', 'units'], cwd=crate, check=True)
     return os.path.join(os.environ.get('CARGO_TARGET_DIR', os.path.join(crate, 'target')), 'release', 'examples', 'units')
 
 
 def main() -> int:
+    """Builds the example, and compares each reader. Returns the exit status."""
     count = int(sys.argv[1]) if len(sys.argv) > 1 else 100000
     seed = int(sys.argv[2]) if len(sys.argv) > 2 else 1
     program = built()

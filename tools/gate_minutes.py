@@ -9,7 +9,7 @@ line names. It checks one of four things: the crate itself, the crate with its t
 The tool does not see what a process used between the last reading and its end. So the sums are a little too low.
 
 The tool prints a table with one row for each crate. Below the table, it prints the sum of all rows, the time of all other processes, and the minutes
-that passed. The output of the command goes to standard error."""
+that passed. The output of the command goes to standard error. The exit status is that of the command."""
 import collections
 import os
 import re
@@ -82,6 +82,7 @@ def watch(command):
 
 
 def main():
+    """Runs the command, and prints the table. Returns the exit status of the command."""
     command = sys.argv[1:] or ['rt', 'ci']
     status, seconds, processes = watch(command)
     minutes, counts, others = collections.Counter(), collections.Counter(), 0.0

@@ -1,8 +1,10 @@
 #!/usr/bin/env python3
 """man_pages.py [--check]: makes man/ixdtf_check.1 and man/ixdtf_lines.1 from docs/PROGRAM.md.
 
-With --check, it writes nothing. It fails if a page is not what it would write. A page has the section of its program up to "What is proved".
-A table becomes a list of its rows."""
+A page has the section of its program up to the heading "What is proved". A table becomes a list of its rows.
+
+The tool prints nothing. With --check, it writes no file either. It prints each page that is not what it would write, and the exit status is 1
+if there is one."""
 import os
 import re
 import sys
@@ -34,12 +36,12 @@ def parts(program):
 
 
 def plain(text):
-    """A text without the meaning that its characters have for `man`."""
+    """The text, with each character escaped that has a meaning for `man`."""
     return text.replace('\\', '\\e').replace('-', '\\-')
 
 
 def guarded(line):
-    """A line that `man` does not take for a command."""
+    """The line, protected so that `man` does not read it as a command."""
     return '\\&' + line if line.startswith(('.', "'")) else line
 
 
@@ -68,7 +70,7 @@ def items(lines):
 
 
 def rows(lines):
-    """A table: the first cell of each row, and under it the others."""
+    """A table as a list. Each item is the first cell of a row, with the other cells below it."""
     cells = [[cell.strip() for cell in line.strip('|').split(' | ')] for line in lines]
     heads, _, *others = cells
     written = []
@@ -82,7 +84,7 @@ def rows(lines):
 
 
 def written(part):
-    """What the page has for a part of the document."""
+    """The lines of the page for one part of the document."""
     first = part[0]
     if first.startswith('### '):
         return [f'.SH {first.removeprefix("### ").upper()}']
@@ -112,7 +114,7 @@ def page(program):
 
 
 def main(words):
-    """Writes the pages, or checks them."""
+    """Writes the pages, or checks them. Returns the exit status."""
     wrong = []
     for program in NAMES:
         path = f'man/{program}.1'

@@ -2,8 +2,9 @@
 # tools/panics.sh: lists the functions of the Rust crates that can panic when they are compiled with optimisation.
 #
 # It compiles a program that calls every reader on 8-bit and on 16-bit text (tools/panics.rs), without the standard library. Then it
-# looks for calls of a panic in the linked program. There are three programs: `readers`, `display` and `printer` say what each of
-# them calls. The exit status is 1 if a function can panic.
+# searches the linked program for calls of a panic. There are three programs: `readers` calls the readers, `display` the functions
+# that write errors, and `printer` the printer. For each program, the script prints the functions that can panic, or that there is
+# none. The exit status is 1 if a function can panic. RUSTC in the environment is the compiler, if you do not want `rustc`.
 set -euo pipefail
 cd "$(dirname "$0")/.."
 work=$(mktemp -d)

@@ -1,22 +1,24 @@
 #!/usr/bin/env python3
-"""rfc_patterns.py: a model of the texts of RFC 3339 and of RFC 9557. It says only whether a text belongs to them.
+"""rfc_patterns.py: a model of the texts of RFC 3339 and of RFC 9557. It only says whether a text is one of them.
+
+This file is a module. `compare_rfc_patterns.py` and `test_rfc_patterns.py` import it.
 
 The patterns are the ABNF of both standards, production by production, in the order and with the names of the standards: RFC 3339, section
-5.6, and RFC 9557, section 4.1. They were written from these sections alone, and not from our grammar or from our code. What the ABNF says
-in comments, or in words, is checked beside the patterns.
+5.6, and RFC 9557, section 4.1. They were written only from these sections, and not from the grammar or the code of this project. Functions
+check what the standards say in comments of the ABNF or in words.
 
 A text is a string in which each character is one code unit."""
 import re
 
 # ---------------------------------------------------------------------------------------------------------------------------------
-# RFC 5234, appendix B.1. A string in quotes of an ABNF stands for its letters in either case (section 2.3).
+# RFC 5234, appendix B.1. In an ABNF, a string in quotes means its letters in uppercase and in lowercase (section 2.3).
 
 ALPHA = 'A-Za-z'
 DIGIT = '0-9'
 
 
 # ---------------------------------------------------------------------------------------------------------------------------------
-# RFC 3339, section 5.6. What its comments say is in `numbers_fit`.
+# RFC 3339, section 5.6. The function `numbers_fit` checks what its comments say.
 
 DATE_FULLYEAR = f'[{DIGIT}]{{4}}'
 DATE_MONTH = f'[{DIGIT}]{{2}}'
@@ -36,7 +38,7 @@ DATE_TIME = f'{FULL_DATE}[Tt]{FULL_TIME}'
 
 
 # ---------------------------------------------------------------------------------------------------------------------------------
-# RFC 9557, section 4.1. In `time-zone`, the two kinds of zones are meant to stand inside the bracket.
+# RFC 9557, section 4.1. In `time-zone`, both kinds of zones are meant to be inside the bracket.
 
 ALPHANUM = ALPHA + DIGIT
 LCALPHA = 'a-z'
@@ -44,7 +46,7 @@ CRITICAL_FLAG = '!?'
 
 TIME_ZONE_INITIAL = f'{ALPHA}._'
 TIME_ZONE_CHAR = rf'{TIME_ZONE_INITIAL}{DIGIT}\-+'
-TIME_ZONE_PART = rf'(?!\.{{1,2}}[/\]])[{TIME_ZONE_INITIAL}][{TIME_ZONE_CHAR}]*'  # a comment of the ABNF: but not "." or ".."
+TIME_ZONE_PART = rf'(?!\.{{1,2}}[/\]])[{TIME_ZONE_INITIAL}][{TIME_ZONE_CHAR}]*'  # The ABNF has this comment: but not "." or ".."
 TIME_ZONE_NAME = f'{TIME_ZONE_PART}(?:/{TIME_ZONE_PART})*'
 TIME_ZONE = rf'\[{CRITICAL_FLAG}(?:{TIME_ZONE_NAME}|{TIME_NUMOFFSET})\]'
 
@@ -61,10 +63,10 @@ DATE_TIME_EXT = f'{DATE_TIME}{SUFFIX}'
 
 
 # ---------------------------------------------------------------------------------------------------------------------------------
-# What stands in words
+# The rules that the standards say in words
 
 def days_in(year: int, month: int) -> int:
-    """The greatest day of a month: the table of RFC 3339, section 5.7, and the leap years of its appendix C."""
+    """The number of days of a month, from the table of RFC 3339, section 5.7, and the rule for leap years of its appendix C."""
     is_leap = year % 4 == 0 and (year % 100 != 0 or year % 400 == 0)
     return {1: 31, 2: 29 if is_leap else 28, 3: 31, 4: 30, 5: 31, 6: 30, 7: 31, 8: 31, 9: 30, 10: 31, 11: 30, 12: 31}[month]
 
@@ -82,12 +84,12 @@ def numbers_fit(text: str) -> bool:
 
 
 def offsets_of(text: str) -> list[tuple[str, str]]:
-    """The hours and minutes of the offsets of a text: the offset of the time, and the one that can be its zone. The date has no `:`, and a
-    name of a zone and an annotation have none."""
+    """The hours and minutes of the offsets of a text. The time has an offset, and the zone can be an offset. Nothing else matches the pattern,
+    because the date, the name of a zone and an annotation contain no `:`."""
     return OFFSETS.findall(text, len('1985-04-12'))
 
 
-# A suffix tag of a text of DATE_TIME_EXT. No zone has a `=`.
+# A suffix tag of a text of DATE_TIME_EXT. A zone does not match, because it contains no `=`.
 SUFFIX_TAGS = re.compile(rf'\[({CRITICAL_FLAG})({SUFFIX_KEY})=({SUFFIX_VALUES})\]')
 
 

@@ -1,6 +1,6 @@
 #!/usr/bin/env python3
-"""test_bench.py: tests that the benchmark in Rust, which bench/plain.py makes, prints the same as the proved one, at a small size. The output
-of the proved one is stored beside its sources. So both have the same workloads, with the same results."""
+"""Tests of bench/plain.py: at a small size, the benchmark in Rust prints what the proved benchmark prints. So both have the same workloads, with
+the same results. The output of the proved benchmark is stored in crates/ixdtf_bench."""
 import os
 import subprocess
 import sys
@@ -12,7 +12,7 @@ import plain
 
 
 def stored(name: str) -> str:
-    """A file of the stored run of the proved benchmark."""
+    """The text of a file about the stored run of the proved benchmark."""
     with open(os.path.join(ROOT, 'crates/ixdtf_bench', name), encoding='utf-8') as file:
         return file.read()
 

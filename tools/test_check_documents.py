@@ -1,5 +1,5 @@
 #!/usr/bin/env python3
-"""Tests of check_documents.py: it finds each thing that is wrong, and finds nothing if all is right."""
+"""Tests of check_documents.py: it finds each kind of mistake, and has no findings if there is no mistake."""
 import os
 import sys
 import tempfile

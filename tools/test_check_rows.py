@@ -312,7 +312,7 @@ class Comparisons(unittest.TestCase):
     """Comparisons of code units."""
 
     def marks(self, body: str) -> list[str]:
-        """How the body compares what may be code units."""
+        """The comparisons in the body that can compare code units."""
         return list(check.comparisons_in(body))
 
     def test_with_a_literal(self):
@@ -330,7 +330,7 @@ class Comparisons(unittest.TestCase):
         self.assertEqual(list(check.findings_in_comparisons('crates/ixdtf_reading/src/cursor.rt', source)), [])
         for path in ['crates/ixdtf_reading/src/letters.rt', 'crates/ixdtf/src/parsers/replies.rt']:
             self.assertEqual(list(check.findings_in_comparisons(path, source)), [
-                f'{path}: are_equal compares by `==`: only `has_same_units` compares code units, since it counts them'])
+                f'{path}: are_equal compares with `==`. Only `has_same_units` may compare code units, because it counts the accesses'])
         self.assertTrue(list(check.findings_in_comparisons('crates/ixdtf_reading/src/cursor.rt', source.replace('are_equal', 'is_same'))))
 
 

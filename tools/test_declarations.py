@@ -1,5 +1,6 @@
 #!/usr/bin/env python3
-"""Tests of declarations.py: what it keeps of a header and what it leaves out, and that c/ixdtf_declarations.h is what it makes."""
+"""Tests of declarations.py: what it keeps of a header, what it leaves out, and what it refuses. Also checks that c/ixdtf_declarations.h is what
+it makes. Prints one line, and ends with the exit status 0, if all tests pass."""
 import declarations
 
 HEADER = '''/* A header. typedef int not_here; */
@@ -58,6 +59,7 @@ int32_t ixdtf_seconds(const ixdtf_date *date);
 
 
 def refused(header):
+    """Whether the tool refuses this header."""
     try:
         declarations.declarations(header)
     except SystemExit:
@@ -66,13 +68,14 @@ def refused(header):
 
 
 def main():
+    """Runs the four tests."""
     found = declarations.declarations(HEADER)
     assert found == MADE, found
-    assert refused(HEADER.replace('void ixdtf16_keep', 'float ixdtf16_keep')), 'a type that it does not know'
-    assert refused(HEADER.replace('void ixdtf16_keep', 'extern int value; void ixdtf16_keep')), 'a variable'
+    assert refused(HEADER.replace('void ixdtf16_keep', 'float ixdtf16_keep')), 'a function with an unknown type must be refused'
+    assert refused(HEADER.replace('void ixdtf16_keep', 'extern int value; void ixdtf16_keep')), 'a variable must be refused'
     with open(f'{declarations.TOP}/{declarations.HEADER}', encoding='utf-8') as header:
         with open(f'{declarations.TOP}/{declarations.MADE}', encoding='utf-8') as made:
-            assert declarations.declarations(header.read()) == made.read(), f'run tools/declarations.py: {declarations.MADE} is not what it makes'
+            assert declarations.declarations(header.read()) == made.read(), f'{declarations.MADE} is not what tools/declarations.py makes: run this tool'
     print('declarations.py: 4 tests passed')
 
 

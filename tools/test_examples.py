@@ -1,6 +1,7 @@
 #!/usr/bin/env python3
-"""test_examples.py: runs the examples of README.md, of docs/PROGRAM.md and of the READMEs of the two programs, which cargo and a C compiler
-build, and compares what they print with what the documents show. It also has `ixdtf_check` read the texts of other programs in docs/GRAMMAR.md."""
+"""Tests of the examples in the documents. They run the examples of README.md, of docs/PROGRAM.md and of the READMEs of the two programs, and
+compare the output with the output that the documents show. cargo and a C compiler build the examples. The tests also read the texts of
+docs/GRAMMAR.md: `ixdtf_check` reads the texts of other programs, and `ixdtf_lines` the texts with instants."""
 import os
 import re
 import shutil
@@ -18,7 +19,7 @@ ROOT = os.path.dirname(os.path.dirname(os.path.abspath(__file__)))
 
 # the file of the example of `ixdtf_check`: the document names it, but does not show it
 MONTHS = '2020-11\n2020\n2021-12\n2021-13\n'
-# the same for the example of `--ordered`
+# the file of the example of `--ordered`
 LOG = '2024-03-02T09:30:00Z\n2024-03-02T10:00+01:00\n2024-03-02T09:00:00.5Z[Europe/Paris]\n2024-03-02\n'
 
 # the word of `ixdtf_lines` for each method of the library
@@ -51,14 +52,14 @@ def blocks(path: str, language: str = 'text') -> list[str]:
 
 
 def program(name: str) -> str:
-    """The path of a program, once cargo has built it."""
+    """Builds a program with cargo. Returns its path."""
     folder = os.path.join(ROOT, 'rust', name)
     subprocess.run(['cargo', 'build', '--quiet', '--offline'], cwd=folder, check=True)
     return os.path.join(folder, 'target', 'debug', name)
 
 
 def printed(name: str, arguments: list[str], given: str, folder: str) -> str:
-    """What a program prints, first on standard output and then on standard error."""
+    """Runs a program. Returns its standard output, followed by its standard error."""
     ran = subprocess.run([program(name), *arguments], input=given, capture_output=True, text=True, cwd=folder)
     return ran.stdout + ran.stderr
 
@@ -120,7 +121,7 @@ class Examples(unittest.TestCase):
         self.assertEqual(ran.stdout, blocks('README.md')[0])
 
     def test_programs_of_the_front_page(self):
-        """The two commands of the README print what the README shows. It has them by `cargo`, and the same ones by `rt`."""
+        """The two commands of the README print what the README shows. The README has each command twice: with `cargo`, and with `rt`."""
         page = read('README.md')
         commands = dict(re.findall(r"\(cd rust/(\w+) && echo '([^']*)' \| cargo run --release\)", page))
         self.assertEqual(commands, dict(re.findall(r"\(cd crates/(\w+) && echo '([^']*)' \| rt run\)", page)))

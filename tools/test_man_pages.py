@@ -1,5 +1,5 @@
 #!/usr/bin/env python3
-"""test_man_pages.py: checks the pages in man/, and that docs/PROGRAM.md has the options that `ixdtf_check --help` shows."""
+"""Tests of man_pages.py: the pages in man/ are what it makes, and docs/PROGRAM.md has the options that `ixdtf_check --help` shows."""
 import os
 import re
 import shutil
@@ -26,7 +26,7 @@ def options_of_table():
 
 class Pages(unittest.TestCase):
     def test_up_to_date(self):
-        """The pages are what the tool makes."""
+        """The pages in man/ are what the tool makes."""
         self.assertEqual(man_pages.main(['--check']), 0)
 
     def test_options(self):
@@ -44,7 +44,7 @@ class Pages(unittest.TestCase):
             self.assertLessEqual(usage.count('\n') + 1, 50, path)
 
     def test_marks(self):
-        """Code, defined words, and characters that have a meaning for `man`."""
+        """Code becomes bold, defined words become italic, and characters that have a meaning for `man` are escaped."""
         self.assertEqual(man_pages.inline('the *text* of `--kind`'), 'the \\fItext\\fR of \\fB\\-\\-kind\\fR')
         self.assertEqual(man_pages.inline('a * b'), 'a * b')
         self.assertEqual(man_pages.block(['.x\\n']), ['.PP', '.nf', '.RS 4', '\\&.x\\en', '.RE', '.fi'])

@@ -1,5 +1,5 @@
 #!/usr/bin/env python3
-"""Tests of rfc_patterns.py: the examples of the two standards, and for each production a text that is nearly right."""
+"""Tests of rfc_patterns.py: the examples of the two standards, and for each production some texts that are almost valid."""
 import os
 import sys
 import unittest
@@ -26,13 +26,13 @@ NO_DATE_TIMES = ['', '19850412T232050Z', '1985-0412T23:20:50Z', '985-04-12T23:20
                  '1985-02-29T23:20:50Z', '1900-02-29T23:20:50Z', '1985-04-12T24:00:00Z', '1985-04-12T23:60:50Z', '1985-04-12T23:20:61Z',
                  '1985-04-12T23:20:50+24:00', '1985-04-12T23:20:50-00:60', '\uff11985-04-12T23:20:50Z', '1985-04-12T23:20:50.\u0665Z']
 
-# what no bracket behind a date-time is
+# texts that are not the suffix of a date-time
 NO_SUFFIXES = ['[]', '[!]', '[UTC', 'UTC]', '[!!UTC]', '[.]', '[..]', '[Europe/..]', '[../Berlin]', '[Europe/./Berlin]', '[Europe//Berlin]', '[/UTC]',
                '[UTC/]', '[5]', '[Etc/5]', '[Etc/+5]', '[-]', '[+08]', '[+0845]', '[+08:45:00]', '[+24:00]', '[+08:60]', '[Z+08:45]', '[UTC][UTC]',
                '[u-ca=hebrew][UTC]', '[U-ca=hebrew]', '[5a=b]', '[-a=b]', '[=b]', '[a=]', '[a=-b]', '[a=b-]', '[a=b--c]', '[a=b_c]', '[a=b=c]',
                '[a.b=c]', '[UTC] ', '[UTC]\n']
 
-# RFC 9557, section 3.3: suffix tags that a reader of `u-ca` can process, and such that it cannot
+# RFC 9557, section 3.3: suffix tags that a reader of `u-ca` can process, and suffix tags that it cannot process
 PROCESSED = ['[u-ca=hebrew]', '[!u-ca=hebrew]', '[u-ca=chinese][u-ca=japanese]', '[!u-ca=chinese][!u-ca=chinese]', '[x=y]', '[!Europe/London]',
              '[u-ca=chinese][u-ca=japanese][!u-ca=chinese]', '[!UTC][!u-ca=hebrew][x=y]', '']
 NOT_PROCESSED = ['[!u-ca=chinese][u-ca=japanese]', '[u-ca=chinese][!u-ca=japanese]', '[!u-ca=chinese][!u-ca=japanese]', '[!x=y]',
