@@ -1,6 +1,8 @@
 #!/usr/bin/env python3
 """Tests of to_rust.py: sources that it refuses, changes that --check finds, and a comparison of its input and output, token by token.
-The comparison does not use the code of the tool: this file cuts texts into tokens with its own code, and has its own lists of what may differ."""
+
+The comparison does not use the code of the tool. This file has its own code that cuts texts into tokens, and its own lists of the tokens that
+may differ."""
 import contextlib
 import functools
 import io
@@ -33,7 +35,7 @@ BY_HAND = {'main', 'tests/printing', 'abort', 'slices', 'place'}
 
 
 def tokens_of(text):
-    """The tokens of a text without spaces and comments. They are cut letter by letter."""
+    """The tokens of a text, without spaces and comments. The function goes through the text letter by letter."""
     out, at = [], 0
     while at < len(text):
         c = text[at]
@@ -105,6 +107,7 @@ def without_ghosts(words):
 
 
 def phrase(text):
+    """The tokens of a text in the lists below."""
     return tokens_of(text)
 
 
@@ -136,10 +139,17 @@ ADDED = [phrase(t) for t in [
     '#[allow(unused_imports)] use crate::runtime::{HostRuntime, TryClone};', 'let rt = HostRuntime;', '_ => unreachable!(),']]
 
 
+# The phrases of REMOVED and CHANGED, by their first tokens: the phrase, and the phrase that replaces it.
+BY_FIRST = {}
+for old, new in [(old, []) for old in REMOVED] + CHANGED:
+    BY_FIRST.setdefault(old[0], []).append((old, new))
+
+
 PLACES = phrase('impl ParseError { fn variant_index(&self) -> u8 {')
 
 
 def drop_tactics(words):
+    """The tokens without the attributes `tactic`."""
     out, at = [], 0
     while at < len(words):
         if words[at:at + 3] == ['#', '[', 'tactic'] or words[at:at + 4] == ['#', '!', '[', 'tactic']:
@@ -186,22 +196,18 @@ def with_pointers(words):
 
 
 def as_rust(words):
+    """The tokens that the result must have for the tokens of a source."""
     words = with_pointers(without_places(drop_tactics(without_ghosts(words))))
     out, at = [], 0
     while at < len(words):
-        for old in REMOVED:
+        for old, new in BY_FIRST.get(words[at], ()):
             if words[at:at + len(old)] == old:
+                out += new
                 at += len(old)
                 break
         else:
-            for old, new in CHANGED:
-                if words[at:at + len(old)] == old:
-                    out += new
-                    at += len(old)
-                    break
-            else:
-                out.append(words[at])
-                at += 1
+            out.append(words[at])
+            at += 1
     return out
 
 
@@ -264,6 +270,21 @@ def difference(source, made, heads=False):
 # The result for a source depends only on its text. So a source that did not change is not made again for each test.
 to_rust.rewritten = functools.cache(to_rust.rewritten)
 
+# for what all sources declare: the files that were checked and not refused
+accepted = {}
+check_all = to_rust.check
+
+
+def check_new(files, known):
+    """Checks the files, except for those that were checked before and not refused. A check depends only on the file, and on what all sources
+    declare."""
+    before = accepted.setdefault(known, set())
+    check_all({place: plain for place, plain in files.items() if (place, plain) not in before}, known)
+    before.update(files.items())
+
+
+to_rust.check = check_new
+
 
 class Answer:
     """How a run of the tool ended."""
@@ -284,7 +305,7 @@ def run(top, *arguments):
         code = end.code
     finally:
         to_rust.TOP, sys.argv = before
-    # like Python at its end, which writes a text to standard error
+    # If the code is a text, Python writes it to standard error, and ends with the status 1.
     return Answer(1, out.getvalue(), f'{code}\n') if isinstance(code, str) else Answer(int(code or 0), out.getvalue(), '')
 
 
@@ -294,6 +315,8 @@ def run_apart(top, *arguments):
 
 
 class Copied(unittest.TestCase):
+    """Tests in a copy of the tools, the sources and the Rust crates."""
+
     def setUp(self):
         self.top = tempfile.mkdtemp()
         for name in ['tools', 'rust']:
@@ -323,7 +346,10 @@ BAD_BODIES = [
 
 
 class Refuses(Copied):
+    """Tests of sources that the tool refuses, or does not refuse."""
+
     def body(self, body):
+        """Runs the tool after a function with this body was added to a source."""
         path = os.path.join(self.top, 'crates/ixdtf_reading/src/cursor.rt')
         with open(path, encoding='utf-8') as file:
             text = file.read()
@@ -384,6 +410,8 @@ class Refuses(Copied):
 
 
 class Checks(Copied):
+    """Tests of the differences that --check finds."""
+
     def test_nothing_changed(self):
         answer = run_apart(self.top, '--check')
         self.assertEqual((answer.returncode, answer.stdout), (0, ''))
@@ -408,6 +436,8 @@ class Checks(Copied):
 
 
 class SameTokens(unittest.TestCase):
+    """Tests that each result has the tokens of its source, except for those in the lists."""
+
     def test_every_file(self):
         compared, layers = 0, {f'crates/ixdtf_{layer}/src' for layer in LAYERS}
         for source, target in PAIRS:
