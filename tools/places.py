@@ -9,7 +9,7 @@ with the names of the documents. To find the error of a text, it looks for the r
 For each line it prints `ok` if the reader accepts the text. Otherwise it prints `error`, the text of the error, ` at ` and the
 position. Some lines have an answer that comes from no reader, for example lines with an unknown word. The tool gives the same answers.
 The file `-` is standard input. If there is no file, the tool reads standard input. With --utf16, each text is UTF-8, and the readers of
-16-bit text get it as UTF-16. A byte that is not UTF-8 becomes one bad code unit.
+16-bit text get it as UTF-16. A byte that is not UTF-8 becomes one bad code unit. The exit status is 0 if all files can be read.
 
 A *letter* is a code unit as a pattern sees it. A bad code unit has no letter.
 
@@ -231,11 +231,11 @@ PAIR = OPEN + KEY + '=' + VALUE + one(CLOSING)
 
 
 def brackets(zone_bracket: str) -> str:
-    """One or more complete brackets, where a zone stands so."""
+    """One or more complete brackets. `zone_bracket` is the pattern of a bracket with a zone."""
     return either(zone_bracket, PAIR) + any_number(PAIR)
 
 
-# a zone exactly as RFC 9557 has it (`parse_rfc9557`)
+# the zones of RFC 9557, without extensions (`parse_rfc9557`)
 EXACT_PART = not_ahead(r'\.{1,2}' + not_ahead(one(ZONE_CHAR))) + one(ZONE_LEAD) + any_number(one(ZONE_CHAR))
 EXACT_NAME = EXACT_PART + any_number('/' + EXACT_PART)
 EXACT_OFFSET = one(SIGN) + HOUR + ':' + MINUTE
@@ -537,7 +537,7 @@ def second_lines(clock: Clock, follow: Follow, of: str) -> list[Line]:
 
 
 # ---------------------------------------------------------------------------------------------------------------------------------
-# The other lines of times that stand alone, and of offsets (FAULTS, "Times that stand alone" and "Offsets and zone names").
+# The other lines of `parse_time`, and those of offsets (FAULTS, "Times that stand alone" and "Offsets and zone names").
 
 # the text is a time with its offset, up to the end or up to a `[`
 READS_AS_TIME = ahead(TIME + maybe(OFFSET_OR_Z) + either(r'\Z', one(OPENING)))
@@ -612,7 +612,7 @@ EXACT_LINES = [
 
 
 def bracket_lines(core: str, zone_bracket: str) -> list[Line]:
-    """The lines of the brackets after a core, where a zone stands so."""
+    """The lines of the brackets after a core. `zone_bracket` is the pattern of a bracket with a zone."""
     core_and_open, bracketed = core + OPEN, core + brackets(zone_bracket)
     return (after(core, FIRST_BRACKET_LINES)
             + after(core_and_open + one(SIGN), clock_lines(MINUTE_OFFSET_CLOCK, FOLLOWS_BRACKETED_OFFSET))
@@ -725,7 +725,7 @@ def bracketed_reader(core: str, lines: list[Line], zone_bracket: str = ZONE_BRAC
 
 
 def parse_reader() -> Reader:
-    """`parse`."""
+    """The reader `parse`."""
     date_and, time_and = DATE + one(SEPARATOR), DATE + one(SEPARATOR) + TIME
     core = DATE + maybe(one(SEPARATOR) + TIME + maybe(OFFSET_OR_Z))
     return bracketed_reader(core, YEAR_LINES + AFTER_YEAR_LINES + MONTH_LINES + DAY_LINES
@@ -735,7 +735,7 @@ def parse_reader() -> Reader:
 
 
 def time_reader(strict: bool) -> Reader:
-    """`parse_time`."""
+    """The reader `parse_time`."""
     mark, marked_time = maybe(one(TIME_LETTER)), maybe(one(TIME_LETTER)) + TIME
     core = not_ahead(either(month_day(strict), YEAR_MONTH)) + marked_time + maybe(OFFSET_OR_Z)
     hour_start, *lines = clock_lines(TIME_CLOCK, FOLLOWS_TIME)
@@ -763,18 +763,18 @@ DATE_TIME = either(THROUGH_TIME + one(ZULU), UNTIL_OFFSET_MINUTE + MINUTE)
 
 
 def number_lines(field: str, until: str, number: str, digit: str, out_of_range: str) -> list[Line]:
-    """The lines of a number of two digits, up to it."""
+    """The lines of a number with two digits. `until` is the pattern of the text before the number."""
     return [line(f'field_digits {field}', until + digits(0, 1), DIGIT, abrupt('digit'), digit),
             whole(f'field_range {field}', until + but_not(number, digits(2)), out_of_range)]
 
 
 def separator_line(field: str, through: str, goes_on: str, error: str) -> Line:
-    """The line of what has to follow a number."""
+    """The line of the separator that must follow a number. `through` is the pattern of the text up to the end of the number."""
     return line(f'after_field {field}', through, goes_on, error, error)
 
 
 def date_time_lines(follows: str) -> list[Line]:
-    """The lines of date-times, before the end or these letters."""
+    """The lines of date-times. After a date-time, the text can end, or one of the letters `follows` can come."""
     return [
         line('four_digits', digits(0, 3), DIGIT, abrupt('digit'), 'DateYear'),
         line('after_four_digits', digits(4), HYPHEN, abrupt('Date'), 'DateSeparator'),
@@ -874,7 +874,8 @@ class Fault(NamedTuple):
 
 
 def refused_reply(reader: Reader, text: str, place: int, handler: Handler) -> Optional[Fault]:
-    """The first error among the replies to the annotations before a place. The handler is called up to this annotation, and not after it."""
+    """The first error of a reply to the annotations before a place. The handler is called for the annotations up to this reply, and not for
+    those after it."""
     calendar = None
     for pair, end in pairs_before(reader, text, place):
         reply = handler(pair)
@@ -968,7 +969,7 @@ def answer_file(lines: Iterator[bytes], wide: bool) -> None:
 
 
 def main(arguments: list[str]) -> None:
-    """The program."""
+    """Answers the lines of the files that the arguments name."""
     wide = '--utf16' in arguments
     for path in [it for it in arguments if it != '--utf16'] or ['-']:
         if path == '-':
