@@ -1,8 +1,8 @@
 //! Definitions of the grammar of the Extended Date/Time Format and of its fault table, and the types that they use:
 //! encodings, records, errors and profiles.
 //!
-//! This is the lowest layer of the library `ixdtf`. It uses only the standard library. Callers name `ixdtf`, which
-//! re-exports what is public here.
+//! This is a layer of the library `ixdtf`. Only the layer `ixdtf_instants` is below it. Callers name `ixdtf`, which
+//! re-exports the items that they need.
 //!
 //! - `specs/language` has the grammar (RFC 3339, section 5.6; RFC 9557, section 4.1; ISO 8601; the Temporal grammar).
 //! - `specs/table` has the fault table.
