@@ -65,7 +65,8 @@ IsEarlierDate date later =
 abbrev pub SameDate : DateRecord → DateRecord → Type 0
 SameDate date other = (date.year ≡ other.year) × (date.month ≡ other.month) × (date.day ≡ other.day)
 
--- At one offset, a date and a time are earlier than others exactly if their instant is smaller.
+-- At one offset, a date and a time are earlier than another date and time exactly if their instant is smaller. The calendar must
+-- have both dates, and a clock must be able to show both times.
 abbrev pub InstantsAreInOrder : Type 0
 InstantsAreInOrder = (date later_date : DateRecord) (time later_time : TimeRecord) (offset : UtcOffsetRecordOrZ)
     → HasDay date → HasDay later_date → IsShown time → IsShown later_time

@@ -10,7 +10,8 @@ use Rattle.ixdtf_grammar.specs.{language.{Rfc3339.IsRfcDateTime, Shapes.{digits,
 use Rattle.ixdtf_grammar.specs.{table.{Faults.Fault.DateSeparator, Outcomes.ExactlyOne}, Places.{GivesFaultAt, GivesOnlyPlace}}
 use Rattle.ixdtf_grammar.specs.Widths.{UnhandledOutcome, HasUnhandledOutcome, UnhandledOutcome.faulted}
 
--- The grammar derives a record from every date-time of RFC 3339 section 5.6, with no annotations, and `parse` returns this record.
+-- The grammar derives a record from every date-time of RFC 3339 section 5.6, with no annotations. Without a handler, `parse` gives
+-- this record for the text.
 abbrev pub EveryDateTimeIsRead : Type 0
 EveryDateTimeIsRead = (text : Text) → IsRfcDateTime text → (found : Parsed) × Derives parse text (parsed found) [] × UnhandledRecord parse text found
 
@@ -108,7 +109,7 @@ OneChain = (kind : CoreKind) (text : Text) (reply : List Pair → Reply) →
 
 -- ---- defaults, clones and equality
 
--- No other value is a default value.
+-- Every default value is equal to `value`.
 abbrev pub DefaultIs : {K : Type 0} → (K → Type 0) → K → Type 0
 DefaultIs {K} is_default value = (it : K) → is_default it → it ≡ value
 

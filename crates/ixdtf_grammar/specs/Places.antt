@@ -40,7 +40,8 @@ HasUnhandledFaultAt parse_iana_identifier text fault at = HasFaultAt parse_iana_
 HasUnhandledFaultAt (parse_duration profile) text fault at = HasFaultAt (parse_duration profile) text [] fault at
 
 -- There is a chain of calls with these clauses: the result is `Ok` with a record exactly if the text and the replies give this
--- record. It is `Err` only with an error that they give, at the position that the error names. No other error or position is given.
+-- record. It is `Err` only with an error that they give, at a position that agrees with the error (`stands`). They give no other
+-- error, and no other position.
 pub record HandledAt {T U F X E : Type 0} (number : U → ℕ) (step : Step T U F) (handler : F) (reader : Reader) (text : Text)
     (named : E → Fault) (stands : ℕ → E → Type 0) (view : X → Parsed) (result : Result X E) : Type 0 where
   pub calls : Calls T U
