@@ -12,7 +12,7 @@ pub record Unread : Type 0 where
   pub rest : List ℕ
   pub looks : ℕ
 
--- A parser with a profile is seen as an unread text, with the count of accesses, and the profile.
+-- A parser with a profile is seen as the numbers of its remaining code units, the count of accesses, and its profile.
 pub record UnreadUnder : Type 0 where
   pub rest : List ℕ
   pub looks : ℕ

@@ -4,7 +4,7 @@ use Rattle.std.specs.Prelude.{◌≡◌, ℕ, IsTrue, ◌∷◌, ◌++◌}
 use Rattle.ixdtf_grammar.specs.{declared.records.{DateRecord.DateRecord, TimeRecord.TimeRecord}, language.Letters.{Text, date_time_separator, Letter.Plain}}
 use Rattle.ixdtf_grammar.specs.language.{Digits.TwoDigits, Dates.{FourDigitYear, Month, IsDayOfMonth}, Times.{ColonSecondText, Clock.Time}}
 
--- The date has ten code units: two hyphens, and a year of four digits.
+-- The date has ten code units. Its year has four digits, and it has two hyphens.
 pub record FixedDate (text : Text) (date : DateRecord) : Type 0 where
   pub years : Text
   pub months : Text

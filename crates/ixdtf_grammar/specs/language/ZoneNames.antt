@@ -1,33 +1,33 @@
--- Zones: which texts are names of time zones (`time-zone-name` of RFC 9557 section 4.1), and what a zone is.
+-- Zones: which texts are names of time zones (`time-zone-name` of RFC 9557 section 4.1), and which texts are zones.
 use Rattle.std.specs.Prelude.{◌≡◌, ◌≢◌, ℕ, ◌⊎◌, List, [], ◌∷◌, map, IsTrue, All}
 use Rattle.ixdtf_grammar.specs.{declared.records.MinutePrecisionOffset.MinutePrecisionOffset, language.Letters.{Text, zone_lead, zone_char, slash}}
 use Rattle.ixdtf_grammar.specs.language.{Letters.Letter.Plain, Shapes.{Shape, one, ◌then◌, ◌either◌, many}, Offsets.IsMinuteOffset, DateTimes.IsNumOffset}
 
--- a code unit of a name, or a slash and a code unit
+-- The text is a code unit of a name, or a slash and a code unit of a name.
 abbrev pub NameItem : Shape
 NameItem = one zone_char either (one slash then one zone_char)
 
 abbrev pub ZoneName : Shape
 ZoneName = one zone_lead then many NameItem
 
--- the name, by the numbers of its code units
+-- The text is a zone name, and `name` has the numbers of its code units.
 abbrev pub IsZoneName : Text → List ℕ → Type 0
 IsZoneName text name = ZoneName text × (text ≡ map Plain name)
 
--- a zone: a name by the numbers of its code units, or an offset
+-- A zone is a name, as the numbers of its code units, or an offset.
 pub data Zone : Type 0 where
   Name : List ℕ → Zone
   Offset : MinutePrecisionOffset → Zone
 
--- a name, or an offset without seconds
+-- The text is a zone name, or an offset without seconds.
 abbrev pub IsZone : Text → Zone → Type 0
 IsZone text zone =
     ((name : List ℕ) × IsZoneName text name × (zone ≡ Name name))
     ⊎ ((offset : MinutePrecisionOffset) × IsMinuteOffset text offset × (zone ≡ Offset offset))
 
--- ---- as RFC 9557 section 4.1 has them
+-- ---- zones exactly as in RFC 9557 section 4.1
 
--- `time-zone-part = time-zone-initial *time-zone-char`, but not `.` and not `..`
+-- The text is `time-zone-part = time-zone-initial *time-zone-char`, but it is neither `.` nor `..`.
 pub record IsNamePart (text : Text) : Type 0 where
   pub lead : ℕ
   pub others : List ℕ
@@ -37,11 +37,11 @@ pub record IsNamePart (text : Text) : Type 0 where
   pub no_dot : text ≢ Plain 46 ∷ []
   pub no_dots : text ≢ Plain 46 ∷ (Plain 46 ∷ [])
 
--- `time-zone-name = time-zone-part *("/" time-zone-part)`
+-- The text is `time-zone-name = time-zone-part *("/" time-zone-part)`.
 abbrev pub IsPartedName : Shape
 IsPartedName = IsNamePart then many (one slash then IsNamePart)
 
--- `time-zone-name / time-numoffset`
+-- The text is `time-zone-name / time-numoffset`.
 abbrev pub IsExactZone : Text → Zone → Type 0
 IsExactZone text (Name name) = IsPartedName text × (text ≡ map Plain name)
 IsExactZone text (Offset offset) = IsNumOffset text offset
