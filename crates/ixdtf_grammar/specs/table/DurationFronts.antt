@@ -29,7 +29,7 @@ IsContext profile text (in_times s dates times) =
     (start date_text time_text : Text) × (c : ℕ) × (text ≡ start ++ (date_text ++ (Plain c ∷ time_text))) × SignedDesignator start s
     × Groups profile date date_text dates × IsTrue (time_letter c) × Groups profile time time_text times
 
--- The text has a context of the half, and then a text with the shape for this context.
+-- The text has two parts: the text of a context of the half, and a text with the shape for this context.
 abbrev pub InContext : Profile → Half → (Context → Shape) → Shape
 InContext profile half shape text =
     (context : Context) × (before rest : Text) × (half_of context ≡ half) × (text ≡ before ++ rest) × IsContext profile before context × shape context rest

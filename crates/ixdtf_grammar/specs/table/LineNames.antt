@@ -17,8 +17,8 @@ pub data MonthDayLine : Type 0 where
   after_month_day_month month_day_day_digits : MonthDayLine
   month_day_range after_month_day : Profile → MonthDayLine
 
--- These are the other lines of times without a date: the beginning of a time, and the two prefixes that can also be read as a date.
--- The prefix that is a month-day depends on a profile.
+-- These are the other lines of times without a date: the beginning of a time, and the two prefixes that can also be read as a
+-- year-month or as a month-day. The line of month-days depends on a profile.
 pub data TimeLine : Type 0 where
   time_start time_reads_as_year_month : TimeLine
   time_reads_as_month_day : Profile → TimeLine
