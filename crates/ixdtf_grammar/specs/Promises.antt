@@ -17,8 +17,7 @@ pub record ReadsText {X E : Type 0} (letter : ℕ → Letter) (fault : E → Fau
   -- The result is `Ok` only if no row of the fault table fits, and the text is in the language of no other text reader.
   pub no_row : OnOk result (NoRowFits reader (map letter old.rest))
   pub no_other_reader : OnOk result (InNoOther old.profile reader (map letter old.rest))
-  -- The result is `Err` only with the one error that the text gives: the error of the last annotation, which is refused, or the error
-  -- of the only row that fits.
+  -- The result is `Err` only with the one error that the text gives: that of the last reply, or that of the only row that fits.
   pub only : IfErr result (λ e. UnhandledOnlyFault reader (map letter old.rest) (fault e))
   -- After `Ok` there is no remaining input. After an error, the remaining input is unchanged.
   pub leaves : LeavesBehind fault (most_looks old.rest) (unread_of old) result (unread_of new)

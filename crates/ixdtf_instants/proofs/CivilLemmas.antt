@@ -18,7 +18,7 @@ pub number-early : (y : ℤ) (m d : ℕ) (z : ℤ) (n k : ℕ) → y +ℤ pos (4
 number-early y m d z n k e low high h =
     omega (arith, signed_arith, day_number-day_count y m d, day_count-early y n k m d e low high)
 
--- These lemmas are about the days of January and February.
+-- The next lemmas are about the days of January and February.
 month_length-leap_day : (y : ℤ) → month_length y 2 ≡ 28 + leap_day y
 month_length-leap_day y = grind arith
 

@@ -108,7 +108,7 @@ month_day_size text date h = rw h.is (by_marks h.marks h.mark)
     by_marks marks (inl none) = rw none (inl (digits_begin 1 h.months (h.hyphens ++ h.days) h.month.0.0, least, most))
     by_marks marks (inr two) = rw (two.2, two.3.1, two.4.1) (inr (hyphen_signs two.3.0 two.3.2, omega (arith, least), omega (arith, most)))
 
--- So no text has both of these lengths.
+-- So a text whose least length is greater than these lengths does not have one of them.
 pub longer : (text : Text) (a c a' b' c' d' : ℕ) → suc b' ≤ a → suc d' ≤ c → AtLeast a c text → Sized a' b' c' d' text → ⊥
 longer text a c a' b' c' d' p q (inl h) (inl g) = omega (arith, p, h.1, g.2)
 longer text a c a' b' c' d' p q (inl h) (inr g) = begins_once text h.0 g.0

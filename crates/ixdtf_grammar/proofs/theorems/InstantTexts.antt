@@ -129,7 +129,7 @@ trimmed (suc count) number small some =
     tenfold : (a b n : ℕ) → a * b ≡ n / 10 → n % 10 ≡ 0 → a * (b * 10) ≡ n
     tenfold a b n e end = rw (← mul_assoc a b 10) (omega (arith, e))
 
--- The time with a fraction that a text of a clock time and nanoseconds stands for.
+-- This record has the time, with its fraction, that the text of a time of day and of nanoseconds stands for.
 record ReadTime (second nanoseconds : ℕ) : Type 0 where
   pub fraction : Option FractionParts
   pub is_time : IsTime (map Plain (clock_digits second ++ fraction_digits nanoseconds)) (time_at second fraction)

@@ -11,7 +11,7 @@ use Rattle.ixdtf_grammar.proofs.PaddedDigits.{ten_pos}
 
 -- ---- nanoseconds
 
--- One more digit at the beginning makes the number of the digits less than the next power of ten.
+-- With one more digit at the beginning, the number of the digits is below the next power of ten.
 digit_before : (w k : ℕ) (rest : Text) → decimal (take k rest) < 10 ^ k → decimal (take (suc k) (Plain (48 + w % 10) ∷ rest)) < 10 ^ suc k
 digit_before w k rest small =
     let long : length (take k rest) ≤ k = omega (arith, length-take k rest) in

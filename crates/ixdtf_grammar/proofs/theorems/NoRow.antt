@@ -26,7 +26,7 @@ abbrev is_of_bad : Fault → Bool
 is_of_bad NonAsciiCodePoint = true
 is_of_bad fault = false
 
--- The message of the error is longer than that of every error in the table.
+-- The message of the error is longer than 69 bytes, and so longer than that of every error in the table.
 abbrev is_long : Fault → Bool
 is_long fault = nat_lt 69 (length (message_of fault))
 
