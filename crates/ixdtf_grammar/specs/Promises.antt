@@ -37,8 +37,8 @@ pub record ReadsTextAt {X : Type 0} (letter : ℕ → Letter) (view : X → Pars
   pub leaves : LeavesBehind fault_of_located (most_looks old.rest) (unread_of old) result (unread_of new)
   pub profile : new.profile ≡ old.profile
 
--- This is the greatest number of times that a reader accesses a code unit, for a text and these replies of a handler. It is two
--- more for each code unit in the values of the replies.
+-- For a text and these replies of a handler, a reader accesses a code unit at most this number of times. Each code unit in the values
+-- of the replies adds two accesses.
 abbrev pub most_looks_beside : List ℕ → List Reply → ℕ
 most_looks_beside rest replies = most_looks rest + 2 * value_units replies
 

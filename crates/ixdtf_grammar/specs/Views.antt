@@ -80,7 +80,7 @@ pub record IsEmptyRecord {T U : Type 0} (r : IxdtfParseRecord T U) : Type 0 wher
   pub tz : r.tz ≡ None
   pub calendar : r.calendar ≡ None
 
--- This is the greatest number of times that a reader without a handler accesses a code unit of a text.
+-- For a text, a reader without a handler accesses a code unit at most this number of times.
 abbrev pub most_looks : List ℕ → ℕ
 most_looks rest = 4 * length rest + 64
 

@@ -13,8 +13,11 @@ const EPOCH: i64 = 146_097_000_719_468;
 /// A date of the proleptic Gregorian calendar. Year 0 is the year before year 1.
 #[derive(Clone, Copy, Debug, PartialEq, Eq)]
 pub struct CivilDate {
+    /// The year.
     pub year: i64,
+    /// The month: January is 1.
     pub month: u8,
+    /// The day of the month, from 1 on.
     pub day: u8,
 }
 

@@ -9,8 +9,8 @@ const BILLION: u32 = 1_000_000_000;
 ///
 /// Leap seconds are not counted: each day has 86,400 seconds (POSIX.1-2017, section 4.16).
 ///
-/// Instants are ordered by time: the earlier of two instants is the smaller one. The order compares the seconds first, and
-/// then the nanoseconds.
+/// Instants are ordered by the seconds, and then by the nanoseconds. If the nanoseconds of two instants are below
+/// 1,000,000,000, the earlier instant is the smaller one.
 ///
 /// `Display` writes the date and the time in UTC, such as `2024-03-02T08:48:00.25Z`. Years from 0 to 9999 have four digits.
 /// Other years have a sign and six digits, as in `+010000-01-01T00:00:00Z`. The fraction has no zeros at its end. If the

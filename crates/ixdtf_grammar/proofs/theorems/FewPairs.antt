@@ -65,17 +65,17 @@ before_few kind (of_zone zone_name_start) pairs before rest p = absurd p
 before_few kind (of_clock Time line) pairs before rest p = none_few pairs before p.1
 before_few kind name pairs before rest p = none_few pairs before p.1
 
--- This is about the annotations before an error of the text.
+-- If the text has an error with these annotations before it, it has at least five code units for each of them.
 pub fault_few : (kind : CoreKind) (text : Text) (pairs : List Pair) (fault : Fault) → HasFault (bracketed kind) text pairs fault → 5 * length pairs ≤ length text
 fault_few kind text pairs fault (row, (before, rest, is, stands, here), has) =
     rw is (front_few before rest _ (before_few kind row.name pairs before rest stands))
 
--- This is about the annotations of a text that the grammar derives.
+-- If the grammar derives a value from the text with these annotations, the text has at least five code units for each of them.
 pub derived_few : (kind : CoreKind) (text : Text) (found : Found) (pairs : List Pair) → Derives (bracketed kind) text found pairs → 5 * length pairs ≤ length text
 derived_few kind text found pairs (as_parsed whole) = let tail = whole.is_tail in
     rw (whole.is, tail.2) (part_few whole.cores _ _ (part_few tail.0 tail.1 _ (are_few tail.1 pairs tail.4)))
 
--- This is about the annotations before an error of the text or of a reply.
+-- If the text with these annotations and the replies gives an error, the text has at least five code units for each annotation.
 pub gives_few : (kind : CoreKind) (text : Text) (pairs : List Pair) (replies : List Reply) (fault : Fault)
     → GivesFault (bracketed kind) text pairs replies fault → 5 * length pairs ≤ length text
 gives_few kind text pairs replies fault (inl ((front, rest, is, read, whole), last)) = rw is (front_few front rest _ (derived_few kind front _ pairs whole))

@@ -43,7 +43,7 @@ use Rattle.ixdtf_grammar.specs.table.LineNames.DurationLine.{after_time_designat
 use Rattle.ixdtf_grammar.specs.table.LineNames.DurationLine.{group_fraction_start, group_fraction_digits, after_time_groups, after_fraction_group}
 use Rattle.ixdtf_grammar.specs.table.LineNames.LineName.{of_core, of_clock, of_offset, of_date_time, of_zone, of_bracket, of_pair, of_duration}
 
--- If the text ends after the prefix of a line, this is no error, or an error.
+-- An ending says what the end of the text after a prefix is: no error, or an error.
 pub data Ending : Type 0 where
   ok : Ending
   error : Fault → Ending

@@ -27,7 +27,7 @@ front_of (line front goes_on at_end at_other) = front
 front_of (scanned front fault) = front
 front_of (whole front fault) = front
 
--- If the row of a line fits, this is true of the text after the prefix of the line.
+-- The text after the prefix of the line is what a row with this place and this error requires.
 abbrev pub Stops : Line → Place → Fault → Text → Type 0
 Stops (line front goes_on at_end at_other) (end left) fault rest = (rest ≡ []) × (at_end ≡ error fault) × (left ≡ rest)
 Stops (line front goes_on at_end at_other) (other left) fault rest =
