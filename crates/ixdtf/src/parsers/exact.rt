@@ -60,7 +60,7 @@ impl<'a, T: EncodingType> IxdtfParser<'a, T> {
     ///
     /// # Errors
     ///
-    /// The first part that is wrong decides. If a number is out of its range, this is the error, whatever follows the
+    /// The first wrong part of the text decides the error. A number out of its range is an error, whatever follows this
     /// number. To get the position of the error, call [`parse_rfc3339_located`](Self::parse_rfc3339_located).
     ///
     /// - `AbruptEnd`: the text ends where a digit has to follow (location `digit`), after the year (location `Date`), or
@@ -84,7 +84,7 @@ impl<'a, T: EncodingType> IxdtfParser<'a, T> {
         ensures profile { self.new.profile ≡ self.old.profile }
     {
         let mut here = self.cursor.fork();
-        // The error returns in an arm of its own, as in `parse`.
+        // The error is returned in an arm of its own, as in `parse`.
         match parse_rfc3339_text(&mut here) {
             Ok(found) => {
                 self.cursor = here;
@@ -111,7 +111,7 @@ impl<'a, T: EncodingType> IxdtfParser<'a, T> {
     ///
     /// for (text, error, at) in [
     ///     ("2024-03-02T08:48", ParseError::TimeSeparator, 16), // the end
-    ///     ("2024-03-02 08:48:00Z", ParseError::TimeSeparator, 10), // where the space stands
+    ///     ("2024-03-02 08:48:00Z", ParseError::TimeSeparator, 10), // at the space
     ///     ("2023-02-29T08:48:00Z", ParseError::InvalidDayRange, 10), // after the day
     /// ] {
     ///     let located = IxdtfParser::from_str(text).parse_rfc3339_located().unwrap_err();
