@@ -244,7 +244,7 @@ impl<'a, T: EncodingType> IxdtfParser<'a, T> {
         self.read_as::<ParseError, Times, F>(handler)
     }
 
-    /// Parses the remaining input as a date, or as a date and a time, with a handler. An error has its position.
+    /// Parses the remaining input as a date, or as a date and a time, with a handler. An error includes its position.
     ///
     /// This is [`parse_with_annotation_handler`](Self::parse_with_annotation_handler) with positions as in
     /// [`parse_located`](Self::parse_located).
@@ -276,7 +276,7 @@ impl<'a, T: EncodingType> IxdtfParser<'a, T> {
         self.read_as::<LocatedError, DateTimes, F>(handler)
     }
 
-    /// Parses the remaining input as a text of RFC 9557, with a handler. An error has its position.
+    /// Parses the remaining input as a text of RFC 9557, with a handler. An error includes its position.
     ///
     /// This is [`parse_rfc9557_with_annotation_handler`](Self::parse_rfc9557_with_annotation_handler) with positions as
     /// in [`parse_rfc9557_located`](Self::parse_rfc9557_located).
@@ -308,7 +308,7 @@ impl<'a, T: EncodingType> IxdtfParser<'a, T> {
         self.read_as::<LocatedError, InternetDateTimes, F>(handler)
     }
 
-    /// Parses the remaining input as a year and a month, with a handler. An error has its position.
+    /// Parses the remaining input as a year and a month, with a handler. An error includes its position.
     ///
     /// This is [`parse_year_month_with_annotation_handler`](Self::parse_year_month_with_annotation_handler) with
     /// positions as in [`parse_year_month_located`](Self::parse_year_month_located).
@@ -340,7 +340,7 @@ impl<'a, T: EncodingType> IxdtfParser<'a, T> {
         self.read_as::<LocatedError, YearMonths, F>(handler)
     }
 
-    /// Parses the remaining input as a month and a day, with a handler. An error has its position.
+    /// Parses the remaining input as a month and a day, with a handler. An error includes its position.
     ///
     /// This is [`parse_month_day_with_annotation_handler`](Self::parse_month_day_with_annotation_handler) with
     /// positions as in [`parse_month_day_located`](Self::parse_month_day_located).
@@ -372,7 +372,7 @@ impl<'a, T: EncodingType> IxdtfParser<'a, T> {
         self.read_as::<LocatedError, MonthDays, F>(handler)
     }
 
-    /// Parses the remaining input as a time, with a handler. An error has its position.
+    /// Parses the remaining input as a time, with a handler. An error includes its position.
     ///
     /// This is [`parse_time_with_annotation_handler`](Self::parse_time_with_annotation_handler) with positions as in
     /// [`parse_time_located`](Self::parse_time_located).

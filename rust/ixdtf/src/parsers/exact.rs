@@ -88,7 +88,7 @@ impl<'a, T: EncodingType> IxdtfParser<'a, T> {
         }
     }
 
-    /// Parses the remaining input as a date-time of RFC 3339, like [`parse_rfc3339`](Self::parse_rfc3339). An error has its
+    /// Parses the remaining input as a date-time of RFC 3339, like [`parse_rfc3339`](Self::parse_rfc3339). An error includes its
     /// position.
     ///
     /// The position is the number of code units before the error. It is the index of the code unit that does not fit, or

@@ -235,7 +235,7 @@ impl<'a, T: EncodingType> TimeZoneParser<'a, T> {
         }
     }
 
-    /// Parses the remaining input as an offset from UTC, like [`parse_offset`](Self::parse_offset). An error has its
+    /// Parses the remaining input as an offset from UTC, like [`parse_offset`](Self::parse_offset). An error includes its
     /// position.
     ///
     /// The position is the number of code units before the error. It is the index of the code unit that does not fit,
@@ -268,7 +268,7 @@ impl<'a, T: EncodingType> TimeZoneParser<'a, T> {
     }
 
     /// Parses the remaining input as the name of a time zone, like
-    /// [`parse_iana_identifier`](Self::parse_iana_identifier). An error has its position.
+    /// [`parse_iana_identifier`](Self::parse_iana_identifier). An error includes its position.
     ///
     /// The position is the number of code units before the error. It is the index of the code unit that does not fit,
     /// or the end of the input if the input ends too early.
@@ -297,7 +297,7 @@ impl<'a, T: EncodingType> TimeZoneParser<'a, T> {
         self.cursor.settle(here, outcome)
     }
 
-    /// Parses the remaining input as a time zone, like [`parse_identifier`](Self::parse_identifier). An error has its
+    /// Parses the remaining input as a time zone, like [`parse_identifier`](Self::parse_identifier). An error includes its
     /// position.
     ///
     /// The position is the number of code units before the error. It is the index of the code unit that does not fit,

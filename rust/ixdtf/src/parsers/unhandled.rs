@@ -357,7 +357,7 @@ impl<'a, T: EncodingType> IxdtfParser<'a, T> {
         outcome
     }
 
-    /// Parses the remaining input as a date, or as a date and a time, like [`parse`](Self::parse). An error has its
+    /// Parses the remaining input as a date, or as a date and a time, like [`parse`](Self::parse). An error includes its
     /// position.
     ///
     /// The position is the number of code units before the error. It is the index of the code unit that does not fit,
@@ -396,7 +396,7 @@ impl<'a, T: EncodingType> IxdtfParser<'a, T> {
         }
     }
 
-    /// Parses the remaining input as a text of RFC 9557, like [`parse_rfc9557`](Self::parse_rfc9557). An error has its
+    /// Parses the remaining input as a text of RFC 9557, like [`parse_rfc9557`](Self::parse_rfc9557). An error includes its
     /// position.
     ///
     /// The position is the number of code units before the error. It is the index of the code unit that does not fit,
@@ -438,7 +438,7 @@ impl<'a, T: EncodingType> IxdtfParser<'a, T> {
     }
 
     /// Parses the remaining input as a year and a month, like [`parse_year_month`](Self::parse_year_month). An error
-    /// has its position.
+    /// includes its position.
     ///
     /// The position is the number of code units before the error. It is the index of the code unit that does not fit,
     /// or the end of the input if the input ends too early. For a number out of its range, the position is after the
@@ -474,7 +474,7 @@ impl<'a, T: EncodingType> IxdtfParser<'a, T> {
         }
     }
 
-    /// Parses the remaining input as a month and a day, like [`parse_month_day`](Self::parse_month_day). An error has
+    /// Parses the remaining input as a month and a day, like [`parse_month_day`](Self::parse_month_day). An error includes
     /// its position.
     ///
     /// The position is the number of code units before the error. It is the index of the code unit that does not fit,
@@ -511,7 +511,7 @@ impl<'a, T: EncodingType> IxdtfParser<'a, T> {
         }
     }
 
-    /// Parses the remaining input as a time, like [`parse_time`](Self::parse_time). An error has its position.
+    /// Parses the remaining input as a time, like [`parse_time`](Self::parse_time). An error includes its position.
     ///
     /// The position is the number of code units before the error. It is the index of the code unit that does not fit,
     /// or the end of the input if the input ends too early. For a number out of its range, the position is after the
