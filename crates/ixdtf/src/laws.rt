@@ -252,7 +252,7 @@ where
 ///
 /// # Errors
 ///
-/// The errors of [`IxdtfParser::parse`], except `CriticalDuplicateCalendar` and `UnrecognizedCritical`.
+/// Returns the errors of [`IxdtfParser::parse`], except `CriticalDuplicateCalendar` and `UnrecognizedCritical`.
 pub fn parse_unanswered<'a, T: EncodingType, F>(
     parser: &mut IxdtfParser<'a, T>,
     handler: F,

@@ -16,7 +16,7 @@ pub fn digit_count(number: u64) -> u16 {
 
 /// Writes the number without leading zeros at index `at`. Returns the index after it.
 ///
-/// Most numbers are small, so a number below 10,000 comes first. The function is not inlined: a copy of it at each duration
+/// Most numbers are small, so numbers below 10,000 are tested first. The function is not inlined: a copy of it at each duration
 /// unit would take more instructions.
 #[inline(never)]
 pub fn put_number(out: &mut [u8], at: usize, number: u64) -> usize {

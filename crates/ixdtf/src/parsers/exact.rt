@@ -74,7 +74,7 @@ impl<'a, T: EncodingType> IxdtfParser<'a, T> {
     /// - `DateSeparator`: no `-` follows the month, or another character than `-` follows the year.
     /// - `TimeSeparator`: no `T` follows the date, or no `:` follows the hour or the minute of the time.
     /// - `FractionPart`: no digit follows the `.`, or a `,` follows the second.
-    /// - `OffsetNeedsSign`: any other character is where the offset has to begin.
+    /// - `OffsetNeedsSign`: any other character follows the second or the fraction, where the offset has to begin.
     /// - `UtcTimeSeparator`: no `:` follows the hour of the offset.
     /// - `InvalidEnd`: any character follows the offset.
     /// - `NonAsciiCodePoint`: 16-bit text has a code unit outside 1 to 126. 8-bit text never has this error.
@@ -121,7 +121,7 @@ impl<'a, T: EncodingType> IxdtfParser<'a, T> {
     ///
     /// # Errors
     ///
-    /// The errors of [`parse_rfc3339`](Self::parse_rfc3339), each with its position.
+    /// Returns the errors of [`parse_rfc3339`](Self::parse_rfc3339), each with its position.
     #[inline(always)]
     pub fn parse_rfc3339_located(&mut self) -> Result<IxdtfParseRecord<'a, T>, LocatedError>
         ensures reads { ReadsPartAt T.letter (parsed_of T.number) dated reader_rfc3339 (unread_of self.old) result (unread_of self.new) }

@@ -285,7 +285,7 @@ impl<'a, T: EncodingType> TimeZoneParser<'a, T> {
     ///
     /// # Errors
     ///
-    /// The errors of [`parse_offset`](Self::parse_offset), each with its position.
+    /// Returns the errors of [`parse_offset`](Self::parse_offset), each with its position.
     pub fn parse_offset_located(&mut self) -> Result<UtcOffsetRecord, LocatedError>
         ensures reads { ReadsPartAt T.letter (λ offset. offset) shifted parse_offset self.old result self.new }
     {
@@ -317,7 +317,7 @@ impl<'a, T: EncodingType> TimeZoneParser<'a, T> {
     ///
     /// # Errors
     ///
-    /// The errors of [`parse_iana_identifier`](Self::parse_iana_identifier), each with its position.
+    /// Returns the errors of [`parse_iana_identifier`](Self::parse_iana_identifier), each with its position.
     pub fn parse_iana_identifier_located(&mut self) -> Result<&'a [T::CodeUnit], LocatedError>
         ensures reads { ReadsPartAt T.letter (λ units. map T.number units.now) named parse_iana_identifier self.old result self.new }
     {
@@ -350,7 +350,7 @@ impl<'a, T: EncodingType> TimeZoneParser<'a, T> {
     ///
     /// # Errors
     ///
-    /// The errors of [`parse_identifier`](Self::parse_identifier), each with its position.
+    /// Returns the errors of [`parse_identifier`](Self::parse_identifier), each with its position.
     pub fn parse_identifier_located(&mut self) -> Result<TimeZoneRecord<'a, T>, LocatedError>
         ensures reads { ReadsPartAt T.letter (zone_of T.number) identified parse_identifier self.old result self.new }
     {

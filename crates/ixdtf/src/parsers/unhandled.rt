@@ -401,7 +401,7 @@ impl<'a, T: EncodingType> IxdtfParser<'a, T> {
     ///
     /// # Errors
     ///
-    /// The errors of [`parse`](Self::parse), each with its position.
+    /// Returns the errors of [`parse`](Self::parse), each with its position.
     #[inline(always)]
     pub fn parse_located(&mut self) -> Result<IxdtfParseRecord<'a, T>, LocatedError>
         ensures reads { ReadsTextAt T.letter (parsed_of T.number) reader_parse self.old result self.new }
@@ -444,7 +444,7 @@ impl<'a, T: EncodingType> IxdtfParser<'a, T> {
     ///
     /// # Errors
     ///
-    /// The errors of [`parse_rfc9557`](Self::parse_rfc9557), each with its position.
+    /// Returns the errors of [`parse_rfc9557`](Self::parse_rfc9557), each with its position.
     #[inline(always)]
     pub fn parse_rfc9557_located(&mut self) -> Result<IxdtfParseRecord<'a, T>, LocatedError>
         ensures reads { ReadsTextAt T.letter (parsed_of T.number) reader_parse_rfc9557 self.old result self.new }
@@ -483,7 +483,7 @@ impl<'a, T: EncodingType> IxdtfParser<'a, T> {
     ///
     /// # Errors
     ///
-    /// The errors of [`parse_year_month`](Self::parse_year_month), each with its position.
+    /// Returns the errors of [`parse_year_month`](Self::parse_year_month), each with its position.
     #[inline(always)]
     pub fn parse_year_month_located(&mut self) -> Result<IxdtfParseRecord<'a, T>, LocatedError>
         ensures reads { ReadsTextAt T.letter (parsed_of T.number) reader_parse_year_month self.old result self.new }
@@ -522,7 +522,7 @@ impl<'a, T: EncodingType> IxdtfParser<'a, T> {
     ///
     /// # Errors
     ///
-    /// The errors of [`parse_month_day`](Self::parse_month_day), each with its position.
+    /// Returns the errors of [`parse_month_day`](Self::parse_month_day), each with its position.
     #[inline(always)]
     pub fn parse_month_day_located(&mut self) -> Result<IxdtfParseRecord<'a, T>, LocatedError>
         ensures reads { ReadsTextAt T.letter (parsed_of T.number) (reader_parse_month_day self.old.profile) self.old result self.new }
@@ -560,7 +560,7 @@ impl<'a, T: EncodingType> IxdtfParser<'a, T> {
     ///
     /// # Errors
     ///
-    /// The errors of [`parse_time`](Self::parse_time), each with its position.
+    /// Returns the errors of [`parse_time`](Self::parse_time), each with its position.
     #[inline(always)]
     pub fn parse_time_located(&mut self) -> Result<IxdtfParseRecord<'a, T>, LocatedError>
         ensures reads { ReadsTextAt T.letter (parsed_of T.number) (reader_parse_time self.old.profile) self.old result self.new }

@@ -260,7 +260,7 @@ impl<'a, T: EncodingType> TimeZoneParser<'a, T> {
     ///
     /// # Errors
     ///
-    /// The errors of [`parse_offset`](Self::parse_offset), each with its position.
+    /// Returns the errors of [`parse_offset`](Self::parse_offset), each with its position.
     pub fn parse_offset_located(&mut self) -> Result<UtcOffsetRecord, LocatedError> {
         let mut here = self.cursor.fork();
         let outcome = parse_offset_text(&mut here);
@@ -290,7 +290,7 @@ impl<'a, T: EncodingType> TimeZoneParser<'a, T> {
     ///
     /// # Errors
     ///
-    /// The errors of [`parse_iana_identifier`](Self::parse_iana_identifier), each with its position.
+    /// Returns the errors of [`parse_iana_identifier`](Self::parse_iana_identifier), each with its position.
     pub fn parse_iana_identifier_located(&mut self) -> Result<&'a [T::CodeUnit], LocatedError> {
         let mut here = self.cursor.fork();
         let outcome = parse_iana_identifier_text(&mut here);
@@ -321,7 +321,7 @@ impl<'a, T: EncodingType> TimeZoneParser<'a, T> {
     ///
     /// # Errors
     ///
-    /// The errors of [`parse_identifier`](Self::parse_identifier), each with its position.
+    /// Returns the errors of [`parse_identifier`](Self::parse_identifier), each with its position.
     pub fn parse_identifier_located(&mut self) -> Result<TimeZoneRecord<'a, T>, LocatedError> {
         let mut here = self.cursor.fork();
         let outcome = parse_identifier_text(&mut here);

@@ -383,7 +383,7 @@ impl<'a, T: EncodingType> IxdtfParser<'a, T> {
     ///
     /// # Errors
     ///
-    /// The errors of [`parse`](Self::parse), each with its position.
+    /// Returns the errors of [`parse`](Self::parse), each with its position.
     #[inline(always)]
     pub fn parse_located(&mut self) -> Result<IxdtfParseRecord<'a, T>, LocatedError> {
         let mut parsed = IxdtfParseRecord::default();
@@ -424,7 +424,7 @@ impl<'a, T: EncodingType> IxdtfParser<'a, T> {
     ///
     /// # Errors
     ///
-    /// The errors of [`parse_rfc9557`](Self::parse_rfc9557), each with its position.
+    /// Returns the errors of [`parse_rfc9557`](Self::parse_rfc9557), each with its position.
     #[inline(always)]
     pub fn parse_rfc9557_located(&mut self) -> Result<IxdtfParseRecord<'a, T>, LocatedError> {
         let mut parsed = IxdtfParseRecord::default();
@@ -461,7 +461,7 @@ impl<'a, T: EncodingType> IxdtfParser<'a, T> {
     ///
     /// # Errors
     ///
-    /// The errors of [`parse_year_month`](Self::parse_year_month), each with its position.
+    /// Returns the errors of [`parse_year_month`](Self::parse_year_month), each with its position.
     #[inline(always)]
     pub fn parse_year_month_located(&mut self) -> Result<IxdtfParseRecord<'a, T>, LocatedError> {
         let mut parsed = IxdtfParseRecord::default();
@@ -498,7 +498,7 @@ impl<'a, T: EncodingType> IxdtfParser<'a, T> {
     ///
     /// # Errors
     ///
-    /// The errors of [`parse_month_day`](Self::parse_month_day), each with its position.
+    /// Returns the errors of [`parse_month_day`](Self::parse_month_day), each with its position.
     #[inline(always)]
     pub fn parse_month_day_located(&mut self) -> Result<IxdtfParseRecord<'a, T>, LocatedError> {
         let mut parsed = IxdtfParseRecord::default();
@@ -534,7 +534,7 @@ impl<'a, T: EncodingType> IxdtfParser<'a, T> {
     ///
     /// # Errors
     ///
-    /// The errors of [`parse_time`](Self::parse_time), each with its position.
+    /// Returns the errors of [`parse_time`](Self::parse_time), each with its position.
     #[inline(always)]
     pub fn parse_time_located(&mut self) -> Result<IxdtfParseRecord<'a, T>, LocatedError> {
         let mut parsed = IxdtfParseRecord::default();
