@@ -49,7 +49,7 @@ counted n k from to small = by_test (nat_le (length (decimal n)) k) refl
         let more : k < length (decimal n) = grind (arith, nat_tests, h) in
         omega (arith, more, number_long n, length-decimal-le (suc k) n (omega arith) (rw (pow-succ' 10 k) (omega arith)) small)
 
--- The number has at most as many digits as any text that stands for it.
+-- A number has at most as many digits as any text of digits for this number.
 pub no_longer : (k n : ℕ) (text : Text) → digits (suc k) text → n ≡ decimal_of text → n < 2 ^ 64 → length (number_text n) ≤ suc k
 no_longer k n text d is small =
     omega (arith, number_long n, length-decimal-le (suc k) n (omega arith) (rw is (decimal_below (suc k) text d)) small)

@@ -195,7 +195,7 @@ pub last_long : (value : ℕ) (fraction : Option FractionParts) (c : ℕ)
 unfolding last_text
 last_long value fraction c = omega (arith, length-append {A = Letter})
 
--- There is a time.
+-- There is a time, and the text of its duration units has at most `most` code units.
 abbrev IsTimed : ℕ → Option TimeDurationRecord → Type 0
 IsTimed most None = ⊥
 IsTimed most (Some found) = AreTimeUnits found × (length (time_units_text found) ≤ most)
@@ -247,7 +247,7 @@ of_start text s (inr (c, rest, is, signed, p, _)) = rw (is, p.1) (most s)
     most Positive = omega arith
     most Negative = omega arith
 
--- The groups of the time of a duration stand for a time.
+-- The time of a duration, if it has one, has a text that is not longer than the text of its groups.
 of_times : (profile : Profile) (text : Text) (times : List Group) → TimePart profile text times
     → HasTimeUnits (time_duration times) × (length (time_part_text (time_duration times)) ≤ length text)
 of_times profile text times (inl (none, no_times)) = rw (no_times, none) (tt, omega arith)

@@ -83,7 +83,7 @@ to_weeks found = with_unit weeks found.weeks (to_months found)
 abbrev to_days : DateDurationRecord → List Group
 to_days found = with_unit days found.days (to_weeks found)
 
--- The groups of the duration units that are not zero stand for the date.
+-- The text of the duration units of a date consists of one group for each unit that is not zero.
 are_units : (profile : Profile) (found : DateDurationRecord) → AreDateUnits found → Groups profile date (date_units_text found) (to_days found)
 unfolding date_units_text greatest_value
 are_units profile found h =

@@ -27,7 +27,7 @@ use Rattle.ixdtf_print.proofs.{parts.ParsedParts.HasParts, parts.PaddedDigits.{p
 
 -- ---- dates
 
--- A sign and six digits are a year.
+-- A sign and six digits are a year, except `-000000`.
 extended_year : (c n : ℕ) → IsTrue (sign c) → n ≤ 999999 → (IsTrue (hyphen c) → n ≢ 0) → Year (Plain c ∷ padded_digits 6 n) (year_of c n)
 extended_year c n signs small not_zero =
     let same : decimal (padded_digits 6 n) ≡ n = decimal-whole 6 n (omega arith) in
@@ -273,7 +273,7 @@ gives_calendar (Some value) = refl
 
 -- ---- cores
 
--- The text of the time, and of the offset if there is one, is read back.
+-- The text of an offset after a time, if there is an offset, is read back.
 pub timed : (time : TimeRecord) (offset : Option UtcOffsetRecordOrZ) → HasTime (Some time) offset → IsDayTime time × OptionalOffset (offset_text offset) offset
 timed time None h = (h, refl)
 timed time (Some offset) h = (h.0, is_offset offset h.1)
