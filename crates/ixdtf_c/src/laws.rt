@@ -14,7 +14,7 @@ use ixdtf::records::Annotation;
 /// A caller lists all annotations of a text, replies to them in order, and stops at the first reply that is refused.
 ///
 /// - `gives`, `wide_gives`: The text gives this outcome with the first of these annotations and the first of these replies.
-///   `GivesResult` is the definition of this relation. The library uses it for the readers with a handler.
+///   The definition of this relation is `GivesResult`. Its two cases are in the contracts of the readers with a handler.
 /// - `handling`, `wide_handling`: If the replies of a handler are the first of these replies, a reader of the same kind with
 ///   this handler has the same outcome. The handler is called for the first of these annotations.
 pub fn replying_is_handling<'a, T: EncodingType, F>()
