@@ -46,7 +46,8 @@ digits_of_both : (time : Option TimeRecord) (offset : Option UtcOffsetRecordOrZ)
     → IfSome time (λ it. HasDigits it.fraction) × IfSome offset (λ shift. HasDigits (shift_fraction shift))
 digits_of_both time offset has = (digits_of_time time (time_of_both time offset has), digits_of_offset offset (offset_of_both time offset has))
 
--- If the record of a struct has valid fractions, then the time and the offset of the struct have valid fractions.
+-- If a struct stands for a record with valid fractions, its time and its offset have valid fractions, and the form of its zone has a
+-- meaning.
 module _ (r : Contents) where
   counted_parts : (offset : Option (Option UtcOffsetRecordOrZ)) (zone : Option (Option ZoneNote)) → IsSomeAnd (parsed_by r offset zone) HaveDigits
       → IfSome (time_by r.time) (λ it. HasDigits it.fraction) × IsSomeAnd offset (λ it. IfSome it (λ shift. HasDigits (shift_fraction shift))) × (zone ≢ None)
@@ -64,12 +65,12 @@ module _ (r : Contents) where
   pub counted_zone : IsSomeAnd (record_by r) HaveDigits → zone_by r.zone ≢ None
   counted_zone is = (counted_parts (offset_by r.offset) (zone_by r.zone) is).2
 
--- If `P` gives `Q` for each value, `P` of an optional value gives `Q` of it.
+-- If `P` gives `Q` for each value, and a value with `P` is present, then a value with `Q` is present.
 pub on_some : {A : Type 0} {P Q : A → Type 0} (x : Option A) → ((a : A) → P a → Q a) → IsSomeAnd x P → IsSomeAnd x Q
 on_some None f is = absurd is
 on_some (Some a) f is = f a is
 
--- If `Q` is false for each value for which `P` is false, the same is true of an optional value.
+-- If `Q` is false for each value for which `P` is false, and no value with `P` is present, then no value with `Q` is present.
 pub not_some : {A : Type 0} {P Q : A → Type 0} (x : Option A) → ((a : A) → ¬ (P a) → ¬ (Q a)) → ¬ (IsSomeAnd x P) → ¬ (IsSomeAnd x Q)
 not_some None f none is = absurd is
 not_some (Some a) f none is = f a none is

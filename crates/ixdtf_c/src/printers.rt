@@ -1,6 +1,7 @@
 //! The functions for C that print durations, offsets, time zones, times, years with months, and months with days.
 //!
-//! The text that they print is the canonical text. `ixdtf_print` of `printing.rt` prints the records of `ixdtf_parse`.
+//! The text that they print is the canonical text. The function `ixdtf_print`, which prints the records of
+//! `ixdtf_parse`, is in the module `printing`.
 
 ghost use Rattle.std.specs.Prelude.{◌≡◌, ◌≤◌, length, IsSomeAnd};
 ghost use Rattle.ixdtf_c.specs.Lasting.{contents as duration_contents};

@@ -1,5 +1,5 @@
-//! The functions that print durations, offsets, time zones, times, years with months, and months with days. `printers.rt` has
-//! the functions for C that call them.
+//! The functions that print durations, offsets, time zones, times, years with months, and months with days. The functions of the
+//! module `printers` call them.
 
 ghost use Rattle.std.specs.Prelude.{◌≡◌, ◌≤◌, length, None, IfSome, OnOk, IsSomeAnd};
 ghost use Rattle.ixdtf.specs.language.Letters.{Text};
