@@ -38,7 +38,7 @@ pub struct Time {
     pub is_there: bool,
 }
 
-/// An offset from UTC, or `Z`. A reader writes 0 to each field that `form` does not name.
+/// An offset from UTC, or `Z`. A reader writes 0 or false to each field that does not belong to `form`.
 #[derive(Clone, Copy)]
 #[repr(C)]
 pub struct Offset {

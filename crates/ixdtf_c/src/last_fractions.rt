@@ -58,7 +58,7 @@ fn exact_nanoseconds(value: u64, digits: u8, seconds: u64) -> Option<u64>
     quotient(value, 10u64.pow(u32::from(digits - 9)), seconds)
 }
 
-/// Returns the nanoseconds of the fraction of a duration, or 0 if it has no fraction.
+/// Returns the nanoseconds of the fraction of a duration, or 0 if it has no fraction or no last duration unit.
 ///
 /// Returns `None` like [`exact_nanoseconds`].
 fn last_nanoseconds(given: &Duration<'_>) -> Option<u64>
@@ -73,7 +73,7 @@ fn last_nanoseconds(given: &Duration<'_>) -> Option<u64>
     exact_nanoseconds(given.fraction, given.fraction_digits, seconds)
 }
 
-/// Converts the fraction of a duration: for `PT1.5H`, writes 1800 seconds and 0 nanoseconds. Returns 0.
+/// Writes the fraction of a duration in seconds and nanoseconds, such as 1800 and 0 for `PT1.5H`, and returns 0.
 ///
 /// Returns 104, and writes nothing, if the fraction is not a whole number of nanoseconds, or if it has more than 18 digits,
 /// because only the first 18 are known. Also returns 104 if `fraction` has more digits than `fraction_digits` says.
@@ -83,7 +83,7 @@ pub extern "C" fn ixdtf_duration_fraction(
     seconds: &mut u32,
     nanoseconds: &mut u32,
 ) -> u32
-    // After 0, the seconds and the nanoseconds are exactly the fraction. After 104, no number of nanoseconds is.
+    // After 0, the seconds and the nanoseconds are exactly the fraction. After 104, no number of nanoseconds is exactly the fraction.
     ensures exact { result ≡ 0 → AreLastFraction (contents given.now) (seconds.new * 10 ^ 9 + nanoseconds.new) }
     ensures fits { result ≡ 0 → nanoseconds.new < 10 ^ 9 }
     ensures refused { result ≢ 0 → (n : ℕ) → ¬ (AreLastFraction (contents given.now) n) }

@@ -62,7 +62,7 @@ pub struct Annotation<'a> {
     pub key: Slice<'a, u8>,
     /// The code units of the value, such as `hebrew`.
     pub value: Slice<'a, u8>,
-    /// Whether the annotation is critical: its bracket begins with `[!`.
+    /// Whether the annotation is critical, as in `[!u-ca=hebrew]`.
     pub is_critical: bool,
 }
 

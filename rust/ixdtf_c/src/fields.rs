@@ -34,7 +34,7 @@ fn whole_seconds(offset: &Offset) -> u32 {
 
 /// Returns how many seconds local time is ahead of UTC, such as -18000 for `-05:00`.
 ///
-/// Drops a fraction of a second. Returns 0 if `form` is neither 2 nor 3: then there is no offset, or it is `Z`.
+/// Drops a fraction of a second. Returns 0 if `form` is neither 2 nor 3, for example for `Z`.
 #[unsafe(no_mangle)]
 pub extern "C" fn ixdtf_offset_seconds(offset: &Offset) -> i32 {
     let seconds = whole_seconds(offset) as i32;

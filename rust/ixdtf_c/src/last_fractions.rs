@@ -40,7 +40,7 @@ fn exact_nanoseconds(value: u64, digits: u8, seconds: u64) -> Option<u64> {
     quotient(value, 10u64.pow(u32::from(digits - 9)), seconds)
 }
 
-/// Returns the nanoseconds of the fraction of a duration, or 0 if it has no fraction.
+/// Returns the nanoseconds of the fraction of a duration, or 0 if it has no fraction or no last duration unit.
 ///
 /// Returns `None` like [`exact_nanoseconds`].
 fn last_nanoseconds(given: &Duration<'_>) -> Option<u64> {
@@ -51,7 +51,7 @@ fn last_nanoseconds(given: &Duration<'_>) -> Option<u64> {
     exact_nanoseconds(given.fraction, given.fraction_digits, seconds)
 }
 
-/// Converts the fraction of a duration: for `PT1.5H`, writes 1800 seconds and 0 nanoseconds. Returns 0.
+/// Writes the fraction of a duration in seconds and nanoseconds, such as 1800 and 0 for `PT1.5H`, and returns 0.
 ///
 /// Returns 104, and writes nothing, if the fraction is not a whole number of nanoseconds, or if it has more than 18 digits,
 /// because only the first 18 are known. Also returns 104 if `fraction` has more digits than `fraction_digits` says.
