@@ -107,7 +107,7 @@ module _ (profile : Profile) (kind : CoreKind) (text : Text) (pairs : List Pair)
 
 -- ---- A list of replies has one outcome.
 
--- One reply for each annotation. If there are fewer replies than annotations, the missing replies are `None`.
+-- One reply for each annotation. Missing replies are `None`, and further replies are left out.
 abbrev by_place : List Reply → List Pair → List Reply
 by_place all [] = []
 by_place [] (pair ∷ pairs) = None ∷ by_place [] pairs
@@ -137,7 +137,7 @@ module _ (kind : CoreKind) (text : Text) (all : List Reply) where
       → GivesResult (bracketed kind) text pairs given outcome → GivesChain (by_place all) (replying all) kind text (pairs, outcome)
   by_places pairs given outcome (more, is) same h = rw (is, by_place-front given more pairs same) h
 
-  -- If the text gives an outcome with two beginnings of this list of replies, both outcomes are equal.
+  -- If the text gives outcomes with two beginnings of this list of replies, both outcomes are equal, and so are the annotations.
   same_chain : (asked others : List Pair) (given replies : List Reply) (outcome result : Result Parsed Fault) → IsFront given all → IsFront replies all
       → length given ≡ length asked → length replies ≡ length others
       → GivesResult (bracketed kind) text asked given outcome → GivesResult (bracketed kind) text others replies result
