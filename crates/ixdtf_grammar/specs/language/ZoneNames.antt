@@ -1,5 +1,5 @@
 -- Zones: which texts are names of time zones (`time-zone-name` of RFC 9557 section 4.1), and which texts are zones.
-use Rattle.std.specs.Prelude.{◌≡◌, ◌≢◌, ℕ, ◌⊎◌, List, [], ◌∷◌, map, IsTrue, All}
+use Rattle.std.specs.{Prelude.{◌≡◌, ◌≢◌, ℕ, ◌⊎◌, Bool, true, false, List, [], ◌∷◌, map, nat_eq, ◌&&◌, IsTrue, All}, List.{list_any, slice_split}}
 use Rattle.ixdtf_grammar.specs.{declared.records.MinutePrecisionOffset.MinutePrecisionOffset, language.Letters.{Text, zone_lead, zone_char, slash}}
 use Rattle.ixdtf_grammar.specs.language.{Letters.Letter.Plain, Shapes.{Shape, one, ◌then◌, ◌either◌, many}, Offsets.IsMinuteOffset, DateTimes.IsNumOffset}
 
@@ -40,6 +40,17 @@ pub record IsNamePart (text : Text) : Type 0 where
 -- The text is `time-zone-name = time-zone-part *("/" time-zone-part)`.
 abbrev pub IsPartedName : Shape
 IsPartedName = IsNamePart then many (one slash then IsNamePart)
+
+-- This says whether the code units are `.` or `..`.
+abbrev pub is_dots : List ℕ → Bool
+is_dots [] = false
+is_dots (c ∷ []) = nat_eq c 46
+is_dots (c ∷ (d ∷ [])) = nat_eq c 46 && nat_eq d 46
+is_dots (c ∷ (d ∷ (e ∷ rest))) = false
+
+-- The slashes separate a name into parts. This says whether one of the parts is `.` or `..`.
+abbrev pub has_dots : List ℕ → Bool
+has_dots name = list_any is_dots (slice_split slash name)
 
 -- The text is `time-zone-name / time-numoffset`.
 abbrev pub IsExactZone : Text → Zone → Type 0

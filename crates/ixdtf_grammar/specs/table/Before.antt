@@ -16,7 +16,7 @@ use Rattle.ixdtf_grammar.specs.table.LineNames.{CoreLine.{dates, year_months, mo
 use Rattle.ixdtf_grammar.specs.table.LineNames.ClockLine.{minute_digits, minute_range, after_basic_minute, after_colon_minute, second_digits, second_range}
 use Rattle.ixdtf_grammar.specs.table.LineNames.{ClockLine.{after_second, fraction_start, after_fraction}, OffsetLine.{offset_start, after_zulu}}
 use Rattle.ixdtf_grammar.specs.table.LineNames.ZoneLine.{identifier_start, zone_name_start, in_zone_name, after_zone_slash}
-use Rattle.ixdtf_grammar.specs.table.LineNames.BracketLine.{first_bracket_start, first_critical_start, first_bracket_scan, first_name_form, first_offset_form, after_bracket}
+use Rattle.ixdtf_grammar.specs.table.LineNames.BracketLine.{first_bracket_start, first_critical_start, first_bracket_scan, first_dots_form, first_name_form, first_offset_form, after_bracket}
 use Rattle.ixdtf_grammar.specs.table.LineNames.PairLine.{key_start, critical_key_start, in_key, value_start, in_value, after_value_hyphen}
 use Rattle.ixdtf_grammar.specs.table.LineNames.LineName.{of_core, of_clock, of_offset, of_date_time, of_zone, of_bracket, of_pair, of_duration}
 
@@ -186,6 +186,7 @@ BeforeBracketed kind (of_zone after_zone_slash) pairs before rest = (Opened kind
 BeforeBracketed kind (of_bracket first_bracket_start) pairs before rest = some (IsCore kind) before × (pairs ≡ [])
 BeforeBracketed kind (of_bracket first_critical_start) pairs before rest = some (IsCore kind) before × (pairs ≡ [])
 BeforeBracketed kind (of_bracket first_bracket_scan) pairs before rest = Opened kind before × (pairs ≡ [])
+BeforeBracketed kind (of_bracket first_dots_form) pairs before rest = (some (IsCore kind) before × IsTrue (has_exact_zones kind)) × (pairs ≡ [])
 BeforeBracketed kind (of_bracket first_name_form) pairs before rest = (some (IsCore kind) before × IsTrue (has_exact_zones kind)) × (pairs ≡ [])
 BeforeBracketed kind (of_bracket first_offset_form) pairs before rest = (some (IsCore kind) before × IsTrue (has_exact_zones kind)) × (pairs ≡ [])
 BeforeBracketed kind (of_bracket after_bracket) pairs before rest = Bracketed kind pairs before

@@ -50,10 +50,10 @@ pub data DateTimeLine : Type 0 where
 pub data ZoneLine : Type 0 where
   identifier_start zone_name_start in_zone_name after_zone_slash : ZoneLine
 
--- These are the lines of brackets. Two of them are about a zone that has to be exact.
+-- These are the lines of brackets. Three of them are about a zone that has to be exact.
 pub data BracketLine : Type 0 where
   first_bracket_start first_critical_start first_bracket_scan : BracketLine
-  first_name_form first_offset_form after_bracket : BracketLine
+  first_dots_form first_name_form first_offset_form after_bracket : BracketLine
 
 -- These are the lines of annotations.
 pub data PairLine : Type 0 where

@@ -1,5 +1,5 @@
 -- The fault table, line by line. The comment on a line says what the prefix of the line is.
-use Rattle.std.specs.Prelude.{◌≡◌, ◌⊎◌, IsTrue, ℕ, ◌<◌, ◌&&◌, ◌||◌, Bool, List, codes, if◌then◌else◌}
+use Rattle.std.specs.Prelude.{◌≡◌, ◌⊎◌, IsTrue, IsFalse, ℕ, ◌<◌, ◌&&◌, ◌||◌, Bool, List, codes, if◌then◌else◌}
 use Rattle.ixdtf_grammar.specs.{declared.{profile.Profile.Profile, records.{DateRecord.DateRecord, MinutePrecisionOffset.MinutePrecisionOffset}}, language.Letters.{Text, Class, ◌or◌, none, digit, sign}}
 use Rattle.ixdtf_grammar.specs.language.Letters.{hyphen, colon, decimal_mark, date_time_separator, zulu, opening, closing, time_letter, exclamation, equals}
 use Rattle.ixdtf_grammar.specs.language.Letters.{slash, zone_lead, zone_char, key_lead, key_char, value_char, duration_designator}
@@ -8,7 +8,7 @@ use Rattle.ixdtf_grammar.specs.language.{Dates.{Year, Month, DateText, IsDayOfMo
 use Rattle.ixdtf_grammar.specs.language.Months.{Marks, OptionalHyphen, IsYearMonth, MonthDayText, IsDayOfSomeYear, IsMonthDay}
 use Rattle.ixdtf_grammar.specs.language.Times.{Clock, ClockOf, BasicMinuteText, ColonMinuteText, greatest_second, has_seconds}
 use Rattle.ixdtf_grammar.specs.language.Times.{Clock.{Time, Offset, MinuteOffset}, TimeShape.{hours, basic_minutes, colon_minutes, seconds, fractions}}
-use Rattle.ixdtf_grammar.specs.language.{ZoneNames.{ZoneName, Zone, Zone.{Name, Offset}}, Brackets.{skipped, Key, Value, ZoneNote, IsZoneBracket, IsExactBracket}, Readers.{Reader, has_brackets}, Fractions.SomeDigits}
+use Rattle.ixdtf_grammar.specs.language.{ZoneNames.{ZoneName, Zone, Zone.{Name, Offset}, has_dots}, Brackets.{skipped, Key, Value, ZoneNote, IsZoneBracket, IsExactBracket}, Readers.{Reader, has_brackets}, Fractions.SomeDigits}
 use Rattle.ixdtf_grammar.specs.{language.Durations.{Half, Number, SignedDesignator, designator, Half as halves}, table.Faults.{Fault, Fault.AbruptEnd}}
 use Rattle.ixdtf_grammar.specs.table.Faults.Fault.{InvalidEnd, InvalidMonthRange, InvalidDayRange, DateYear, DateExtendedYear, DateMonth, DateDay}
 use Rattle.ixdtf_grammar.specs.table.Faults.Fault.{DateSeparator, TimeHour, TimeMinuteSecond, TimeSecond, TimeSeparator, FractionPart, UtcTimeSeparator}
@@ -36,7 +36,7 @@ use Rattle.ixdtf_grammar.specs.table.LineNames.{CoreLine.{dates, year_months, mo
 use Rattle.ixdtf_grammar.specs.table.LineNames.ClockLine.{minute_digits, minute_range, after_basic_minute, after_colon_minute, second_digits, second_range}
 use Rattle.ixdtf_grammar.specs.table.LineNames.{ClockLine.{after_second, fraction_start, after_fraction}, OffsetLine.{offset_start, after_zulu}}
 use Rattle.ixdtf_grammar.specs.table.LineNames.ZoneLine.{identifier_start, zone_name_start, in_zone_name, after_zone_slash}
-use Rattle.ixdtf_grammar.specs.table.LineNames.BracketLine.{first_bracket_start, first_critical_start, first_bracket_scan, first_name_form, first_offset_form, after_bracket}
+use Rattle.ixdtf_grammar.specs.table.LineNames.BracketLine.{first_bracket_start, first_critical_start, first_bracket_scan, first_dots_form, first_name_form, first_offset_form, after_bracket}
 use Rattle.ixdtf_grammar.specs.table.LineNames.PairLine.{key_start, critical_key_start, in_key, value_start, in_value, after_value_hyphen}
 use Rattle.ixdtf_grammar.specs.table.LineNames.DurationLine.{duration_start, after_duration_sign, after_duration_designator, after_date_groups}
 use Rattle.ixdtf_grammar.specs.table.LineNames.DurationLine.{after_time_designator, group_digits, group_value_range, unit_order, date_unit_range}
@@ -402,8 +402,13 @@ bracket_line first_bracket_start = line (one opening) (zone_lead or sign or excl
 bracket_line first_critical_start = line (one opening then one exclamation) (zone_lead or sign) (error abrupt_bracket) (always TzLeadingChar)
 -- The prefix is a code unit with which a key can begin, and any number of code units that are neither `=` nor `]`.
 bracket_line first_bracket_scan = scanned LetterOfKey abrupt_bracket
--- The prefix is a bracket with a zone name that RFC 9557 does not allow.
-bracket_line first_name_form = whole (λ text. (critical : Bool) × (name : List ℕ) × Inexact critical (Name name) text) IanaChar
+-- The prefix is a bracket with a zone name that RFC 9557 does not allow, and a part of the name is `.` or `..`.
+bracket_line first_dots_form =
+    whole (λ text. (critical : Bool) × (name : List ℕ) × Inexact critical (Name name) text × IsTrue (has_dots name)) IanaChar
+-- The prefix is a bracket with a zone name that RFC 9557 does not allow, and no part of the name is `.` or `..`: a part begins with a
+-- code unit that must not begin a part.
+bracket_line first_name_form =
+    whole (λ text. (critical : Bool) × (name : List ℕ) × Inexact critical (Name name) text × IsFalse (has_dots name)) IanaChar
 -- The prefix is a bracket with an offset that does not have the form of RFC 9557.
 bracket_line first_offset_form =
     whole (λ text. (critical : Bool) × (offset : MinutePrecisionOffset) × Inexact critical (Offset offset) text) InvalidMinutePrecisionOffset
