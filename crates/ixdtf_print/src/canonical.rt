@@ -1,8 +1,10 @@
 //! Date-times printed as their canonical texts.
 ghost use Rattle.std.specs.Prelude.{◌≡◌, ◌↔◌, ◌<◌, ◌≤◌, ◌^◌, length, map, take, drop, IfOk, IfSome, OnErr, OnOk, OnSome, Err, None};
+ghost use Rattle.ixdtf.specs.Widths.{wide_text};
 ghost use Rattle.ixdtf.specs.language.Letters.{byte_letter};
 ghost use Rattle.ixdtf_print.specs.Canonical.{canonical_text};
 ghost use Rattle.ixdtf_print.specs.Printable.{IsPrintable, IsReadBack, record_of};
+ghost use Rattle.ixdtf_print.specs.Printing.{PrintsOrRefuses};
 ghost use Rattle.ixdtf_print.specs.Shown.{shown_text};
 
 use crate::check::is_spelled;
@@ -10,7 +12,8 @@ use crate::error::PrintError;
 use crate::fields::put_core;
 use crate::length::{core_length, has_plenty};
 use crate::text::{self, CanonicalText, Tail, length_of_parts};
-use ixdtf::encoding::Utf8;
+use crate::wide_names::{print_bracketed, without_names};
+use ixdtf::encoding::{Utf8, Utf16};
 use ixdtf::records::IxdtfParseRecord;
 use std::fmt;
 
@@ -74,6 +77,45 @@ pub fn print(parsed: &IxdtfParseRecord<'_, Utf8>, out: &mut [u8]) -> Result<usiz
     ensures unchanged { OnErr result (out.new ≡ out.old) }
 {
     text::print(Canonical { parsed }, out)
+}
+
+/// Writes the canonical text of the record as 16-bit code units, like [`print`](crate::print).
+///
+/// The record is one that [`IxdtfParser::parse`](ixdtf::parsers::IxdtfParser::parse) returns for 16-bit
+/// text. Each code unit is the number of an ASCII character, so `from_utf16` makes a parser that reads the text. The number of
+/// code units is the number of bytes that `print` writes for the same fields.
+///
+/// # Examples
+///
+/// ```rust
+/// use ixdtf::parsers::IxdtfParser;
+/// use ixdtf_print::{PrintError, print_utf16};
+///
+/// let text: Vec<u16> = "20240302 084800z[!Europe/Paris][!u-ca=hebrew][a=b]".encode_utf16().collect();
+/// let record = IxdtfParser::from_utf16(&text).parse().unwrap();
+/// let mut out = [0; 64];
+/// let count = print_utf16(&record, &mut out).unwrap();
+/// assert_eq!(String::from_utf16(&out[..count]).unwrap(), "2024-03-02T08:48:00Z[!Europe/Paris][u-ca=hebrew]");
+/// assert_eq!(print_utf16(&record, &mut [0; 8]), Err(PrintError::TooShort));
+/// ```
+///
+/// # Errors
+///
+/// After an error, the slice is unchanged.
+///
+/// - [`PrintError::NotPrintable`]: the record has no canonical text. It has no date, or an offset without a time, or a field
+///   whose value no text has, such as a name with a code unit that is not ASCII.
+/// - [`PrintError::TooShort`]: the slice is shorter than the canonical text.
+pub fn print_utf16(
+    parsed: &IxdtfParseRecord<'_, Utf16>,
+    out: &mut [u16],
+) -> Result<usize, PrintError>
+    ensures prints { PrintsOrRefuses (IsPrintable (record_of parsed.now)) (canonical_text (record_of parsed.now)) out.old out.new result }
+    ensures wide { IfOk result (λ n. wide_text (take n out.new) ≡ canonical_text (record_of parsed.now)) }
+    ensures read_back { OnOk result (IsReadBack (record_of parsed.now)) }
+{
+    let core = without_names(parsed);
+    print_bracketed(Canonical { parsed: &core }, parsed, out)
 }
 
 /// Writes the canonical text of the record to the beginning of a slice that is long enough, like [`print`]. Returns the
