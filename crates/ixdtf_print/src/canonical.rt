@@ -12,7 +12,7 @@ use crate::error::PrintError;
 use crate::fields::put_core;
 use crate::length::{core_length, has_plenty};
 use crate::text::{self, CanonicalText, Tail, length_of_parts};
-use crate::wide_names::{print_bracketed, without_names};
+use crate::wide_names::{self, print_bracketed, without_names};
 use ixdtf::encoding::{Utf8, Utf16};
 use ixdtf::records::IxdtfParseRecord;
 use std::fmt;
@@ -158,6 +158,31 @@ pub fn printed_length(parsed: &IxdtfParseRecord<'_, Utf8>) -> Option<usize>
         (length (canonical_text (record_of parsed.now)) < 2 ^ 64)) }
 {
     text::printed_length(Canonical { parsed })
+}
+
+/// Returns the number of code units of the canonical text of a record that was read from 16-bit text.
+///
+/// A slice of this length is long enough for [`print_utf16`](crate::print_utf16). Returns `None` if the record has no
+/// canonical text, or if its text is longer than any slice.
+///
+/// # Examples
+///
+/// ```rust
+/// use ixdtf::parsers::IxdtfParser;
+/// use ixdtf_print::printed_length_utf16;
+///
+/// let text: Vec<u16> = "20240302 084800z[u-ca=hebrew]".encode_utf16().collect();
+/// let record = IxdtfParser::from_utf16(&text).parse().unwrap();
+/// assert_eq!(printed_length_utf16(&record), Some("2024-03-02T08:48:00Z[u-ca=hebrew]".len()));
+/// ```
+pub fn printed_length_utf16(parsed: &IxdtfParseRecord<'_, Utf16>) -> Option<usize>
+    ensures length { IfSome result (λ n. n ≡ length (canonical_text (record_of parsed.now))) }
+    ensures printable { OnSome result (IsPrintable (record_of parsed.now)) }
+    ensures none { (result ≡ None) ↔ ¬ (IsPrintable (record_of parsed.now) ×
+        (length (canonical_text (record_of parsed.now)) < 2 ^ 64)) }
+{
+    let core = without_names(parsed);
+    wide_names::printed_length(Canonical { parsed: &core }, parsed)
 }
 
 /// Returns the number of bytes of the canonical text of the record.

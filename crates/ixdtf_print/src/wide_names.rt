@@ -3,7 +3,7 @@
 //! The date, the time and the offset of a record are the same in both widths, so the functions for 8-bit text write them.
 #![tactic(auto, using(crate::proofs::code::CanonicalLengths::lengths, crate::proofs::code::PutBytes::putting))]
 
-ghost use Rattle.std.specs.Prelude.{◌≡◌, ◌↔◌, ◌<◌, ◌^◌, ◌++◌, IsTrue, length, map, None, OnOk, option_map};
+ghost use Rattle.std.specs.Prelude.{◌≡◌, ◌↔◌, ◌<◌, ◌^◌, ◌++◌, IsTrue, length, map, None, IfSome, OnSome, OnOk, option_map};
 ghost use Rattle.ixdtf.specs.Views.{note_of, zone_of};
 ghost use Rattle.ixdtf.specs.language.Brackets.{Value};
 ghost use Rattle.ixdtf.specs.language.Letters.{Plain, value_char};
@@ -69,6 +69,26 @@ fn put_bracketed<T: CanonicalText>(
     put_brackets(out, after_core, parsed)
 }
 
+/// Returns the number of code units of the core and the brackets, if they have texts and a `usize` can hold the number.
+pub fn printed_length<T: CanonicalText>(
+    core: T,
+    parsed: &IxdtfParseRecord<'_, Utf16>,
+) -> Option<usize>
+    ensures length { IfSome result
+        (λ n. n ≡ length (T.core core ++ brackets_text (record_of parsed.now))) }
+    ensures printable { OnSome result (T.IsPrintable core × HasBrackets (record_of parsed.now)) }
+    ensures none { (result ≡ None) ↔ ¬ ((T.IsPrintable core × HasBrackets (record_of parsed.now)) ×
+        (length (T.core core ++ brackets_text (record_of parsed.now)) < 2 ^ 64)) }
+{
+    if !core.is_printable() {
+        return None;
+    }
+    if !has_brackets(parsed) {
+        return None;
+    }
+    usize::try_from(bracketed_length(core, parsed)).ok()
+}
+
 /// Writes the zone, without brackets. Returns the number of code units.
 pub fn print_zone(zone: &TimeZoneRecord<'_, Utf16>, out: &mut [u16]) -> Result<usize, PrintError>
     ensures prints { PrintsOrRefuses (IsZoneText (zone_in zone.now)) (zone_text (zone_in zone.now)) out.old out.new result }
@@ -81,6 +101,18 @@ pub fn print_zone(zone: &TimeZoneRecord<'_, Utf16>, out: &mut [u16]) -> Result<u
         return Err(PrintError::TooShort);
     }
     Ok(put_zone(out, 0, zone))
+}
+
+/// Returns the number of code units of the zone, if it has a text.
+pub fn zone_length(zone: &TimeZoneRecord<'_, Utf16>) -> Option<usize>
+    ensures length { IfSome result (λ n. n ≡ length (zone_text (zone_in zone.now))) }
+    ensures none { (result ≡ None) ↔ ¬ (IsZoneText (zone_in zone.now)) }
+{
+    if is_zone(zone) {
+        Some(length_of_zone(zone) as usize)
+    } else {
+        None
+    }
 }
 
 /// Returns a record with the date, the time and the offset of the record, and without names.

@@ -7,7 +7,8 @@ use crate::error::PrintError;
 use crate::fields::put_core;
 use crate::length::{core_length, has_plenty};
 use crate::text::{self, CanonicalText, Tail, length_of_parts};
-use ixdtf::encoding::Utf8;
+use crate::wide_names::{print_bracketed, without_names};
+use ixdtf::encoding::{Utf8, Utf16};
 use ixdtf::records::IxdtfParseRecord;
 use core::fmt;
 
@@ -57,6 +58,41 @@ use core::fmt;
 /// - [`PrintError::TooShort`]: the slice is shorter than the canonical text.
 pub fn print(parsed: &IxdtfParseRecord<'_, Utf8>, out: &mut [u8]) -> Result<usize, PrintError> {
     text::print(Canonical { parsed }, out)
+}
+
+/// Writes the canonical text of the record as 16-bit code units, like [`print`](crate::print).
+///
+/// The record is one that [`IxdtfParser::parse`](ixdtf::parsers::IxdtfParser::parse) returns for 16-bit
+/// text. Each code unit is the number of an ASCII character, so `from_utf16` makes a parser that reads the text. The number of
+/// code units is the number of bytes that `print` writes for the same fields.
+///
+/// # Examples
+///
+/// ```rust
+/// use ixdtf::parsers::IxdtfParser;
+/// use ixdtf_print::{PrintError, print_utf16};
+///
+/// let text: Vec<u16> = "20240302 084800z[!Europe/Paris][!u-ca=hebrew][a=b]".encode_utf16().collect();
+/// let record = IxdtfParser::from_utf16(&text).parse().unwrap();
+/// let mut out = [0; 64];
+/// let count = print_utf16(&record, &mut out).unwrap();
+/// assert_eq!(String::from_utf16(&out[..count]).unwrap(), "2024-03-02T08:48:00Z[!Europe/Paris][u-ca=hebrew]");
+/// assert_eq!(print_utf16(&record, &mut [0; 8]), Err(PrintError::TooShort));
+/// ```
+///
+/// # Errors
+///
+/// After an error, the slice is unchanged.
+///
+/// - [`PrintError::NotPrintable`]: the record has no canonical text. It has no date, or an offset without a time, or a field
+///   whose value no text has, such as a name with a code unit that is not ASCII.
+/// - [`PrintError::TooShort`]: the slice is shorter than the canonical text.
+pub fn print_utf16(
+    parsed: &IxdtfParseRecord<'_, Utf16>,
+    out: &mut [u16],
+) -> Result<usize, PrintError> {
+    let core = without_names(parsed);
+    print_bracketed(Canonical { parsed: &core }, parsed, out)
 }
 
 /// Writes the canonical text of the record to the beginning of a slice that is long enough, like [`print`]. Returns the

@@ -103,11 +103,11 @@ pub fn print_utf16<T: CanonicalText>(text: T, out: &mut [u16]) -> Result<usize, 
 }
 
 /// Writes the core as 16-bit code units at the beginning of the slice. Returns the index after it.
-fn put_core_utf16<T: CanonicalText>(text: T, out: &mut [u16]) -> usize {
+pub fn put_core_utf16<T: CanonicalText>(text: T, out: &mut [u16]) -> usize {
     let count = usize::from(text.core_length());
     let mut bytes = [0; MOST_OF_CORE];
     text.put_core(&mut bytes);
-    put_wide(out, front_of(&bytes, count))
+    put_wide(out, 0, front_of(&bytes, count))
 }
 
 /// Returns the length of the canonical text, if there is one and a `usize` can hold its length.

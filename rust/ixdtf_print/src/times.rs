@@ -8,7 +8,8 @@ use crate::error::PrintError;
 use crate::fields::{put_minutes, put_offset};
 use crate::length::{fraction_length, shift_length};
 use crate::text::{self, CanonicalText, Tail};
-use ixdtf::encoding::Utf8;
+use crate::wide_names::{print_bracketed, without_names};
+use ixdtf::encoding::{Utf8, Utf16};
 use ixdtf::records::{DateRecord, IxdtfParseRecord, TimeRecord, UtcOffsetRecordOrZ};
 use core::fmt;
 
@@ -52,6 +53,41 @@ use core::fmt;
 /// - [`PrintError::TooShort`]: the slice is shorter than the canonical text.
 pub fn print_time(parsed: &IxdtfParseRecord<'_, Utf8>, out: &mut [u8]) -> Result<usize, PrintError> {
     text::print(CanonicalTime { parsed }, out)
+}
+
+/// Writes the canonical text of a time as 16-bit code units, like [`print_time`](crate::print_time).
+///
+/// The record is one that [`IxdtfParser::parse_time`](ixdtf::parsers::IxdtfParser::parse_time) returns for 16-bit
+/// text. Each code unit is the number of an ASCII character, so `from_utf16` makes a parser that reads the text. The number of
+/// code units is the number of bytes that `print_time` writes for the same fields.
+///
+/// # Examples
+///
+/// ```rust
+/// use ixdtf::parsers::IxdtfParser;
+/// use ixdtf_print::{PrintError, print_time_utf16};
+///
+/// let text: Vec<u16> = "12+01[!+01][u-ca=hebrew]".encode_utf16().collect();
+/// let record = IxdtfParser::from_utf16(&text).parse_time().unwrap();
+/// let mut out = [0; 64];
+/// let count = print_time_utf16(&record, &mut out).unwrap();
+/// assert_eq!(String::from_utf16(&out[..count]).unwrap(), "12:00:00+01:00[!+01:00][u-ca=hebrew]");
+/// assert_eq!(print_time_utf16(&record, &mut [0; 7]), Err(PrintError::TooShort));
+/// ```
+///
+/// # Errors
+///
+/// After an error, the slice is unchanged.
+///
+/// - [`PrintError::NotPrintable`]: the record has no canonical text. It has a date, or no time, or a field whose value no
+///   text has.
+/// - [`PrintError::TooShort`]: the slice is shorter than the canonical text.
+pub fn print_time_utf16(
+    parsed: &IxdtfParseRecord<'_, Utf16>,
+    out: &mut [u16],
+) -> Result<usize, PrintError> {
+    let core = without_names(parsed);
+    print_bracketed(CanonicalTime { parsed: &core }, parsed, out)
 }
 
 /// Returns the number of bytes of the canonical text of a time.

@@ -8,7 +8,8 @@ use crate::error::PrintError;
 use crate::fields::put_year;
 use crate::put::put_byte;
 use crate::text::{self, CanonicalText, Tail};
-use ixdtf::encoding::Utf8;
+use crate::wide_names::{print_bracketed, without_names};
+use ixdtf::encoding::{Utf8, Utf16};
 use ixdtf::records::{DateRecord, IxdtfParseRecord, TimeRecord, UtcOffsetRecordOrZ};
 use core::fmt;
 
@@ -57,6 +58,41 @@ pub fn print_year_month(
     out: &mut [u8],
 ) -> Result<usize, PrintError> {
     text::print(CanonicalYearMonth { parsed }, out)
+}
+
+/// Writes the canonical text of a year and a month as 16-bit code units, like [`print_year_month`](crate::print_year_month).
+///
+/// The record is one that [`IxdtfParser::parse_year_month`](ixdtf::parsers::IxdtfParser::parse_year_month) returns for 16-bit
+/// text. Each code unit is the number of an ASCII character, so `from_utf16` makes a parser that reads the text. The number of
+/// code units is the number of bytes that `print_year_month` writes for the same fields.
+///
+/// # Examples
+///
+/// ```rust
+/// use ixdtf::parsers::IxdtfParser;
+/// use ixdtf_print::{PrintError, print_year_month_utf16};
+///
+/// let text: Vec<u16> = "-00000112[+01]".encode_utf16().collect();
+/// let record = IxdtfParser::from_utf16(&text).parse_year_month().unwrap();
+/// let mut out = [0; 64];
+/// let count = print_year_month_utf16(&record, &mut out).unwrap();
+/// assert_eq!(String::from_utf16(&out[..count]).unwrap(), "-000001-12[+01:00]");
+/// assert_eq!(print_year_month_utf16(&record, &mut [0; 6]), Err(PrintError::TooShort));
+/// ```
+///
+/// # Errors
+///
+/// After an error, the slice is unchanged.
+///
+/// - [`PrintError::NotPrintable`]: the record has no canonical text. It has no date, or another day than 1, or a time, or an
+///   offset, or a field whose value no text has.
+/// - [`PrintError::TooShort`]: the slice is shorter than the canonical text.
+pub fn print_year_month_utf16(
+    parsed: &IxdtfParseRecord<'_, Utf16>,
+    out: &mut [u16],
+) -> Result<usize, PrintError> {
+    let core = without_names(parsed);
+    print_bracketed(CanonicalYearMonth { parsed: &core }, parsed, out)
 }
 
 /// Returns the number of bytes of the canonical text of a year and a month.

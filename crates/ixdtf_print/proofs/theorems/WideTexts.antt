@@ -2,8 +2,8 @@
 -- if its core and its brackets are printed.
 use Rattle.ixdtf_grammar.specs.declared.records.UtcOffsetRecord.TheVariants as offsets
 use Rattle.ixdtf_grammar.specs.declared.records.UtcOffsetRecordOrZ.TheVariants as stands
-use Rattle.std.proofs.Common.{ℕ, suc, ◌≡◌, ◌↔◌, Bool, true, false, cond, nat_le, ℤ, pos, negsuc, List, [], ◌∷◌, ◌++◌, map, take, codes, refl, subst}
-use Rattle.std.proofs.Common.{Option, Some, None, Result, Ok, Err, IfOk, OnOk, ◌∙◌, ap, sym, arith}
+use Rattle.std.proofs.Common.{ℕ, suc, ◌<◌, ◌^◌, ◌≡◌, ◌↔◌, Bool, true, false, cond, nat_le, ℤ, pos, negsuc, List, [], ◌∷◌, ◌++◌, map, length, take, codes, refl, subst}
+use Rattle.std.proofs.Common.{Option, Some, None, Result, Ok, Err, IfOk, OnOk, IfSome, OnSome, ◌∙◌, ap, sym, arith}
 use Rattle.std.proofs.lemmas.Bool.Decides.{nat_tests}
 use Rattle.ixdtf_grammar.specs.declared.profile.Profile.TheVariants.{Crate}
 use Rattle.ixdtf_grammar.specs.declared.records.{DateRecord.DateRecord, TimeRecord.TimeRecord, UtcOffsetRecordOrZ.UtcOffsetRecordOrZ}
@@ -14,18 +14,18 @@ use Rattle.ixdtf_grammar.proofs.parts.Classes.{AllOf, IsOf, PlainOf, one_of, pla
 use Rattle.ixdtf_grammar.proofs.widths.PlainTexts.{IsPlain, plain_name}
 use Rattle.ixdtf_print.specs.Canonical.{two_digits, year_text, date_text, seconds_text, fraction_text, clock_text, time_text, offset_text, zone_text}
 use Rattle.ixdtf_print.specs.Canonical.{opening_text, bracket_text, calendar_text, brackets_text, optional_date_text, core_text, canonical_text}
-use Rattle.ixdtf_print.specs.{Printable.{IsPrintable, IsReadBack}, Printing.PrintsOrRefuses, declared.error.PrintError.PrintError}
+use Rattle.ixdtf_print.specs.{Printable.IsPrintable, Printing.PrintsOrRefuses, declared.error.PrintError.PrintError}
 use Rattle.ixdtf_print.specs.Spelled.{IsShift, HasDigits, HasTime, IsZoneText, HasZone, HasCalendar, HasBrackets, IsSpelled}
 use Rattle.ixdtf_print.proofs.{parts.PaddedDigits.padded_are, theorems.{DisplayedText.{same_letters, same_in_both}, DisplayedDurations.{shared_digit, shared_fraction}}}
 use Rattle.ixdtf_print.proofs.theorems.{SharedTexts.{shared_mark, shared_minutes, shared_offset, on_ok}, ReadBack.timed}
 use Rattle.ixdtf.specs.language.{Cores.Core}
-use Rattle.ixdtf_print.specs.{Printing.HasText, SpelledCores.HasLoneTime, Times.{unmarked_time_text, time_core_text, lone_time_text, IsPrintableTime, IsTimeReadBack}}
-use Rattle.ixdtf_print.specs.YearMonths.{month_text, optional_month_text, year_month_text, IsPrintableYearMonth, IsYearMonthReadBack}
-use Rattle.ixdtf_print.specs.MonthDays.{day_text, optional_day_text, month_day_text, IsPrintableMonthDay, IsMonthDayReadBack}
-use Rattle.ixdtf_print.specs.Zones.{IsPrintableZone, IsZoneReadBack}
-use Rattle.ixdtf_print.proofs.theorems.{PrintableRecords.{core_in, printable_iff, is_read_back}, BracketedRecords.{Written, Stands, printable}}
-use Rattle.ixdtf_print.proofs.theorems.{PrintableTimes.{lone_time, time_is_read_back}, PrintableYearMonths.{lone_month, year_month_is_read_back}}
-use Rattle.ixdtf_print.proofs.theorems.{PrintableMonthDays.{lone_day, month_day_reads_back}, PrintableZones.{printable_zone, zone_is_read_back}}
+use Rattle.ixdtf_print.specs.{Printing.HasText, SpelledCores.HasLoneTime, Times.{unmarked_time_text, time_core_text, lone_time_text, IsPrintableTime}}
+use Rattle.ixdtf_print.specs.YearMonths.{month_text, optional_month_text, year_month_text, IsPrintableYearMonth}
+use Rattle.ixdtf_print.specs.MonthDays.{day_text, optional_day_text, month_day_text, IsPrintableMonthDay}
+use Rattle.ixdtf_print.specs.Zones.{IsPrintableZone}
+use Rattle.ixdtf_print.proofs.theorems.{PrintableRecords.{core_in, printable_iff}, BracketedRecords.{Written, Stands, printable}}
+use Rattle.ixdtf_print.proofs.theorems.{PrintableTimes.{lone_time}, PrintableYearMonths.{lone_month}}
+use Rattle.ixdtf_print.proofs.theorems.{PrintableMonthDays.{lone_day}, PrintableZones.{printable_zone}}
 
 -- ---- zones and calendars
 
@@ -162,17 +162,45 @@ pub record IsPrinted (printable back : Type 0) (canonical : Text) (old new : Lis
   pub wide : IfOk result (λ n. wide_text (take n new) ≡ canonical)
   pub read_back : OnOk result back
 
-pub is_printed : {before after back : Type 0} {text canonical : Text} {old new : List ℕ} {result : Result ℕ PrintError} → before ↔ after
-    → text ≡ canonical → (after → AllOf is_shared canonical) → (after → back) → PrintsOrRefuses before text old new result → OnOk result before
+-- If `before` holds, `after` holds with the same text, and the other way around. The text is the same in both widths.
+pub record AreSame (before after : Type 0) (text canonical : Text) : Type 0 where
+  pub both : before ↔ after
+  pub same : text ≡ canonical
+  pub shared : after → AllOf is_shared canonical
+
+pub is_printed : {before after back : Type 0} {text canonical : Text} {old new : List ℕ} {result : Result ℕ PrintError}
+    → AreSame before after text canonical → (after → back) → PrintsOrRefuses before text old new result → OnOk result before
     → IsPrinted after back canonical old new result
-is_printed {before} {after} {canonical = canonical} {old = old} {new = new} {result = result} both same shared reads p known =
-    let prints : PrintsOrRefuses after canonical old new result = prints_as both (subst (λ t. PrintsOrRefuses before t old new result) same p) in
-    let is = on_known result known both.0 in
+is_printed {before} {after} {canonical = canonical} {old = old} {new = new} {result = result} same reads p known =
+    let prints : PrintsOrRefuses after canonical old new result = prints_as same.both (subst (λ t. PrintsOrRefuses before t old new result) same.same p) in
+    let is = on_known result known same.both.0 in
     record {
       prints = prints;
-      wide = on_ok result (on_known result is shared) prints.text (λ all n e. same_in_both (take n new) canonical all e);
+      wide = on_ok result (on_known result is same.shared) prints.text (λ all n e. same_in_both (take n new) canonical all e);
       read_back = on_known result is reads;
     }
+
+-- The length of the text of a record, if there is a text that fits into a slice.
+pub record IsCounted (printable : Type 0) (canonical : Text) (result : Option ℕ) : Type 0 where
+  pub counted : IfSome result (λ n. n ≡ length canonical)
+  pub known : OnSome result printable
+  pub none : (result ≡ None) ↔ ¬ (printable × (length canonical < 2 ^ 64))
+
+on_some : {A : Type 0} {before after : Type 0} (result : Option A) → OnSome result before → (before → after) → OnSome result after
+on_some (Some a) k f = f k
+on_some None k f = tt
+
+pub is_counted : {before after : Type 0} {text canonical : Text} {result : Option ℕ} → AreSame before after text canonical
+    → IfSome result (λ n. n ≡ length text) → OnSome result before → (result ≡ None) ↔ ¬ (before × (length text < 2 ^ 64))
+    → IsCounted after canonical result
+is_counted {result = result} same counted known none = record {
+  counted = rw same.same at counted;
+  known = on_some result known same.both.0;
+  none = (
+    λ e a. none.0 e (same.both.1 a.0, rw same.same a.1),
+    λ h. none.1 (λ b. h (same.both.0 b.0, rw same.same at b.1)),
+  );
+}
 
 -- The record without its zone and its calendar.
 abbrev pub nameless : Parsed → Parsed
@@ -192,14 +220,15 @@ whole_text : (found : Parsed) → core_text (nameless found) ++ brackets_text fo
 unfolding canonical_text core_text
 whole_text found = refl
 
-pub record_is_printed : {old new : List ℕ} {result : Result ℕ PrintError} (found bare : Parsed) → bare ≡ nameless found
-    → PrintsOrRefuses (IsPrintable bare × HasBrackets found) (core_text bare ++ brackets_text found) old new result
-    → OnOk result (IsPrintable bare × HasBrackets found) → IsPrinted (IsPrintable found) (IsReadBack found) (canonical_text found) old new result
-record_is_printed found bare e p known =
-    is_printed (both_parts found) (whole_text found) (λ is. shared_canonical found ((printable_iff found).0 is)) (is_read_back found)
-    (rw e at p) (rw e at known)
+pub record_is_same : (found bare : Parsed) → bare ≡ nameless found
+    → AreSame (IsPrintable bare × HasBrackets found) (IsPrintable found) (core_text bare ++ brackets_text found) (canonical_text found)
+record_is_same found bare e = rw e (record {
+  both = both_parts found;
+  same = whole_text found;
+  shared = λ is. shared_canonical found ((printable_iff found).0 is);
+})
 
--- ---- printed times, year-months and month-days
+-- ---- times, year-months and month-days
 
 both_parts_of : (w : Written) (found : Parsed) → (HasText (Stands w) (nameless found) × HasBrackets found) ↔ HasText (Stands w) found
 both_parts_of w found = (
@@ -213,12 +242,14 @@ shared_text w found shared p =
     let s = (printable w found).0 p in
     rw (w.whole found) (all_append is_shared (w.core_text (core_in found)) (brackets_text found) (shared (core_in found) s.0) (shared_brackets found s.1))
 
-kind_is_printed : (w : Written) {back : Type 0} {old new : List ℕ} {result : Result ℕ PrintError} (found bare : Parsed) → bare ≡ nameless found
-    → ((core : Core) → w.has_core core.date core.time core.offset → AllOf is_shared (w.core_text core)) → (HasText (Stands w) found → back)
-    → PrintsOrRefuses (HasText (Stands w) bare × HasBrackets found) (w.core_text (core_in bare) ++ brackets_text found) old new result
-    → OnOk result (HasText (Stands w) bare × HasBrackets found) → IsPrinted (HasText (Stands w) found) back (w.text_of found) old new result
-kind_is_printed w found bare e shared reads p known =
-    is_printed (both_parts_of w found) (sym (w.whole found)) (shared_text w found shared) reads (rw e at p) (rw e at known)
+kind_is_same : (w : Written) (found bare : Parsed) → bare ≡ nameless found
+    → ((core : Core) → w.has_core core.date core.time core.offset → AllOf is_shared (w.core_text core))
+    → AreSame (HasText (Stands w) bare × HasBrackets found) (HasText (Stands w) found) (w.core_text (core_in bare) ++ brackets_text found) (w.text_of found)
+kind_is_same w found bare e shared = rw e (record {
+  both = both_parts_of w found;
+  same = sym (w.whole found);
+  shared = shared_text w found shared;
+})
 
 time_core : (date : Option DateRecord) (time : Option TimeRecord) (offset : Option UtcOffsetRecordOrZ) → HasLoneTime date time offset
     → AllOf is_shared (unmarked_time_text time ++ offset_text offset)
@@ -228,41 +259,32 @@ time_core None (Some time) offset h =
     (shared_clock time.hour time.minute time.second time.fraction (timed time offset h).0.fraction) (shared_time (Some time) offset h).1
 time_core (Some date) time offset h = absurd h
 
-pub time_is_printed : {old new : List ℕ} {result : Result ℕ PrintError} (found bare : Parsed) → bare ≡ nameless found
-    → PrintsOrRefuses (IsPrintableTime bare × HasBrackets found) (time_core_text bare ++ brackets_text found) old new result
-    → OnOk result (IsPrintableTime bare × HasBrackets found) → IsPrinted (IsPrintableTime found) (IsTimeReadBack found) (lone_time_text found) old new result
+pub time_is_same : (found bare : Parsed) → bare ≡ nameless found
+    → AreSame (IsPrintableTime bare × HasBrackets found) (IsPrintableTime found) (time_core_text bare ++ brackets_text found) (lone_time_text found)
 unfolding time_core_text
-time_is_printed found bare e p known =
-    kind_is_printed (lone_time Crate) found bare e (λ core h. time_core core.date core.time core.offset h) (time_is_read_back Crate found) p known
+time_is_same found bare e = kind_is_same (lone_time Crate) found bare e (λ core h. time_core core.date core.time core.offset h)
 
 month_core : (date : Option DateRecord) → AllOf is_shared (optional_month_text date)
 unfolding month_text
 month_core None = tt
 month_core (Some date) = all_append is_shared (year_text date.year) _ (shared_year date.year) (refl, shared_two date.month)
 
-pub year_month_is_printed : {old new : List ℕ} {result : Result ℕ PrintError} (found bare : Parsed) → bare ≡ nameless found
-    → PrintsOrRefuses (IsPrintableYearMonth bare × HasBrackets found) (optional_month_text bare.date ++ brackets_text found) old new result
-    → OnOk result (IsPrintableYearMonth bare × HasBrackets found)
-    → IsPrinted (IsPrintableYearMonth found) (IsYearMonthReadBack found) (year_month_text found) old new result
-year_month_is_printed found bare e p known =
-    kind_is_printed lone_month found bare e (λ core h. month_core core.date) (year_month_is_read_back found) p known
+pub year_month_is_same : (found bare : Parsed) → bare ≡ nameless found
+    → AreSame (IsPrintableYearMonth bare × HasBrackets found) (IsPrintableYearMonth found) (optional_month_text bare.date ++ brackets_text found) (year_month_text found)
+year_month_is_same found bare e = kind_is_same lone_month found bare e (λ core h. month_core core.date)
 
 day_core : (date : Option DateRecord) → AllOf is_shared (optional_day_text date)
 unfolding day_text
 day_core None = tt
 day_core (Some date) = all_append is_shared (two_digits date.month) _ (shared_two date.month) (refl, shared_two date.day)
 
-pub month_day_is_printed : {old new : List ℕ} {result : Result ℕ PrintError} (found bare : Parsed) → bare ≡ nameless found
-    → PrintsOrRefuses (IsPrintableMonthDay bare × HasBrackets found) (optional_day_text bare.date ++ brackets_text found) old new result
-    → OnOk result (IsPrintableMonthDay bare × HasBrackets found)
-    → IsPrinted (IsPrintableMonthDay found) (IsMonthDayReadBack found) (month_day_text found) old new result
-month_day_is_printed found bare e p known =
-    kind_is_printed (lone_day Crate) found bare e (λ core h. day_core core.date) (month_day_reads_back found) p known
+pub month_day_is_same : (found bare : Parsed) → bare ≡ nameless found
+    → AreSame (IsPrintableMonthDay bare × HasBrackets found) (IsPrintableMonthDay found) (optional_day_text bare.date ++ brackets_text found) (month_day_text found)
+month_day_is_same found bare e = kind_is_same (lone_day Crate) found bare e (λ core h. day_core core.date)
 
--- ---- printed zones
+-- ---- zones
 
-pub zone_is_printed : {old new : List ℕ} {result : Result ℕ PrintError} (zone : Zone) → PrintsOrRefuses (IsZoneText zone) (zone_text zone) old new result
-    → OnOk result (IsZoneText zone) → IsPrinted (IsPrintableZone zone) (IsZoneReadBack zone) (zone_text zone) old new result
-zone_is_printed zone p known =
+pub zone_is_same : (zone : Zone) → AreSame (IsZoneText zone) (IsPrintableZone zone) (zone_text zone) (zone_text zone)
+zone_is_same zone =
     let both = printable_zone zone in
-    is_printed (both.1, both.0) refl (λ is. shared_zone zone (both.0 is)) (zone_is_read_back zone) p known
+    record { both = (both.1, both.0); same = refl; shared = λ is. shared_zone zone (both.0 is) }
