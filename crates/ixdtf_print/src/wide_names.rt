@@ -27,6 +27,12 @@ use ixdtf::records::{
     IxdtfParseRecord, MinutePrecisionOffset, TimeZoneAnnotation, TimeZoneRecord,
 };
 
+/// The code unit `-`.
+const HYPHEN: u16 = 45;
+
+/// The code unit `]`.
+const CLOSING: u16 = 93;
+
 /// Writes the core, and then the brackets of the record. Returns the number of code units.
 pub fn print_bracketed<T: CanonicalText>(
     core: T,
@@ -37,16 +43,20 @@ pub fn print_bracketed<T: CanonicalText>(
         (T.core core ++ brackets_text (record_of parsed.now)) out.old out.new result }
     ensures printable { OnOk result (T.IsPrintable core × HasBrackets (record_of parsed.now)) }
 {
-    if !core.is_printable() {
-        return Err(PrintError::NotPrintable);
-    }
-    if !has_brackets(parsed) {
+    if !is_printable(core, parsed) {
         return Err(PrintError::NotPrintable);
     }
     if (out.len() as u128) < bracketed_length(core, parsed) {
         return Err(PrintError::TooShort);
     }
     Ok(put_bracketed(core, parsed, out))
+}
+
+/// Returns whether the core and the brackets have texts.
+fn is_printable<T: CanonicalText>(core: T, parsed: &IxdtfParseRecord<'_, Utf16>) -> bool
+    ensures { IsTrue result ↔ (T.IsPrintable core × HasBrackets (record_of parsed.now)) }
+{
+    core.is_printable() && has_brackets(parsed)
 }
 
 /// Returns the number of code units of the core and the brackets.
@@ -80,13 +90,11 @@ pub fn printed_length<T: CanonicalText>(
     ensures none { (result ≡ None) ↔ ¬ ((T.IsPrintable core × HasBrackets (record_of parsed.now)) ×
         (length (T.core core ++ brackets_text (record_of parsed.now)) < 2 ^ 64)) }
 {
-    if !core.is_printable() {
-        return None;
+    if is_printable(core, parsed) {
+        usize::try_from(bracketed_length(core, parsed)).ok()
+    } else {
+        None
     }
-    if !has_brackets(parsed) {
-        return None;
-    }
-    usize::try_from(bracketed_length(core, parsed)).ok()
 }
 
 /// Writes the zone, without brackets. Returns the number of code units.
@@ -174,7 +182,7 @@ fn is_value(units: &[u16]) -> bool
     for unit in units {
         if is_value_unit(*unit) {
             in_run = true;
-        } else if *unit == 45 && in_run {
+        } else if *unit == HYPHEN && in_run {
             in_run = false;
         } else {
             return false;
@@ -285,7 +293,7 @@ fn put_bracket(out: &mut [u16], at: usize, note: &Option<TimeZoneAnnotation<'_, 
         Some(note) => {
             let inside = put_wide(out, at, opening_of(note.critical));
             let end = put_zone(out, inside, &note.tz);
-            put_unit(out, end, 93)
+            put_unit(out, end, CLOSING)
         }
     }
 }
@@ -302,7 +310,7 @@ fn put_calendar(out: &mut [u16], at: usize, calendar: Option<&[u16]>) -> usize
         Some(value) => {
             let inside = put_wide(out, at, b"[u-ca=");
             let end = put_units(out, inside, value);
-            put_unit(out, end, 93)
+            put_unit(out, end, CLOSING)
         }
     }
 }

@@ -1,8 +1,8 @@
 use Rattle.ixdtf_print.proofs.wide_names.is_value.Goals as goal
 use Rattle.std.proofs.Common.{◌+◌, ◌∙◌, sym, ap, inl, inr}
 use Rattle.ixdtf_print.proofs.code.ValueLoop.{from_place, over_value_byte, over_mark, value_refused, value_ends}
-use Rattle.ixdtf_print.proofs.wide_names.is_value.Goals.{then-is_value_unit, else-is_value_unit+then-unit-eq45+then-in_run}
-use Rattle.ixdtf_print.proofs.wide_names.is_value.Goals.{else-unit-eq45-via-then-unit-eq45+else-in_run, else-unit-eq45-via-else-unit-eq45}
+use Rattle.ixdtf_print.proofs.wide_names.is_value.Goals.{then-is_value_unit, else-is_value_unit+then-unit-eq-HYPHEN+then-in_run}
+use Rattle.ixdtf_print.proofs.wide_names.is_value.Goals.{else-unit-eq-HYPHEN-via-then-unit-eq-HYPHEN+else-in_run, else-unit-eq-HYPHEN-via-else-unit-eq-HYPHEN}
 
 pub returns : goal.returns
 returns c = value_ends c.loop-unit.in_run c.args.units.now c.loop-unit.unit-index c.loop-unit.invariant c.loop-unit-test.false
@@ -16,17 +16,17 @@ loop-unit-preserved c =
       | then-is_value_unit w ↦
           l.invariant ∙ over_value_byte l.in_run units l.unit-index c.loop-unit-test.true (sym e ∙ w.if-is_value_unit.true)
           ∙ ap (λ b. from_place b units (l.unit-index + 1)) (sym w.in_run-is)
-      | else-is_value_unit+then-unit-eq45+then-in_run w ↦
+      | else-is_value_unit+then-unit-eq-HYPHEN+then-in_run w ↦
           l.invariant
-          ∙ over_mark l.in_run units l.unit-index c.loop-unit-test.true (sym e ∙ w.if-is_value_unit.false) w.if-unit-eq45.true w.if-in_run.true
+          ∙ over_mark l.in_run units l.unit-index c.loop-unit-test.true (sym e ∙ w.if-is_value_unit.false) w.if-unit-eq-HYPHEN.true w.if-in_run.true
           ∙ ap (λ b. from_place b units (l.unit-index + 1)) (sym w.in_run-is)
     ]
 
-pub returns-else-unit-eq45 : goal.returns-else-unit-eq45
-returns-else-unit-eq45 c =
+pub returns-else-unit-eq-HYPHEN : goal.returns-else-unit-eq-HYPHEN
+returns-else-unit-eq-HYPHEN c =
     value_refused c.loop-unit.in_run c.args.units.now c.loop-unit.unit-index c.loop-unit.invariant c.loop-unit-test.true
     (sym c.is_value_unit.ensures ∙ c.if-is_value_unit.false)
-    (elim c.else-unit-eq45.branch [
-      | else-unit-eq45-via-then-unit-eq45+else-in_run w ↦ inr w.if-in_run.false
-      | else-unit-eq45-via-else-unit-eq45 w ↦ inl w.if-unit-eq45.false
+    (elim c.else-unit-eq-HYPHEN.branch [
+      | else-unit-eq-HYPHEN-via-then-unit-eq-HYPHEN+else-in_run w ↦ inr w.if-in_run.false
+      | else-unit-eq-HYPHEN-via-else-unit-eq-HYPHEN w ↦ inl w.if-unit-eq-HYPHEN.false
     ])
