@@ -7,7 +7,7 @@ use crate::error::PrintError;
 use crate::fields::put_core;
 use crate::length::{core_length, has_plenty};
 use crate::text::{self, CanonicalText, Tail, length_of_parts};
-use crate::wide_names::{print_bracketed, without_names};
+use crate::wide_names::{self, print_bracketed, without_names};
 use ixdtf::encoding::{Utf8, Utf16};
 use ixdtf::records::IxdtfParseRecord;
 use core::fmt;
@@ -125,6 +125,27 @@ pub fn print_with_room(parsed: &IxdtfParseRecord<'_, Utf8>, room: &mut [u8]) -> 
 #[must_use]
 pub fn printed_length(parsed: &IxdtfParseRecord<'_, Utf8>) -> Option<usize> {
     text::printed_length(Canonical { parsed })
+}
+
+/// Returns the number of code units of the canonical text of a record that was read from 16-bit text.
+///
+/// A slice of this length is long enough for [`print_utf16`](crate::print_utf16). Returns `None` if the record has no
+/// canonical text, or if its text is longer than any slice.
+///
+/// # Examples
+///
+/// ```rust
+/// use ixdtf::parsers::IxdtfParser;
+/// use ixdtf_print::printed_length_utf16;
+///
+/// let text: Vec<u16> = "20240302 084800z[u-ca=hebrew]".encode_utf16().collect();
+/// let record = IxdtfParser::from_utf16(&text).parse().unwrap();
+/// assert_eq!(printed_length_utf16(&record), Some("2024-03-02T08:48:00Z[u-ca=hebrew]".len()));
+/// ```
+#[must_use]
+pub fn printed_length_utf16(parsed: &IxdtfParseRecord<'_, Utf16>) -> Option<usize> {
+    let core = without_names(parsed);
+    wide_names::printed_length(Canonical { parsed: &core }, parsed)
 }
 
 /// Returns the number of bytes of the canonical text of the record.

@@ -7,7 +7,7 @@ use crate::digits::put_two;
 use crate::error::PrintError;
 use crate::put::put_byte;
 use crate::text::{self, CanonicalText, Tail};
-use crate::wide_names::{print_bracketed, without_names};
+use crate::wide_names::{self, print_bracketed, without_names};
 use ixdtf::encoding::{Utf8, Utf16};
 use ixdtf::parsers::days_in_month;
 use ixdtf::records::{DateRecord, IxdtfParseRecord, TimeRecord, UtcOffsetRecordOrZ};
@@ -112,6 +112,26 @@ pub fn print_month_day_utf16(
 /// ```
 pub fn month_day_length(parsed: &IxdtfParseRecord<'_, Utf8>) -> Option<usize> {
     text::printed_length(CanonicalMonthDay { parsed })
+}
+
+/// Returns the number of code units of the canonical text of a month and a day that was read from 16-bit text.
+///
+/// A slice of this length is long enough for [`print_month_day_utf16`](crate::print_month_day_utf16). Returns `None` if the record has no
+/// canonical text, or if its text is longer than any slice.
+///
+/// # Examples
+///
+/// ```rust
+/// use ixdtf::parsers::IxdtfParser;
+/// use ixdtf_print::month_day_length_utf16;
+///
+/// let text: Vec<u16> = "--1107[u-ca=hebrew]".encode_utf16().collect();
+/// let record = IxdtfParser::from_utf16(&text).parse_month_day().unwrap();
+/// assert_eq!(month_day_length_utf16(&record), Some("11-07[u-ca=hebrew]".len()));
+/// ```
+pub fn month_day_length_utf16(parsed: &IxdtfParseRecord<'_, Utf16>) -> Option<usize> {
+    let core = without_names(parsed);
+    wide_names::printed_length(CanonicalMonthDay { parsed: &core }, parsed)
 }
 
 /// A record of a month and a day that `Display` writes as its canonical text, such as `11-07[u-ca=hebrew]`.

@@ -8,7 +8,7 @@ use crate::error::PrintError;
 use crate::fields::{put_minutes, put_offset};
 use crate::length::{fraction_length, shift_length};
 use crate::text::{self, CanonicalText, Tail};
-use crate::wide_names::{print_bracketed, without_names};
+use crate::wide_names::{self, print_bracketed, without_names};
 use ixdtf::encoding::{Utf8, Utf16};
 use ixdtf::records::{DateRecord, IxdtfParseRecord, TimeRecord, UtcOffsetRecordOrZ};
 use core::fmt;
@@ -106,6 +106,26 @@ pub fn print_time_utf16(
 /// ```
 pub fn time_length(parsed: &IxdtfParseRecord<'_, Utf8>) -> Option<usize> {
     text::printed_length(CanonicalTime { parsed })
+}
+
+/// Returns the number of code units of the canonical text of a time that was read from 16-bit text.
+///
+/// A slice of this length is long enough for [`print_time_utf16`](crate::print_time_utf16). Returns `None` if the record has no
+/// canonical text, or if its text is longer than any slice.
+///
+/// # Examples
+///
+/// ```rust
+/// use ixdtf::parsers::IxdtfParser;
+/// use ixdtf_print::time_length_utf16;
+///
+/// let text: Vec<u16> = "084800z[u-ca=hebrew]".encode_utf16().collect();
+/// let record = IxdtfParser::from_utf16(&text).parse_time().unwrap();
+/// assert_eq!(time_length_utf16(&record), Some("08:48:00Z[u-ca=hebrew]".len()));
+/// ```
+pub fn time_length_utf16(parsed: &IxdtfParseRecord<'_, Utf16>) -> Option<usize> {
+    let core = without_names(parsed);
+    wide_names::printed_length(CanonicalTime { parsed: &core }, parsed)
 }
 
 /// A record of a time that `Display` writes as its canonical text, such as `08:48:00Z[u-ca=hebrew]`.

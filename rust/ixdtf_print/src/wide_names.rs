@@ -16,22 +16,30 @@ use ixdtf::records::{
     IxdtfParseRecord, MinutePrecisionOffset, TimeZoneAnnotation, TimeZoneRecord,
 };
 
+/// The code unit `-`.
+const HYPHEN: u16 = 45;
+
+/// The code unit `]`.
+const CLOSING: u16 = 93;
+
 /// Writes the core, and then the brackets of the record. Returns the number of code units.
 pub fn print_bracketed<T: CanonicalText>(
     core: T,
     parsed: &IxdtfParseRecord<'_, Utf16>,
     out: &mut [u16],
 ) -> Result<usize, PrintError> {
-    if !core.is_printable() {
-        return Err(PrintError::NotPrintable);
-    }
-    if !has_brackets(parsed) {
+    if !is_printable(core, parsed) {
         return Err(PrintError::NotPrintable);
     }
     if (out.len() as u128) < bracketed_length(core, parsed) {
         return Err(PrintError::TooShort);
     }
     Ok(put_bracketed(core, parsed, out))
+}
+
+/// Returns whether the core and the brackets have texts.
+fn is_printable<T: CanonicalText>(core: T, parsed: &IxdtfParseRecord<'_, Utf16>) -> bool {
+    core.is_printable() && has_brackets(parsed)
 }
 
 /// Returns the number of code units of the core and the brackets.
@@ -49,6 +57,18 @@ fn put_bracketed<T: CanonicalText>(
     put_brackets(out, after_core, parsed)
 }
 
+/// Returns the number of code units of the core and the brackets, if they have texts and a `usize` can hold the number.
+pub fn printed_length<T: CanonicalText>(
+    core: T,
+    parsed: &IxdtfParseRecord<'_, Utf16>,
+) -> Option<usize> {
+    if is_printable(core, parsed) {
+        usize::try_from(bracketed_length(core, parsed)).ok()
+    } else {
+        None
+    }
+}
+
 /// Writes the zone, without brackets. Returns the number of code units.
 pub fn print_zone(zone: &TimeZoneRecord<'_, Utf16>, out: &mut [u16]) -> Result<usize, PrintError> {
     if !is_zone(zone) {
@@ -58,6 +78,15 @@ pub fn print_zone(zone: &TimeZoneRecord<'_, Utf16>, out: &mut [u16]) -> Result<u
         return Err(PrintError::TooShort);
     }
     Ok(put_zone(out, 0, zone))
+}
+
+/// Returns the number of code units of the zone, if it has a text.
+pub fn zone_length(zone: &TimeZoneRecord<'_, Utf16>) -> Option<usize> {
+    if is_zone(zone) {
+        Some(length_of_zone(zone) as usize)
+    } else {
+        None
+    }
 }
 
 /// Returns a record with the date, the time and the offset of the record, and without names.
@@ -108,7 +137,7 @@ fn is_value(units: &[u16]) -> bool {
     for unit in units {
         if is_value_unit(*unit) {
             in_run = true;
-        } else if *unit == 45 && in_run {
+        } else if *unit == HYPHEN && in_run {
             in_run = false;
         } else {
             return false;
@@ -193,7 +222,7 @@ fn put_bracket(out: &mut [u16], at: usize, note: &Option<TimeZoneAnnotation<'_, 
         Some(note) => {
             let inside = put_wide(out, at, opening_of(note.critical));
             let end = put_zone(out, inside, &note.tz);
-            put_unit(out, end, 93)
+            put_unit(out, end, CLOSING)
         }
     }
 }
@@ -205,7 +234,7 @@ fn put_calendar(out: &mut [u16], at: usize, calendar: Option<&[u16]>) -> usize {
         Some(value) => {
             let inside = put_wide(out, at, b"[u-ca=");
             let end = put_units(out, inside, value);
-            put_unit(out, end, 93)
+            put_unit(out, end, CLOSING)
         }
     }
 }

@@ -8,7 +8,7 @@ use crate::error::PrintError;
 use crate::fields::put_year;
 use crate::put::put_byte;
 use crate::text::{self, CanonicalText, Tail};
-use crate::wide_names::{print_bracketed, without_names};
+use crate::wide_names::{self, print_bracketed, without_names};
 use ixdtf::encoding::{Utf8, Utf16};
 use ixdtf::records::{DateRecord, IxdtfParseRecord, TimeRecord, UtcOffsetRecordOrZ};
 use core::fmt;
@@ -111,6 +111,26 @@ pub fn print_year_month_utf16(
 /// ```
 pub fn year_month_length(parsed: &IxdtfParseRecord<'_, Utf8>) -> Option<usize> {
     text::printed_length(CanonicalYearMonth { parsed })
+}
+
+/// Returns the number of code units of the canonical text of a year and a month that was read from 16-bit text.
+///
+/// A slice of this length is long enough for [`print_year_month_utf16`](crate::print_year_month_utf16). Returns `None` if the record has no
+/// canonical text, or if its text is longer than any slice.
+///
+/// # Examples
+///
+/// ```rust
+/// use ixdtf::parsers::IxdtfParser;
+/// use ixdtf_print::year_month_length_utf16;
+///
+/// let text: Vec<u16> = "202011[u-ca=hebrew]".encode_utf16().collect();
+/// let record = IxdtfParser::from_utf16(&text).parse_year_month().unwrap();
+/// assert_eq!(year_month_length_utf16(&record), Some("2020-11[u-ca=hebrew]".len()));
+/// ```
+pub fn year_month_length_utf16(parsed: &IxdtfParseRecord<'_, Utf16>) -> Option<usize> {
+    let core = without_names(parsed);
+    wide_names::printed_length(CanonicalYearMonth { parsed: &core }, parsed)
 }
 
 /// A record of a year and a month that `Display` writes as its canonical text, such as `2020-11[u-ca=hebrew]`.

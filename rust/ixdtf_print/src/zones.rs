@@ -108,6 +108,25 @@ pub fn zone_length(zone: &TimeZoneRecord<'_, Utf8>) -> Option<usize> {
     Some(length_of_zone(zone) as usize)
 }
 
+/// Returns the number of code units of the canonical text of a time zone that was read from 16-bit text.
+///
+/// A slice of this length is long enough for [`print_zone_utf16`](crate::print_zone_utf16). Returns `None` if the zone has no
+/// canonical text.
+///
+/// # Examples
+///
+/// ```rust
+/// use ixdtf::parsers::TimeZoneParser;
+/// use ixdtf_print::zone_length_utf16;
+///
+/// let text: Vec<u16> = "+0530".encode_utf16().collect();
+/// let zone = TimeZoneParser::from_utf16(&text).parse_identifier().unwrap();
+/// assert_eq!(zone_length_utf16(&zone), Some("+05:30".len()));
+/// ```
+pub fn zone_length_utf16(zone: &TimeZoneRecord<'_, Utf16>) -> Option<usize> {
+    wide_names::zone_length(zone)
+}
+
 /// A time zone that `Display` writes as its canonical text, such as `Europe/Paris` or `+05:30`.
 ///
 /// This is the text that [`print_zone`](crate::print_zone) writes into a slice. `Display` does not allocate, and ignores
