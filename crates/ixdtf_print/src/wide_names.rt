@@ -127,13 +127,11 @@ pub fn zone_length(zone: &TimeZoneRecord<'_, Utf16>) -> Option<usize>
 pub fn without_names(parsed: &IxdtfParseRecord<'_, Utf16>) -> IxdtfParseRecord<'static, Utf8>
     ensures { record_of result ≡ record (record_of parsed.now) { zone = None; calendar = None } }
 {
-    IxdtfParseRecord {
-        date: parsed.date,
-        time: parsed.time,
-        offset: parsed.offset,
-        tz: None,
-        calendar: None,
-    }
+    let mut core = IxdtfParseRecord::default();
+    core.date = parsed.date;
+    core.time = parsed.time;
+    core.offset = parsed.offset;
+    core
 }
 
 // ---- Tests

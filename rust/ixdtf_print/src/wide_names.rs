@@ -91,13 +91,11 @@ pub fn zone_length(zone: &TimeZoneRecord<'_, Utf16>) -> Option<usize> {
 
 /// Returns a record with the date, the time and the offset of the record, and without names.
 pub fn without_names(parsed: &IxdtfParseRecord<'_, Utf16>) -> IxdtfParseRecord<'static, Utf8> {
-    IxdtfParseRecord {
-        date: parsed.date,
-        time: parsed.time,
-        offset: parsed.offset,
-        tz: None,
-        calendar: None,
-    }
+    let mut core = IxdtfParseRecord::default();
+    core.date = parsed.date;
+    core.time = parsed.time;
+    core.offset = parsed.offset;
+    core
 }
 
 // ---- Tests
