@@ -23,9 +23,7 @@ use crate::wide::{put_unit, put_units, put_wide};
 use crate::written::front_of;
 use ixdtf::encoding::{Utf8, Utf16};
 use ixdtf::parsers::{TimeZoneParser, is_annotation_value_component};
-use ixdtf::records::{
-    IxdtfParseRecord, MinutePrecisionOffset, TimeZoneAnnotation, TimeZoneRecord,
-};
+use ixdtf::records::{IxdtfParseRecord, MinutePrecisionOffset, TimeZoneAnnotation, TimeZoneRecord};
 
 /// The code unit `-`.
 const HYPHEN: u16 = 45;

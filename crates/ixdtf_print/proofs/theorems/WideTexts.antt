@@ -1,13 +1,12 @@
 -- The code units of the canonical text of a record are from 1 to 126, so this text is the same in both widths. A record is printed
 -- if its core and its brackets are printed.
-use Rattle.ixdtf_grammar.specs.declared.records.UtcOffsetRecord.TheVariants as offsets
 use Rattle.ixdtf_grammar.specs.declared.records.UtcOffsetRecordOrZ.TheVariants as stands
 use Rattle.std.proofs.Common.{ℕ, suc, ◌<◌, ◌^◌, ◌≡◌, ◌↔◌, Bool, true, false, cond, nat_le, ℤ, pos, negsuc, List, [], ◌∷◌, ◌++◌, map, length, take, codes, refl, subst}
 use Rattle.std.proofs.Common.{Option, Some, None, Result, Ok, Err, IfOk, OnOk, IfSome, OnSome, ◌∙◌, ap, sym, arith}
 use Rattle.std.proofs.lemmas.Bool.Decides.{nat_tests}
 use Rattle.ixdtf_grammar.specs.declared.profile.Profile.TheVariants.{Crate}
 use Rattle.ixdtf_grammar.specs.declared.records.{DateRecord.DateRecord, TimeRecord.TimeRecord, UtcOffsetRecordOrZ.UtcOffsetRecordOrZ}
-use Rattle.ixdtf.specs.language.{Letters.{Text, Class, any, zone_char, value_char, wide_letter, Letter.{Plain, Bad}}, Shapes.one, Fractions.FractionParts}
+use Rattle.ixdtf.specs.language.{Letters.{Text, any, zone_char, value_char, Letter.{Plain, Bad}}, Shapes.one, Fractions.FractionParts}
 use Rattle.ixdtf.specs.language.{ZoneNames.{Zone, ZoneName, Zone.{Name, Offset}}, Brackets.{ZoneNote, Value, ValueRun}, Digits.padded_digits, Languages.Parsed}
 use Rattle.ixdtf.specs.Widths.{is_shared, wide_text}
 use Rattle.ixdtf_grammar.proofs.parts.Classes.{AllOf, IsOf, PlainOf, one_of, plain_many, ◌and_then◌, ◌or_else◌, all_append, all_digits}

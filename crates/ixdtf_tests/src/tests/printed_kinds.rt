@@ -60,8 +60,8 @@ fn check_wide(
 ) {
     let count = canonical.len().min(64);
     let is_counted = printed == Ok(canonical.len()) && length == Some(canonical.len());
-    let is_printed =
-        &out[..count] == Wide::new(canonical).units() && out[count..].iter().all(|unit| *unit == 7);
+    let is_printed = &out[..count] == Wide::new(canonical).units()
+        && out[count..].iter().all(|unit| *unit == 7);
     check(rt, canonical, is_counted && is_printed);
 }
 
@@ -201,7 +201,13 @@ fn check_wide_year_month(rt: &impl Abort, text: &str, canonical: &str) {
     };
     let mut out = UNTOUCHED_UNITS;
     let printed = print_year_month_utf16(&record, &mut out);
-    check_wide(rt, canonical, printed, &out, year_month_length_utf16(&record));
+    check_wide(
+        rt,
+        canonical,
+        printed,
+        &out,
+        year_month_length_utf16(&record),
+    );
     let wide = Wide::new(canonical);
     let again = IxdtfParser::from_utf16(wide.units()).parse_year_month();
     check(rt, canonical, again == Ok(record));
@@ -219,7 +225,13 @@ fn check_wide_month_day(rt: &impl Abort, text: &str, canonical: &str) {
     };
     let mut out = UNTOUCHED_UNITS;
     let printed = print_month_day_utf16(&record, &mut out);
-    check_wide(rt, canonical, printed, &out, month_day_length_utf16(&record));
+    check_wide(
+        rt,
+        canonical,
+        printed,
+        &out,
+        month_day_length_utf16(&record),
+    );
     let wide = Wide::new(canonical);
     let again = IxdtfParser::from_utf16(wide.units()).parse_month_day();
     check(rt, canonical, again == Ok(record));
@@ -412,7 +424,11 @@ fn prints_no_other_wide_names(rt: HostRuntime) {
         let zone = TimeZoneRecord::Name(name);
         let printed = print_zone_utf16(&zone, &mut out);
         check_wide_refused(&rt, "a zone", printed, PrintError::NotPrintable, &out);
-        check(&rt, "the length of a zone", zone_length_utf16(&zone).is_none());
+        check(
+            &rt,
+            "the length of a zone",
+            zone_length_utf16(&zone).is_none(),
+        );
         record.calendar = Some(name);
         let printed = print_utf16(&record, &mut out);
         check_wide_refused(&rt, "a calendar", printed, PrintError::NotPrintable, &out);
