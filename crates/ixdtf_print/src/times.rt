@@ -93,6 +93,7 @@ pub fn print_time(parsed: &IxdtfParseRecord<'_, Utf8>, out: &mut [u8]) -> Result
 /// - [`PrintError::NotPrintable`]: the record has no canonical text. It has a date, or no time, or a field whose value no
 ///   text has.
 /// - [`PrintError::TooShort`]: the slice is shorter than the canonical text.
+#[inline]
 pub fn print_time_utf16(
     parsed: &IxdtfParseRecord<'_, Utf16>,
     out: &mut [u16],
@@ -143,6 +144,7 @@ pub fn time_length(parsed: &IxdtfParseRecord<'_, Utf8>) -> Option<usize>
 /// let record = IxdtfParser::from_utf16(&text).parse_time().unwrap();
 /// assert_eq!(time_length_utf16(&record), Some("08:48:00Z[u-ca=hebrew]".len()));
 /// ```
+#[inline]
 pub fn time_length_utf16(parsed: &IxdtfParseRecord<'_, Utf16>) -> Option<usize>
     ensures length { IfSome result (λ n. n ≡ length (lone_time_text (record_of parsed.now))) }
     ensures printable { OnSome result (IsPrintableTime (record_of parsed.now)) }

@@ -16,6 +16,7 @@ pub fn put_wide(out: &mut [u16], at: usize, bytes: &[u8]) -> usize
 }
 
 /// Writes the code units from index `at` on. Returns the index after them.
+#[inline]
 pub fn put_units(out: &mut [u16], at: usize, units: &[u16]) -> usize
     requires { HasRoom out.old at (map Plain units.now) }
     ensures { Prints out.old out.new at result (map Plain units.now) }

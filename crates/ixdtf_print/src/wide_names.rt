@@ -1,6 +1,9 @@
 //! Records of 16-bit text printed as 16-bit code units: the names of zones, the calendars and their brackets.
 //!
 //! The date, the time and the offset of a record are the same in both widths, so the functions for 8-bit text write them.
+// Because of `#[inline]` at each function here, and at each public function that calls one of them, `rustc` compiles them only
+// into the crates that call them. Otherwise it would inline less into the functions for 8-bit text, and these would take up to a
+// tenth more.
 #![tactic(auto, using(crate::proofs::code::CanonicalLengths::lengths, crate::proofs::code::PutBytes::putting))]
 
 ghost use Rattle.std.specs.Prelude.{◌≡◌, ◌↔◌, ◌<◌, ◌^◌, ◌++◌, IsTrue, length, map, None, IfSome, OnSome, OnOk, option_map};
@@ -32,6 +35,7 @@ const HYPHEN: u16 = 45;
 const CLOSING: u16 = 93;
 
 /// Writes the core, and then the brackets of the record. Returns the number of code units.
+#[inline]
 pub fn print_bracketed<T: CanonicalText>(
     core: T,
     parsed: &IxdtfParseRecord<'_, Utf16>,
@@ -51,6 +55,7 @@ pub fn print_bracketed<T: CanonicalText>(
 }
 
 /// Returns whether the core and the brackets have texts.
+#[inline]
 fn is_printable<T: CanonicalText>(core: T, parsed: &IxdtfParseRecord<'_, Utf16>) -> bool
     ensures { IsTrue result ↔ (T.IsPrintable core × HasBrackets (record_of parsed.now)) }
 {
@@ -58,6 +63,7 @@ fn is_printable<T: CanonicalText>(core: T, parsed: &IxdtfParseRecord<'_, Utf16>)
 }
 
 /// Returns the number of code units of the core and the brackets.
+#[inline]
 fn bracketed_length<T: CanonicalText>(core: T, parsed: &IxdtfParseRecord<'_, Utf16>) -> u128
     ensures { result ≡ length (T.core core ++ brackets_text (record_of parsed.now)) }
 {
@@ -65,6 +71,7 @@ fn bracketed_length<T: CanonicalText>(core: T, parsed: &IxdtfParseRecord<'_, Utf
 }
 
 /// Writes the core and the brackets at the beginning of the slice. Returns the index after them.
+#[inline]
 fn put_bracketed<T: CanonicalText>(
     core: T,
     parsed: &IxdtfParseRecord<'_, Utf16>,
@@ -78,6 +85,7 @@ fn put_bracketed<T: CanonicalText>(
 }
 
 /// Returns the number of code units of the core and the brackets, if they have texts and a `usize` can hold the number.
+#[inline]
 pub fn printed_length<T: CanonicalText>(
     core: T,
     parsed: &IxdtfParseRecord<'_, Utf16>,
@@ -96,6 +104,7 @@ pub fn printed_length<T: CanonicalText>(
 }
 
 /// Writes the zone, without brackets. Returns the number of code units.
+#[inline]
 pub fn print_zone(zone: &TimeZoneRecord<'_, Utf16>, out: &mut [u16]) -> Result<usize, PrintError>
     ensures prints { PrintsOrRefuses (IsZoneText (zone_in zone.now)) (zone_text (zone_in zone.now)) out.old out.new result }
     ensures printable { OnOk result (IsZoneText (zone_in zone.now)) }
@@ -110,6 +119,7 @@ pub fn print_zone(zone: &TimeZoneRecord<'_, Utf16>, out: &mut [u16]) -> Result<u
 }
 
 /// Returns the number of code units of the zone, if it has a text.
+#[inline]
 pub fn zone_length(zone: &TimeZoneRecord<'_, Utf16>) -> Option<usize>
     ensures length { IfSome result (λ n. n ≡ length (zone_text (zone_in zone.now))) }
     ensures none { (result ≡ None) ↔ ¬ (IsZoneText (zone_in zone.now)) }
@@ -122,6 +132,7 @@ pub fn zone_length(zone: &TimeZoneRecord<'_, Utf16>) -> Option<usize>
 }
 
 /// Returns a record with the date, the time and the offset of the record, and without names.
+#[inline]
 pub fn without_names(parsed: &IxdtfParseRecord<'_, Utf16>) -> IxdtfParseRecord<'static, Utf8>
     ensures { record_of result ≡ record (record_of parsed.now) { zone = None; calendar = None } }
 {
@@ -135,6 +146,7 @@ pub fn without_names(parsed: &IxdtfParseRecord<'_, Utf16>) -> IxdtfParseRecord<'
 // ---- Tests
 
 /// Returns whether the code units are the name of a time zone, as `parse_iana_identifier` accepts it.
+#[inline]
 fn is_name(name: &[u16]) -> bool
     ensures { IsTrue result ↔ ZoneName (map Plain name.now) }
 {
@@ -144,6 +156,7 @@ fn is_name(name: &[u16]) -> bool
 }
 
 /// Returns whether the zone has a text.
+#[inline]
 fn is_zone(zone: &TimeZoneRecord<'_, Utf16>) -> bool
     ensures { IsTrue result ↔ IsZoneText (zone_of (λ unit. unit) zone.now) }
 {
@@ -154,6 +167,7 @@ fn is_zone(zone: &TimeZoneRecord<'_, Utf16>) -> bool
 }
 
 /// Returns whether there is no zone, or the zone has a text.
+#[inline]
 fn has_zone(note: &Option<TimeZoneAnnotation<'_, Utf16>>) -> bool
     ensures { IsTrue result ↔ HasZone (option_map (note_of (λ unit. unit)) note.now) }
 {
@@ -164,6 +178,7 @@ fn has_zone(note: &Option<TimeZoneAnnotation<'_, Utf16>>) -> bool
 }
 
 /// Returns whether a component of a value can contain the code unit: an ASCII letter or a digit.
+#[inline]
 fn is_value_unit(unit: u16) -> bool
     ensures { result ≡ value_char unit }
 {
@@ -171,6 +186,7 @@ fn is_value_unit(unit: u16) -> bool
 }
 
 /// Returns whether the code units are the value of an annotation.
+#[inline]
 fn is_value(units: &[u16]) -> bool
     ensures { IsTrue result ↔ Value (map Plain units.now) }
 {
@@ -188,6 +204,7 @@ fn is_value(units: &[u16]) -> bool
 }
 
 /// Returns whether there is no calendar, or the calendar has a text.
+#[inline]
 fn has_calendar(calendar: Option<&[u16]>) -> bool
     ensures { IsTrue result ↔
         HasCalendar (option_map (λ units. map (λ unit. unit) units.now) calendar.entry) }
@@ -199,6 +216,7 @@ fn has_calendar(calendar: Option<&[u16]>) -> bool
 }
 
 /// Returns whether the zone and the calendar have texts.
+#[inline]
 fn has_brackets(parsed: &IxdtfParseRecord<'_, Utf16>) -> bool
     ensures { IsTrue result ↔ HasBrackets (record_of parsed.now) }
 {
@@ -208,6 +226,7 @@ fn has_brackets(parsed: &IxdtfParseRecord<'_, Utf16>) -> bool
 // ---- Lengths
 
 /// Returns the number of code units of the zone, without its bracket.
+#[inline]
 fn length_of_zone(zone: &TimeZoneRecord<'_, Utf16>) -> u128
     ensures length { result ≡ length (zone_text (zone_of (λ unit. unit) zone.now)) }
     ensures small { result < 2 ^ 64 }
@@ -219,6 +238,7 @@ fn length_of_zone(zone: &TimeZoneRecord<'_, Utf16>) -> u128
 }
 
 /// Returns the number of code units of the bracket with the zone.
+#[inline]
 fn bracket_length(note: &Option<TimeZoneAnnotation<'_, Utf16>>) -> u128
     ensures length { result ≡ length (bracket_text (option_map (note_of (λ unit. unit)) note.now)) }
     ensures small { result < 2 ^ 65 }
@@ -236,6 +256,7 @@ fn bracket_length(note: &Option<TimeZoneAnnotation<'_, Utf16>>) -> u128
 }
 
 /// Returns the number of code units of the bracket with the calendar.
+#[inline]
 fn calendar_length(calendar: Option<&[u16]>) -> u128
     ensures length { result ≡ length
         (calendar_text (option_map (λ units. map (λ unit. unit) units.now) calendar.entry)) }
@@ -248,6 +269,7 @@ fn calendar_length(calendar: Option<&[u16]>) -> u128
 }
 
 /// Returns the number of code units of the two brackets.
+#[inline]
 fn brackets_length(parsed: &IxdtfParseRecord<'_, Utf16>) -> u128
     ensures length { result ≡ length (brackets_text (record_of parsed.now)) }
     ensures small { result < 2 ^ 66 }
@@ -258,6 +280,7 @@ fn brackets_length(parsed: &IxdtfParseRecord<'_, Utf16>) -> u128
 // ---- Code units
 
 /// Writes an offset with hours and minutes at index `at`. Returns the index after it.
+#[inline]
 fn put_zone_offset(out: &mut [u16], at: usize, offset: MinutePrecisionOffset) -> usize
     requires { HasRoom out.old at (minute_offset_text offset) }
     ensures { Prints out.old out.new at result (minute_offset_text offset) }
@@ -268,6 +291,7 @@ fn put_zone_offset(out: &mut [u16], at: usize, offset: MinutePrecisionOffset) ->
 }
 
 /// Writes the zone at index `at`. Returns the index after it.
+#[inline]
 fn put_zone(out: &mut [u16], at: usize, zone: &TimeZoneRecord<'_, Utf16>) -> usize
     requires { HasRoom out.old at (zone_text (zone_of (λ unit. unit) zone.now)) }
     ensures { Prints out.old out.new at result (zone_text (zone_of (λ unit. unit) zone.now)) }
@@ -279,6 +303,7 @@ fn put_zone(out: &mut [u16], at: usize, zone: &TimeZoneRecord<'_, Utf16>) -> usi
 }
 
 /// Writes the zone in its bracket at index `at`, if there is one. Returns the index after it.
+#[inline]
 fn put_bracket(out: &mut [u16], at: usize, note: &Option<TimeZoneAnnotation<'_, Utf16>>) -> usize
     requires { HasRoom out.old at (bracket_text (option_map (note_of (λ unit. unit)) note.now)) }
     ensures { Prints out.old out.new at result
@@ -295,6 +320,7 @@ fn put_bracket(out: &mut [u16], at: usize, note: &Option<TimeZoneAnnotation<'_, 
 }
 
 /// Writes the calendar in its bracket at index `at`, if there is one. Returns the index after it.
+#[inline]
 fn put_calendar(out: &mut [u16], at: usize, calendar: Option<&[u16]>) -> usize
     requires { HasRoom out.old at
         (calendar_text (option_map (λ units. map (λ unit. unit) units.now) calendar)) }
@@ -312,6 +338,7 @@ fn put_calendar(out: &mut [u16], at: usize, calendar: Option<&[u16]>) -> usize
 }
 
 /// Writes the two brackets at index `at`. Returns the index after them.
+#[inline]
 fn put_brackets(out: &mut [u16], at: usize, parsed: &IxdtfParseRecord<'_, Utf16>) -> usize
     requires { HasRoom out.old at (brackets_text (record_of parsed.now)) }
     ensures { Prints out.old out.new at result (brackets_text (record_of parsed.now)) }

@@ -87,6 +87,7 @@ pub fn print(parsed: &IxdtfParseRecord<'_, Utf8>, out: &mut [u8]) -> Result<usiz
 /// - [`PrintError::NotPrintable`]: the record has no canonical text. It has no date, or an offset without a time, or a field
 ///   whose value no text has, such as a name with a code unit that is not ASCII.
 /// - [`PrintError::TooShort`]: the slice is shorter than the canonical text.
+#[inline]
 pub fn print_utf16(
     parsed: &IxdtfParseRecord<'_, Utf16>,
     out: &mut [u16],
@@ -142,6 +143,7 @@ pub fn printed_length(parsed: &IxdtfParseRecord<'_, Utf8>) -> Option<usize> {
 /// let record = IxdtfParser::from_utf16(&text).parse().unwrap();
 /// assert_eq!(printed_length_utf16(&record), Some("2024-03-02T08:48:00Z[u-ca=hebrew]".len()));
 /// ```
+#[inline]
 #[must_use]
 pub fn printed_length_utf16(parsed: &IxdtfParseRecord<'_, Utf16>) -> Option<usize> {
     let core = without_names(parsed);

@@ -88,6 +88,7 @@ pub fn print_month_day(
 /// - [`PrintError::NotPrintable`]: the record has no canonical text. It has no date, or another year than 0, or a time, or
 ///   an offset, or a field whose value no text has.
 /// - [`PrintError::TooShort`]: the slice is shorter than the canonical text.
+#[inline]
 pub fn print_month_day_utf16(
     parsed: &IxdtfParseRecord<'_, Utf16>,
     out: &mut [u16],
@@ -129,6 +130,7 @@ pub fn month_day_length(parsed: &IxdtfParseRecord<'_, Utf8>) -> Option<usize> {
 /// let record = IxdtfParser::from_utf16(&text).parse_month_day().unwrap();
 /// assert_eq!(month_day_length_utf16(&record), Some("11-07[u-ca=hebrew]".len()));
 /// ```
+#[inline]
 pub fn month_day_length_utf16(parsed: &IxdtfParseRecord<'_, Utf16>) -> Option<usize> {
     let core = without_names(parsed);
     wide_names::printed_length(CanonicalMonthDay { parsed: &core }, parsed)

@@ -12,6 +12,7 @@ pub fn put_wide(out: &mut [u16], at: usize, bytes: &[u8]) -> usize {
 }
 
 /// Writes the code units from index `at` on. Returns the index after them.
+#[inline]
 pub fn put_units(out: &mut [u16], at: usize, units: &[u16]) -> usize {
     let mut place = at;
     for unit in units {

@@ -3,6 +3,9 @@
 //! Records of 16-bit text printed as 16-bit code units: the names of zones, the calendars and their brackets.
 //!
 //! The date, the time and the offset of a record are the same in both widths, so the functions for 8-bit text write them.
+// Because of `#[inline]` at each function here, and at each public function that calls one of them, `rustc` compiles them only
+// into the crates that call them. Otherwise it would inline less into the functions for 8-bit text, and these would take up to a
+// tenth more.
 
 use crate::check::is_minute_clock;
 use crate::error::PrintError;
@@ -21,6 +24,7 @@ const HYPHEN: u16 = 45;
 const CLOSING: u16 = 93;
 
 /// Writes the core, and then the brackets of the record. Returns the number of code units.
+#[inline]
 pub fn print_bracketed<T: CanonicalText>(
     core: T,
     parsed: &IxdtfParseRecord<'_, Utf16>,
@@ -36,16 +40,19 @@ pub fn print_bracketed<T: CanonicalText>(
 }
 
 /// Returns whether the core and the brackets have texts.
+#[inline]
 fn is_printable<T: CanonicalText>(core: T, parsed: &IxdtfParseRecord<'_, Utf16>) -> bool {
     core.is_printable() && has_brackets(parsed)
 }
 
 /// Returns the number of code units of the core and the brackets.
+#[inline]
 fn bracketed_length<T: CanonicalText>(core: T, parsed: &IxdtfParseRecord<'_, Utf16>) -> u128 {
     u128::from(core.core_length()) + brackets_length(parsed)
 }
 
 /// Writes the core and the brackets at the beginning of the slice. Returns the index after them.
+#[inline]
 fn put_bracketed<T: CanonicalText>(
     core: T,
     parsed: &IxdtfParseRecord<'_, Utf16>,
@@ -56,6 +63,7 @@ fn put_bracketed<T: CanonicalText>(
 }
 
 /// Returns the number of code units of the core and the brackets, if they have texts and a `usize` can hold the number.
+#[inline]
 pub fn printed_length<T: CanonicalText>(
     core: T,
     parsed: &IxdtfParseRecord<'_, Utf16>,
@@ -68,6 +76,7 @@ pub fn printed_length<T: CanonicalText>(
 }
 
 /// Writes the zone, without brackets. Returns the number of code units.
+#[inline]
 pub fn print_zone(zone: &TimeZoneRecord<'_, Utf16>, out: &mut [u16]) -> Result<usize, PrintError> {
     if !is_zone(zone) {
         return Err(PrintError::NotPrintable);
@@ -79,6 +88,7 @@ pub fn print_zone(zone: &TimeZoneRecord<'_, Utf16>, out: &mut [u16]) -> Result<u
 }
 
 /// Returns the number of code units of the zone, if it has a text.
+#[inline]
 pub fn zone_length(zone: &TimeZoneRecord<'_, Utf16>) -> Option<usize> {
     if is_zone(zone) {
         Some(length_of_zone(zone) as usize)
@@ -88,6 +98,7 @@ pub fn zone_length(zone: &TimeZoneRecord<'_, Utf16>) -> Option<usize> {
 }
 
 /// Returns a record with the date, the time and the offset of the record, and without names.
+#[inline]
 pub fn without_names(parsed: &IxdtfParseRecord<'_, Utf16>) -> IxdtfParseRecord<'static, Utf8> {
     let mut core = IxdtfParseRecord::default();
     core.date = parsed.date;
@@ -99,6 +110,7 @@ pub fn without_names(parsed: &IxdtfParseRecord<'_, Utf16>) -> IxdtfParseRecord<'
 // ---- Tests
 
 /// Returns whether the code units are the name of a time zone, as `parse_iana_identifier` accepts it.
+#[inline]
 fn is_name(name: &[u16]) -> bool {
     TimeZoneParser::from_utf16(name)
         .parse_iana_identifier()
@@ -106,6 +118,7 @@ fn is_name(name: &[u16]) -> bool {
 }
 
 /// Returns whether the zone has a text.
+#[inline]
 fn is_zone(zone: &TimeZoneRecord<'_, Utf16>) -> bool {
     match zone {
         TimeZoneRecord::Name(name) => is_name(name),
@@ -115,6 +128,7 @@ fn is_zone(zone: &TimeZoneRecord<'_, Utf16>) -> bool {
 }
 
 /// Returns whether there is no zone, or the zone has a text.
+#[inline]
 fn has_zone(note: &Option<TimeZoneAnnotation<'_, Utf16>>) -> bool {
     match note {
         None => true,
@@ -123,11 +137,13 @@ fn has_zone(note: &Option<TimeZoneAnnotation<'_, Utf16>>) -> bool {
 }
 
 /// Returns whether a component of a value can contain the code unit: an ASCII letter or a digit.
+#[inline]
 fn is_value_unit(unit: u16) -> bool {
     unit <= 255 && is_annotation_value_component(unit as u8)
 }
 
 /// Returns whether the code units are the value of an annotation.
+#[inline]
 fn is_value(units: &[u16]) -> bool {
     let mut in_run = false;
     for unit in units {
@@ -143,6 +159,7 @@ fn is_value(units: &[u16]) -> bool {
 }
 
 /// Returns whether there is no calendar, or the calendar has a text.
+#[inline]
 fn has_calendar(calendar: Option<&[u16]>) -> bool {
     match calendar {
         None => true,
@@ -151,6 +168,7 @@ fn has_calendar(calendar: Option<&[u16]>) -> bool {
 }
 
 /// Returns whether the zone and the calendar have texts.
+#[inline]
 fn has_brackets(parsed: &IxdtfParseRecord<'_, Utf16>) -> bool {
     has_zone(&parsed.tz) && has_calendar(parsed.calendar)
 }
@@ -158,6 +176,7 @@ fn has_brackets(parsed: &IxdtfParseRecord<'_, Utf16>) -> bool {
 // ---- Lengths
 
 /// Returns the number of code units of the zone, without its bracket.
+#[inline]
 fn length_of_zone(zone: &TimeZoneRecord<'_, Utf16>) -> u128 {
     match zone {
         TimeZoneRecord::Name(name) => name.len() as u128,
@@ -167,6 +186,7 @@ fn length_of_zone(zone: &TimeZoneRecord<'_, Utf16>) -> u128 {
 }
 
 /// Returns the number of code units of the bracket with the zone.
+#[inline]
 fn bracket_length(note: &Option<TimeZoneAnnotation<'_, Utf16>>) -> u128 {
     match note {
         None => 0,
@@ -181,6 +201,7 @@ fn bracket_length(note: &Option<TimeZoneAnnotation<'_, Utf16>>) -> u128 {
 }
 
 /// Returns the number of code units of the bracket with the calendar.
+#[inline]
 fn calendar_length(calendar: Option<&[u16]>) -> u128 {
     match calendar {
         None => 0,
@@ -189,6 +210,7 @@ fn calendar_length(calendar: Option<&[u16]>) -> u128 {
 }
 
 /// Returns the number of code units of the two brackets.
+#[inline]
 fn brackets_length(parsed: &IxdtfParseRecord<'_, Utf16>) -> u128 {
     bracket_length(&parsed.tz) + calendar_length(parsed.calendar)
 }
@@ -196,6 +218,7 @@ fn brackets_length(parsed: &IxdtfParseRecord<'_, Utf16>) -> u128 {
 // ---- Code units
 
 /// Writes an offset with hours and minutes at index `at`. Returns the index after it.
+#[inline]
 fn put_zone_offset(out: &mut [u16], at: usize, offset: MinutePrecisionOffset) -> usize {
     let mut bytes = [0; 6];
     put_minute_offset(&mut bytes, 0, offset);
@@ -203,6 +226,7 @@ fn put_zone_offset(out: &mut [u16], at: usize, offset: MinutePrecisionOffset) ->
 }
 
 /// Writes the zone at index `at`. Returns the index after it.
+#[inline]
 fn put_zone(out: &mut [u16], at: usize, zone: &TimeZoneRecord<'_, Utf16>) -> usize {
     match zone {
         TimeZoneRecord::Name(name) => put_units(out, at, name),
@@ -212,6 +236,7 @@ fn put_zone(out: &mut [u16], at: usize, zone: &TimeZoneRecord<'_, Utf16>) -> usi
 }
 
 /// Writes the zone in its bracket at index `at`, if there is one. Returns the index after it.
+#[inline]
 fn put_bracket(out: &mut [u16], at: usize, note: &Option<TimeZoneAnnotation<'_, Utf16>>) -> usize {
     match note {
         None => at,
@@ -224,6 +249,7 @@ fn put_bracket(out: &mut [u16], at: usize, note: &Option<TimeZoneAnnotation<'_, 
 }
 
 /// Writes the calendar in its bracket at index `at`, if there is one. Returns the index after it.
+#[inline]
 fn put_calendar(out: &mut [u16], at: usize, calendar: Option<&[u16]>) -> usize {
     match calendar {
         None => at,
@@ -236,6 +262,7 @@ fn put_calendar(out: &mut [u16], at: usize, calendar: Option<&[u16]>) -> usize {
 }
 
 /// Writes the two brackets at index `at`. Returns the index after them.
+#[inline]
 fn put_brackets(out: &mut [u16], at: usize, parsed: &IxdtfParseRecord<'_, Utf16>) -> usize {
     let after_bracket = put_bracket(out, at, &parsed.tz);
     put_calendar(out, after_bracket, parsed.calendar)

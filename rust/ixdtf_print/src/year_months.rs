@@ -87,6 +87,7 @@ pub fn print_year_month(
 /// - [`PrintError::NotPrintable`]: the record has no canonical text. It has no date, or another day than 1, or a time, or an
 ///   offset, or a field whose value no text has.
 /// - [`PrintError::TooShort`]: the slice is shorter than the canonical text.
+#[inline]
 pub fn print_year_month_utf16(
     parsed: &IxdtfParseRecord<'_, Utf16>,
     out: &mut [u16],
@@ -128,6 +129,7 @@ pub fn year_month_length(parsed: &IxdtfParseRecord<'_, Utf8>) -> Option<usize> {
 /// let record = IxdtfParser::from_utf16(&text).parse_year_month().unwrap();
 /// assert_eq!(year_month_length_utf16(&record), Some("2020-11[u-ca=hebrew]".len()));
 /// ```
+#[inline]
 pub fn year_month_length_utf16(parsed: &IxdtfParseRecord<'_, Utf16>) -> Option<usize> {
     let core = without_names(parsed);
     wide_names::printed_length(CanonicalYearMonth { parsed: &core }, parsed)

@@ -82,6 +82,7 @@ pub fn print_zone(zone: &TimeZoneRecord<'_, Utf8>, out: &mut [u8]) -> Result<usi
 /// - [`PrintError::NotPrintable`]: the zone has no canonical text. Its name is one that `parse_iana_identifier` refuses,
 ///   or a number of its offset is out of its range.
 /// - [`PrintError::TooShort`]: the slice is shorter than the canonical text.
+#[inline]
 pub fn print_zone_utf16(
     zone: &TimeZoneRecord<'_, Utf16>,
     out: &mut [u16],
@@ -123,6 +124,7 @@ pub fn zone_length(zone: &TimeZoneRecord<'_, Utf8>) -> Option<usize> {
 /// let zone = TimeZoneParser::from_utf16(&text).parse_identifier().unwrap();
 /// assert_eq!(zone_length_utf16(&zone), Some("+05:30".len()));
 /// ```
+#[inline]
 pub fn zone_length_utf16(zone: &TimeZoneRecord<'_, Utf16>) -> Option<usize> {
     wide_names::zone_length(zone)
 }
