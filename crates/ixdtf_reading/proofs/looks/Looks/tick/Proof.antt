@@ -1,4 +1,4 @@
--- A tick does nothing at run time, and sets the ghost field to one more.
+-- `tick` does nothing at run time. It adds one to the ghost field.
 use Rattle.ixdtf_reading.specs.contracts.looks.Looks.tick as f
 use Rattle.ixdtf_reading.proofs.looks.Looks.tick.Code as code
 use Rattle.ixdtf_reading.proofs.code.WalkNames.{◌+◌, [], ◌∷◌, refl, proved, ftrue, flft, named, vunit, tables, ‵, ◌⊛◌, ◌$◌, ◌∵◌, !, qed, done, move, keep}

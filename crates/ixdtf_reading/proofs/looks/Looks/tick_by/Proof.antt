@@ -1,4 +1,4 @@
--- A tick by a number does nothing at run time, and adds it to the ghost field.
+-- `tick_by` does nothing at run time. It adds its argument to the ghost field.
 use Rattle.ixdtf_reading.specs.contracts.looks.Looks.tick_by as f
 use Rattle.ixdtf_reading.proofs.looks.Looks.tick_by.Code as code
 use Rattle.ixdtf_reading.proofs.code.WalkNames.{◌+◌, [], ◌∷◌, refl, proved, ftrue, flft, named, vunit, tables, ‵, ◌⊛◌, ◌$◌, ◌∵◌, !, qed, done, move, keep}
