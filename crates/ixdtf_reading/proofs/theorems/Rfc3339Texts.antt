@@ -15,7 +15,7 @@ use Rattle.ixdtf_grammar.proofs.parts.Texts.{signed_text, colon_minutes_text, co
 use Rattle.ixdtf_reading.specs.reading.{Dates.date_of, Times.time_of, DateTimes.num_offset}
 use Rattle.ixdtf_reading.proofs.theorems.Replies.{NoneRefused-nothing}
 
--- ---- from the reader to the productions of the section
+-- ---- from the productions of the section to the reader
 
 full_date : (text : Text) (d : FullDate text) → IsFullDate text (date_of (pos (decimal d.years)) d.month d.day)
 full_date text d = (
@@ -94,7 +94,7 @@ date_time text d =
       },
     )
 
--- ---- from the productions to the reader
+-- ---- from the reader to the productions of the section
 
 full_date_back : (text : Text) (date : DateRecord) → IsFullDate text date → FullDate text
 full_date_back text date (d, h) = record {
