@@ -105,7 +105,7 @@ from_slash c text is (first, second, split, part, parts) = record {
   more = ((Plain c ∷ first) ∷ parts.0, (second, ap (λ t. Plain c ∷ t) split, (Plain c ∷ [], first, refl, (c, refl, is), part), parts.1));
 }
 
--- If the test is true, it is true for the rest of the text too.
+-- If the test is true from the first code unit of a part on, the text consists of exact parts.
 started : (c : ℕ) (text : Text) (b d : Bool) → dot c ≡ b → zone_lead c ≡ d → (go : PartForm → Bool) → ((form : PartForm) → IsTrue (go form) → Behind form text)
     → IsTrue (on_letter (if b then Some one_dot else (if d then Some in_part else None)) go (false && closing c)) → IsPartedName (Plain c ∷ text)
 started c text true d is_dot is_lead go behind h =
