@@ -1,4 +1,4 @@
--- A first bracket is read, where its zone may have to be exact, and each row of its lines is returned.
+-- A first bracket whose zone can have to be exact is read. Each row of its table lines is returned.
 use Rattle.std.proofs.Common.{◌≡◌, ◌⊎◌, Bool, true, false, IsTrue, IsFalse, Ok, Err, [], ◌∷◌, ◌++◌, refl, sym, ap, ◌∙◌, if◌then◌else◌}
 use Rattle.std.proofs.lemmas.Bool.{both_ways, false_from_ne_true}
 use Rattle.ixdtf_grammar.specs.{language.{Letters.{Text, Letter.Plain}, ZoneNames.{Zone, Zone.{Name, Offset}}, Brackets.{ZoneNote, IsZoneBracket, IsExactBracket, MayStand}}}
@@ -9,7 +9,7 @@ use Rattle.ixdtf_reading.specs.reading.ExactZones.{is_exact, behind_flag, form_r
 use Rattle.ixdtf_reading.proofs.{parts.{ExactZones.{exact_holds, exact_is}, Openings.Returned}, to_reading.FirstBracket.{bracket_takes, bracket_rows}}
 use Rattle.ixdtf_reading.proofs.to_grammar.FirstBracket.{InBracket, IsBracket}
 
--- a first bracket, whose zone may have to be exact
+-- A first bracket. The first argument says whether its zone must be exact.
 abbrev pub IsBracketBy : Bool → Text → Bracket → Type 0
 IsBracketBy exact text (zoned note) = IsZoneBracket text note × MayStand exact text note
 IsBracketBy exact text (paired pair) = IsBracket text (paired pair)
@@ -32,7 +32,7 @@ module _ {E : Type 0} (fault : Row → E) where
   bracket_by_rows true name place e before front rest b f at =
       let row = bracket_rows fault name place e before front rest b f at in (row.0, row.1, rw row.2 refl)
 
-  -- a zone that is not exact
+  -- A zone that is not exact.
   inexact : (front rest : Text) (note : ZoneNote) → IsZoneBracket front note → ¬ (IsExactBracket front note)
       → Returned (bracket_by fault true) front rest (Err (fault (form_row note.zone rest)))
   inexact front rest note is none =
