@@ -1,5 +1,5 @@
--- The statements that the clauses of private functions for durations use, and the meaning of their types. No public clause uses
--- them.
+-- The statements that the clauses of private functions for durations use, and the meaning of their types.
+-- No public clause uses these statements.
 use Rattle.std.specs.Prelude.{◌≡◌, ◌≤◌, ℕ, IsFalse, IsTrue, List, [], ◌∷◌, map, Option, Some, None, Result, Ok, Err, nat_le, drop}
 use Rattle.std.specs.Prelude.{slice_index_or, if◌then◌else◌, ◌-◌, length, OnOk, IfErr}
 use Rattle.ixdtf_grammar.specs.declared.{profile.Profile.Profile, records.{Sign.Sign, DurationParseRecord.DurationParseRecord}}

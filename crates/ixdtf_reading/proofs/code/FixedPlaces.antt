@@ -259,7 +259,7 @@ date_time_at_place text found e =
 
 -- ---- nothing is missed
 
--- The code units of two digits, those of four digits, and their numbers.
+-- The code units of two digits. The next definition is for four digits.
 abbrev two_letters : (text : Text) → digits 2 text → Text
 two_letters text h = Plain h.0 ∷ Plain h.4.0 ∷ []
 

@@ -27,8 +27,7 @@ run_other : (c : ℕ) (rest : Text) → digit c ≡ false → run_of (Plain c �
 unfolding digit_run
 run_other c rest is = rw is refl
 
--- The state of the loop: digits were consumed after the first ones. `fraction` is the fraction of all of them, and `rest`
--- remains.
+-- The state of the loop: digits were consumed after the first ones. `fraction` is that of all these digits, and `rest` remains.
 pub record IsSoFar (front whole rest : Text) (fraction : FractionParts) : Type 0 where
   pub ds : Text
   pub read : run_of whole ≡ with_front ds (run_of rest)

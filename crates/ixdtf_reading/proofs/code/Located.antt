@@ -1,5 +1,4 @@
--- The clauses of a reader that reads no annotations and returns the positions of its errors, from the result of its reading
--- function.
+-- The clauses of a reader without annotations that returns the positions of its errors. They follow from its reading function.
 use Rattle.std.proofs.{Common.{◌≡◌, ℕ, ◌-◌, ◌≤◌, List, [], length, map, Result, Ok, Err, IfErr, sym, ap, ◌∙◌, arith}, lemmas.List.{length-map, length-append}}
 use Rattle.ixdtf_grammar.specs.{declared.located.LocatedError.LocatedError, Views.Unread, language.{Languages.Found, Letters.{Letter, Text}, Readers.Reader}}
 use Rattle.ixdtf_grammar.specs.table.{Faults.{Fault, fault_of_located, stands_behind}, Lines.{Line, Line.{line, scanned, whole}}}

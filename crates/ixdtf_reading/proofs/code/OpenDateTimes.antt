@@ -1,5 +1,4 @@
--- If the end of a date-time is read in the same way at each of its table lines, the date-time can be read first, and its end
--- afterwards.
+-- If the end of a date-time is read in the same way at each of its table lines, the date-time can be read before its end.
 use Rattle.std.proofs.Common.{◌≡◌, ℕ, Bool, true, false, Ok, Err, Option, Some, None, refl, pos, if◌then◌else◌}
 use Rattle.ixdtf_grammar.specs.declared.records.{DateRecord.DateRecord, TimeRecord.TimeRecord}
 use Rattle.ixdtf_grammar.specs.language.{Letters.{Text, zulu}, Digits.decimal, Cores.Core}

@@ -28,8 +28,7 @@ none_there test holds h fails there = both_ways test fails (h.1 there)
 abbrev pub Fronted : (Text → DateRecord → Type 0) → Text → Text → Type 0
 Fronted part text left = (front : Text) × (text ≡ front ++ left) × some part front
 
--- A reading function that reads exactly the prefixes of this kind tells whether the text begins with one, and what is left after
--- it.
+-- A reading function that reads exactly the prefixes of this kind tells whether the text begins with one, and what is left.
 tells : (part : Text → DateRecord → Type 0) (text : Text) (read : Read Placed DateRecord) (stopped : Row → Type 0)
     → OnRead error_of read (FrontIs part text) stopped
     → ((front : Text) (date : DateRecord) (rest : Text) → text ≡ front ++ rest → part front date → read ≡ Ok (date, rest))

@@ -1,5 +1,5 @@
--- One look for a table line. If the line accepts the code unit, reading continues. If a row fits, it is returned. The other
--- direction is also proved.
+-- One look for a table line. If the line accepts the code unit, reading continues. If a row fits, it is returned.
+-- The other direction is also proved.
 use Rattle.std.proofs.Common.{◌≡◌, ℕ, zero, suc, ◌<◌, ◌⊎◌, Bool, true, false, IsTrue, IsFalse, [], ◌∷◌, ◌++◌, Ok, Err, Option, Some, None, refl, sym, ap, ◌∙◌}
 use Rattle.std.proofs.Common.{inl, inr, arith, append_assoc, Result, if◌then◌else◌, List}
 use Rattle.ixdtf_grammar.specs.language.{Letters.{Text, Class, digit, Letter.{Plain, Bad}}, Shapes.{Shape, one, digits}, Readers.{Reader, has_brackets}}

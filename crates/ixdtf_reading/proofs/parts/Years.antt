@@ -1,5 +1,5 @@
--- Reading a year returns its number and the rest. If a row of the table lines of a year fits, it is returned. The other
--- direction is also proved.
+-- Reading a year returns its number and the rest. If a row of the table lines of a year fits, it is returned.
+-- The other direction is also proved.
 use Rattle.std.proofs.Common.{◌≡◌, ◌≢◌, ℕ, Bool, true, false, IsTrue, IsFalse, [], ◌∷◌, ◌++◌, Ok, refl, ◌∙◌, inl, inr, arith, ℤ, nat_eq, ◌&&◌}
 use Rattle.std.proofs.lemmas.Bool.{and_parts, and_from, both_ways, eqb-true, eq-eqb, ne_eqb, Decides.nat_tests}
 use Rattle.ixdtf_grammar.specs.language.{Letters.{Text, digit, sign, hyphen, Letter.Plain}, Digits.decimal, Dates.Year, Readers.CoreKind.year_month}

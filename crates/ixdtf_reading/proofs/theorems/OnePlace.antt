@@ -7,8 +7,7 @@ use Rattle.ixdtf_grammar.specs.{language.{Readers.{Reader, Reader.bracketed, Cor
 use Rattle.ixdtf_reading.proofs.theorems.{OneChain.{last_once, alike}, OneOutcome.{one_outcome, place_once, derived_goes_on}, Replies.refused_last}
 use Rattle.ixdtf_reading.proofs.theorems.OneUnhandledOutcome.{own}
 
--- If the grammar derives the same annotations, and at least one, from a prefix and from the text, the prefix is the complete
--- text.
+-- If the grammar derives the same annotations, at least one, from a prefix and from the text, nothing follows the prefix.
 same_front : (reader : Reader) (front rest : Text) (read whole : Parsed) (pairs : List Pair) → pairs ≢ [] → Derives reader front (parsed read) pairs
     → Derives reader (front ++ rest) (parsed whole) pairs → rest ≡ []
 same_front reader front rest read whole pairs some d h =

@@ -1,4 +1,4 @@
--- Reading a time returns the longest time at the beginning of the text, or the fault of a row that fits.
+-- Reading a time returns a time that the next code unit does not continue, or the fault of a row that fits.
 use Rattle.std.proofs.Common.{◌≡◌, ℕ, ◌<◌, ◌≤◌, ◌⊎◌, IsTrue, IsFalse, [], ◌∷◌, ◌++◌, Ok, Err, Some, None, refl, ◌∙◌, subst, inl, inr, arith, append_assoc}
 use Rattle.std.proofs.{Common.{nat_le, Bool, true, false, if◌then◌else◌}, lemmas.Bool.{eqb-true, leb-true, leb-false, and_parts, or_from, Decides.nat_tests}}
 use Rattle.ixdtf_grammar.specs.declared.records.TimeRecord.{TimeRecord}

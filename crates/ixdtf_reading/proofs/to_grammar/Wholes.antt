@@ -76,7 +76,7 @@ pub tail_of : (exact : Bool) (bracket : Bracket) (first rest : Text) (more : Lis
 tail_of exact (zoned note) first rest more b h = (first, rest, refl, b, h)
 tail_of exact (paired pair) first rest more b h = ([], first ++ rest, refl, refl, (first, rest, refl, b, h))
 
--- The text of a first bracket is not empty.
+-- A text that begins with a first bracket is not empty.
 pub bracket_stands : (exact : Bool) (first rest : Text) (bracket : Bracket) → IsBracketBy exact first bracket → first ++ rest ≢ []
 bracket_stands exact first rest bracket b none =
     let start = bracket_by_takes error_of exact first [] bracket b in

@@ -1,4 +1,4 @@
--- Reading the name of a zone returns the longest name at the beginning of the text, or the fault of a row that fits.
+-- Reading the name of a zone returns a name that the next code unit does not continue, or the fault of a row that fits.
 use Rattle.std.proofs.Common.{◌≡◌, ℕ, Bool, true, false, IsTrue, IsFalse, List, [], ◌∷◌, ◌++◌, map, Ok, Err, refl, sym, ◌∙◌, inl, inr}
 use Rattle.std.proofs.{Common.{append_assoc, append-nil, ◌&&◌}, lemmas.Bool.{and_parts, true≢false}}
 use Rattle.ixdtf_grammar.specs.language.Letters.{Text, zone_lead, zone_char, slash, Letter.{Plain, Bad}}

@@ -1,5 +1,5 @@
--- The readers of an offset, of a zone and of the name of a zone: the grammar derives what is read, and each fault is that of a
--- row that fits.
+-- The readers of an offset, of a zone and of the name of a zone.
+-- The grammar derives what they read, and each fault is that of a row that fits.
 use Rattle.std.proofs.Common.{◌≡◌, ℕ, IsTrue, List, [], ◌∷◌, Option, Some, None, Ok, Err, refl, sym, ◌∙◌, inl, inr, arith, append-nil, false, true, Bool}
 use Rattle.std.proofs.lemmas.Bool.{or_from, true≢false}
 use Rattle.std.proofs.lemmas.Bool.Decides.{nat_tests}

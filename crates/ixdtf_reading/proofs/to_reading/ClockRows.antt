@@ -1,5 +1,5 @@
--- A reading function that reads something, then a time or an offset, and then more, returns each row of the table lines of the
--- time or the offset.
+-- Reading functions that read something, then a time or an offset, and then more.
+-- They return each row of the table lines of the time or the offset.
 use Rattle.std.proofs.Common.{◌≡◌, ℕ, IsTrue, [], ◌∷◌, ◌++◌, Err, refl, ◌∙◌, inl, inr, Bool}
 use Rattle.ixdtf_grammar.specs.{declared.records.TimeRecord.TimeRecord, language.{Shapes.some, Times.{Clock, TimeShape, ClockOf, TimeShape.hours}}}
 use Rattle.ixdtf_grammar.specs.language.{Times.TimeShape.{basic_minutes, colon_minutes, seconds, fractions}, Letters.{Text, digit, Letter.Plain}}
@@ -46,7 +46,7 @@ module _ {E : Type 0} (fault : Row → E) (clock : Clock) where
 
 module _ {E A : Type 0} (fault : Row → E) (clock : Clock) (whole_at : Text → Read E A) (after : OpenTime × Text → Read E A) (prior : Text)
     (lead : TimeLead fault clock whole_at after prior) where
-  -- The longest time at the beginning of the text is read.
+  -- A time is read, if the next code unit does not continue it.
   pub over_time : (shape : TimeShape) (ts : Text) (t : TimeRecord) (rest : Text) → ClockOf clock shape ts t → Closed clock shape rest
       → whole_at (prior ++ (ts ++ rest)) ≡ after ((shape, t), rest)
   over_time shape ts t rest x closed = lead.over (ts ++ rest) ∙ rw (time_takes fault clock lead.start lead.starts shape ts t rest x closed)

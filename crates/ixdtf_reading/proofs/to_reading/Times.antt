@@ -1,5 +1,5 @@
--- The longest time at the beginning of a text is read, whatever reads its first digit. Each row of the table lines of a time is
--- returned.
+-- A time is read, if the next code unit does not continue it. Its first digit can be read in any way.
+-- Each row of the table lines of a time is returned.
 use Rattle.std.proofs.Common.{◌≡◌, ℕ, suc, ◌<◌, ◌⊎◌, Bool, true, false, IsTrue, IsFalse, [], ◌∷◌, ◌++◌, Ok, Err, Some, None, refl, sym, ◌∙◌, inl, inr, arith}
 use Rattle.std.proofs.{Common.{append-nil, nat_le}, lemmas.Bool.{le-leb, lt-leb, or_parts, Decides.nat_tests}}
 use Rattle.ixdtf_grammar.specs.{declared.records.TimeRecord.TimeRecord, language.Times.{Clock, TimeShape, ClockOf, SecondText, greatest_second, has_seconds}}
@@ -201,7 +201,7 @@ module _ {E : Type 0} (fault : Row → E) (clock : Clock)
   no_fraction (inl x) = x.no_fraction
   no_fraction (inr x) = x.no_fraction
 
-  -- The longest time at the beginning of the text is read.
+  -- A time is read, if the next code unit does not continue it.
   pub time_takes : (shape : TimeShape) (text : Text) (t : TimeRecord) (rest : Text) → ClockOf clock shape text t → Closed clock shape rest
       → start (text ++ rest) ≡ Ok ((shape, t), rest)
   time_takes hours text t rest x closed =

@@ -1,4 +1,4 @@
--- The longest name of a zone at the beginning of the text is read. Each row of the table lines of a name is returned.
+-- The name of a zone is read, if the next code unit does not continue it. Each row of the table lines of a name is returned.
 use Rattle.std.proofs.Common.{◌≡◌, ℕ, true, false, IsTrue, IsFalse, ◌⊎◌, List, [], ◌∷◌, ◌++◌, map, Ok, Err, refl, inl, inr, append_assoc, Bool, if◌then◌else◌}
 use Rattle.std.proofs.lemmas.Bool.{or_parts, and_right, eqb-true}
 use Rattle.ixdtf_grammar.specs.language.{Letters.{Text, zone_lead, zone_char, slash, closing, none, Letter.{Plain, Bad}}, Shapes.nothing, ZoneNames.NameItem}
@@ -49,7 +49,7 @@ module _ {E : Type 0} (fault : Row → E) where
   ends_here (Bad ∷ rest) h = absurd h.0
   ends_here (Plain c ∷ rest) h = rw h.0 (rw h.1)
 
-  -- The longest name at the beginning of the text is read.
+  -- A name is read, if the next code unit does not continue it.
   pub name_takes : (text : Text) (name : List ℕ) (rest : Text) → ZoneName text → text ≡ map Plain name → NameEnds rest
       → name_run fault true (text ++ rest) ≡ Ok (name, rest)
   name_takes text name rest h is closed = over_ok name rest rest (over_name text h) is (ends_here rest closed)

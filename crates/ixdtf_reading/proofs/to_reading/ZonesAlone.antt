@@ -1,5 +1,5 @@
--- The readers of an offset, of a zone and of the name of a zone: what the grammar derives is read, and each row that fits is
--- returned.
+-- The readers of an offset, of a zone and of the name of a zone.
+-- They read what the grammar derives, and return each row that fits.
 use Rattle.std.proofs.Common.{◌≡◌, ℕ, IsTrue, IsFalse, List, [], ◌∷◌, ◌++◌, Ok, Err, refl, sym, ap, ◌∙◌, inl, inr, arith, append_assoc, append-nil, false}
 use Rattle.std.proofs.lemmas.Bool.{or_left, or_right}
 use Rattle.std.proofs.lemmas.Bool.Decides.{nat_tests}

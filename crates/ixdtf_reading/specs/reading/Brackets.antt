@@ -14,9 +14,8 @@ sight_at fault [] = Err (fault (row_of (of_bracket first_bracket_scan) (end []) 
 sight_at fault (Bad ∷ rest) = Err (fault (row_of (of_bracket first_bracket_scan) (bad (Bad ∷ rest)) NonAsciiCodePoint))
 sight_at fault (Plain c ∷ rest) = if equals c then Ok true else (if closing c then Ok false else sight_at fault rest)
 
--- The error of a bracket and the text at its position. If an `=` comes before any `]`, the bracket is an annotation, and the
--- position is after the code units of its key. If a `]` comes first, it is a zone, and the position is after the code units of
--- its name.
+-- The error of a bracket and the text at its position. If an `=` comes before any `]`, the bracket is an annotation. Then the
+-- position is after the code units of its key. If a `]` comes first, it is a zone. Then the position is after those of its name.
 abbrev pub refusal : Result Bool Placed → Fault → Text → Text → Placed
 refusal (Ok true) name behind_key behind_name = (AnnotationKeyChar, behind_key)
 refusal (Ok false) name behind_key behind_name = (name, behind_name)

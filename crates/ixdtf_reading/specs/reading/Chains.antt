@@ -69,8 +69,8 @@ abbrev pub reply_units : {T U : Type 0} → Option (Annotation T U) → ℕ
 reply_units None = 0
 reply_units (Some reply) = length reply.value.now
 
--- A step of a handler, and a count. Each reply adds 2 for each code unit by which its value is longer than that of the
--- annotation.
+-- A step of a handler, and a count. The value of a reply can be longer than that of the annotation.
+-- The count grows by 2 for each additional code unit.
 abbrev pub Counting : {T U F : Type 0} → Step T U F → Step T U (F × ℕ)
 Counting step here annotation reply next =
     step here.0 annotation reply next.0 × (next.1 ≡ here.1 + 2 * (reply_units reply - length annotation.value.now))

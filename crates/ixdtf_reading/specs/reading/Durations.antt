@@ -89,8 +89,8 @@ abbrev pub to_fraction : Context → Text → State
 to_fraction (in_dates s dates) ds = started
 to_fraction (in_times s dates times) ds = at_mark s dates times ds
 
--- The state after a code unit that the table line of the state accepts, or the fault of a whole line. `left` is the text after
--- it.
+-- The state after a code unit that the table line of the state accepts, or the fault of a whole line.
+-- `left` is the text after this code unit.
 unfoldable pub step : {E : Type 0} → (Row → E) → Profile → Text → State → ℕ → Result State E
 step fault profile left started c = if sign c then Ok (signed (sign_of c)) else Ok (between (in_dates Positive []))
 step fault profile left (signed s) c = Ok (between (in_dates s []))

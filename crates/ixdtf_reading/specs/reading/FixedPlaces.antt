@@ -97,8 +97,8 @@ date_time_place text =
     date_place text >>? λ date. letter_place date_time_separator 10 text >>? λ _. time_place text >>? λ time.
     if date_in_range date && time_in_range time then Some (date, time) else None
 
--- The hour of an offset in the first two columns after its sign, if it is in its range. `minute_place` is for the minute, after a
--- colon.
+-- The hour of an offset in the first two columns after its sign, if it is in its range.
+-- `minute_place` is for the minute after a colon.
 unfoldable pub hour_place : Text → Option ℕ
 hour_place text = number_place 0 text >>? λ hour. if nat_le hour 23 then Some hour else None
 

@@ -141,8 +141,7 @@ peek_by l text = do
   next ← look_at (l.at_bad text) text
   peeked l next text
 
--- If the next code unit is of the class, consumes it and continues with `go`. Otherwise consumes nothing and continues with
--- `stay`.
+-- If the next code unit is of the class, consumes it and continues with `go`. Otherwise continues with `stay`.
 abbrev pub chosen : {E A : Type 0} → Class → (ℕ → Text → Result A E) → (Text → Result A E) → Option ℕ → Text → Result A E
 chosen class go stay None text = stay text
 chosen class go stay (Some c) text = if class c then go c (drop 1 text) else stay text

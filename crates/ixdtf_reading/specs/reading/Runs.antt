@@ -31,8 +31,8 @@ letters_by after state (Bad ∷ rest) = Err (NonAsciiCodePoint, Bad ∷ rest)
 letters_by after state (Plain c ∷ rest) =
     on_letter (after state c) (λ next. one_more c (letters_by after next rest)) (Ok (nothing_taken state (Some c), Plain c ∷ rest))
 
--- The state after one code unit of a class. A run of one class has only one state. `key_after` is for keys, and `component_after`
--- for components of values.
+-- The state after one code unit of a class. A run of one class has only one state.
+-- `key_after` is for keys, and `component_after` for components of values.
 abbrev pub within : Class → Unit {0} → ℕ → Option (Unit {0})
 within class state c = if class c then Some state else None
 
