@@ -1,4 +1,4 @@
--- What the only outcome of a text says about the result of a reader. If it is a value, no row fits. A row that fits is the only one.
+-- The result of a reader and the only outcome of a text. With a value, no row fits. A row that fits is the only one.
 use Rattle.std.proofs.{Common.{◌≡◌, List, ap, inl, inr}, lemmas.Bool.both_ways}
 use Rattle.ixdtf_grammar.specs.{declared.profile.Profile.Profile, language.{Letters.Text, Brackets.Pair, Readers.Reader}, table.Faults.{Fault, is_refusal}}
 use Rattle.ixdtf_grammar.specs.{table.Outcomes.{HasFault, NoRowFits, OnlyFault, Outcome.refused}, Handlers.{Reply, GivesFault, GivesOnlyFault}}

@@ -1,5 +1,5 @@
--- The text before a table line has no `Bad`. The condition of the line on the rest depends only on the code units before the first
--- `Bad`. So a row that fits a text with `Bad` is a row for `Bad`, or it fits each text with the same code units before the `Bad`.
+-- The text before a table line has no `Bad`. The condition of the line on the rest depends only on the code units before the
+-- first `Bad`. So a row that fits a text with `Bad` is a row for `Bad`, or it fits each text with the same code units before it.
 use Rattle.std.proofs.Common.{◌≡◌, ◌⊎◌, List, ◌++◌, inl, inr, sym, ap, ◌∙◌, subst, append_assoc}
 use Rattle.ixdtf_grammar.specs.{declared.profile.Profile.Profile, language.{Letters.Text, Shapes.some, Times.Clock.{Time, Offset, MinuteOffset}}}
 use Rattle.ixdtf_grammar.specs.language.{Months.IsMonthDay, Brackets.{Pair, ReadsAsName, ReadsAsPair}, Cores.{BeginsWith, IsCore}}
