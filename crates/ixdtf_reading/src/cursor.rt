@@ -26,7 +26,7 @@ use std::marker::Model;
 #[derive(Drop)]
 pub struct Cursor<'a, T: EncodingType> {
     rest: &'a [T::CodeUnit],
-    // The count of accesses to code units. It exists only in the proof, and has a size of 0 bytes.
+    // The count of accesses to code units. It has a size of 0 bytes.
     looks: Looks,
 }
 

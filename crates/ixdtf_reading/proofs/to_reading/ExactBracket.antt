@@ -41,7 +41,7 @@ module _ {E : Type 0} (fault : Row → E) where
       false_from_ne_true _ (λ test. none (exact_is front read.0 rest note read.1 is test)) in
       (read.0, read.1, rw (read.2, fails) refl)
 
-  -- a name that is not exact, with dots or without
+  -- A name that is not exact. `dots` says whether one of its parts is `.` or `..`.
   inexact_name : (front rest : Text) (critical : Bool) (name : List ℕ) (dots : Bool) → has_dots name ≡ dots
       → IsZoneBracket front (record { critical = critical; zone = Name name })
       → ¬ (IsExactBracket front (record { critical = critical; zone = Name name }))

@@ -67,8 +67,8 @@ impl<'a> IsoDurationParser<'a, Utf16> {
 
     /// Creates a parser of 16-bit code units, as [`from_utf16`](Self::from_utf16) does.
     ///
-    /// In `ixdtf` 0.6.7, this function has the same name. There are two functions `from_utf8`, one for each encoding. So a
-    /// caller must name the encoding: `IsoDurationParser::<Utf16>::from_utf8`.
+    /// In `ixdtf` 0.6.7, this function has the same name. There are two functions `from_utf8`, one for each encoding.
+    /// So a caller must name the encoding: `IsoDurationParser::<Utf16>::from_utf8`.
     ///
     /// # Examples
     ///

@@ -2,7 +2,7 @@
 
 //! Functions that test whether the zone of a first bracket has the form of RFC 9557, section 4.1.
 //!
-//! Without this test, the readers also accept other zones, for example names with a part `.` or `..`.
+//! A reader that does not use this test also accepts other zones, for example names with a part `.` or `..`.
 
 use crate::parsers::brackets::{Bracket, parse_first_bracket};
 use crate::encoding::EncodingType;
@@ -67,7 +67,8 @@ fn has_exact_parts<'a, T: EncodingType>(cursor: &mut Cursor<'a, T>) -> bool {
 
 /// Tests whether the zone of a first bracket has the form of RFC 9557, section 4.1. `start` is the input after the `[`.
 ///
-/// The position of the cursor does not change.
+/// The position of the cursor does not change. The function is not inlined, because it is called only if a zone must have
+/// this form, after the bracket has been read.
 #[inline(never)]
 fn is_exact_zone<'a, T: EncodingType>(
     cursor: &mut Cursor<'a, T>,

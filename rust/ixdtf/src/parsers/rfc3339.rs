@@ -206,8 +206,8 @@ fn parse_after_seconds<'a, T: EncodingType>(
     }
 }
 
-/// Consumes a date, `T` or `t`, and a time in the first nineteen columns. Returns `None`, and consumes nothing, if they do
-/// not fit.
+/// Consumes a date, `T` or `t`, and a time in the first nineteen columns. Returns `None`, and consumes nothing, if they
+/// do not fit.
 #[inline(always)]
 fn take_fixed_rfc3339<'a, T: EncodingType>(
     cursor: &mut Cursor<'a, T>,
