@@ -81,8 +81,7 @@ impl<'a, T: EncodingType> Cursor<'a, T> {
     /// Ends a function that worked on a second cursor, `here`.
     ///
     /// If `read` is `Ok`, `self` continues where `here` is. If `read` is a `Stop`, `self` keeps its remaining input. Then
-    /// the function returns the error of the `Stop`. Its position is the number of code units
-    /// from the position of `self` to that of `here`.
+    /// the function returns the error of the `Stop`. Its position is the number of code units from `self` to `here`.
     #[inline(always)]
     pub fn settle<R, E: FromStop>(&mut self, here: Self, read: Result<R, Stop>) -> Result<R, E> {
         match read {
