@@ -19,7 +19,7 @@ pub data Verdict : Type 0 where
   skipped : Verdict
   refused : Option Instant → ℕ → List ℕ → List ℕ → Verdict
 
--- A longer line is refused without being read, counted in bytes.
+-- A line with more bytes than this is refused, and no reader reads its text.
 abbrev pub line_limit : ℕ
 line_limit = 65536
 

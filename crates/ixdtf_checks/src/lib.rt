@@ -1,7 +1,7 @@
 //! Checks lines of text: which lines are wrong, at which column, and why.
 //!
-//! The function `check` reads lines from a reader, and writes the reports about them to a writer. The program `ixdtf_check` calls
-//! this function with files.
+//! The function `check` reads lines from a reader, and writes the reports about them to a writer. The program `ixdtf_check` does
+//! the same with files.
 #![tactic(auto)]
 
 pub mod arguments;
