@@ -21,8 +21,7 @@ use std::test::Fail;
 
 // ==== An instant ====
 
-// Returns the seconds since 1970-01-01T00:00:00Z, if the text has a date, a time, and an offset or `Z`. Returns `None` for any
-// other text.
+// Returns the seconds since 1970-01-01T00:00:00Z of a text with a date, a time, and an offset or `Z`, and otherwise `None`.
 fn seconds_since_1970(text: &str) -> Option<i64> {
     let Ok(record) = IxdtfParser::from_str(text).parse() else {
         return None;
@@ -59,7 +58,7 @@ struct Moment<'a> {
     zone: Option<&'a str>,
 }
 
-// Returns the parts of the text, if it has a date, a time, and an offset or `Z`. Returns `None` for any other text.
+// Returns the parts of a text with a date, a time, and an offset or `Z`, and otherwise `None`.
 fn moment_of<'a>(text: &'a str) -> Option<Moment<'a>> {
     let mut parser = IxdtfParser::from_str(text);
     let Ok(record) = parser.parse() else {
