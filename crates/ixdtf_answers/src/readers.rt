@@ -1,8 +1,8 @@
 //! Writes the answers of the readers, with one function for each reader.
 //!
-//! Each function reads the text and writes the answer. No function `answer_*` is inlined. So the value that a reader returns is in
-//! the stack frame of its own function, and a line does not clear the frames of the other functions. A record is passed by
-//! reference, so that it is not moved.
+//! Each function reads the text and writes the answer. No function for a single reader is inlined. So the value that a reader
+//! returns is in the stack frame of its own function, and a line does not clear the frames of the other functions. A record is
+//! passed by reference, so that it is not moved.
 ghost use Rattle.std.specs.Prelude.{◌≡◌, ◌≤◌, length};
 ghost use Rattle.ixdtf.specs.Views.{parsed_of};
 ghost use Rattle.ixdtf.specs.language.Languages.Found.{parsed};

@@ -204,7 +204,7 @@ fn refuse<'a>(verdict: &mut Verdict<'a>, has_offset: bool, error: LocatedError, 
     });
 }
 
-/// Returns the reason why a text is refused. The reader of the text returned an error.
+/// Returns the reason why a text is refused for which a reader returned an error.
 fn reason_of(has_offset: bool, unread: Unread<'_>) -> Reason<'_>
     requires { unread.error.at ≤ length unread.text.now }
     ensures message { message_in result

@@ -5,13 +5,13 @@ ghost use Rattle.ixdtf_checks.specs.Kinds.{IsNamed, has_offset, instant_kind};
 /// The kind of a text. It decides which reader reads the text.
 #[derive(Clone, Copy, Debug, PartialEq)]
 pub enum Kind {
-    /// `date-time`: a date, or a date and a time, with an offset, a zone and a calendar.
+    /// `date-time`: a date, or a date and a time. An offset may follow the time, and there may be a zone and a calendar.
     DateTime,
-    /// `year-month`: a year and a month, with a zone and a calendar.
+    /// `year-month`: a year and a month. There may be a zone and a calendar.
     YearMonth,
-    /// `month-day`: a month and a day, with a zone and a calendar.
+    /// `month-day`: a month and a day. There may be a zone and a calendar.
     MonthDay,
-    /// `time`: a time, with an offset, a zone and a calendar.
+    /// `time`: a time. There may be an offset, a zone and a calendar.
     Time,
     /// `offset`: an offset from UTC.
     Offset,
@@ -25,7 +25,7 @@ pub enum Kind {
     Rfc3339,
     /// `iana`: the same as `zone-name`.
     Iana,
-    /// `rfc9557`: a date-time of RFC 9557, section 4.1, with a zone and a calendar.
+    /// `rfc9557`: a date-time of RFC 9557, section 4.1. There may be a zone and a calendar.
     Rfc9557,
 }
 

@@ -1,7 +1,7 @@
 //! Makes the lines under a message: a text, and a mark under the position of the error.
 //!
-//! The complete text is tested for UTF-8. Otherwise, only the part that is shown is read: at most 48 characters before the
-//! position, and at most 24 from it on. Each character has at most four bytes.
+//! The complete text is tested for UTF-8. Apart from this test, only the part that is shown is read: at most 48 characters before
+//! the position, and at most 24 from it on. Each character has at most four bytes.
 ghost use Rattle.std.specs.Prelude.{◌≡◌, ◌<◌, ◌≤◌, ◌+◌, ◌∷◌, length, map, take, drop, replicate, slice_index, IsTrue, IsUtf8, false};
 ghost use Rattle.std.specs.Str.{IsAscii, chars};
 ghost use Rattle.ixdtf_grammar.specs.LocatedTexts.{column_of, cut_mark};

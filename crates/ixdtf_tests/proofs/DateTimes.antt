@@ -80,7 +80,7 @@ date_time_rows =
     ++ two (of_date_time (after_field offset_minute_field)) (codes "2024-03-02T08:48:00-05:00") (codes ":30.5") InvalidEnd
     ++ two (of_date_time after_utc) (codes "2024-03-02T08:48:00Z") (codes "[UTC]") InvalidEnd
 
--- These are the rows of `parse_rfc9557`, where brackets may follow.
+-- These are the rows of `parse_rfc9557`. Brackets may follow its date-times.
 abbrev extended_rows : List Example
 extended_rows =
     rows_up_to_the_end

@@ -86,7 +86,7 @@ dates : Compute parse (
     ++ (stands_before_bad (of_date month_range) InvalidMonthRange (codes "2020-13|-01") ∷ [])
     ++ (stands_before_bad (of_date day_range) InvalidDayRange (codes "2020-02-30|") ∷ [])
     ++ stands_before_bad (of_date minus_zero_year) DateExtendedYear (codes "-000000|") ∷ []
-    -- These texts have 128, which is not ASCII. `mask` in `specs/Widths.antt` puts 128 for a bad code unit.
+    -- These texts have 128, which is not ASCII. The definition `mask` replaces a bad code unit by 128.
     ++ (goes_off (of_date year_start) DateYear (codes "|" ++ (128 ∷ []) ++ codes "020-01-01") ∷ [])
     ++ (stands (of_date month_range) InvalidMonthRange (codes "2020-13|-01" ++ (128 ∷ [])) ∷ [])
     ++ (goes_off (of_date after_date) InvalidEnd (codes "2020-01-01|" ++ 128 ∷ []) ∷ [])

@@ -102,7 +102,7 @@ no_repeated_unit : Compute (parse_duration Strict) (
 unfolding all_readings
 no_repeated_unit = refl
 
--- ---- texts that are no duration
+-- ---- texts that are not durations
 
 no_duration : (profile : Profile) → Compute (parse_duration profile) (
     (goes_off (of_duration profile after_duration_sign) DurationDisgnator (codes "-|-P1Y") ∷ [])

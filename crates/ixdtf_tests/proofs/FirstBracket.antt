@@ -47,7 +47,7 @@ brackets : Compute parse (
 unfolding all_readings
 brackets = refl
 
--- ---- texts with another bracket, and whether a first bracket is a zone or a pair
+-- ---- texts in which a bracket has an error, and whether a first bracket is a zone or an annotation
 
 no_bracket : Compute parse (
     map (goes_off (of_bracket first_critical_start) TzLeadingChar) (codes "2020-01-01[!|]" ∷ codes "2020-01-01[!|!UTC]" ∷ [])

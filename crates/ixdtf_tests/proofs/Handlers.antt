@@ -79,7 +79,7 @@ compared_with_the_first =
 none_is_never_refused : NoneRefused (Some (calendar false (codes "a")) ∷ None ∷ None ∷ Some (calendar true (codes "a")) ∷ [])
 none_is_never_refused = all_accepted _ refl
 
--- ---- texts whose pairs reply for themselves
+-- ---- texts that are accepted without a handler
 
 first_of_three_calendars : UnhandledRecord parse (text_of (codes "2020-01-01[u-ca=a][u-ca=b][!u-ca=a]")) (new_year_in (codes "a"))
 unfolding all_readings
@@ -126,7 +126,7 @@ same_calendar_twice =
     unhandled_record (codes "2024-03-02T08:48:00-05:00[u-ca=iso8601][!u-ca=iso8601]") morning
     (calendar false (codes "iso8601") ∷ calendar true (codes "iso8601") ∷ []) refl refl
 
--- ---- texts whose pairs reply for themselves, and that are refused
+-- ---- texts that are refused without a handler
 
 second_calendar_is_critical : UnhandledFault parse (text_of (codes "2020-01-01[u-ca=a][!u-ca=b]")) CriticalDuplicateCalendar
 unfolding all_readings

@@ -87,7 +87,7 @@ tagged critical key value = record { critical = critical; key = key; value = val
 abbrev pub annotated : Option ZoneNote → List Pair → Outcome
 annotated zone pairs = derived (parsed (parsed_with (core_of (Some new_years_day) None None) zone)) pairs
 
--- ---- texts with a mark at a place: `|`, which is no part of them
+-- ---- texts with the mark `|` at a position, which does not belong to the text
 
 abbrev pub before_mark : List ℕ → List ℕ
 before_mark [] = []

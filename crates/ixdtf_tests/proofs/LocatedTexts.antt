@@ -5,7 +5,7 @@ use Rattle.std.specs.Fmt.{digits}
 use Rattle.ixdtf_grammar.specs.table.Faults.Fault.{InvalidMonthRange, AbruptEnd}
 use Rattle.ixdtf_grammar.specs.LocatedTexts.{located_text, pointed_text}
 
--- ---- the error and its place
+-- ---- the error and its position
 
 month_at_five : located_text InvalidMonthRange 5 ≡ codes "Parsed month value not in a valid range. at 5"
 unfolding digits
@@ -15,7 +15,7 @@ end_at_ten : located_text (AbruptEnd (codes "digit")) 10 ≡ codes "Parsing ende
 unfolding digits
 end_at_ten = refl
 
--- ---- the text with a mark under the place
+-- ---- the text with a mark under the position
 
 short : pointed_text (codes "2020-x1") 5 ≡ codes "2020-x1\n     ^"
 unfolding lib.Utf8.encode chars

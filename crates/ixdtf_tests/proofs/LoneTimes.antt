@@ -92,7 +92,7 @@ unfolding all_readings
 times_alone Crate = refl
 times_alone Strict = refl
 
--- ---- texts that are no time, or read as something else
+-- ---- texts that are not times, or that begin like a date
 
 no_time_alone : (profile : Profile) → Compute (parse_time profile) (
     -- These texts begin like a month-day or a year-month.

@@ -74,7 +74,7 @@ each_row_after_times : ShowEachRow parse (full_lines ++ (of_offset after_zulu âˆ
 unfolding all_readings
 each_row_after_times = (refl, refl)
 
--- ---- each row in `parse_offset`, where no bracket may follow
+-- ---- each row in `parse_offset`, after which no bracket may follow
 
 abbrev rows_alone : List Example
 rows_alone =

@@ -28,7 +28,7 @@ each_row_after_a_zone : ShowEachRow parse pair_lines rows_after_a_zone
 unfolding all_readings
 each_row_after_a_zone = (refl, refl)
 
--- ---- each row in a bracket after a pair, which stands whole before it
+-- ---- each row in a bracket after an annotation, which is complete before it
 
 abbrev one_pair : List Pair
 one_pair = tagged false (codes "a") (codes "b") ∷ []
@@ -60,7 +60,7 @@ each_row_in_a_first_bracket : ShowEachRow parse (map of_pair (value_start ∷ in
 unfolding all_readings
 each_row_in_a_first_bracket = (refl, refl)
 
--- ---- pairs
+-- ---- annotations
 
 pairs : Compute parse (
     gives (codes "2020-01-01[a=b][!u-ca=a-1]") (annotated None (tagged false (codes "a") (codes "b") ∷ tagged true (codes "u-ca") (codes "a-1") ∷ []))
@@ -73,7 +73,7 @@ pairs : Compute parse (
 unfolding all_readings
 pairs = refl
 
--- ---- texts with another pair
+-- ---- texts in which an annotation has an error
 
 no_pair : Compute parse (
     (goes_off (of_pair in_value) AnnotationValueChar (codes "2020-01-01[u-ca=iso8601|)") ∷ [])

@@ -77,7 +77,7 @@ fractions : Compute parse (
 unfolding all_readings
 fractions = refl
 
--- ---- texts that are no time
+-- ---- texts that are not times
 
 no_time : Compute parse (
     -- The error is in the hour or in the minute.

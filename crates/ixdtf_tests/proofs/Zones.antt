@@ -35,7 +35,7 @@ each_row_of_names : ShowEachRow parse_iana_identifier (name_lines zone_name_star
 unfolding all_readings
 each_row_of_names = (refl, refl)
 
--- ---- each row in a bracket, of a name that begins as no key may
+-- ---- each row in a bracket, for a name that cannot begin a key
 
 each_row_in_brackets : ShowEachRow parse (of_zone in_zone_name ∷ of_zone after_zone_slash ∷ []) (
     three (of_zone in_zone_name) (codes "2020-04-08[Amer") AnnotationClose (codes "!") IanaChar
@@ -88,7 +88,7 @@ names_in_brackets : Compute parse (
     -- text.
     ++ (goes_off (of_zone in_zone_name) IanaChar (codes "2020-01-01[cet|!]") ∷ [])
     ++ map (goes_off (of_zone after_zone_slash) IanaCharPostSeparator) (codes "2020-01-01[_x/|]" ∷ codes "2020-01-01[a/|/b]" ∷ [])
-    -- This text has 128, which is not ASCII. `mask` in `specs/Widths.antt` puts 128 for a bad code unit.
+    -- This text has 128, which is not ASCII. The definition `mask` replaces a bad code unit by 128.
     ++ goes_off (of_zone in_zone_name) IanaChar (codes "2020-01-01[cet|!" ++ (128 ∷ []) ++ codes "]") ∷ [])
 unfolding all_readings
 names_in_brackets = refl

@@ -26,7 +26,7 @@ pub struct Checking<'n> {
     pub room: [u8; ROOM],
     /// The instant of the last line whose text names one, if it was read for its instant.
     pub last: Option<Instant>,
-    /// The counts so far. The bytes are counted elsewhere.
+    /// The counts so far, without the bytes. `check_lines` adds the number of bytes at the end.
     pub tally: Tally,
 }
 

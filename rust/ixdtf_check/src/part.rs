@@ -66,8 +66,8 @@ fn field_of(field: Field, line: &[u8]) -> Option<Part<'_>> {
 
 /// Returns the index at which the field after `before` other fields begins.
 ///
-/// If many fields come before it, the function counts separators in sixteen bytes at once. If the fields are short, this is faster
-/// than one search for each field.
+/// If many fields come before it, the function counts the separators in sixteen bytes at once. If the fields are short, this is
+/// faster than one search for each field.
 fn field_start(separator: u8, before: usize, line: &[u8]) -> Option<usize> {
     if before < MANY_FIELDS {
         return near_field_start(separator, before, line);

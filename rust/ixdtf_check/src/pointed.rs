@@ -2,8 +2,8 @@
 
 //! Makes the lines under a message: a text, and a mark under the position of the error.
 //!
-//! The complete text is tested for UTF-8. Otherwise, only the part that is shown is read: at most 48 characters before the
-//! position, and at most 24 from it on. Each character has at most four bytes.
+//! The complete text is tested for UTF-8. Apart from this test, only the part that is shown is read: at most 48 characters before
+//! the position, and at most 24 from it on. Each character has at most four bytes.
 
 use ixdtf_buffers::adding::{add_byte, add_bytes};
 use ixdtf_buffers::place::place_of;

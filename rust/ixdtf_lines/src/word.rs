@@ -5,13 +5,13 @@
 /// A word at the beginning of a line. It names a reader, and says what the answer has.
 #[derive(Clone, Copy, Debug, PartialEq)]
 pub enum Word {
-    /// `parse`: a date, or a date and a time, with an offset, a zone and a calendar.
+    /// `parse`: a date, or a date and a time. An offset may follow the time, and there may be a zone and a calendar.
     Parse,
-    /// `year-month`: a year and a month, with a zone and a calendar.
+    /// `year-month`: a year and a month. There may be a zone and a calendar.
     YearMonth,
-    /// `month-day`: a month and a day, with a zone and a calendar.
+    /// `month-day`: a month and a day. There may be a zone and a calendar.
     MonthDay,
-    /// `time`: a time, with an offset, a zone and a calendar.
+    /// `time`: a time. There may be an offset, a zone and a calendar.
     Time,
     /// `offset`: an offset from UTC.
     Offset,
@@ -33,7 +33,7 @@ pub enum Word {
     Rfc3339,
     /// `zone-name`: the same as `iana`.
     ZoneName,
-    /// `rfc9557`: a date-time of RFC 9557, section 4.1, with a zone and a calendar.
+    /// `rfc9557`: a date-time of RFC 9557, section 4.1. There may be a zone and a calendar.
     Rfc9557,
     /// `canonical-offset`: the same as `offset`, but the answer is the canonical text.
     CanonicalOffset,

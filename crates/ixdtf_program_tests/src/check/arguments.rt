@@ -57,7 +57,7 @@ fn takes_options(rt: HostRuntime) {
     assert!(rt; request.is_quiet);
 }
 
-/// Words, and where they name a field.
+/// Words, and the position at which they name a field, if they do.
 const NAMED: &[(&[&str], Option<FieldName>)] = &[
     (&["--header", "--field", "2"], None),
     (
