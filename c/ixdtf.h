@@ -18,7 +18,8 @@
  *
  * RESULTS. A reader is a function that reads a text. A reader returns 0 (IXDTF_OK) if it accepts
  * the text. Otherwise it returns the number of the error, from 1 to 46. If a program ignores the
- * result, a compiler such as GCC or Clang warns.
+ * result, a compiler such as GCC or Clang warns. In this file, "after 0" means: if the function has
+ * returned 0.
  * If a reader returns 0, it has written every field of the record. The fields of a part that the
  * text does not contain are 0, false, or a slice of length 0. The length of `location` and the
  * value of `place` are 0 too.
@@ -150,7 +151,8 @@ enum {
     IXDTF_NOT_PRINTABLE = 101, /* there is no text for which the reader writes this record */
     IXDTF_TOO_SHORT = 102,     /* the array is too short; the length of the text is in `count` */
     IXDTF_NO_INSTANT = 103,    /* the record has no date, no time or no offset */
-    IXDTF_NOT_EXACT = 104      /* the fraction is not known as a whole number of nanoseconds */
+    /* the fraction is not a whole number of nanoseconds, or it has more than 18 digits */
+    IXDTF_NOT_EXACT = 104
 };
 
 /* A slice of bytes that are valid as long as the program runs. It need not be NUL-terminated. */
@@ -261,7 +263,7 @@ typedef struct ixdtf_duration {
     uint8_t fraction_digits; /* as in ixdtf_time */
     uint8_t time_form;       /* one of the four values above */
     bool has_date;           /* true if the text has years, months, weeks or days */
-    bool is_negative;
+    bool is_negative;        /* true if the text begins with - */
     ixdtf_text location;     /* as in ixdtf_record */
     size_t place;            /* as in ixdtf_record */
 } ixdtf_duration;
@@ -422,7 +424,7 @@ IXDTF_CHECKED_ uint32_t ixdtf_print(const ixdtf_record *record, uint8_t *out, si
  * The text always has the last unit of the time, because PT0H and PT0S are different durations. The
  * function returns IXDTF_NOT_PRINTABLE if the duration has neither a date nor a time, if
  * `time_form` has a value that is not named above, or if `fraction` has more digits than
- * `fraction_digits` says.
+ * `fraction_digits` says, or more than 18 digits.
  * If ixdtf_parse_duration wrote the duration for a text of n bytes, a capacity of n bytes is always
  * enough. A capacity of 406 bytes is enough for every duration. */
 IXDTF_CHECKED_ uint32_t ixdtf_print_duration(const ixdtf_duration *duration, uint8_t *out,
@@ -435,7 +437,8 @@ IXDTF_CHECKED_ uint32_t ixdtf_print_duration(const ixdtf_duration *duration, uin
  * the text of a zone as the same zone, except that the zone is not critical.
  * The functions return IXDTF_NOT_PRINTABLE if the `form` of the offset is neither IXDTF_MINUTES nor
  * IXDTF_SECONDS, if the `form` of the zone is neither IXDTF_NAME nor IXDTF_ZONE_OFFSET, if a number
- * is out of range, or if the grammar does not accept the name of the zone.
+ * is out of range, if `fraction` has more digits than `fraction_digits` says, or more than 18
+ * digits, or if the grammar does not accept the name of the zone.
  * If ixdtf_parse_offset or ixdtf_parse_identifier wrote the offset or the zone for a text of n
  * bytes, a capacity of n + 3 bytes is always enough. */
 IXDTF_CHECKED_ uint32_t ixdtf_print_offset(const ixdtf_offset *offset, uint8_t *out, size_t room,
@@ -451,8 +454,9 @@ IXDTF_CHECKED_ uint32_t ixdtf_print_zone(const ixdtf_zone *zone, uint8_t *out, s
  * not say which reader wrote it. The record of the text 11-01 is printed as 11-01 by
  * ixdtf_print_month_day, as 0000-11 by ixdtf_print_year_month, and as 0000-11-01 by ixdtf_print.
  * The functions return IXDTF_NOT_PRINTABLE if there is no text for which the reader writes this
- * record: a part is missing, a part is present that must not be present (such as a date in the
- * record of a time), a `form` has a value that is not named above, or a number is out of range.
+ * record. For example, a part is missing, a part is present that must not be present (such as a
+ * date in the record of a time), a `form` has a value that is not named above, or a number is out
+ * of range.
  * If the reader wrote the record for a text of n bytes, a capacity of n + 12 bytes is always enough
  * for a time, and a capacity of n + 4 bytes for the other two. */
 IXDTF_CHECKED_ uint32_t ixdtf_print_time(const ixdtf_record *record, uint8_t *out, size_t room,
@@ -524,8 +528,8 @@ void ixdtf_error_constant(uint32_t error, ixdtf_text *out);
 
 /* Returns the nanoseconds of a fraction of a second, from 0 to 999999999. The arguments are the
  * fields `fraction` and `fraction_digits`. All digits after the ninth are dropped. If `digits` is
- * 0, the function returns 0. It also returns 0 if the number has more digits than `digits` says,
- * such as 10 with one digit. */
+ * 0, the function returns 0. It also returns 0 if `fraction` has more digits than `digits` says,
+ * such as 10 with one digit, or if it has more than 18 digits. */
 IXDTF_CHECKED_ uint32_t ixdtf_nanoseconds(uint64_t fraction, uint8_t digits);
 
 /* Returns how many seconds local time is ahead of UTC. The number is negative if local time is

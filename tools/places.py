@@ -241,6 +241,9 @@ EXACT_NAME = EXACT_PART + any_number('/' + EXACT_PART)
 EXACT_OFFSET = one(SIGN) + HOUR + ':' + MINUTE
 EXACT_ZONE_BRACKET = OPEN + either(EXACT_NAME, EXACT_OFFSET) + one(CLOSING)
 
+# a bracket with a name of which one part is `.` or `..`
+DOTTED_BRACKET = OPEN + any_number(any_number(one(ZONE_CHAR)) + '/') + r'\.{1,2}' + either('/', one(CLOSING))
+
 
 # ---------------------------------------------------------------------------------------------------------------------------------
 # Durations (GRAMMAR, "Durations").
@@ -606,7 +609,8 @@ READS_AS_PAIR = ahead(UP_TO_EQUALS_OR_CLOSING + one(EQUALS))
 
 
 EXACT_LINES = [
-    whole('first_name_form',     but_not(EXACT_ZONE_BRACKET, OPEN + NAME + one(CLOSING)),          'IanaChar'),
+    whole('first_dots_form',     ahead(DOTTED_BRACKET) + OPEN + NAME + one(CLOSING),               'IanaChar'),
+    whole('first_name_form',     not_ahead(DOTTED_BRACKET) + but_not(EXACT_ZONE_BRACKET, OPEN + NAME + one(CLOSING)), 'IanaChar'),
     whole('first_offset_form',   but_not(EXACT_ZONE_BRACKET, OPEN + MINUTE_OFFSET + one(CLOSING)), 'InvalidMinutePrecisionOffset'),
 ]
 

@@ -1,17 +1,19 @@
--- What the functions promise by which the readers of whole texts read, each as one clause. No clause of a public reader cites
--- this.
+-- The contracts of the private functions that read complete texts, each as one clause. No clause of a public reader refers to
+-- this module.
 use Rattle.std.specs.Prelude.{◌≡◌, ℕ, Bool, true, false, ◌+◌, map, Result, OnOk, IfErr}
 use Rattle.ixdtf_grammar.specs.{language.{Letters.Letter, Readers.Reader, Languages.Parsed}, table.{Faults.Fault, Outcomes.NoRowFits}, Handlers.{Step, replies_of}}
 use Rattle.ixdtf_grammar.specs.{Laws.InNoOther, Places.{HandledToAt, UnhandledFaultAt, UnhandledOnlyPlace}}
 use Rattle.ixdtf_grammar.specs.{Views.{UnreadUnder, unread_of, most_looks, LeavesBehind, returned_by}, Promises.most_looks_beside}
 use Rattle.ixdtf_reading.specs.{declared.stop.StopAt.StopAt, reading.{Chains.{Counting, TextReadTo}, Clauses.{UnhandledForm, fault_of_stop_at}}}
 
--- how many looks a core may cost that its code units do not pay for, by whether the zone behind it has to be exact
+-- The accesses that a core may take beyond those that its code units allow. The first argument says whether a zone after the core
+-- has to be exactly one of RFC 9557.
 abbrev pub core_looks : Bool → ℕ → ℕ
 core_looks true count = 38
 core_looks false count = count + 37
 
--- into a record, which is `found` after `Ok`, with a handler that is left in the state `last`; its replies may cost `spent` accesses beyond those of a reader without one
+-- The function read into a record, which is `found` after `Ok`. The handler is left in the state `last`. Its replies took `spent`
+-- accesses more than a reader without a handler takes.
 pub record ReadsInto {T U F : Type 0} (letter : ℕ → Letter) (number : U → ℕ) (step : Step T U F) (handler last : F)
     (found : Parsed) (reader : Reader) (old : UnreadUnder) (result : Result Unit StopAt) (new : UnreadUnder) : Type 0 where
   pub spent : ℕ
@@ -19,7 +21,7 @@ pub record ReadsInto {T U F : Type 0} (letter : ℕ → Letter) (number : U → 
   pub leaves : LeavesBehind fault_of_stop_at (most_looks old.rest + spent) (unread_of old) result (unread_of new)
   pub profile : new.profile ≡ old.profile
 
--- the same where each pair replies for itself
+-- The function read into a record, with each annotation as its own reply.
 pub record ReadsUnhandled (letter : ℕ → Letter) (found : Parsed) (reader : Reader)
     (old : UnreadUnder) (result : Result Unit StopAt) (new : UnreadUnder) : Type 0 where
   pub form : UnhandledForm reader (map letter old.rest) (returned_by fault_of_stop_at (λ _. found) result)
@@ -28,15 +30,16 @@ pub record ReadsUnhandled (letter : ℕ → Letter) (found : Parsed) (reader : R
   pub leaves : LeavesBehind fault_of_stop_at (most_looks old.rest) (unread_of old) result (unread_of new)
   pub profile : new.profile ≡ old.profile
 
--- with a handler that was borrowed and is left in the state `last`: for the one chain of its calls, which ends there
+-- The function read with a borrowed handler. The one chain of calls of this handler ends in the state `last`.
 pub record HandlesTextTo {T U F X E : Type 0} (letter : ℕ → Letter) (number : U → ℕ) (step : Step T U F) (handler last : F)
     (fault : E → Fault) (stands : ℕ → E → Type 0) (view : X → Parsed) (reader : Reader) (old : UnreadUnder)
     (result : Result X E) (new : UnreadUnder) : Type 0 where
-  -- `Ok` exactly with the record, and `Err` only with the one error at this place, that the text and the replies give
+  -- The result is `Ok` if and only if the text and the replies give the record. It is `Err` only with the error that they give, at its
+  -- position.
   pub handled : HandledToAt number step handler last reader (map letter old.rest) fault stands view result
-  -- `Ok` only where no row of the fault table fits, and where no other text reader has the text
+  -- The result is `Ok` only if no row of the fault table fits the text, and no other text reader accepts it.
   pub no_row : OnOk result (NoRowFits reader (map letter old.rest))
   pub no_other_reader : OnOk result (InNoOther old.profile reader (map letter old.rest))
-  -- nothing to be read after `Ok`, and all of it after an error
+  -- After `Ok`, no input remains. After an error, the input is unchanged.
   pub leaves : LeavesBehind fault (most_looks_beside old.rest (replies_of number handled.plain.calls)) (unread_of old) result (unread_of new)
   pub profile : new.profile ≡ old.profile

@@ -36,13 +36,13 @@ use ixdtf_reading::stop::FromStop;
 /// States that [`IxdtfParser::parse`] accepts every date-time of RFC 3339, section 5.6. Its `T` and `Z` may be
 /// lowercase.
 ///
-/// The law is about texts, and so about sources in every encoding. What it states about a text is the right side of the
-/// clause `ok` of `parse`.
+/// The law is about texts, and so about sources in every encoding. For each of these texts, it states the right side of the
+/// clause `ok` in the contract of `parse`.
 pub fn every_rfc3339_date_time_is_read()
     ensures { EveryDateTimeIsRead }
 {}
 
-/// States that `parse_rfc3339` accepts exactly the date-times of RFC 3339, and that `parse` reads them alike.
+/// States that `parse_rfc3339` accepts exactly the date-times of RFC 3339, and that `parse` returns equal records.
 ///
 /// - `alone`: [`IxdtfParser::parse_rfc3339`] accepts a text exactly if the text is a `date-time` by the productions of
 ///   RFC 3339, section 5.6, with a day that the month has.
@@ -52,12 +52,13 @@ pub fn rfc3339_date_times_are_read_alike()
     ensures same { ParseReadsTheSame }
 {}
 
-/// States that the texts of `parse_rfc9557` lie between those of `parse_rfc3339` and of `parse`, and are read alike.
+/// States that `parse_rfc9557` accepts every text of `parse_rfc3339`, that `parse` accepts every text of `parse_rfc9557`, and
+/// that the records are equal.
 ///
 /// - `dated`: [`IxdtfParser::parse_rfc9557`] accepts each text that [`IxdtfParser::parse_rfc3339`] accepts, and returns an
 ///   equal record.
 /// - `same`: [`IxdtfParser::parse`] accepts each text that [`IxdtfParser::parse_rfc9557`] accepts, and returns an equal
-///   record. This holds for the readers with a handler too, whatever the handler replies, if it replies the same.
+///   record. This is also true for the readers with a handler, if the handler returns the same replies to both.
 pub fn rfc9557_texts_are_read_alike()
     ensures dated { Rfc9557ReadsTheSame }
     ensures same { ParseGivesTheSame }
@@ -105,7 +106,7 @@ pub fn hyphens_say_nothing()
 /// they are the complete annotations before the row. The outcome does not contain the replies of a handler. If a reply
 /// is refused, a reader refuses a text from which the grammar derives a value.
 ///
-/// - `outcome`: this law.
+/// - `outcome`: each text has exactly one outcome in each reader.
 /// - `begins`: if the grammar derives a value from a prefix of the text, the annotations of this prefix are the first
 ///   annotations in the outcome of the text.
 /// - `chain`: a text, its annotations, and the replies to them give at most one result, a record or an error.
@@ -113,7 +114,7 @@ pub fn hyphens_say_nothing()
 /// - `replied`: suppose that a handler decides about each annotation by the annotations so far. Then it is called with
 ///   exactly one list of annotations, and there is exactly one result.
 ///
-/// The contract of each reader has clauses that say this about one call: `no_row` and `only`.
+/// The clauses `no_row` and `only` in the contract of each reader say this about one call.
 pub fn one_outcome()
     ensures outcome { OneOutcome }
     ensures begins { FrontsBegin }
@@ -128,8 +129,8 @@ pub fn one_outcome()
 /// [`IxdtfParser::parse_time`] and [`IsoDurationParser::parse`](crate::parsers::IsoDurationParser::parse).
 ///
 /// The law is about what the grammar derives from a text. So it is also true for the readers with a handler, whatever
-/// the handler replies. The contract of each of these readers says this about a call that returned `Ok`:
-/// `no_other_reader`.
+/// the handler replies. The clause `no_other_reader` in the contract of each of these readers says this about a call that
+/// returned `Ok`.
 pub fn languages_disjoint()
     ensures { LanguagesDisjoint }
 {}
@@ -138,12 +139,12 @@ pub fn languages_disjoint()
 ///
 /// A *bad* number is one outside 1 to 126.
 ///
-/// - A text has exactly one outcome: a value, in which a slice is the list of the numbers of its code units, or an
-///   error.
+/// - A text has exactly one outcome: a value or an error. The law sees a slice in the value as the list of the numbers of
+///   its code units.
 /// - If no number is bad, the 8-bit text and the 16-bit text have the same outcome, and the same errors at the same
 ///   positions.
-/// - If a number is bad, the 16-bit text has an error. It is `NonAsciiCodePoint`, or the error, at its position, of the
-///   8-bit text that has 128 instead of each bad number.
+/// - If a number is bad, the 16-bit text has an error. This error is `NonAsciiCodePoint`, or the error of the 8-bit text
+///   that has 128 instead of each bad number. In the second case, the position is that of the 8-bit text.
 /// - The position of `NonAsciiCodePoint` is that of the first bad number. No 8-bit text has this error.
 pub fn widths_agree()
     ensures one { OneUnhandledOutcome }
@@ -193,10 +194,10 @@ where
     ensures error { IsEqualityBy fault_of ⟦<ParseError as PartialEq>⟧.eq }
 {}
 
-/// States that the default date, time and date units of a duration are 0 in each field. The default time has no
-/// fraction.
+/// States that each number of the default `DateRecord`, `TimeRecord` and `DateDurationRecord` is 0. The default time has
+/// no fraction.
 ///
-/// The default [`IxdtfParseRecord`] is empty: its own contract says so.
+/// The default [`IxdtfParseRecord`] is empty. The contract of its `default` says this.
 pub fn defaults_are_zero()
     ensures date { DefaultIs ⟦<DateRecord as Default>⟧.is_default
         (record { year = pos 0; month = 0; day = 0 }) }
@@ -251,7 +252,7 @@ where
 ///
 /// # Errors
 ///
-/// The errors of [`IxdtfParser::parse`], except `CriticalDuplicateCalendar` and `UnrecognizedCritical`.
+/// Returns the errors of [`IxdtfParser::parse`], except `CriticalDuplicateCalendar` and `UnrecognizedCritical`.
 pub fn parse_unanswered<'a, T: EncodingType, F>(
     parser: &mut IxdtfParser<'a, T>,
     handler: F,

@@ -15,8 +15,8 @@
 //! - [`parsers::Profile`] has stricter rules for months with a day, for times and for durations.
 //!
 //! The grammar is written down. A reader accepts every text of its grammar, unless an annotation must be refused, and
-//! accepts no other text. For any other text it returns one error: that of a written table, or that of a refused
-//! annotation. A reader does not allocate, and returns on every input.
+//! accepts no other text. For every text that it does not accept, a reader returns one error: the error that a written
+//! table has for this text, or the error of a refused annotation. A reader does not allocate, and returns on every input.
 //!
 //! - [`parsers`]: the parsers.
 //! - [`records`]: what they return.

@@ -21,7 +21,7 @@ mod texts;
 mod time_zone_parser;
 mod unhandled;
 
-// These are only for crates of this repository, and not a part of the public interface. `read_lending_handler` is
+// Only crates of this repository use these types. They are not part of the public interface. `read_lending_handler` is
 // generic in them.
 #[doc(hidden)]
 pub use self::cores::{CoreReader, DateTimes, InternetDateTimes, MonthDays, Times, YearMonths};
@@ -30,12 +30,12 @@ pub use ixdtf_durations::duration::IsoDurationParser;
 use ixdtf_grammar::encoding::{EncodingType, Utf8, Utf16};
 pub use ixdtf_grammar::profile::Profile;
 use ixdtf_reading::cursor::Cursor;
-// For the printer.
+// The printer uses this function. It is not part of the public interface.
 #[doc(hidden)]
 pub use ixdtf_reading::classes::is_annotation_value_component;
 #[doc(hidden)]
 pub use ixdtf_reading::stop::FromStop;
-// For the printer.
+// The printer uses this function. It is not part of the public interface.
 #[doc(hidden)]
 pub use ixdtf_times::dates::days_in_month;
 use std::marker::Model;

@@ -6,7 +6,7 @@ use Rattle.std.specs.Io.KnownBytes.{Appends}
 use Rattle.ixdtf_buffers.proofs.LinesLemmas.{taken_on}
 use Rattle.ixdtf_buffers.specs.{declared.{error.RunError.RunError, output.Output.Output}, Output.{AppendsFront, Writes, Sent, written, Puts, joined}}
 
--- A write accepted n of the other bytes.
+-- A write accepted n of the bytes that were not written yet.
 pub wrote_more : (a b c : Option (List ℕ)) (bytes rest : List ℕ) (n : ℕ)
     → (front : List ℕ) × (bytes ≡ front ++ rest) × Appends a b front → Appends b c (take n rest)
     → (front : List ℕ) × (bytes ≡ front ++ take (length rest - n) (drop n rest)) × Appends a c front

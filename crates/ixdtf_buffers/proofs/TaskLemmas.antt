@@ -79,7 +79,7 @@ module _ {T K : Type 0} {step : T → List ℕ → List ℕ → T → Type 0} {c
       let all = handed_on p puts in (is, record { bytes = all.bytes; steps = all.steps; appended = Sent-all all.sent none })
   finished flushed {r = Err e} p none is puts = handed_on p puts
 
-  -- The same for a run between two reads.
+  -- Between two reads, the buffer was written to the sink, or a write failed.
   pub Stands-handed : {r : Result (Unit {0}) RunError} {limit : ℕ} {line : Line limit} {read : List ℕ} → Stands step contents start old new x line read
       → Puts contents failed x y r []
       → MatchResult r (λ _. Stands step contents start old new y line read)

@@ -14,7 +14,7 @@ use crate::place::place_of;
 use crate::sink::Sink;
 use crate::source::Source;
 
-/// A task that handles lines of at most `LIMIT` bytes. It is also told about each longer line.
+/// A task that handles lines of at most `LIMIT` bytes. For each longer line, the task gets `None` instead of the bytes.
 pub trait LineTask<const LIMIT: usize> {
     // A relation of the task before a line, the line, the bytes that the task writes for it, and the task after it.
     ghost step: { Self → List ℕ → List ℕ → Self → Type 0 };

@@ -13,10 +13,13 @@ const LEAST_WRITTEN: usize = 2048;
 /// A sink, and a buffer for the bytes that are not written to it yet.
 ///
 /// If a slice does not fit into the buffer, the buffer is filled with the first bytes of the slice, and at least half of the buffer
-/// is written to the sink. So the buffer can still have up to 2,048 bytes after the write. Suppose that a writer accepts up to some
-/// number of bytes in each write. After the same number of writes, it has not received less than if the complete buffer were written
-/// before each slice that does not fit. A test checks this, and no contract says it. Bytes stay in the buffer until `hand_on` or
-/// `finish` is called.
+/// is written to the sink. So the buffer can still have up to 2,048 bytes after the write.
+///
+/// Compare this with an output that writes its complete buffer before each slice that does not fit. Suppose that a writer accepts
+/// up to some number of bytes in each write. After the same number of writes, it has received at least as many bytes from this output
+/// as from the other one. A test checks this comparison, and no contract states it.
+///
+/// Bytes stay in the buffer until `hand_on` or `finish` is called.
 #[derive(Drop)]
 pub struct Output<'k, K> {
     sink: &'k mut K,

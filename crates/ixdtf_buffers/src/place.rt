@@ -35,8 +35,8 @@ fn place_in_few(wanted: u8, bytes: &[u8]) -> Option<usize>
 
 /// Does the work of `place_of` for at least `LANES` bytes.
 ///
-/// The last comparison takes the last `LANES` bytes, some of which can have been compared before. A search byte by byte takes
-/// five instructions for each byte, which was a third of the work on a line.
+/// The last comparison takes the last `LANES` bytes, some of which can have been compared before. A search byte by byte would
+/// take five instructions for each byte, a third of the work on a line.
 #[inline(always)]
 fn place_in_many(wanted: u8, bytes: &[u8]) -> Option<usize>
     requires { 16 ≤ length bytes.now }
@@ -81,7 +81,7 @@ pub struct Passed {
 
 /// Skips bytes up to the byte number `count` that is equal to `wanted`, as far as this is possible in steps of `LANES` bytes.
 ///
-/// It stops before a step that contains this byte, and if fewer than `LANES` bytes are left.
+/// The function stops before a step that contains this byte. It also stops if fewer than `LANES` bytes are left.
 pub fn pass_many(wanted: u8, count: usize, bytes: &[u8]) -> Passed
     ensures within { result.place ≤ length bytes.now }
     ensures passed { result.left + count_by (is_byte wanted) (take result.place bytes.now) ≡ count }

@@ -13,7 +13,8 @@ pub trait Source {
     // What is known after a read failed.
     ghost failed: { Self → Type 0 };
 
-    /// Reads bytes into the beginning of `input`, and returns how many. Returns 0 at the end, or if `input` is empty.
+    /// Reads bytes into the beginning of `input`, and returns their number. Returns 0 at the end of the source, or if `input` is
+    /// empty.
     ///
     /// Returns `RunError::Read` if the read fails.
     fn read_some(&mut self, input: &mut [u8]) -> Result<usize, RunError>

@@ -1,4 +1,4 @@
--- From what a reader ensures to what an exported function ensures.
+-- The contract of a reader of the library gives the contract of a function for C.
 use Rattle.std.proofs.{Common.{◌≡◌, ◌↔◌, ℕ, List, map, Result, Ok, Err, IfErr, OnOk, refl, sym, ap, ◌∙◌}, lemmas.Simd.map-map}
 use Rattle.ixdtf_grammar.specs.declared.{located.LocatedError.LocatedError, profile.Profile.Profile, records.DurationParseRecord.DurationParseRecord}
 use Rattle.ixdtf.specs.{table.{ErrorEquality.location_of, Faults.{fault_of_located, stands_behind}}, Views.{Unread, returned_by}, Laws.InNoOther, Promises.ReadsPartAt}
@@ -6,11 +6,11 @@ use Rattle.ixdtf.specs.language.{Languages.{Parsed, Found, Found.lasting}, Lette
 use Rattle.ixdtf_c.specs.Crossing.{Contents, DurationContents, Gives, GivesDuration, record_for, duration_for}
 use Rattle.ixdtf_c.specs.{Located.{FaultAt, HasOutcome, fault_at, returned_at}, Numbers.number_for, Outcomes.{ReadsPart, GivesPart, GivesLasting}}
 
--- an equation of values beside errors of another type
+-- Two results with equal values are equal, also if the errors have another type.
 pub same_ok : {X E F : Type 0} (x y : X) → ◌≡◌ {A = Result X E} (Ok x) (Ok y) → ◌≡◌ {A = Result X F} (Ok x) (Ok y)
 same_ok x y is = let same : x ≡ y = cc in λ i. Ok (same i)
 
--- a value is seen alike with and without the place of an error
+-- A result has the same value with and without the position of an error.
 crossed_found : {X Y : Type 0} (view : X → Y) (r : Result X LocatedError) (found : Y) (P : Type 0)
     → (returned_by fault_of_located view r ≡ Ok found) ↔ P → (returned_at view r ≡ Ok found) ↔ P
 crossed_found view (Ok x) found P both = (
@@ -22,18 +22,18 @@ crossed_found view (Err e) found P both = (
   λ p. let is : Err (fault_of_located e) ≡ Ok found = both.1 p in absurd cc,
 )
 
--- what holds of each error holds of the fault and the place that are seen
+-- A statement about each error is true of the error and the position in the outcome.
 crossed_err : {X Y : Type 0} (Q : FaultAt → Type 0) (view : X → Y) (r : Result X LocatedError)
     → IfErr r (λ e. Q (fault_at e)) → (e : FaultAt) → returned_at view r ≡ Err e → Q e
 crossed_err Q view (Ok x) holds e is = absurd cc
 crossed_err Q view (Err located) holds e is = let same : fault_at located ≡ e = cc in rw (← same) holds
 
--- what holds where a reader succeeds holds where its outcome does
+-- A statement that is true if a reader succeeds is true if its outcome is `Ok`.
 crossed_ok : {X Y : Type 0} (P : Type 0) (view : X → Y) (r : Result X LocatedError) → OnOk r P → OnOk (returned_at view r) P
 crossed_ok P view (Ok x) holds = holds
 crossed_ok P view (Err e) holds = tt
 
--- what a call returned and wrote is that of what a reader returned
+-- The number and the record of a function for C are the ones for the result of the reader.
 module _ {X A : Type 0} (alone : A → Parsed) (view : X → A) (r : Result X LocatedError) (old : Contents) {new : Contents} where
   gives_ok : {x : X} → r ≡ Ok x → new ≡ record_for (alone (view x)) → Gives alone (returned_at view r) 0 old new
   gives_ok is written = rw is (refl, written)
@@ -42,13 +42,13 @@ module _ {X A : Type 0} (alone : A → Parsed) (view : X → A) (r : Result X Lo
       → new ≡ record old { location = location_of (fault_of_located e); place = e.at } → Gives alone (returned_at view r) number old new
   gives_err is named written = rw is (named, written)
 
--- the outcome of a reader whose errors tell their places
+-- The outcome of a reader whose errors have positions.
 outcome_is : {X : Type 0} (view : X → Parsed) (r : Result X LocatedError) {outcome : Result Parsed FaultAt}
     → HasOutcome fault_of_located stands_behind view r outcome → outcome ≡ returned_at view r
 outcome_is view (Ok x) has = has
 outcome_is view (Err e) (at, there, is) = is ∙ λ i. Err (record { fault = fault_of_located e; at = sym there i })
 
--- what is said of it is said of what is returned and written
+-- A statement about this outcome is a statement about what the function for C returns and writes.
 module _ {X : Type 0} (view : X → Parsed) (r : Result X LocatedError) {Says : Result Parsed FaultAt → Type 0}
     (read : (outcome : Result Parsed FaultAt) × HasOutcome fault_of_located stands_behind view r outcome × Says outcome)
     (old : Contents) {new : Contents} where
@@ -63,7 +63,7 @@ module _ {X : Type 0} (view : X → Parsed) (r : Result X LocatedError) {Says : 
   outcome_err is named written = let (outcome, has, says) = read in
       (outcome, says, rw (outcome_is view r has) (gives_err (λ found. found) view r old is named written))
 
--- A reader had the code units of the text to read, and this is what it says of what it returned.
+-- A reader had the code units of the text to read. Its contract gives the contract of the function for C.
 module _ {U X A : Type 0} {letter : ℕ → Letter} (number : U → ℕ) (units : List U) {view : X → A} {part : A → Found} {reader : Reader}
     {parser after : Unread} {r : Result X LocatedError}
     (reads : ReadsPartAt letter view part reader parser r after) (rest : parser.rest ≡ map number units) where
@@ -89,7 +89,7 @@ module _ {U X A : Type 0} {letter : ℕ → Letter} (number : U → ℕ) (units 
         → GivesPart reader part alone (map (λ unit. letter (number unit)) units) count old new
     part_err is named written = (returned_at view r, reads_part, gives_err alone view r old is named written)
 
--- the same of a duration
+-- The contract of the reader of durations gives the contract of the function for C.
 module _ {U : Type 0} {letter : ℕ → Letter} (number : U → ℕ) (units : List U) {given profile : Profile} {parser after : Unread}
     {r : Result DurationParseRecord LocatedError} (old : DurationContents) {new : DurationContents}
     (reads : ReadsPartAt letter (λ duration. duration) lasting (parse_duration given) parser r after)

@@ -1,4 +1,4 @@
--- A handler that is asked about annotations in turn, and whose replies are handed over.
+-- A handler is called for annotations in order, and its replies are passed to `ixdtf_reply`.
 use Rattle.std.proofs.Common.{◌≡◌, ◌≢◌, ◌≤◌, ℕ, List, [], ◌∷◌, ◌++◌, length, map, take, drop, get_or, ◌<◌, ◌+◌, Option, None, Result, Ok, Err, refl, sym, ◌∙◌}
 use Rattle.std.proofs.{Common.{ap, inl, arith, option_map, Bool, true, false}, SliceLists.chained_more}
 use Rattle.std.proofs.lemmas.List.{map-append, length-append, take_more, take-append-drop, length-map}
@@ -11,15 +11,15 @@ use Rattle.ixdtf_c.specs.{Crossing.{Contents, Gives, units_for, is_there}, Listi
 use Rattle.ixdtf_c.specs.{Standing.where_there, Turns.{HandsOver, InTurn, place_in, StandsAs}, Numbers.number_for}
 use Rattle.ixdtf_c.proofs.{Numbers.{number_some, nowhere}, Replying.{overwritten-front, gives_all, front_of}}
 
--- ---- annotations in turn
+-- ---- Annotations in order.
 
--- the annotations up to one, and this one
+-- The first `i + 1` annotations are the first `i` annotations and the next one.
 pub taken_more : {A : Type 0} (view : A → Pair) (annotations : List A) (i : ℕ) (d : A) → i < length annotations
     → map view (take (i + 1) annotations) ≡ map view (take i annotations) ++ view (get_or annotations i d) ∷ []
 taken_more view annotations i d less =
     ap (map view) (take_more annotations i d less) ∙ map-append view (take i annotations) (get_or annotations i d ∷ [])
 
--- and these behind it are all
+-- All annotations are the first `i + 1` annotations and the others.
 pub taken_split : {A : Type 0} (view : A → Pair) (annotations : List A) (i : ℕ) (d : A) → i < length annotations
     → map view annotations ≡ (map view (take i annotations) ++ view (get_or annotations i d) ∷ []) ++ map view (drop (i + 1) annotations)
 taken_split view annotations i d less =
@@ -27,7 +27,7 @@ taken_split view annotations i d less =
     ∙ ap (λ front. front ++ map view (drop (i + 1) annotations)) (taken_more view annotations i d less)
 
 module _ {T U F : Type 0} (number : U → ℕ) (step : Step T U F) (handler : F) where
-  -- it was asked about these, none of its replies was refused, and this calendar is kept
+  -- The handler was called for these annotations, none of its replies was refused, and this calendar is kept.
   pub record SoFar (state : F) (pairs : List Pair) (kept : Option Pair) : Type 0 where
     pub calls : Calls T U
     pub chain : IsChain step handler calls state
@@ -38,7 +38,7 @@ module _ {T U F : Type 0} (number : U → ℕ) (step : Step T U F) (handler : F)
   pub so_far_none : (kept : Option Pair) → kept ≡ None → SoFar handler [] kept
   so_far_none kept none = record { calls = []; chain = refl; asked = refl; accepted = NoneRefused-nothing; first = none }
 
-  -- it is asked about one more
+  -- The handler is called for one more annotation.
   module _ {state : F} {pairs : List Pair} {kept : Option Pair} {annotation : Annotation T U} {reply : Option (Annotation T U)} {next : F}
       (so_far : SoFar state pairs kept) (called : step state annotation reply next) where
     more_calls : Calls T U
@@ -69,7 +69,7 @@ module _ {T U F : Type 0} (number : U → ℕ) (step : Step T U F) (handler : F)
           ∙ sym (first_calendar-more (replies_of number so_far.calls) (option_map (pair_of number) reply)) ∙ ap first_calendar (sym more_replies);
     }
 
-    -- its reply is refused, before these
+    -- The reply is refused, and the annotations `behind` follow.
     pub refused_in_turn : {new : Option Pair} {result : ℕ} (all behind : List Pair) → HandsOver kept new (option_map (pair_of number) reply) result → result ≢ 0
         → all ≡ (pairs ++ pair_of number annotation ∷ []) ++ behind → InTurn number step handler next all new result
     refused_in_turn {new} all behind over refused is = record {
@@ -92,9 +92,9 @@ module _ {T U F : Type 0} (number : U → ℕ) (step : Step T U F) (handler : F)
       );
     }
 
--- ---- the outcome
+-- ---- The outcome.
 
--- a record gets the calendar that is kept
+-- The record gets the calendar that was kept.
 pub kept_given : (number : ℕ) (old new : Contents) (listed : Result Parsed FaultAt) (kept : Option Pair) (units : List ℕ) (there : Bool)
     → Gives (λ found. found) listed number old new → number ≡ 0 → units ≡ units_for (calendar_value kept) → there ≡ is_there (calendar_value kept)
     → Gives (λ found. found) (with_kept kept listed) number old (record new { calendar = units; has_calendar = there })
@@ -105,24 +105,24 @@ pub there_kept : (there : Bool) (pair : Pair) → there ≡ is_there (calendar_v
 there_kept true pair = refl
 there_kept false pair = refl
 
--- with the calendar that is kept and without the place of a fault, in either order
+-- The calendar can be added before or after the position of an error is dropped.
 unplaced_kept : (kept : Option Pair) (listed : Result Parsed FaultAt) → unplaced (with_kept kept listed) ≡ with_kept kept (unplaced listed)
 unplaced_kept kept (Ok found) = refl
 unplaced_kept kept (Err e) = refl
 
--- a refusal is kept
+-- The calendar does not change an outcome that is an error.
 pub kept_refused : (number : ℕ) (old new : Contents) (listed : Result Parsed FaultAt) (kept : Option Pair)
     → Gives (λ found. found) listed number old new → number ≢ 0 → Gives (λ found. found) (with_kept kept listed) number old new
 kept_refused number old new (Ok found) kept given some = absurd (some given.0)
 kept_refused number old new (Err e) kept given some = given
 
--- the record of a refused reply has no location, and this place
+-- If a reply is refused, the location in the record is empty, and the position is this one.
 pub refused_given : (number at : ℕ) (old : Contents) (replies : List Reply) (fault : Fault) → number ≡ number_for fault → LastRefused replies fault
     → Gives (λ found. found) (Err (record { fault = fault; at = at })) number old (record old { location = []; place = at })
 refused_given number at old replies fault named last =
     (named, λ i. record old { location = sym (nowhere (first_calendar last.earlier) last.reply fault last.refused) i; place = at })
 
--- the place that a reader wrote
+-- The position that a reader wrote is the one of its outcome.
 pub place_listed : (number : ℕ) (old new : Contents) (listed : Result Parsed FaultAt) → Gives (λ found. found) listed number old new
     → new.place ≡ place_in listed
 place_listed number old new (Ok found) given = ap (λ it. it.place) given.1
@@ -132,7 +132,7 @@ pub stands_kept : (kept : Option Pair) (listed : Result Parsed FaultAt) → Stan
 stands_kept kept (Ok found) = tt
 stands_kept kept (Err e) = refl
 
--- where the annotations were listed with room for all, and the handler was asked about them in turn, this is what a form with a handler says
+-- All annotations were listed, and the handler was called for them in order. Then the contract of a reader with a handler is true.
 module _ {T U F A : Type 0} {number : U → ℕ} {step : Step T U F} {handler last : F} {view : A → Pair} {profile : Profile} {kind : CoreKind}
     {text : Text} {old new : List A} {count result : ℕ} {listed : Result Parsed FaultAt} {kept : Option Pair}
     (listing : Lists view profile (bracketed kind) text old new count listed) (room : count ≤ length old)
@@ -140,13 +140,13 @@ module _ {T U F A : Type 0} {number : U → ℕ} {step : Step T U F} {handler la
   shown : map view (take count new) ≡ map view listing.annotations
   shown = ap (map view) (rw (listing.counted, listing.written) (overwritten-front old listing.annotations (rw (← listing.counted) room)))
 
-  -- none of its replies was refused
+  -- None of the replies was refused.
   pub handled_all : result ≡ 0 → Handled number step handler (bracketed kind) text (unplaced (with_kept kept listed))
   handled_all zeroed = rw (unplaced_kept kept listed) (handled_of number step handler (bracketed kind) text (with_kept kept (unplaced listed)) turns.calls last turns.chain
       (rw (turns.first zeroed, turns.all zeroed ∙ shown)
       (gives_all profile kind text (map view listing.annotations) listed (replies_of number turns.calls) listing.read (turns.accepted zeroed))))
 
-  -- the last of its replies was refused
+  -- The last of the replies was refused.
   pub handled_refused : (fault : Fault) → LastRefused (replies_of number turns.calls) fault → Handled number step handler (bracketed kind) text (Err fault)
   handled_refused fault stop =
       let (behind, is) = turns.asked in

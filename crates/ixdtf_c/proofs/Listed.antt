@@ -1,4 +1,4 @@
--- From a chain of calls that list annotations to what a listing says of a text.
+-- A chain of calls, each of which lists an annotation, gives the contract of a reader that lists annotations.
 use Rattle.std.proofs.Common.{◌≡◌, ◌↔◌, ℕ, ◌+◌, ◌*◌, ◌≤◌, min, List, [], ◌∷◌, ◌++◌, length, slice_set, map, Option, None, option_map, Result, Ok, Err, OnOk, refl}
 use Rattle.std.proofs.{Common.{sym, ◌∙◌, ap, subst, inl, inr, arith}, lemmas.List.{append-nil, append_assoc, length-append, length-map}}
 use Rattle.ixdtf_grammar.specs.declared.{profile.Profile.Profile, records.Annotation.Annotation}
@@ -11,13 +11,13 @@ use Rattle.ixdtf_reading.proofs.theorems.{OneOutcome.place_once, OnlyOutcome.onl
 use Rattle.ixdtf_c.specs.{Listing.{PassesOver, overwritten, Lists}, Located.{FaultAt, HasOutcome}}
 use Rattle.ixdtf_c.proofs.Crossed.{same_ok}
 
--- ---- what is written
+-- ---- What is written.
 
 overwritten-none : {A : Type 0} (slots : List A) → overwritten slots [] ≡ slots
 overwritten-none [] = refl
 overwritten-none (slot ∷ slots) = refl
 
--- one more item
+-- One more item is written.
 overwritten-more : {A : Type 0} (slots items : List A) (item : A)
     → slice_set (overwritten slots items) (length items) item ≡ overwritten slots (items ++ (item ∷ []))
 overwritten-more [] [] item = refl
@@ -25,7 +25,7 @@ overwritten-more [] (first ∷ items) item = refl
 overwritten-more (slot ∷ slots) [] item = ap (λ rest. item ∷ rest) (sym (overwritten-none slots))
 overwritten-more (slot ∷ slots) (first ∷ items) item = ap (λ rest. first ∷ rest) (overwritten-more slots items item)
 
--- ---- replies of none
+-- ---- Replies that are `None`.
 
 unrefused : {A : Type 0} (calls : List A) (earlier later : List Reply) (reply : Reply) (fault : Fault) → nones calls ≡ earlier ++ reply ∷ later
     → ¬ (RefusedBeside (first_calendar earlier) reply fault)
@@ -38,7 +38,7 @@ nones_accepted calls = record { none = λ earlier later reply fault split. unref
 nones_not_last : {A : Type 0} (calls : List A) (fault : Fault) → ¬ (LastRefused (nones calls) fault)
 nones_not_last calls fault last = unrefused calls last.earlier [] last.reply fault last.split last.refused
 
--- what is derived has no calendar yet
+-- The record that the grammar derives has no calendar. Only replies add one.
 no_calendar : (kind : CoreKind) (text : Text) (found : Parsed) (pairs : List Pair) → Derives (bracketed kind) text (parsed found) pairs → found.calendar ≡ None
 no_calendar kind text found pairs (as_parsed whole) = ap (λ read. read.calendar) whole.has
 
@@ -46,7 +46,7 @@ without_calendar : (found : Parsed) → found.calendar ≡ None → found ≡ wi
 without_calendar found none = λ i. record { date = found.date; time = found.time; offset = found.offset; zone = found.zone; calendar = none i }
 
 module _ (kind : CoreKind) (text : Text) where
-  -- a record that the text gives with replies of none is the one that is derived
+  -- If every reply is `None`, the record that the text gives is the one that the grammar derives.
   given : {A : Type 0} (calls : List A) (pairs : List Pair) (found : Parsed) → GivesRecord (bracketed kind) text pairs (nones calls) found
       → Derives (bracketed kind) text (parsed found) pairs
   given calls pairs found gives =
@@ -65,7 +65,7 @@ module _ (kind : CoreKind) (text : Text) where
         ∙ ap (λ first. with_calendar found (calendar_value first)) (sym (first_calendar-nones calls));
   }
 
-  -- the outcome of replies of none
+  -- The outcome if every reply is `None`.
   passes_over : {A : Type 0} (profile : Profile) (calls : List A) (pairs : List Pair) (outcome : Result Parsed FaultAt)
       → ((found : Parsed) → (outcome ≡ Ok found) ↔ GivesRecord (bracketed kind) text pairs (nones calls) found)
       → ((e : FaultAt) → outcome ≡ Err e → GivesFaultAt (bracketed kind) text pairs (nones calls) e.fault e.at)
@@ -94,7 +94,7 @@ module _ (kind : CoreKind) (text : Text) where
     | inr p ↦ let (row, fits, has, there) = p.0 in inr ((row, fits, has), p.1)
   ]
 
-  -- five code units for each pair
+  -- The text has at least five code units for each annotation.
   few : {A : Type 0} (calls : List A) (pairs : List Pair) (outcome : Result Parsed FaultAt)
       → ((found : Parsed) → (outcome ≡ Ok found) ↔ GivesRecord (bracketed kind) text pairs (nones calls) found)
       → ((e : FaultAt) → outcome ≡ Err e → GivesFaultAt (bracketed kind) text pairs (nones calls) e.fault e.at)
@@ -102,7 +102,7 @@ module _ (kind : CoreKind) (text : Text) where
   few calls pairs (Ok found) ok err = derived_few kind text (parsed found) pairs (given calls pairs found ((ok found).0 refl))
   few calls pairs (Err e) ok err = gives_few kind text pairs (nones calls) e.fault (without_place (err e refl))
 
--- what a listing says of slots and a count that are what it left
+-- The statement about a list is also true of an array and a count that are equal to those of the list.
 pub lists_left : {A : Type 0} {view : A → Pair} {profile : Profile} {reader : Reader} {text : Text} {old new slots : List A} {count number : ℕ}
     {outcome : Result Parsed FaultAt}
     → slots ≡ new → number ≡ count → Lists view profile reader text old new count outcome → Lists view profile reader text old slots number outcome
@@ -114,13 +114,13 @@ pub slots_left : {A : Type 0} {view : A → Pair} {profile : Profile} {reader : 
     → (outcome : Result Parsed FaultAt) × Has outcome × Lists view profile reader text old slots count outcome
 slots_left same (outcome, has, listing) = (outcome, has, lists_left same refl listing)
 
--- there are five code units for each pair that is passed over
+-- The text has at least five code units for each annotation that is dropped.
 passed_few : (profile : Profile) (kind : CoreKind) (text : Text) (pairs : List Pair) (outcome : Result Parsed FaultAt)
     → PassesOver profile (bracketed kind) text pairs outcome → 5 * length pairs ≤ length text
 passed_few profile kind text pairs (Ok found) passes = derived_few kind text (parsed found) pairs ((passes.ok found).0 refl)
 passed_few profile kind text pairs (Err e) passes = let (row, fits, has, there) = passes.err e refl in fault_few kind text pairs e.fault (row, fits, has)
 
--- and for each annotation that is listed
+-- The text has at least five code units for each annotation that is listed.
 pub annotations_few : {A : Type 0} {view : A → Pair} {profile : Profile} {kind : CoreKind} {old new : List A} {count : ℕ}
     {Has : Result Parsed FaultAt → Type 0} (letter : ℕ → Letter) (units : List ℕ)
     → (outcome : Result Parsed FaultAt) × Has outcome × Lists view profile (bracketed kind) (map letter units) old new count outcome
@@ -129,16 +129,16 @@ annotations_few {view = view} {profile = profile} {kind = kind} letter units (ou
     let few = passed_few profile kind (map letter units) (map view listing.annotations) outcome listing.read in
     omega (arith, few, listing.counted, length-map units letter, length-map listing.annotations view)
 
--- ---- a chain of calls that list
+-- ---- A chain of calls that list annotations.
 
--- each call replies none, writes an item to its slot that is its annotation, and counts it
+-- Each call returns the reply `None`, writes the annotation to the next element of the array, and counts the annotation.
 abbrev pub ListsEach : {T U A F : Type 0} → (U → ℕ) → (A → Pair) → Step T U F → (F → ℕ) → (F → List A) → ℕ → Type 0
 ListsEach {T} {U} {A} {F} number view step count slots limit =
     (state : F) (annotation : Annotation T U) (reply : Option (Annotation T U)) (next : F) → step state annotation reply next
     → (reply ≡ None) × (count next ≡ min (count state + 1) limit)
     × (item : A) × (view item ≡ pair_of number annotation) × (slots next ≡ slice_set (slots state) (count state) item)
 
--- what each call keeps is kept by all of them
+-- If each call leaves a value unchanged, the chain of calls leaves it unchanged.
 pub kept : {T U F X : Type 0} (step : Step T U F) (name : F → X)
     → ((state : F) (annotation : Annotation T U) (reply : Option (Annotation T U)) (next : F) → step state annotation reply next → name next ≡ name state)
     → (calls : Calls T U) (state last : F) → IsChain step state calls last → name state ≡ name last
@@ -154,7 +154,7 @@ module _ {T U A F : Type 0} (number : U → ℕ) (view : A → Pair) (step : Ste
       let head = (each state call.0 call.1 next stepped).0 in
       let tail = replies_none calls next last chain in λ i. option_map (pair_of number) (head i) ∷ tail i
 
-  -- with these items written before
+  -- The items `before` were written first. The calls write the others after them.
   listed : (old : List A) (calls : Calls T U) (state last : F) → IsChain step state calls last → (before : List A)
       → count state ≡ length before → slots state ≡ overwritten old before → length before + length calls ≤ limit
       → (items : List A) × (map view items ≡ handed number calls)
@@ -171,7 +171,7 @@ module _ {T U A F : Type 0} (number : U → ℕ) (view : A → Pair) (step : Ste
       let whole : more ++ items ≡ before ++ (item ∷ items) = append_assoc before (item ∷ []) items in
       (item ∷ items, (λ i. seen i ∷ shown i), rw (← whole) counted_all, rw (← whole) written_all)
 
-  -- what a form with a handler that lists says
+  -- The contract of a reader with a handler that lists the annotations.
   pub lists : (profile : Profile) (kind : CoreKind) (text : Text) (state last : F)
       → {X E : Type 0} (named : E → Fault) (stands : ℕ → E → Type 0) (seen : X → Parsed) (result : Result X E)
       → HandledToAt number step state last (bracketed kind) text named stands seen result
@@ -185,7 +185,7 @@ module _ {T U A F : Type 0} (number : U → ℕ) (view : A → Pair) (step : Ste
           → replies_of number h.plain.calls ≡ nones h.plain.calls
       none h = replies_none h.plain.calls state last h.plain.chain
 
-      -- with this outcome, of the calls that were made
+      -- The list of the calls that were made, with this outcome.
       listing : {r : Result X E} (h : HandledToAt number step state last (bracketed kind) text named stands seen r) (outcome : Result Parsed FaultAt)
           → ((found : Parsed) → (outcome ≡ Ok found) ↔ GivesRecord (bracketed kind) text (handed number h.plain.calls) (nones h.plain.calls) found)
           → ((e : FaultAt) → outcome ≡ Err e → GivesFaultAt (bracketed kind) text (handed number h.plain.calls) (nones h.plain.calls) e.fault e.at)

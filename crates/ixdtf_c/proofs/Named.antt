@@ -1,11 +1,11 @@
--- The name at the place of a number, with a zero behind it.
+-- The name at the index of a number, with a NUL after it.
 use Rattle.std.proofs.Common.{◌≡◌, ℕ, ◌≤◌, List, [], ◌∷◌, ◌++◌, map, get_or, ◌∙◌, arith}
 use Rattle.std.proofs.Math.ListN.{get_or-map}
 use Rattle.std.proofs.lemmas.List.{get_or_default}
 use Rattle.std.proofs.lemmas.Bool.{le-leb}
 use Rattle.ixdtf_c.specs.Names.{names, name_of}
 
--- a name with a zero behind it
+-- A name with a NUL after it.
 abbrev pub ended : List ℕ → List ℕ
 ended name = name ++ 0 ∷ []
 

@@ -14,7 +14,7 @@ use Rattle.ixdtf_reading.proofs.theorems.Replies.{refused_split}
 use Rattle.ixdtf.specs.table.ErrorEquality.{location_of}
 use Rattle.ixdtf_c.specs.Numbers.{number_for}
 
--- the errors in the order of their numbers, from 1 on
+-- The errors with the numbers 1 to 46, in order.
 abbrev faults_at : List ℕ → List Fault
 faults_at location =
     ImplAssert ∷ NonAsciiCodePoint ∷ ParseFloat ∷ AbruptEnd location ∷ InvalidEnd
@@ -31,7 +31,7 @@ faults_at location =
 pub number_some : (fault : Fault) → number_for fault ≢ 0
 number_some fault is = omega (arith, is)
 
--- the numbers from one on
+-- The list of `n` numbers that begins at `from`.
 counted : ℕ → ℕ → List ℕ
 counted from zero = []
 counted from (suc n) = from ∷ counted (from + 1) n
@@ -42,14 +42,14 @@ counted_at from zero i d less = absurd (omega (arith, less))
 counted_at from (suc n) zero d less = omega arith
 counted_at from (suc n) (suc i) d less = counted_at (from + 1) n i d (omega (arith, less)) ∙ omega arith
 
--- the error at the place of a number has that number
+-- The error at the index `number - 1` has this number.
 pub numbered : (number : ℕ) (other : Fault) → 1 ≤ number → number ≤ 46 → number_for (get_or (faults_at []) (number - 1) other) ≡ number
 unfolding counted
 numbered number other from to =
     let at : number_for (get_or (faults_at []) (number - 1) other) ≡ get_or (counted 1 46) (number - 1) (number_for other) = rw (← get_or-map number_for) refl in
     at ∙ counted_at 1 46 (number - 1) (number_for other) (omega (arith, from, to)) ∙ omega (arith, from)
 
--- a reply that is refused is so without a location
+-- The error of a refused reply has no location.
 pub nowhere : (first : Option Pair) (reply : Reply) (fault : Fault) → RefusedBeside first reply fault → location_of fault ≡ []
 nowhere first reply fault refused = elim (refused_split first reply fault refused) [
   | inl p ↦ ap location_of p.0

@@ -1,10 +1,10 @@
--- Fractions of a unit of so many seconds, in nanoseconds.
+-- Fractions of a duration unit of `seconds` seconds, in nanoseconds.
 use Rattle.std.proofs.Common.{◌≡◌, ◌≢◌, ℕ, ◌+◌, ◌-◌, ◌*◌, ◌/◌, ◌%◌, ◌^◌, ◌<◌, ◌≤◌, Option, Some, None, IfSome, IfNone, sym, ap, ◌∙◌, arith}
 use Rattle.std.proofs.lemmas.Nat.{div-add-mod', mul-mod_first, pow-add}
 use Rattle.std.proofs.Math.Nat.{mul-mod_left, mul-le-mul_right, one-le-pow, pow-le-pow_right}
 use Rattle.ixdtf_c.specs.Computed.{AreExactly}
 
--- ---- division in two parts
+-- ---- The quotient and the remainder are multiplied separately.
 
 pub whole_part : (value divisor seconds : ℕ) → (value % divisor * seconds) % divisor ≡ 0
     → (value / divisor * seconds + value % divisor * seconds / divisor) * divisor ≡ value * seconds
@@ -19,7 +19,7 @@ pub no_part : (value divisor seconds n : ℕ) → n * divisor ≡ value * second
 no_part value divisor seconds n is =
     mul-mod_first value seconds divisor ∙ ap (λ x. x % divisor) (sym is) ∙ mul-mod_left n divisor
 
--- ---- up to nine digits
+-- ---- Fractions of at most nine digits.
 
 module _ (value digits seconds power : ℕ) (few : digits ≤ 9) (is : power ≡ 10 ^ (9 - digits)) (less : value < 10 ^ digits) where
   nine : 10 ^ (9 - digits) * 10 ^ digits ≡ 10 ^ 9
@@ -41,7 +41,7 @@ module _ (value digits seconds power : ℕ) (few : digits ≤ 9) (is : power ≡
       let first : value * power * seconds ≤ 1_000_000_000 * seconds = mul-le-mul_right seconds bound in
       omega (arith, first, small)
 
--- ---- more than nine digits
+-- ---- Fractions of more than nine digits.
 
 module _ (value digits seconds power : ℕ) (many : 9 < digits) (most : digits ≤ 18) (is : power ≡ 10 ^ (digits - 9)) where
   pub many_range : (1 ≤ power) × (power ≤ 1_000_000_000)

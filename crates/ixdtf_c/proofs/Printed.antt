@@ -1,4 +1,4 @@
--- Records that have a text, and records that were read.
+-- Records that can be printed, and records that were read.
 use Rattle.ixdtf_grammar.specs.declared.records.UtcOffsetRecord.TheVariants as offsets
 use Rattle.ixdtf_grammar.specs.declared.records.UtcOffsetRecordOrZ.TheVariants as shifts
 use Rattle.std.proofs.Common.{refl, sym, true≢false, ◌∙◌, ◌≡◌, ◌≢◌, ◌≤◌, ◌+◌, ℕ, Bool, false, not, inl, inr, ap, if◌then◌else◌, List, length, Option, Some, None, IfSome}
@@ -31,7 +31,7 @@ offset_of_both None (Some offset) has = absurd has
 offset_of_both (Some time) None has = tt
 offset_of_both (Some time) (Some offset) has = has.1
 
--- the fractions of a time of day and of an offset are such
+-- The fractions of a time of day and of an offset are valid (`HasDigits`).
 digits_of_time : (time : Option TimeRecord) → IfSome time IsDayTime → IfSome time (λ it. HasDigits it.fraction)
 digits_of_time None is = tt
 digits_of_time (Some time) is = is.fraction
@@ -46,7 +46,8 @@ digits_of_both : (time : Option TimeRecord) (offset : Option UtcOffsetRecordOrZ)
     → IfSome time (λ it. HasDigits it.fraction) × IfSome offset (λ shift. HasDigits (shift_fraction shift))
 digits_of_both time offset has = (digits_of_time time (time_of_both time offset has), digits_of_offset offset (offset_of_both time offset has))
 
--- what the numbers of a record stand for has fractions that are such
+-- If a struct stands for a record with valid fractions, its time and its offset have valid fractions, and the form of its zone has a
+-- meaning.
 module _ (r : Contents) where
   counted_parts : (offset : Option (Option UtcOffsetRecordOrZ)) (zone : Option (Option ZoneNote)) → IsSomeAnd (parsed_by r offset zone) HaveDigits
       → IfSome (time_by r.time) (λ it. HasDigits it.fraction) × IsSomeAnd offset (λ it. IfSome it (λ shift. HasDigits (shift_fraction shift))) × (zone ≢ None)
@@ -64,17 +65,17 @@ module _ (r : Contents) where
   pub counted_zone : IsSomeAnd (record_by r) HaveDigits → zone_by r.zone ≢ None
   counted_zone is = (counted_parts (offset_by r.offset) (zone_by r.zone) is).2
 
--- what holds of each value that another one holds of
+-- If `P` gives `Q` for each value, and a value with `P` is present, then a value with `Q` is present.
 pub on_some : {A : Type 0} {P Q : A → Type 0} (x : Option A) → ((a : A) → P a → Q a) → IsSomeAnd x P → IsSomeAnd x Q
 on_some None f is = absurd is
 on_some (Some a) f is = f a is
 
--- what does not hold of a value that another one does not hold of
+-- If `Q` is false for each value for which `P` is false, and no value with `P` is present, then no value with `Q` is present.
 pub not_some : {A : Type 0} {P Q : A → Type 0} (x : Option A) → ((a : A) → ¬ (P a) → ¬ (Q a)) → ¬ (IsSomeAnd x P) → ¬ (IsSomeAnd x Q)
 not_some None f none is = absurd is
 not_some (Some a) f none is = f a none is
 
--- the fractions of a record that a printer prints are such
+-- The fractions of a record that can be printed are valid.
 pub digits_of_record : (found : Parsed) → IsPrintable found → HaveDigits found
 digits_of_record found is = digits_of_both found.time found.offset ((printable_iff found).0 is).time
 
@@ -110,7 +111,7 @@ no_month_day found none is =
     go (Some date) None (Some offset) has = absurd has
     go (Some date) (Some time) offset has = absurd has
 
--- ---- what is written of a record that has a text stands for it
+-- ---- The struct that is written for a printable record stands for this record.
 
 sign_back : (sign : Sign) → sign_for (not (is_negative sign)) ≡ sign
 sign_back Positive = refl
@@ -173,9 +174,9 @@ record_back found is =
       calendar = calendar_back found.calendar i;
     }))
 
--- ---- what was read
+-- ---- Records that were read.
 
--- a record that a reader of dates returned and wrote is what its text gives
+-- The struct that `ixdtf_parse` wrote stands for the record that the text gives.
 read_back : (profile : Profile) (text : Text) (number : ℕ) (old new : Contents)
     → GivesRecord profile parse text number old new → number ≡ 0
     → (found : Parsed) × UnhandledRecord parse text found × (record_by new ≡ Some found)
@@ -197,13 +198,13 @@ read_fits profile text number old new read zeroed =
     let (found, gives, is) = read_back profile text number old new read zeroed in
     rw is (of_record text found (to_parts date_time text found gives)).1
 
--- a duration that is printable has a time that is, where it has one
+-- If a duration is printable, the form of its time has a meaning, and its time is valid (`HasTimeUnits`).
 pub printed_units : (d : DurationContents) (time : Option (Option TimeDurationRecord)) → IsSomeAnd (lasting_by d time) IsPrintableDuration
     → IsSomeAnd time HasTimeUnits
 printed_units d (Some time) is = ((printable_duration _).0 is).time
 printed_units d None is = absurd is
 
--- what a printer returns of what is not printable
+-- What a printer returns for a value that is not printable.
 pub refused : {printable : Type 0} {canonical : Text} {bytes : List ℕ} → ¬ printable → PrintsOrRefuses printable canonical bytes bytes (Err NotPrintable)
 refused none = record {
   count = tt;
@@ -215,23 +216,23 @@ refused none = record {
   unchanged = refl;
 }
 
--- a duration has a short text
+-- The canonical text of a duration has at most 406 code units.
 pub short_text : (duration : Option DurationParseRecord) → IsSomeAnd duration IsPrintableDuration → length (text_where duration_text duration) ≤ 406
 short_text None is = absurd is
 short_text (Some duration) is = duration_short duration is
 
--- what a printer printed has a property that what it promises gives
+-- If `P` gives `Q`, and `P` is true after the printer succeeds, then `Q` is true after it.
 pub on_ok : {E P Q : Type 0} (result : Result ℕ E) → (P → Q) → OnOk result P → OnOk result Q
 on_ok (Ok n) f is = f is
 on_ok (Err e) f is = tt
 
--- a duration that is read back from its canonical text has a text
+-- If a duration is read back from its canonical text, it is printable.
 pub read_is_duration : {E : Type 0} (duration : DurationParseRecord) (result : Result ℕ E)
     → OnOk result (IsDurationReadBack duration) → OnOk result (IsPrintableDuration duration)
 read_is_duration duration (Ok n) back = (duration_text duration, (back Crate).same)
 read_is_duration duration (Err e) back = tt
 
--- an offset that is printable has a fraction that is one, where it has one
+-- If an offset is printable, its fraction is valid.
 pub printed_shift : (offset : Option (Option UtcOffsetRecordOrZ)) → IsSomeAnd (shift_alone offset) IsPrintableOffset
     → IsSomeAnd offset (λ it. IfSome it (λ shift. HasDigits (shift_fraction shift)))
 printed_shift (Some (Some (shifts.Offset it))) is = digits_of_offset (Some (shifts.Offset it)) ((printable_offset it).0 is)
@@ -239,7 +240,7 @@ printed_shift (Some (Some shifts.Z)) is = absurd is
 printed_shift (Some None) is = absurd is
 printed_shift None is = absurd is
 
--- what is read back from its canonical text has a text
+-- If a value is read back from its canonical text, it has a text.
 pub read_is_text : {E R : Type 0} (stands : Text → R → Type 0) (text_of : R → Text) (found : R) (result : Result ℕ E)
     → OnOk result (HasOneText stands text_of found) → OnOk result (HasText stands found)
 read_is_text stands text_of found (Ok n) back = (text_of found, back.same)

@@ -1,4 +1,4 @@
--- From a chain of calls of a handler that hands each annotation back to what a reader without a handler says of a text.
+-- A chain of calls of a handler that returns each annotation gives the contract of a reader without a handler.
 use Rattle.std.proofs.Common.{◌≡◌, ℕ, Result, Ok, Err, OnOk, refl}
 use Rattle.ixdtf_grammar.specs.declared.profile.Profile.{Profile}
 use Rattle.ixdtf.specs.{language.{Letters.Text, Readers.{CoreKind, Reader.bracketed}, Languages.Parsed}, table.Faults.Fault}

@@ -1,4 +1,4 @@
--- What comes of replying in turn to the annotations that a reader listed is what the reader with a handler gives.
+-- If a caller replies in order to the annotations that a reader listed, the outcome is the one of a reader with a handler.
 use Rattle.std.proofs.Common.{◌≡◌, ◌≢◌, ◌⊎◌, ℕ, zero, suc, ◌≤◌, List, [], ◌∷◌, ◌++◌, length, map, take, drop, Option, Some, None, Result, Ok, Err, refl, sym}
 use Rattle.std.proofs.{Common.{◌∙◌, ap, inl, inr, arith}, lemmas.List.{append-nil, append_assoc, length-append, length-map, length-take-le, take-append-drop}}
 use Rattle.std.specs.Option.{option_or}
@@ -10,15 +10,15 @@ use Rattle.ixdtf_reading.proofs.theorems.Replies.{NoneRefused-nothing, NoneRefus
 use Rattle.ixdtf_c.specs.{Listing.{PassesOver, overwritten}, Located.{FaultAt, unplaced}}
 use Rattle.ixdtf_c.specs.Replying.{with_kept, Replied, IsFront, ReplyingGives, ReplyingIsHandling}
 
--- ---- what is listed
+-- ---- The list.
 
--- with room for all items, the first slots are these
+-- If the array is long enough for all items, its first elements are the items.
 pub overwritten-front : {A : Type 0} (slots items : List A) → length items ≤ length slots → take (length items) (overwritten slots items) ≡ items
 overwritten-front slots [] room = refl
 overwritten-front [] (item ∷ items) room = absurd (omega (arith, room))
 overwritten-front (slot ∷ slots) (item ∷ items) room = ap (λ rest. item ∷ rest) (overwritten-front slots items (omega (arith, room)))
 
--- ---- replies in turn
+-- ---- Replies in order.
 
 pub zero_or_not : (number : ℕ) → (number ≡ 0) ⊎ (number ≢ 0)
 zero_or_not zero = inl refl
@@ -28,14 +28,14 @@ option_or-none : {A : Type 0} (kept : Option A) → option_or kept None ≡ kept
 option_or-none None = refl
 option_or-none (Some x) = refl
 
--- no reply is refused, and the outcome is that of the reader that listed, with the calendar that is kept; or it is the fault of
--- the last of some first replies
+-- There are two cases. Either no reply is refused, and the outcome is the one of the reader that listed, with the calendar that is
+-- kept. Or the outcome is the error of the first reply that is refused.
 abbrev Settled : List Reply → Result Parsed Fault → Result Parsed Fault → Type 0
 Settled all listed outcome = (NoneRefused all × (outcome ≡ with_kept (first_calendar all) listed))
     ⊎ ((front back : List Reply) × (all ≡ front ++ back) × (fault : Fault) × (outcome ≡ Err fault) × LastRefused front fault)
 
 module _ (listed outcome : Result Parsed Fault) where
-  -- after replies none of which was refused
+  -- None of the replies before was refused.
   settled : (given rest : List Reply) (kept : Option Pair) → NoneRefused given → kept ≡ first_calendar given → Replied kept rest listed outcome
       → Settled (given ++ rest) listed outcome
   settled given [] kept none is replied =
@@ -68,20 +68,20 @@ module _ (listed outcome : Result Parsed Fault) where
         )
   ]
 
--- the first annotations and the replies to them give the outcome
+-- The text gives the outcome with the first of the annotations and the replies to them.
 abbrev Gives : CoreKind → Text → List Pair → List Reply → Result Parsed Fault → Type 0
 Gives kind text pairs replies outcome =
     (asked : List Pair) × (given : List Reply) × IsFront asked pairs × IsFront given replies × (length given ≡ length asked)
     × GivesResult (bracketed kind) text asked given outcome
 
 module _ (profile : Profile) (kind : CoreKind) (text : Text) (pairs : List Pair) where
-  -- where none is refused
+  -- No reply is refused.
   pub gives_all : (listed : Result Parsed FaultAt) (replies : List Reply) → PassesOver profile (bracketed kind) text pairs listed → NoneRefused replies
       → GivesResult (bracketed kind) text pairs replies (with_kept (first_calendar replies) (unplaced listed))
   gives_all (Ok found) replies passes none = record { read = found; whole = (passes.ok found).0 refl; accepted = none; has = refl }
   gives_all (Err e) replies passes none = let (row, fits, has, there) = passes.err e refl in inr ((row, fits, has), none)
 
-  -- the front behind which the last of some first replies is refused
+  -- The prefix of the text that ends after the annotation whose reply is refused.
   pub front_of : (listed : Result Parsed FaultAt) (xs ys : List Pair) → PassesOver profile (bracketed kind) text pairs listed → pairs ≡ xs ++ ys → xs ++ ys ≢ []
       → HasFront (bracketed kind) text xs
   front_of (Ok found) xs ys passes split some = derived_front kind text found pairs xs ys ((passes.ok found).0 refl) split
@@ -105,9 +105,9 @@ module _ (profile : Profile) (kind : CoreKind) (text : Text) (pairs : List Pair)
         rw faulted (inl (front_of listed (take n pairs) (drop n pairs) passes split some_pair, last)),
       )
 
--- ---- one outcome for one list of replies
+-- ---- A list of replies has one outcome.
 
--- the replies by their places, and none behind them
+-- One reply for each annotation. Missing replies are `None`, and further replies are left out.
 abbrev by_place : List Reply → List Pair → List Reply
 by_place all [] = []
 by_place [] (pair ∷ pairs) = None ∷ by_place [] pairs
@@ -137,7 +137,7 @@ module _ (kind : CoreKind) (text : Text) (all : List Reply) where
       → GivesResult (bracketed kind) text pairs given outcome → GivesChain (by_place all) (replying all) kind text (pairs, outcome)
   by_places pairs given outcome (more, is) same h = rw (is, by_place-front given more pairs same) h
 
-  -- what two fronts of these replies give is one
+  -- If the text gives outcomes with two beginnings of this list of replies, both outcomes are equal, and so are the annotations.
   same_chain : (asked others : List Pair) (given replies : List Reply) (outcome result : Result Parsed Fault) → IsFront given all → IsFront replies all
       → length given ≡ length asked → length replies ≡ length others
       → GivesResult (bracketed kind) text asked given outcome → GivesResult (bracketed kind) text others replies result
@@ -148,7 +148,7 @@ module _ (kind : CoreKind) (text : Text) (all : List Reply) where
       one.2 (asked, outcome) (by_places asked given outcome x m g) ∙ sym (one.2 (others, result) (by_places others replies result y n h)) in
       (ap (λ chain. chain.0) same, sym (ap (λ chain. chain.1) same))
 
--- ---- the laws
+-- ---- The laws.
 
 pub replying_gives : {A : Type 0} (view : A → Pair) → ReplyingGives view
 replying_gives view profile kind text pairs replies outcome h =
@@ -160,7 +160,7 @@ replying_gives view profile kind text pairs replies outcome h =
     gives profile kind text pairs h.listed outcome replies (rw is listing.read) each
     (settled (unplaced h.listed) outcome [] replies None NoneRefused-nothing refl h.replied)
 
--- what a form with a handler says of its chain of calls
+-- The contract of a reader with a handler, about its chain of calls.
 handled_gives : {T U F : Type 0} (number : U → ℕ) (step : Step T U F) (handler : F) (kind : CoreKind) (text : Text) (result : Result Parsed Fault)
     (h : Handled number step handler (bracketed kind) text result)
     → GivesResult (bracketed kind) text (handed number h.calls) (replies_of number h.calls) result

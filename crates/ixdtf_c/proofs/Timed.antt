@@ -1,4 +1,4 @@
--- From the instant of a record of the library to that of the numbers of a record.
+-- The instant of a record of the library is the instant of the struct of C.
 use Rattle.std.proofs.Common.{◌≡◌, ◌∙◌, sym, Option, Some, None, IfSome, IsSomeAnd}
 use Rattle.ixdtf_grammar.specs.declared.records.IxdtfParseRecord.{IxdtfParseRecord}
 use Rattle.ixdtf_instants.specs.declared.instant.Instant.{Instant}
@@ -7,7 +7,7 @@ use Rattle.ixdtf_c.specs.declared.forms.{Date.Date, Time.Time, Offset.Offset}
 use Rattle.ixdtf_c.specs.{Standing.{date_by, time_by, offset_by}, Instants.{AreInstant, shift_fraction}}
 use Rattle.ixdtf_print.specs.Spelled.{HasDigits}
 
--- the numbers of a date, a time and an offset stand for those of the record, and their fractions are such
+-- The structs of a date, a time and an offset stand for the parts of the record, and their fractions are valid (`HasDigits`).
 module _ {T U : Type 0} (r : IxdtfParseRecord T U) (d : Date) (t : Time) (o : Offset)
     (date : r.date ≡ date_by d) (time : r.time ≡ time_by t) (offset : offset_by o ≡ Some r.offset)
     (digits : IfSome (time_by t) (λ it. HasDigits it.fraction))

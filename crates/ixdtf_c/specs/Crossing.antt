@@ -1,4 +1,4 @@
--- The records that calls write: each field of what was read, and zero of what was not there.
+-- The records that readers write for C. The fields of a part that is absent are 0, false or empty.
 use Rattle.ixdtf_grammar.specs.declared.records.TimeDurationRecord.TheVariants as times
 use Rattle.ixdtf_grammar.specs.declared.records.UtcOffsetRecord.TheVariants as offsets
 use Rattle.ixdtf_grammar.specs.declared.records.UtcOffsetRecordOrZ.TheVariants as shifts
@@ -11,7 +11,7 @@ use Rattle.ixdtf.specs.table.ErrorEquality.{location_of}
 use Rattle.ixdtf.specs.language.{Brackets.ZoneNote, Fractions.FractionParts, Languages.Parsed, ZoneNames.{Zone as SomeZone, Zone.{Name, Offset as ByOffset}}}
 use Rattle.ixdtf_c.specs.{declared.forms.{Date.Date, Time.Time, Offset.Offset}, Located.FaultAt, Numbers.outcome_number}
 
--- ---- the contents of a record: its fields, with the units of its slices
+-- ---- The contents of a record: its fields, with each slice as a list of the numbers of its code units.
 
 pub record ZoneContents : Type 0 where
   pub name : List ℕ
@@ -47,14 +47,14 @@ pub record DurationContents : Type 0 where
   pub location : List ℕ
   pub place : ℕ
 
--- ---- what is written of a part, where it is there
+-- ---- What is written for a part of a record.
 
--- how many digits a fraction has
+-- The number of digits of a fraction, or 0 without a fraction.
 abbrev pub digits_for : Option FractionParts → ℕ
 digits_for None = 0
 digits_for (Some fraction) = fraction.count
 
--- and the number of the first of them
+-- The first digits of a fraction as one number, or 0 without a fraction.
 abbrev pub value_for : Option FractionParts → ℕ
 value_for None = 0
 value_for (Some fraction) = fraction.value
@@ -78,11 +78,11 @@ time_for (Some it) = record {
   is_there = true;
 }
 
--- an offset of which nothing but the form is written
+-- An offset that has only a form. Its other fields are 0 or false.
 abbrev pub offset_of_form : ℕ → Offset
 offset_of_form form = record { fraction = 0; fraction_digits = 0; form = form; is_negative = false; hour = 0; minute = 0; second = 0 }
 
--- 2: hours and minutes. 3: hours, minutes and seconds.
+-- Form 2 has hours and minutes. Form 3 has hours, minutes and seconds.
 abbrev pub shift_for : UtcOffsetRecord → Offset
 shift_for (offsets.MinutePrecision it) = record {
   fraction = 0;
@@ -103,13 +103,13 @@ shift_for (offsets.FullPrecisionOffset it) = record {
   second = it.second;
 }
 
--- 0: none. 1: Z.
+-- Form 0 means that there is no offset. Form 1 is `Z`.
 abbrev pub offset_for : Option UtcOffsetRecordOrZ → Offset
 offset_for None = offset_of_form 0
 offset_for (Some shifts.Z) = offset_of_form 1
 offset_for (Some (shifts.Offset it)) = shift_for it
 
--- 1: a name. 2: an offset.
+-- Form 1 is a zone that is a name. Form 2 is a zone that is an offset.
 abbrev pub area_for : Bool → SomeZone → ZoneContents
 area_for critical (Name units) = record { name = units; form = 1; is_critical = critical; is_negative = false; hour = 0; minute = 0 }
 area_for critical (ByOffset it) = record {
@@ -121,7 +121,7 @@ area_for critical (ByOffset it) = record {
   minute = it.minute;
 }
 
--- 0: none.
+-- Form 0 means that there is no zone.
 abbrev pub zone_for : Option ZoneNote → ZoneContents
 zone_for None = record { name = []; form = 0; is_critical = false; is_negative = false; hour = 0; minute = 0 }
 zone_for (Some it) = area_for it.critical it.zone
@@ -134,9 +134,9 @@ abbrev pub is_there : Option (List ℕ) → Bool
 is_there None = false
 is_there (Some units) = true
 
--- ---- what is written of a text
+-- ---- What is written for a text.
 
--- all of a record
+-- All fields of a record.
 abbrev pub record_for : Parsed → Contents
 record_for found = record {
   date = date_for found.date;
@@ -152,7 +152,7 @@ record_for found = record {
 abbrev pub nothing : Parsed
 nothing = record { date = None; time = None; offset = None; zone = None; calendar = None }
 
--- an offset, a zone or the name of a zone alone, as of a text in which nothing else stands
+-- The record that has only an offset, only a zone, or only a zone that is a name.
 abbrev pub offset_alone : UtcOffsetRecord → Parsed
 offset_alone shift = record nothing { offset = Some (shifts.Offset shift) }
 
@@ -162,12 +162,12 @@ zone_alone zone = record nothing { zone = Some (record { critical = false; zone 
 abbrev pub name_alone : List ℕ → Parsed
 name_alone units = zone_alone (Name units)
 
--- years, months, weeks and days, where there are
+-- The years, months, weeks and days are written, if they are present.
 abbrev pub with_date : DurationContents → Option DateDurationRecord → DurationContents
 with_date contents None = contents
 with_date contents (Some it) = record contents { years = it.years; months = it.months; weeks = it.weeks; days = it.days; has_date = true }
 
--- 1, 2 and 3: the last unit is hours, minutes, seconds.
+-- The time is written, if it is present. In the forms 1, 2 and 3, the last duration unit is hours, minutes and seconds.
 abbrev pub with_time : DurationContents → Option TimeDurationRecord → DurationContents
 with_time contents None = contents
 with_time contents (Some (times.Hours hours fraction)) =
@@ -184,7 +184,7 @@ with_time contents (Some (times.Seconds hours minutes seconds fraction)) =
       time_form = 3;
     }
 
--- a duration of this sign, in which nothing stands
+-- The duration that has only a sign. Its other fields are 0, false or empty.
 abbrev pub no_duration : Bool → DurationContents
 no_duration is_negative = record {
   days = 0;
@@ -203,13 +203,14 @@ no_duration is_negative = record {
   place = 0;
 }
 
--- all of a duration
+-- All fields of a duration.
 abbrev pub duration_for : DurationParseRecord → DurationContents
 duration_for found = with_time (with_date (no_duration (is_negative found.sign)) found.date) found.time
 
--- ---- what a call returns and writes
+-- ---- What a reader returns and writes.
 
--- after `Ok` the record is that of the text; after an error it is as it was, but for the location and the place, which are the error's
+-- After `Ok`, the record is the one of the text. After an error, it is unchanged, except for the location and the position, which
+-- are those of the error.
 abbrev pub record_after : {A : Type 0} → (A → Parsed) → Contents → Result A FaultAt → Contents
 record_after whole old (Ok found) = record_for (whole found)
 record_after whole old (Err e) = record old { location = location_of e.fault; place = e.at }
@@ -218,7 +219,7 @@ abbrev pub duration_after : DurationContents → Result DurationParseRecord Faul
 duration_after old (Ok found) = duration_for found
 duration_after old (Err e) = record old { location = location_of e.fault; place = e.at }
 
--- the number is that of the outcome, and the record is that of the outcome
+-- The outcome determines the number that is returned, and the record that is written.
 abbrev pub Gives : {A : Type 0} → (A → Parsed) → Result A FaultAt → ℕ → Contents → Contents → Type 0
 Gives whole outcome number old new = (number ≡ outcome_number outcome) × (new ≡ record_after whole old outcome)
 

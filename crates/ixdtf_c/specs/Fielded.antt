@@ -1,6 +1,6 @@
--- What is kept of an annotation.
+-- What is kept from an annotation that names a calendar.
 use Rattle.ixdtf.specs.{language.Brackets.Pair, Handlers.calendar_key}
 
--- a pair with the key of calendars in the place of its own
+-- The annotation with the key `u-ca` instead of its own key.
 abbrev pub keyed : Pair → Pair
 keyed pair = record pair { key = calendar_key }

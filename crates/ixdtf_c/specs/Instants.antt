@@ -1,4 +1,4 @@
--- The instant of a record: that of the date, the time and the offset that its numbers stand for. The other parts do not count.
+-- The instant of a record. It is the instant of the date, the time and the offset of the record. The other parts do not matter.
 use Rattle.ixdtf_grammar.specs.declared.records.UtcOffsetRecordOrZ.TheVariants as shifts
 use Rattle.std.specs.Prelude.{◌≡◌, ℕ, ◌<◌, ◌^◌, Option, Some, None, ℤ, pos, ◌+ℤ◌, ◌*ℤ◌}
 use Rattle.ixdtf_grammar.specs.declared.records.{DateRecord.DateRecord, TimeRecord.TimeRecord, UtcOffsetRecordOrZ.UtcOffsetRecordOrZ}
@@ -8,13 +8,13 @@ use Rattle.ixdtf.specs.Instants.{instant_count}
 use Rattle.ixdtf_c.specs.{declared.forms.{Date.Date, Time.Time, Offset.Offset}, Crossing.Contents, Standing.{date_by, time_by, offset_by}}
 use Rattle.ixdtf_print.specs.Spelled.{HasDigits}
 
--- the fraction of an offset, where it has one
+-- The fraction of an offset, or `None` if it has no fraction.
 abbrev pub shift_fraction : UtcOffsetRecordOrZ → Option FractionParts
 shift_fraction shifts.Z = None
 shift_fraction (shifts.Offset offset) = fraction_of_offset offset
 
--- There is a date, a time and an offset or Z, the calendar has the month, and each fraction is one. Hours, minutes, seconds and days of any
--- number are counted on.
+-- There is a date, a time, and an offset or `Z`. The month is 1 to 12, and each fraction is valid (`HasDigits`). A day, an hour, a
+-- minute or a second may be out of range. `instant_count` says how it is counted.
 pub record HaveInstant (d : Date) (t : Time) (o : Offset) : Type 0 where
   pub date : DateRecord
   pub time : TimeRecord
@@ -29,7 +29,8 @@ pub record HaveInstant (d : Date) (t : Time) (o : Offset) : Type 0 where
 abbrev pub HasInstant : Contents → Type 0
 HasInstant r = HaveInstant r.date r.time r.offset
 
--- These seconds since 1970-01-01T00:00:00Z, and nanoseconds after them, are the instant: local time less the offset (RFC 3339, section 4.2).
+-- The instant is this number of seconds since 1970-01-01T00:00:00Z, and this number of nanoseconds after them. It is the local time
+-- minus the offset (RFC 3339, section 4.2).
 pub record AreInstant (d : Date) (t : Time) (o : Offset) (seconds : ℤ) (nanoseconds : ℕ) : Type 0 where
   pub has : HaveInstant d t o
   pub counts : seconds *ℤ pos (10 ^ 9) +ℤ pos nanoseconds ≡ instant_count has.date has.time has.offset

@@ -1,4 +1,4 @@
--- Durations.
+-- The struct of durations.
 use Rattle.std.specs.Prelude.{◌≡◌}
 use Rattle.ixdtf_c.specs.{declared.durations.Duration.Duration, Crossing.DurationContents}
 
@@ -20,6 +20,6 @@ contents d = record {
   place = d.place;
 }
 
--- the duration is as it was, but for the location and the place of an error
+-- The duration is unchanged, except for the location and the position of an error.
 abbrev pub SameButError : Duration → Duration → Type 0
 SameButError old new = new ≡ record old { location = new.location; place = new.place }

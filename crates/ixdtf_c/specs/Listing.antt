@@ -1,13 +1,13 @@
--- What a reader that lists annotations says of a text.
+-- What the contract of a reader that lists annotations says about a text.
 use Rattle.std.specs.Prelude.{◌≡◌, ◌↔◌, ℕ, List, [], ◌∷◌, length, map, Result, Ok, Err, OnOk}
 use Rattle.ixdtf_grammar.specs.declared.profile.Profile.{Profile}
 use Rattle.ixdtf.specs.language.{Brackets.Pair, Letters.Text, Languages.{Parsed, Derives, Found.parsed}, Readers.Reader}
 use Rattle.ixdtf.specs.{table.Outcomes.{HasFaultAt, OnlyFault, OnlyPlace, NoRowFits}, Laws.InNoOther}
 use Rattle.ixdtf_c.specs.{Crossing.{Contents, Gives}, Located.FaultAt}
 
--- Of a text with these annotations before its end or its fault, all of which are passed over: `Ok` exactly with the record that
--- the language derives with them, and only where no row of the fault table fits and no other reader has the text; and `Err` only
--- with the one fault that the text has behind them, and at its place.
+-- The outcome of a text with these annotations before its end or before its error. All of them are dropped. The outcome is `Ok` with
+-- a record exactly if the grammar derives the record with these annotations. It is `Ok` only if no table row fits and no other text
+-- reader accepts the text. It is `Err` only with the one error that the text has after these annotations, at its one position.
 pub record PassesOver (profile : Profile) (reader : Reader) (text : Text) (pairs : List Pair) (outcome : Result Parsed FaultAt) : Type 0 where
   pub ok : (found : Parsed) → (outcome ≡ Ok found) ↔ Derives reader text (parsed found) pairs
   pub err : (e : FaultAt) → outcome ≡ Err e → HasFaultAt reader text pairs e.fault e.at
@@ -16,14 +16,15 @@ pub record PassesOver (profile : Profile) (reader : Reader) (text : Text) (pairs
   pub only : (e : FaultAt) → outcome ≡ Err e → OnlyFault reader text pairs e.fault
   pub place : (e : FaultAt) → outcome ≡ Err e → OnlyPlace reader text e.fault e.at
 
--- the slots with these items in their front, as far as they go, and behind it as they were
+-- The array `slots` after `items` were written to its first elements. Items that do not fit are left out. The elements after the
+-- items are unchanged.
 abbrev pub overwritten : {A : Type 0} → List A → List A → List A
 overwritten [] items = []
 overwritten (slot ∷ slots) [] = slot ∷ slots
 overwritten (slot ∷ slots) (item ∷ items) = item ∷ overwritten slots items
 
--- The count is that of the annotations before the end of the text or its fault, the slots have the first of them in their order,
--- and the outcome is that of the text where all of them are passed over.
+-- The count is the number of annotations before the end of the text or before its error. The array has the first of them, in order.
+-- The outcome is the one of the text if all annotations are dropped.
 pub record Lists {A : Type 0} (view : A → Pair) (profile : Profile) (reader : Reader) (text : Text)
     (old new : List A) (count : ℕ) (outcome : Result Parsed FaultAt) : Type 0 where
   pub annotations : List A
@@ -31,7 +32,7 @@ pub record Lists {A : Type 0} (view : A → Pair) (profile : Profile) (reader : 
   pub written : new ≡ overwritten old annotations
   pub read : PassesOver profile reader text (map view annotations) outcome
 
--- the text has an outcome with these annotations, and the outcome is returned and written
+-- The text has an outcome, and its annotations are listed. The outcome is returned and written.
 abbrev pub ListsRecord : {A : Type 0} → (A → Pair) → Profile → Reader → Text → List A → List A → ℕ → ℕ → Contents → Contents → Type 0
 ListsRecord view profile reader text old new count number record_old record_new =
     (outcome : Result Parsed FaultAt) × Lists view profile reader text old new count outcome

@@ -1,7 +1,7 @@
--- The names that the header gives to what calls return.
+-- The names of numbers in the C header.
 use Rattle.std.specs.Prelude.{ℕ, List, [], ◌∷◌, codes, get_or, nat_le, nat_eq, if◌then◌else◌}
 
--- the names of 0 to 46
+-- The names of the numbers 0 to 46.
 abbrev pub names : List (List ℕ)
 names =
     codes "IXDTF_OK"
@@ -53,7 +53,7 @@ names =
     ∷ codes "IXDTF_INVALID_MONTH_DAY"
     ∷ []
 
--- the name of what a call returns, and no text for another number
+-- The name of a number that a function returns. For every other number, the name is empty.
 abbrev pub name_of : ℕ → List ℕ
 name_of number =
     if nat_le number 46 then get_or names number []

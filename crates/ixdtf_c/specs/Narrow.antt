@@ -1,4 +1,4 @@
--- Records of 8-bit sources.
+-- The structs for 8-bit text.
 use Rattle.std.specs.Prelude.{◌≡◌, ℕ, map, Option}
 use Rattle.ixdtf_grammar.specs.declared.records.Annotation.{Annotation as Read}
 use Rattle.ixdtf.specs.{language.Brackets.Pair, Handlers.calendar_key}
@@ -27,17 +27,17 @@ contents r = record {
   place = r.place;
 }
 
--- the record is as it was, its slices too, but for the location and the place of an error
+-- The record is unchanged, also its slices, except for the location and the position of an error.
 abbrev pub SameButError : Record → Record → Type 0
 SameButError old new = new ≡ record old { location = new.location; place = new.place }
 
 abbrev pub annotation_by : Annotation → Pair
 annotation_by a = record { critical = a.is_critical; key = map (λ unit. unit) a.key.now; value = map (λ unit. unit) a.value.now }
 
--- what is written of an annotation that the library's reader read
+-- The struct that is written for an annotation of the library.
 abbrev pub annotation_for : {T : Type 0} → Read T ℕ → Annotation
 annotation_for a = record { key = a.key; value = a.value; is_critical = a.critical }
 
--- the calendar that is kept, where there is one
+-- The calendar that was kept, as an annotation with the key `u-ca`. It is `None` if none was kept.
 abbrev pub calendar_by : Calendar → Option Pair
 calendar_by c = where_there c.is_there (record { critical = c.is_critical; key = calendar_key; value = map (λ unit. unit) c.value.now })

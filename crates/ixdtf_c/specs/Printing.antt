@@ -1,21 +1,22 @@
--- What a call that prints returns and writes.
+-- What a printer returns and writes.
 use Rattle.std.specs.Prelude.{◌≡◌, ◌≢◌, ◌↔◌, ℕ, ◌≤◌, ◌<◌, ◌^◌, ◌-◌, List, [], Option, Some, None, IfSome, length, map, min, take, drop}
 use Rattle.ixdtf.specs.language.{Letters.{Text, byte_letter}, Languages.Parsed}
 use Rattle.ixdtf_c.specs.Instants.{shift_fraction}
 use Rattle.ixdtf_print.specs.Spelled.{HasDigits}
 
--- each fraction of a time and of an offset is one
+-- The fractions of the time and of the offset, if they are present, are valid (`HasDigits`).
 abbrev pub HaveDigits : Parsed → Type 0
 HaveDigits found = IfSome found.time (λ it. HasDigits it.fraction) × IfSome found.offset (λ shift. HasDigits (shift_fraction shift))
 
--- the text of what is there
+-- The text of a value, or the empty text if the value is absent.
 abbrev pub text_where : {R : Type 0} → (R → Text) → Option R → Text
 text_where text_of None = []
 text_where text_of (Some found) = text_of found
 
--- A call that prints what has this canonical text returns one of three numbers: 0 where that is printable and there is room for the text,
--- 101 where it is not printable, and 102 where the room is too short. After 0 the text stands in the front of the bytes, and the others are
--- as they were. Else the bytes are as they were; after 102 the count is that of the bytes that the text takes, as far as the number goes.
+-- What a printer does with a value that has this canonical text. It returns 0 if the value is printable and the array is long enough,
+-- 101 if the value is not printable, and 102 if it is printable and the array is too short. After 0, the text is in the first bytes of
+-- the array, and the other bytes are unchanged. After 101 or 102, all bytes are unchanged. After 102, the count is the length of the
+-- text, or the greatest `usize` if the length is greater.
 pub record GivesText (printable : Type 0) (canonical : Text) (old new : List ℕ) (count_old count_new number : ℕ) : Type 0 where
   pub printed : (number ≡ 0) ↔ (printable × (length canonical ≤ length old))
   pub not_printable : (number ≡ 101) ↔ ¬ printable

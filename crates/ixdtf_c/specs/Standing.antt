@@ -1,4 +1,5 @@
--- What the numbers of a record stand for that is printed, where they stand for something: the fields of a part that is not there are not looked at.
+-- The record of the library that a struct of C stands for. If a `form` has no meaning, there is no such record. The fields of a part
+-- that is absent do not matter.
 use Rattle.ixdtf_grammar.specs.declared.records.TimeDurationRecord.TheVariants as times
 use Rattle.ixdtf_grammar.specs.declared.records.UtcOffsetRecord.TheVariants as offsets
 use Rattle.ixdtf_grammar.specs.declared.records.UtcOffsetRecordOrZ.TheVariants as shifts
@@ -10,12 +11,12 @@ use Rattle.ixdtf.specs.language.{Brackets.ZoneNote, Fractions.FractionParts, Lan
 use Rattle.ixdtf.specs.language.ZoneNames.{Zone as Area, Zone.{Name, Offset as ByOffset}}
 use Rattle.ixdtf_c.specs.{declared.forms.{Date.Date, Time.Time, Offset.Offset}, Crossing.{Contents, ZoneContents, DurationContents}}
 
--- a value, where it is there
+-- The value if it is present, and otherwise `None`.
 abbrev pub where_there : {A : Type 0} → Bool → A → Option A
 where_there true a = Some a
 where_there false a = None
 
--- a fraction by how many digits it has, and none of no digits
+-- The fraction with this number of digits. Without digits, there is no fraction.
 abbrev pub fraction_by : ℕ → ℕ → Option FractionParts
 fraction_by digits value = if nat_eq digits 0 then None else Some (record { count = digits; value = value })
 
@@ -25,11 +26,12 @@ date_by d = where_there d.is_there (record { year = d.year; month = d.month; day
 abbrev pub time_by : Time → Option TimeRecord
 time_by t = where_there t.is_there (record { hour = t.hour; minute = t.minute; second = t.second; fraction = fraction_by t.fraction_digits t.fraction })
 
--- an offset in hours and minutes
+-- The offset with this sign, this hour and this minute.
 abbrev pub minutes_by : Bool → ℕ → ℕ → MinutePrecisionOffset
 minutes_by is_negative hour minute = record { sign = sign_for (not is_negative); hour = hour; minute = minute }
 
--- 0: no offset. 1: Z. 2: hours and minutes. 3: hours, minutes and seconds. Another number stands for nothing.
+-- The form says what the offset is. 0: there is no offset. 1: it is `Z`. 2: it has hours and minutes. 3: it has hours, minutes and
+-- seconds. Every other form has no meaning.
 abbrev pub offset_by : Offset → Option (Option UtcOffsetRecordOrZ)
 offset_by o =
     if nat_eq o.form 0 then Some None
@@ -42,7 +44,7 @@ offset_by o =
     }))))
     else None)))
 
--- 0: no zone. 1: a name. 2: an offset. Another number stands for nothing.
+-- The form says what the zone is. 0: there is no zone. 1: it is a name. 2: it is an offset. Every other form has no meaning.
 abbrev pub zone_by : ZoneContents → Option (Option ZoneNote)
 zone_by z =
     if nat_eq z.form 0 then Some None
@@ -50,7 +52,7 @@ zone_by z =
     else (if nat_eq z.form 2 then Some (Some (record { critical = z.is_critical; zone = ByOffset (minutes_by z.is_negative z.hour z.minute) }))
     else None))
 
--- a record, where its offset and its zone stand for something
+-- The record, if the forms of its offset and of its zone have a meaning.
 abbrev pub parsed_by : Contents → Option (Option UtcOffsetRecordOrZ) → Option (Option ZoneNote) → Option Parsed
 parsed_by r (Some offset) (Some zone) = Some (record {
   date = date_by r.date;
@@ -66,7 +68,7 @@ parsed_by r None None = None
 abbrev pub record_by : Contents → Option Parsed
 record_by r = parsed_by r (offset_by r.offset) (zone_by r.zone)
 
--- an offset by numbers, and neither none nor Z
+-- The offset, if it is present and is not `Z`.
 abbrev pub shift_alone : Option (Option UtcOffsetRecordOrZ) → Option UtcOffsetRecord
 shift_alone (Some (Some (shifts.Offset it))) = Some it
 shift_alone (Some (Some shifts.Z)) = None
@@ -76,7 +78,7 @@ shift_alone None = None
 abbrev pub shift_by : Offset → Option UtcOffsetRecord
 shift_by o = shift_alone (offset_by o)
 
--- a zone without its `!`, where there is one
+-- The zone, if it is present. Whether it is critical is dropped.
 abbrev pub area_alone : Option (Option ZoneNote) → Option Area
 area_alone (Some (Some note)) = Some note.zone
 area_alone (Some None) = None
@@ -85,16 +87,17 @@ area_alone None = None
 abbrev pub area_by : ZoneContents → Option Area
 area_by z = area_alone (zone_by z)
 
--- units, where they are there, and else none
+-- The code units if they are present, and otherwise the empty list.
 abbrev pub units_where : Bool → List ℕ → List ℕ
 units_where true units = units
 units_where false units = []
 
--- the years, months, weeks and days of a duration
+-- The years, months, weeks and days of a duration, or `None` if they are absent.
 abbrev pub date_units_by : DurationContents → Option DateDurationRecord
 date_units_by d = where_there d.has_date (record { years = d.years; months = d.months; weeks = d.weeks; days = d.days })
 
--- 0: no time. 1, 2 and 3: the last unit is hours, minutes, seconds. Another number stands for nothing.
+-- The form says what the time is. 0: there is no time. 1, 2 and 3: its last duration unit is hours, minutes and seconds. Every other
+-- form has no meaning.
 abbrev pub time_units_by : DurationContents → Option (Option TimeDurationRecord)
 time_units_by d =
     if nat_eq d.time_form 0 then Some None
@@ -103,7 +106,7 @@ time_units_by d =
     else (if nat_eq d.time_form 3 then Some (Some (times.Seconds d.hours d.minutes d.seconds (fraction_by d.fraction_digits d.fraction)))
     else None)))
 
--- a duration, where its time stands for something
+-- The duration, if the form of its time has a meaning.
 abbrev pub lasting_by : DurationContents → Option (Option TimeDurationRecord) → Option DurationParseRecord
 lasting_by d (Some time) = Some (record { sign = sign_for (not d.is_negative); date = date_units_by d; time = time })
 lasting_by d None = None

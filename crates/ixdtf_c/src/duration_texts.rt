@@ -1,4 +1,4 @@
-//! The durations that C hands in to be printed.
+//! The conversion of the durations of C into durations of the library, which prints them.
 
 ghost use Rattle.std.specs.Prelude.{◌≡◌, Some, IfSome, IfNone, IsSomeAnd};
 ghost use Rattle.ixdtf_c.specs.Lasting.{contents};
@@ -10,7 +10,7 @@ use crate::durations::Duration;
 use crate::printing::fraction_of;
 use ixdtf::records::{DateDurationRecord, DurationParseRecord, Sign, TimeDurationRecord};
 
-/// The years, months, weeks and days, where they are there.
+/// Returns the years, months, weeks and days, or `None` if they are absent.
 fn date_units_of(given: &Duration<'_>) -> Option<DateDurationRecord>
     ensures { result ≡ date_units_by (contents given.now) }
 {
@@ -25,7 +25,9 @@ fn date_units_of(given: &Duration<'_>) -> Option<DateDurationRecord>
     })
 }
 
-/// The hours, minutes and seconds, where their form has a name and their fraction is one.
+/// Returns the hours, minutes and seconds, or `Some(None)` if they are absent.
+///
+/// Returns `None` if `time_form` is not 0 to 3, or if the fraction is not valid: see [`fraction_of`].
 pub fn time_units_of(given: &Duration<'_>) -> Option<Option<TimeDurationRecord>>
     ensures found { IfSome result (λ found. time_units_by (contents given.now) ≡ Some found) }
     ensures none { IfNone result (¬ (IsSomeAnd (time_units_by (contents given.now)) HasTimeUnits)) }
@@ -54,7 +56,7 @@ pub fn time_units_of(given: &Duration<'_>) -> Option<Option<TimeDurationRecord>>
     }
 }
 
-/// The duration, where the form of its time has a name and its fraction is one.
+/// Returns the duration. Returns `None` if `time_form` is not 0 to 3, or if the fraction is not valid: see [`fraction_of`].
 pub fn duration_of(given: &Duration<'_>) -> Option<DurationParseRecord>
     ensures found { IfSome result (λ found. duration_by (contents given.now) ≡ Some found) }
     ensures none { IfNone result (¬ (IsSomeAnd (duration_by (contents given.now)) IsPrintableDuration)) }

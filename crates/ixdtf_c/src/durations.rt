@@ -1,4 +1,4 @@
-//! Durations, as C sees them.
+//! The struct of durations that is passed between C and Rust, and the reader that writes it.
 
 ghost use Rattle.std.specs.Prelude.{◌≡◌, ◌≢◌, map};
 ghost use Rattle.ixdtf_c.specs.Crossing.{duration_for, with_date, with_time, no_duration, digits_for, value_for};
@@ -12,7 +12,7 @@ use ixdtf::encoding::EncodingType;
 use ixdtf::parsers::{IsoDurationParser, Profile};
 use ixdtf::records::{DateDurationRecord, DurationParseRecord, Fraction, TimeDurationRecord};
 
-/// A duration.
+/// A duration. Years, months, weeks and days are its date, and hours, minutes and seconds are its time.
 #[derive(Clone, Copy)]
 #[repr(C)]
 pub struct Duration<'a> {
@@ -24,7 +24,7 @@ pub struct Duration<'a> {
     pub minutes: u64,
     /// The seconds.
     pub seconds: u64,
-    /// The number of the first 18 digits of the fraction.
+    /// The first 18 digits of the fraction of the last duration unit, as one number: 25 for `PT1.25H`.
     pub fraction: u64,
     /// The years.
     pub years: u32,
@@ -32,22 +32,22 @@ pub struct Duration<'a> {
     pub months: u32,
     /// The weeks.
     pub weeks: u32,
-    /// How many digits the fraction has, and 0 where there is none.
+    /// The number of digits of the fraction, at most 255. It is 0 if there is no fraction.
     pub fraction_digits: u8,
-    /// The last unit of the time. 0: there is none. 1: hours. 2: minutes. 3: seconds.
+    /// The last duration unit of the time. 0: there is no time. 1: hours. 2: minutes. 3: seconds.
     pub time_form: u8,
-    /// Whether there are years, months, weeks or days.
+    /// Whether the text has years, months, weeks or days.
     pub has_date: bool,
-    /// Whether the sign is a `-`.
+    /// Whether the sign is `-`.
     pub is_negative: bool,
-    /// What the text broke off in, of the error `AbruptEnd`, and else nothing.
+    /// What was being parsed when the text ended, if the error is `AbruptEnd`. Otherwise the slice is empty.
     pub location: Slice<'a, u8>,
-    /// How many units stand before the place of the error, and 0 where there is none.
+    /// The position of the error: the number of code units before it. It is 0 if there is no error.
     pub place: usize,
 }
 
 impl<'a> Duration<'a> {
-    // A duration in which nothing stands but its sign.
+    // Returns a duration that has only a sign. All other fields are 0, false or empty.
     #[inline(always)]
     fn of_sign(is_negative: bool) -> Duration<'a>
         ensures { contents result ≡ no_duration is_negative }
@@ -70,7 +70,7 @@ impl<'a> Duration<'a> {
         }
     }
 
-    // Writes the years, months, weeks and days, where there are.
+    // Writes the years, months, weeks and days, if they are present.
     #[inline(always)]
     fn put_date(&mut self, date: Option<DateDurationRecord>)
         ensures { contents self.new ≡ with_date (contents self.old) date }
@@ -87,7 +87,7 @@ impl<'a> Duration<'a> {
         }
     }
 
-    // Writes the hours, minutes and seconds, where there are.
+    // Writes the hours, minutes and seconds, if they are present.
     #[inline(always)]
     fn put_time(&mut self, time: Option<TimeDurationRecord>)
         ensures { contents self.new ≡ with_time (contents self.old) time }
@@ -128,7 +128,7 @@ impl<'a> Duration<'a> {
         }
     }
 
-    // Writes the numbers of the fraction.
+    // Writes the two numbers of the fraction. Both are 0 if there is no fraction.
     #[inline(always)]
     fn put_fraction(&mut self, fraction: Option<Fraction>)
         ensures { self.new ≡ record (self.old) {
@@ -141,7 +141,7 @@ impl<'a> Duration<'a> {
         self.fraction_digits = digits.count;
     }
 
-    // Writes what was read, and clears what was not.
+    // Writes every field of the duration. The fields of a part that is absent become 0 or false.
     #[inline(always)]
     fn fill(&mut self, found: &DurationParseRecord)
         ensures { contents self.new ≡ duration_for found.now }
@@ -152,7 +152,7 @@ impl<'a> Duration<'a> {
     }
 }
 
-/// Reads a duration under the profile, and writes it.
+/// Reads a duration under the profile. Writes it, or the location and the position of the error. Returns 0 or the error's number.
 #[inline(always)]
 pub fn duration_into<T: EncodingType>(
     text: &[T::CodeUnit],

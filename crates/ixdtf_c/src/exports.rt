@@ -1,11 +1,16 @@
-//! The readers that the header declares, of 8-bit and of 16-bit sources. Each call is one line over a reader of either width.
+//! The readers that the C header declares, for 8-bit text and for 16-bit text, and the functions that check replies. Each
+//! function only calls a function of another module, which does the work.
 //!
-//! - `read`: the number and what is written, all of it, are those of what the library's reader returns of the text. That of a
-//!   duration is 0 only where no other reader of dates, times and durations has the text.
-//! - `lists`: they are those of what the text gives where its annotations are passed over; these are counted, and the first of
-//!   them are written.
-//! - `few`: five times the number of the annotations is at most the length of the text, so a room of a fifth of its length is enough.
-//! - `unchanged`: after a refusal what `out` refers to is as it was, its slices too, but for the location and the place.
+//! These clauses are in the contracts of the readers:
+//!
+//! - `read`: The outcome of the text determines the number that is returned and every field of the record. The outcome is a
+//!   record of the grammar, or an error with its position. A text reader returns 0 only if no other text reader accepts the
+//!   text under the same profile.
+//! - `lists`: This clause is like `read`, for a reader that drops each annotation. It also says that `count` is the number of
+//!   annotations before the end of the text, or before its error. The first of these annotations are in the array, in order.
+//! - `few`: Five times the number of annotations is at most the length of the text. So the array is long enough if it has a
+//!   fifth of this length.
+//! - `unchanged`: After an error, the record is unchanged, also its slices, except for `location` and `place`.
 
 ghost use Rattle.std.specs.Prelude.{◌≡◌, ◌≢◌, ◌+◌, ◌*◌, ◌≤◌, length, map, IsSomeAnd};
 ghost use Rattle.ixdtf.specs.language.Languages.Found.{dated, shifted, identified, named};
@@ -31,11 +36,12 @@ use crate::{narrow_annotations, wide, wide_annotations};
 use ixdtf::encoding::{Utf8, Utf16};
 use ixdtf::parsers::{DateTimes, InternetDateTimes, MonthDays, Profile, Times, YearMonths};
 
-/// Reads a date, or a date and a time, and the brackets after it.
+/// Reads a date, such as `2024-03-02`, or a date and a time, such as `2024-03-02T08:48:00-05:00`.
+/// A zone and annotations may follow in brackets.
 #[unsafe(no_mangle)]
 pub extern "C" fn ixdtf_parse<'a>(text: &'a [u8], out: &mut Record<'a>) -> u32
     ensures read { GivesRecord Profile.Crate parse (map byte_letter text.now) result (contents out.old) (contents out.new) }
-    // What was read has a canonical text, of at most 14 bytes more than the text.
+    // After 0, `ixdtf_print` can print the record. Its canonical text has at most 14 bytes more than the text.
     ensures printable { result ≡ 0 → IsSomeAnd (record_by (contents out.new)) IsPrintable }
     ensures fits { result ≡ 0 → IsSomeAnd (record_by (contents out.new))
         (λ found. length (canonical_text found) ≤ length text.now + 14) }
@@ -44,7 +50,7 @@ pub extern "C" fn ixdtf_parse<'a>(text: &'a [u8], out: &mut Record<'a>) -> u32
     read_into::<Utf8, DateTimes, _>(text, Profile::Crate, out)
 }
 
-/// Reads a year and a month, and the brackets after it.
+/// Reads a year and a month, such as `2024-03`. A zone and annotations may follow in brackets.
 #[unsafe(no_mangle)]
 pub extern "C" fn ixdtf_parse_year_month<'a>(text: &'a [u8], out: &mut Record<'a>) -> u32
     ensures read { GivesRecord Profile.Crate parse_year_month (map byte_letter text.now) result (contents out.old) (contents out.new) }
@@ -53,7 +59,7 @@ pub extern "C" fn ixdtf_parse_year_month<'a>(text: &'a [u8], out: &mut Record<'a
     read_into::<Utf8, YearMonths, _>(text, Profile::Crate, out)
 }
 
-/// Reads a month and a day, and the brackets after it.
+/// Reads a month and a day, such as `11-07`. A zone and annotations may follow in brackets.
 #[unsafe(no_mangle)]
 pub extern "C" fn ixdtf_parse_month_day<'a>(text: &'a [u8], out: &mut Record<'a>) -> u32
     ensures read { GivesRecord Profile.Crate (parse_month_day Profile.Crate) (map byte_letter text.now) result (contents out.old) (contents out.new) }
@@ -62,7 +68,7 @@ pub extern "C" fn ixdtf_parse_month_day<'a>(text: &'a [u8], out: &mut Record<'a>
     read_into::<Utf8, MonthDays, _>(text, Profile::Crate, out)
 }
 
-/// Reads a time, and the brackets after it.
+/// Reads a time, such as `T12:30`. A zone and annotations may follow in brackets.
 #[unsafe(no_mangle)]
 pub extern "C" fn ixdtf_parse_time<'a>(text: &'a [u8], out: &mut Record<'a>) -> u32
     ensures read { GivesRecord Profile.Crate (parse_time Profile.Crate) (map byte_letter text.now) result (contents out.old) (contents out.new) }
@@ -71,7 +77,7 @@ pub extern "C" fn ixdtf_parse_time<'a>(text: &'a [u8], out: &mut Record<'a>) -> 
     read_into::<Utf8, Times, _>(text, Profile::Crate, out)
 }
 
-/// Reads a month and a day, and the brackets after it, under the strict profile.
+/// Reads a month and a day, such as `11-07`, under the strict profile. A zone and annotations may follow in brackets.
 #[unsafe(no_mangle)]
 pub extern "C" fn ixdtf_parse_month_day_strict<'a>(text: &'a [u8], out: &mut Record<'a>) -> u32
     ensures read { GivesRecord Profile.Strict (parse_month_day Profile.Strict) (map byte_letter text.now) result (contents out.old) (contents out.new) }
@@ -80,7 +86,7 @@ pub extern "C" fn ixdtf_parse_month_day_strict<'a>(text: &'a [u8], out: &mut Rec
     read_into::<Utf8, MonthDays, _>(text, Profile::Strict, out)
 }
 
-/// Reads a time, and the brackets after it, under the strict profile.
+/// Reads a time, such as `T12:30`, under the strict profile. A zone and annotations may follow in brackets.
 #[unsafe(no_mangle)]
 pub extern "C" fn ixdtf_parse_time_strict<'a>(text: &'a [u8], out: &mut Record<'a>) -> u32
     ensures read { GivesRecord Profile.Strict (parse_time Profile.Strict) (map byte_letter text.now) result (contents out.old) (contents out.new) }
@@ -89,7 +95,7 @@ pub extern "C" fn ixdtf_parse_time_strict<'a>(text: &'a [u8], out: &mut Record<'
     read_into::<Utf8, Times, _>(text, Profile::Strict, out)
 }
 
-/// Reads a date-time of RFC 3339, section 5.6.
+/// Reads a date-time of RFC 3339, section 5.6, such as `2024-03-02T08:48:00-05:00`.
 #[unsafe(no_mangle)]
 pub extern "C" fn ixdtf_parse_rfc3339<'a>(text: &'a [u8], out: &mut Record<'a>) -> u32
     ensures read { GivesPart parse_rfc3339 dated (λ found. found) (map byte_letter text.now) result (contents out.old) (contents out.new) }
@@ -98,7 +104,7 @@ pub extern "C" fn ixdtf_parse_rfc3339<'a>(text: &'a [u8], out: &mut Record<'a>) 
     rfc3339_into::<Utf8, _>(text, out)
 }
 
-/// Reads a date-time of RFC 9557, section 4.1.
+/// Reads a date-time-ext of RFC 9557, section 4.1, such as `2024-03-02T08:48:00-05:00[America/New_York]`.
 #[unsafe(no_mangle)]
 pub extern "C" fn ixdtf_parse_rfc9557<'a>(text: &'a [u8], out: &mut Record<'a>) -> u32
     ensures read { GivesRecord Profile.Crate parse_rfc9557 (map byte_letter text.now) result (contents out.old) (contents out.new) }
@@ -107,7 +113,7 @@ pub extern "C" fn ixdtf_parse_rfc9557<'a>(text: &'a [u8], out: &mut Record<'a>) 
     read_into::<Utf8, InternetDateTimes, _>(text, Profile::Crate, out)
 }
 
-/// Reads an offset.
+/// Reads an offset from UTC, such as `+05:30`.
 #[unsafe(no_mangle)]
 pub extern "C" fn ixdtf_parse_offset<'a>(text: &'a [u8], out: &mut Record<'a>) -> u32
     ensures read { GivesPart parse_offset shifted offset_alone (map byte_letter text.now) result (contents out.old) (contents out.new) }
@@ -116,7 +122,7 @@ pub extern "C" fn ixdtf_parse_offset<'a>(text: &'a [u8], out: &mut Record<'a>) -
     offset_into::<Utf8, _>(text, out)
 }
 
-/// Reads a time zone.
+/// Reads a time zone without brackets. It is a name or an offset, such as `Europe/Berlin` or `+05:30`.
 #[unsafe(no_mangle)]
 pub extern "C" fn ixdtf_parse_identifier<'a>(text: &'a [u8], out: &mut Record<'a>) -> u32
     ensures read { GivesPart parse_identifier identified zone_alone (map byte_letter text.now) result (contents out.old) (contents out.new) }
@@ -125,7 +131,7 @@ pub extern "C" fn ixdtf_parse_identifier<'a>(text: &'a [u8], out: &mut Record<'a
     zone_into::<Utf8, _>(text, out)
 }
 
-/// Reads the name of a time zone.
+/// Reads the name of a time zone, such as `Europe/Berlin`.
 #[unsafe(no_mangle)]
 pub extern "C" fn ixdtf_parse_iana_identifier<'a>(text: &'a [u8], out: &mut Record<'a>) -> u32
     ensures read { GivesPart parse_iana_identifier named name_alone (map byte_letter text.now) result (contents out.old) (contents out.new) }
@@ -134,7 +140,7 @@ pub extern "C" fn ixdtf_parse_iana_identifier<'a>(text: &'a [u8], out: &mut Reco
     name_into::<Utf8, _>(text, out)
 }
 
-/// Reads a duration.
+/// Reads a duration, such as `P1Y2M3DT4H`.
 #[unsafe(no_mangle)]
 pub extern "C" fn ixdtf_parse_duration(text: &[u8], out: &mut Duration<'_>) -> u32
     ensures read { GivesLasting Profile.Crate (map byte_letter text.now) result (lasting_contents out.old) (lasting_contents out.new) }
@@ -143,7 +149,7 @@ pub extern "C" fn ixdtf_parse_duration(text: &[u8], out: &mut Duration<'_>) -> u
     duration_into::<Utf8>(text, Profile::Crate, out)
 }
 
-/// Reads a duration, under the strict profile.
+/// Reads a duration, such as `P1Y2M3DT4H`, under the strict profile.
 #[unsafe(no_mangle)]
 pub extern "C" fn ixdtf_parse_duration_strict(text: &[u8], out: &mut Duration<'_>) -> u32
     ensures read { GivesLasting Profile.Strict (map byte_letter text.now) result (lasting_contents out.old) (lasting_contents out.new) }
@@ -152,7 +158,9 @@ pub extern "C" fn ixdtf_parse_duration_strict(text: &[u8], out: &mut Duration<'_
     duration_into::<Utf8>(text, Profile::Strict, out)
 }
 
-/// Reads a date, or a date and a time, and the brackets after it. The annotations are passed over and listed.
+/// Reads a date, such as `2024-03-02`, or a date and a time, such as `2024-03-02T08:48:00-05:00`.
+/// A zone and annotations may follow in brackets.
+/// Lists the annotations in `annotations`. Refuses none of them, and writes no calendar.
 #[unsafe(no_mangle)]
 pub extern "C" fn ixdtf_parse_with_annotations<'a>(
     text: &'a [u8],
@@ -168,7 +176,8 @@ pub extern "C" fn ixdtf_parse_with_annotations<'a>(
     narrow_annotations::list_into::<DateTimes>(text, Profile::Crate, annotations, count, out)
 }
 
-/// Reads a year and a month, and the brackets after it. The annotations are passed over and listed.
+/// Reads a year and a month, such as `2024-03`. A zone and annotations may follow in brackets.
+/// Lists the annotations in `annotations`. Refuses none of them, and writes no calendar.
 #[unsafe(no_mangle)]
 pub extern "C" fn ixdtf_parse_year_month_with_annotations<'a>(
     text: &'a [u8],
@@ -184,7 +193,8 @@ pub extern "C" fn ixdtf_parse_year_month_with_annotations<'a>(
     narrow_annotations::list_into::<YearMonths>(text, Profile::Crate, annotations, count, out)
 }
 
-/// Reads a month and a day, and the brackets after it. The annotations are passed over and listed.
+/// Reads a month and a day, such as `11-07`. A zone and annotations may follow in brackets.
+/// Lists the annotations in `annotations`. Refuses none of them, and writes no calendar.
 #[unsafe(no_mangle)]
 pub extern "C" fn ixdtf_parse_month_day_with_annotations<'a>(
     text: &'a [u8],
@@ -200,7 +210,8 @@ pub extern "C" fn ixdtf_parse_month_day_with_annotations<'a>(
     narrow_annotations::list_into::<MonthDays>(text, Profile::Crate, annotations, count, out)
 }
 
-/// Reads a time, and the brackets after it. The annotations are passed over and listed.
+/// Reads a time, such as `T12:30`. A zone and annotations may follow in brackets.
+/// Lists the annotations in `annotations`. Refuses none of them, and writes no calendar.
 #[unsafe(no_mangle)]
 pub extern "C" fn ixdtf_parse_time_with_annotations<'a>(
     text: &'a [u8],
@@ -216,7 +227,8 @@ pub extern "C" fn ixdtf_parse_time_with_annotations<'a>(
     narrow_annotations::list_into::<Times>(text, Profile::Crate, annotations, count, out)
 }
 
-/// Reads a date-time of RFC 9557, section 4.1. The annotations are passed over and listed.
+/// Reads a date-time-ext of RFC 9557, section 4.1, such as `2024-03-02T08:48:00-05:00[America/New_York]`.
+/// Lists the annotations in `annotations`. Refuses none of them, and writes no calendar.
 #[unsafe(no_mangle)]
 pub extern "C" fn ixdtf_parse_rfc9557_with_annotations<'a>(
     text: &'a [u8],
@@ -238,7 +250,8 @@ pub extern "C" fn ixdtf_parse_rfc9557_with_annotations<'a>(
     )
 }
 
-/// Reads a month and a day, and the brackets after it, under the strict profile. The annotations are passed over and listed.
+/// Reads a month and a day, such as `11-07`, under the strict profile. A zone and annotations may follow in brackets.
+/// Lists the annotations in `annotations`. Refuses none of them, and writes no calendar.
 #[unsafe(no_mangle)]
 pub extern "C" fn ixdtf_parse_month_day_with_annotations_strict<'a>(
     text: &'a [u8],
@@ -254,7 +267,8 @@ pub extern "C" fn ixdtf_parse_month_day_with_annotations_strict<'a>(
     narrow_annotations::list_into::<MonthDays>(text, Profile::Strict, annotations, count, out)
 }
 
-/// Reads a time, and the brackets after it, under the strict profile. The annotations are passed over and listed.
+/// Reads a time, such as `T12:30`, under the strict profile. A zone and annotations may follow in brackets.
+/// Lists the annotations in `annotations`. Refuses none of them, and writes no calendar.
 #[unsafe(no_mangle)]
 pub extern "C" fn ixdtf_parse_time_with_annotations_strict<'a>(
     text: &'a [u8],
@@ -270,20 +284,23 @@ pub extern "C" fn ixdtf_parse_time_with_annotations_strict<'a>(
     narrow_annotations::list_into::<Times>(text, Profile::Strict, annotations, count, out)
 }
 
-/// Takes a reply to an annotation: keeps it where it is the first calendar, and returns 0, or the number of the error that it
-/// is refused with.
+/// Checks the reply to an annotation. Returns 0 if the reply is accepted, and otherwise the number of the error.
+///
+/// If the key of an accepted reply is `u-ca`, and no calendar was kept before, the reply is kept in `calendar`.
 #[unsafe(no_mangle)]
 pub extern "C" fn ixdtf_reply<'a>(calendar: &mut Calendar<'a>, reply: &Annotation<'a>) -> u32
-    // It is refused exactly where the library refuses it beside the calendar that is kept, with the library's error, and else
-    // the first calendar is kept.
+    // The result is an error exactly if the library refuses the reply beside the calendar that was kept before. It is the
+    // error of the library. After 0, the calendar that was kept before is still kept. If none was kept before, and the key of
+    // the reply is `u-ca`, the reply is kept.
     ensures takes { TakesReply (calendar_by calendar.old) (calendar_by calendar.new) (annotation_by reply.now) result }
-    // After a refusal the calendar is as it was.
+    // After an error, the calendar is unchanged.
     ensures unchanged { result ≢ 0 → calendar.new ≡ calendar.old }
 {
     take_reply::<Utf8, _, _>(calendar, reply)
 }
 
-/// Reads a date, or a date and a time, and the brackets after it.
+/// Reads a date, such as `2024-03-02`, or a date and a time, such as `2024-03-02T08:48:00-05:00`.
+/// A zone and annotations may follow in brackets.
 #[unsafe(no_mangle)]
 pub extern "C" fn ixdtf16_parse<'a>(text: &'a [u16], out: &mut wide::Record<'a>) -> u32
     ensures read { GivesRecord Profile.Crate parse (map wide_letter text.now) result (wide_contents out.old) (wide_contents out.new) }
@@ -292,7 +309,7 @@ pub extern "C" fn ixdtf16_parse<'a>(text: &'a [u16], out: &mut wide::Record<'a>)
     read_into::<Utf16, DateTimes, _>(text, Profile::Crate, out)
 }
 
-/// Reads a year and a month, and the brackets after it.
+/// Reads a year and a month, such as `2024-03`. A zone and annotations may follow in brackets.
 #[unsafe(no_mangle)]
 pub extern "C" fn ixdtf16_parse_year_month<'a>(text: &'a [u16], out: &mut wide::Record<'a>) -> u32
     ensures read { GivesRecord Profile.Crate parse_year_month (map wide_letter text.now) result (wide_contents out.old) (wide_contents out.new) }
@@ -301,7 +318,7 @@ pub extern "C" fn ixdtf16_parse_year_month<'a>(text: &'a [u16], out: &mut wide::
     read_into::<Utf16, YearMonths, _>(text, Profile::Crate, out)
 }
 
-/// Reads a month and a day, and the brackets after it.
+/// Reads a month and a day, such as `11-07`. A zone and annotations may follow in brackets.
 #[unsafe(no_mangle)]
 pub extern "C" fn ixdtf16_parse_month_day<'a>(text: &'a [u16], out: &mut wide::Record<'a>) -> u32
     ensures read { GivesRecord Profile.Crate (parse_month_day Profile.Crate) (map wide_letter text.now) result (wide_contents out.old) (wide_contents out.new) }
@@ -310,7 +327,7 @@ pub extern "C" fn ixdtf16_parse_month_day<'a>(text: &'a [u16], out: &mut wide::R
     read_into::<Utf16, MonthDays, _>(text, Profile::Crate, out)
 }
 
-/// Reads a time, and the brackets after it.
+/// Reads a time, such as `T12:30`. A zone and annotations may follow in brackets.
 #[unsafe(no_mangle)]
 pub extern "C" fn ixdtf16_parse_time<'a>(text: &'a [u16], out: &mut wide::Record<'a>) -> u32
     ensures read { GivesRecord Profile.Crate (parse_time Profile.Crate) (map wide_letter text.now) result (wide_contents out.old) (wide_contents out.new) }
@@ -319,7 +336,7 @@ pub extern "C" fn ixdtf16_parse_time<'a>(text: &'a [u16], out: &mut wide::Record
     read_into::<Utf16, Times, _>(text, Profile::Crate, out)
 }
 
-/// Reads a month and a day, and the brackets after it, under the strict profile.
+/// Reads a month and a day, such as `11-07`, under the strict profile. A zone and annotations may follow in brackets.
 #[unsafe(no_mangle)]
 pub extern "C" fn ixdtf16_parse_month_day_strict<'a>(
     text: &'a [u16],
@@ -331,7 +348,7 @@ pub extern "C" fn ixdtf16_parse_month_day_strict<'a>(
     read_into::<Utf16, MonthDays, _>(text, Profile::Strict, out)
 }
 
-/// Reads a time, and the brackets after it, under the strict profile.
+/// Reads a time, such as `T12:30`, under the strict profile. A zone and annotations may follow in brackets.
 #[unsafe(no_mangle)]
 pub extern "C" fn ixdtf16_parse_time_strict<'a>(text: &'a [u16], out: &mut wide::Record<'a>) -> u32
     ensures read { GivesRecord Profile.Strict (parse_time Profile.Strict) (map wide_letter text.now) result (wide_contents out.old) (wide_contents out.new) }
@@ -340,7 +357,7 @@ pub extern "C" fn ixdtf16_parse_time_strict<'a>(text: &'a [u16], out: &mut wide:
     read_into::<Utf16, Times, _>(text, Profile::Strict, out)
 }
 
-/// Reads a date-time of RFC 3339, section 5.6.
+/// Reads a date-time of RFC 3339, section 5.6, such as `2024-03-02T08:48:00-05:00`.
 #[unsafe(no_mangle)]
 pub extern "C" fn ixdtf16_parse_rfc3339<'a>(text: &'a [u16], out: &mut wide::Record<'a>) -> u32
     ensures read { GivesPart parse_rfc3339 dated (λ found. found) (map wide_letter text.now) result (wide_contents out.old) (wide_contents out.new) }
@@ -349,7 +366,7 @@ pub extern "C" fn ixdtf16_parse_rfc3339<'a>(text: &'a [u16], out: &mut wide::Rec
     rfc3339_into::<Utf16, _>(text, out)
 }
 
-/// Reads a date-time of RFC 9557, section 4.1.
+/// Reads a date-time-ext of RFC 9557, section 4.1, such as `2024-03-02T08:48:00-05:00[America/New_York]`.
 #[unsafe(no_mangle)]
 pub extern "C" fn ixdtf16_parse_rfc9557<'a>(text: &'a [u16], out: &mut wide::Record<'a>) -> u32
     ensures read { GivesRecord Profile.Crate parse_rfc9557 (map wide_letter text.now) result (wide_contents out.old) (wide_contents out.new) }
@@ -358,7 +375,7 @@ pub extern "C" fn ixdtf16_parse_rfc9557<'a>(text: &'a [u16], out: &mut wide::Rec
     read_into::<Utf16, InternetDateTimes, _>(text, Profile::Crate, out)
 }
 
-/// Reads an offset.
+/// Reads an offset from UTC, such as `+05:30`.
 #[unsafe(no_mangle)]
 pub extern "C" fn ixdtf16_parse_offset<'a>(text: &'a [u16], out: &mut wide::Record<'a>) -> u32
     ensures read { GivesPart parse_offset shifted offset_alone (map wide_letter text.now) result (wide_contents out.old) (wide_contents out.new) }
@@ -367,7 +384,7 @@ pub extern "C" fn ixdtf16_parse_offset<'a>(text: &'a [u16], out: &mut wide::Reco
     offset_into::<Utf16, _>(text, out)
 }
 
-/// Reads a time zone.
+/// Reads a time zone without brackets. It is a name or an offset, such as `Europe/Berlin` or `+05:30`.
 #[unsafe(no_mangle)]
 pub extern "C" fn ixdtf16_parse_identifier<'a>(text: &'a [u16], out: &mut wide::Record<'a>) -> u32
     ensures read { GivesPart parse_identifier identified zone_alone (map wide_letter text.now) result (wide_contents out.old) (wide_contents out.new) }
@@ -376,7 +393,7 @@ pub extern "C" fn ixdtf16_parse_identifier<'a>(text: &'a [u16], out: &mut wide::
     zone_into::<Utf16, _>(text, out)
 }
 
-/// Reads the name of a time zone.
+/// Reads the name of a time zone, such as `Europe/Berlin`.
 #[unsafe(no_mangle)]
 pub extern "C" fn ixdtf16_parse_iana_identifier<'a>(
     text: &'a [u16],
@@ -388,7 +405,7 @@ pub extern "C" fn ixdtf16_parse_iana_identifier<'a>(
     name_into::<Utf16, _>(text, out)
 }
 
-/// Reads a duration.
+/// Reads a duration, such as `P1Y2M3DT4H`.
 #[unsafe(no_mangle)]
 pub extern "C" fn ixdtf16_parse_duration(text: &[u16], out: &mut Duration<'_>) -> u32
     ensures read { GivesLasting Profile.Crate (map wide_letter text.now) result (lasting_contents out.old) (lasting_contents out.new) }
@@ -397,7 +414,7 @@ pub extern "C" fn ixdtf16_parse_duration(text: &[u16], out: &mut Duration<'_>) -
     duration_into::<Utf16>(text, Profile::Crate, out)
 }
 
-/// Reads a duration, under the strict profile.
+/// Reads a duration, such as `P1Y2M3DT4H`, under the strict profile.
 #[unsafe(no_mangle)]
 pub extern "C" fn ixdtf16_parse_duration_strict(text: &[u16], out: &mut Duration<'_>) -> u32
     ensures read { GivesLasting Profile.Strict (map wide_letter text.now) result (lasting_contents out.old) (lasting_contents out.new) }
@@ -406,7 +423,9 @@ pub extern "C" fn ixdtf16_parse_duration_strict(text: &[u16], out: &mut Duration
     duration_into::<Utf16>(text, Profile::Strict, out)
 }
 
-/// Reads a date, or a date and a time, and the brackets after it. The annotations are passed over and listed.
+/// Reads a date, such as `2024-03-02`, or a date and a time, such as `2024-03-02T08:48:00-05:00`.
+/// A zone and annotations may follow in brackets.
+/// Lists the annotations in `annotations`. Refuses none of them, and writes no calendar.
 #[unsafe(no_mangle)]
 pub extern "C" fn ixdtf16_parse_with_annotations<'a>(
     text: &'a [u16],
@@ -422,7 +441,8 @@ pub extern "C" fn ixdtf16_parse_with_annotations<'a>(
     wide_annotations::list_into::<DateTimes>(text, Profile::Crate, annotations, count, out)
 }
 
-/// Reads a year and a month, and the brackets after it. The annotations are passed over and listed.
+/// Reads a year and a month, such as `2024-03`. A zone and annotations may follow in brackets.
+/// Lists the annotations in `annotations`. Refuses none of them, and writes no calendar.
 #[unsafe(no_mangle)]
 pub extern "C" fn ixdtf16_parse_year_month_with_annotations<'a>(
     text: &'a [u16],
@@ -438,7 +458,8 @@ pub extern "C" fn ixdtf16_parse_year_month_with_annotations<'a>(
     wide_annotations::list_into::<YearMonths>(text, Profile::Crate, annotations, count, out)
 }
 
-/// Reads a month and a day, and the brackets after it. The annotations are passed over and listed.
+/// Reads a month and a day, such as `11-07`. A zone and annotations may follow in brackets.
+/// Lists the annotations in `annotations`. Refuses none of them, and writes no calendar.
 #[unsafe(no_mangle)]
 pub extern "C" fn ixdtf16_parse_month_day_with_annotations<'a>(
     text: &'a [u16],
@@ -454,7 +475,8 @@ pub extern "C" fn ixdtf16_parse_month_day_with_annotations<'a>(
     wide_annotations::list_into::<MonthDays>(text, Profile::Crate, annotations, count, out)
 }
 
-/// Reads a time, and the brackets after it. The annotations are passed over and listed.
+/// Reads a time, such as `T12:30`. A zone and annotations may follow in brackets.
+/// Lists the annotations in `annotations`. Refuses none of them, and writes no calendar.
 #[unsafe(no_mangle)]
 pub extern "C" fn ixdtf16_parse_time_with_annotations<'a>(
     text: &'a [u16],
@@ -470,7 +492,8 @@ pub extern "C" fn ixdtf16_parse_time_with_annotations<'a>(
     wide_annotations::list_into::<Times>(text, Profile::Crate, annotations, count, out)
 }
 
-/// Reads a date-time of RFC 9557, section 4.1. The annotations are passed over and listed.
+/// Reads a date-time-ext of RFC 9557, section 4.1, such as `2024-03-02T08:48:00-05:00[America/New_York]`.
+/// Lists the annotations in `annotations`. Refuses none of them, and writes no calendar.
 #[unsafe(no_mangle)]
 pub extern "C" fn ixdtf16_parse_rfc9557_with_annotations<'a>(
     text: &'a [u16],
@@ -486,7 +509,8 @@ pub extern "C" fn ixdtf16_parse_rfc9557_with_annotations<'a>(
     wide_annotations::list_into::<InternetDateTimes>(text, Profile::Crate, annotations, count, out)
 }
 
-/// Reads a month and a day, and the brackets after it, under the strict profile. The annotations are passed over and listed.
+/// Reads a month and a day, such as `11-07`, under the strict profile. A zone and annotations may follow in brackets.
+/// Lists the annotations in `annotations`. Refuses none of them, and writes no calendar.
 #[unsafe(no_mangle)]
 pub extern "C" fn ixdtf16_parse_month_day_with_annotations_strict<'a>(
     text: &'a [u16],
@@ -502,7 +526,8 @@ pub extern "C" fn ixdtf16_parse_month_day_with_annotations_strict<'a>(
     wide_annotations::list_into::<MonthDays>(text, Profile::Strict, annotations, count, out)
 }
 
-/// Reads a time, and the brackets after it, under the strict profile. The annotations are passed over and listed.
+/// Reads a time, such as `T12:30`, under the strict profile. A zone and annotations may follow in brackets.
+/// Lists the annotations in `annotations`. Refuses none of them, and writes no calendar.
 #[unsafe(no_mangle)]
 pub extern "C" fn ixdtf16_parse_time_with_annotations_strict<'a>(
     text: &'a [u16],
@@ -518,17 +543,19 @@ pub extern "C" fn ixdtf16_parse_time_with_annotations_strict<'a>(
     wide_annotations::list_into::<Times>(text, Profile::Strict, annotations, count, out)
 }
 
-/// Takes a reply to an annotation: keeps it where it is the first calendar, and returns 0, or the number of the error that it
-/// is refused with.
+/// Checks the reply to an annotation. Returns 0 if the reply is accepted, and otherwise the number of the error.
+///
+/// If the key of an accepted reply is `u-ca`, and no calendar was kept before, the reply is kept in `calendar`.
 #[unsafe(no_mangle)]
 pub extern "C" fn ixdtf16_reply<'a>(
     calendar: &mut wide::Calendar<'a>,
     reply: &wide::Annotation<'a>,
 ) -> u32
-    // It is refused exactly where the library refuses it beside the calendar that is kept, with the library's error, and else
-    // the first calendar is kept.
+    // The result is an error exactly if the library refuses the reply beside the calendar that was kept before. It is the
+    // error of the library. After 0, the calendar that was kept before is still kept. If none was kept before, and the key of
+    // the reply is `u-ca`, the reply is kept.
     ensures takes { TakesReply (wide_calendar_by calendar.old) (wide_calendar_by calendar.new) (wide_annotation_by reply.now) result }
-    // After a refusal the calendar is as it was.
+    // After an error, the calendar is unchanged.
     ensures unchanged { result ≢ 0 → calendar.new ≡ calendar.old }
 {
     take_reply::<Utf16, _, _>(calendar, reply)

@@ -1,4 +1,4 @@
-//! Numbers of records, as C sees them.
+//! The structs of dates, times and offsets that are passed between C and Rust.
 
 ghost use Rattle.std.specs.Prelude.{◌≡◌};
 ghost use Rattle.ixdtf_c.specs.Crossing.{digits_for, value_for, date_for, time_for, offset_of_form, shift_for, offset_for};
@@ -6,59 +6,59 @@ ghost use Rattle.ixdtf_c.specs.Crossing.{is_negative as has_minus};
 
 use ixdtf::records::{DateRecord, Fraction, Sign, TimeRecord, UtcOffsetRecord, UtcOffsetRecordOrZ};
 
-/// A date, where it is there.
+/// A date. If it is absent, a reader writes 0 to the other fields.
 #[derive(Clone, Copy)]
 #[repr(C)]
 pub struct Date {
-    /// The year.
+    /// The year, -999999 to 999999. It is 0 if the text has only a month and a day.
     pub year: i32,
     /// The month, 1 to 12.
     pub month: u8,
-    /// The day, from 1.
+    /// The day, 1 to 31. It is 1 if the text has only a year and a month, and 0 if the day in the text is `00`.
     pub day: u8,
-    /// Whether the text has a date.
+    /// Whether a date is present.
     pub is_there: bool,
 }
 
-/// A time, where it is there.
+/// A time. If it is absent, a reader writes 0 to the other fields.
 #[derive(Clone, Copy)]
 #[repr(C)]
 pub struct Time {
-    /// The number of the first 18 digits of the fraction.
+    /// The first 18 digits of the fraction, as one number: 250 for `.250`.
     pub fraction: u64,
-    /// How many digits the fraction has, and 0 where there is none.
+    /// The number of digits of the fraction, at most 255. It is 0 if there is no fraction.
     pub fraction_digits: u8,
-    /// The hour.
+    /// The hour, 0 to 23.
     pub hour: u8,
-    /// The minute.
+    /// The minute, 0 to 59.
     pub minute: u8,
-    /// The second.
+    /// The second, 0 to 60.
     pub second: u8,
-    /// Whether the text has a time.
+    /// Whether a time is present.
     pub is_there: bool,
 }
 
-/// An offset, where it is there.
+/// An offset from UTC, or `Z`. A reader writes 0 or false to each field that does not belong to `form`.
 #[derive(Clone, Copy)]
 #[repr(C)]
 pub struct Offset {
-    /// The number of the first 18 digits of the fraction.
+    /// The first 18 digits of the fraction, as one number: 250 for `.250`.
     pub fraction: u64,
-    /// How many digits the fraction has, and 0 where there is none.
+    /// The number of digits of the fraction, at most 255. It is 0 if there is no fraction.
     pub fraction_digits: u8,
-    /// 0: there is none. 1: `Z`. 2: hours and minutes. 3: hours, minutes and seconds.
+    /// 0: there is no offset. 1: the offset is `Z`. 2: it has hours and minutes. 3: it has hours, minutes and seconds.
     pub form: u8,
-    /// Whether the sign is a `-`.
+    /// Whether the sign is `-`. This is also true for `-00:00`.
     pub is_negative: bool,
-    /// The hours.
+    /// The hours, 0 to 23.
     pub hour: u8,
-    /// The minutes.
+    /// The minutes, 0 to 59.
     pub minute: u8,
-    /// The seconds.
+    /// The seconds, 0 to 59.
     pub second: u8,
 }
 
-/// Whether the sign is a `-`.
+/// Tests whether the sign is `-`.
 #[inline(always)]
 pub fn is_negative(sign: Sign) -> bool
     ensures { result ≡ has_minus sign }
@@ -69,17 +69,17 @@ pub fn is_negative(sign: Sign) -> bool
     }
 }
 
-/// The numbers of a fraction, where it is there.
+/// The two numbers that C gets for a fraction. Both are 0 if there is no fraction.
 #[derive(Clone, Copy)]
 pub struct Digits {
-    /// How many digits it has.
+    /// The number of digits of the fraction.
     pub count: u8,
-    /// The number of the first 18 of them.
+    /// The first 18 digits, as one number.
     pub value: u64,
 }
 
 impl Digits {
-    /// The numbers of the fraction, and zeros where there is none.
+    /// Returns the two numbers of the fraction. Both are 0 if there is no fraction.
     #[inline(always)]
     pub fn of(fraction: Option<Fraction>) -> Digits
         ensures count { result.count ≡ digits_for fraction }
@@ -96,7 +96,7 @@ impl Digits {
 }
 
 impl Date {
-    /// Writes the numbers of the date, and zeros where there is none.
+    /// Writes the date to `self`. If there is none, each field becomes 0 or false.
     #[inline(always)]
     pub(crate) fn put(&mut self, date: Option<DateRecord>)
         ensures { self.new ≡ date_for date }
@@ -121,7 +121,7 @@ impl Date {
 }
 
 impl Time {
-    /// Writes the numbers of the time, and zeros where there is none.
+    /// Writes the time to `self`. If there is none, each field becomes 0 or false.
     #[inline(always)]
     pub(crate) fn put(&mut self, time: Option<TimeRecord>)
         ensures { self.new ≡ time_for time }
@@ -151,7 +151,7 @@ impl Time {
 }
 
 impl Offset {
-    /// Writes the numbers of the offset, and zeros where there is none.
+    /// Writes the offset to `self`. If there is none, each field becomes 0 or false.
     #[inline(always)]
     pub(crate) fn put(&mut self, offset: Option<UtcOffsetRecordOrZ>)
         ensures { self.new ≡ offset_for offset }
@@ -163,7 +163,7 @@ impl Offset {
         }
     }
 
-    // Writes a form, and zeros for all else.
+    // Writes `form`. Each other field becomes 0 or false.
     #[inline(always)]
     fn put_form(&mut self, form: u8)
         ensures { self.new ≡ offset_of_form form }
@@ -179,7 +179,7 @@ impl Offset {
         };
     }
 
-    /// Writes the numbers of an offset from UTC.
+    /// Writes an offset that is not `Z` to `self`.
     #[inline(always)]
     pub(crate) fn put_shift(&mut self, offset: UtcOffsetRecord)
         ensures { self.new ≡ shift_for offset }

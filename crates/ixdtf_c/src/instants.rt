@@ -1,4 +1,4 @@
-//! The instants of records.
+//! Functions for C that return the instant of a record.
 
 ghost use Rattle.std.specs.Prelude.{◌≡◌, ◌≢◌, ◌↔◌, IfSome, IfNone};
 ghost use Rattle.ixdtf_c.specs.Instants.{HaveInstant, AreInstant, HasInstant, IsInstantOf};
@@ -13,7 +13,7 @@ use ixdtf::Instant;
 use ixdtf::encoding::Utf8;
 use ixdtf::records::IxdtfParseRecord;
 
-/// The instant of a date, a time and an offset, where there is one.
+/// Returns the instant of a date, a time and an offset, or `None` if they have no instant.
 fn instant_of(date: &Date, time: &Time, offset: &Offset) -> Option<Instant>
     ensures some { IfSome result (λ instant.
         AreInstant date.now time.now offset.now instant.seconds instant.nanoseconds) }
@@ -35,7 +35,7 @@ fn instant_of(date: &Date, time: &Time, offset: &Offset) -> Option<Instant>
     record.instant()
 }
 
-/// Writes the instant of a date, a time and an offset, and returns 0, or 103 where there is none.
+/// Writes the instant of a date, a time and an offset, and returns 0. Returns 103 if they have no instant.
 fn put_instant(
     date: &Date,
     time: &Time,
@@ -58,11 +58,12 @@ fn put_instant(
     }
 }
 
-/// Writes the instant of the record: the whole seconds since 1970-01-01T00:00:00Z, rounded down, and the nanoseconds after them.
-/// It returns 0; or 103 where the record has no instant.
+/// Writes the instant of a record, and returns 0. Returns 103, and writes nothing, if the record has no instant.
+///
+/// The instant is the number of seconds since 1970-01-01T00:00:00Z, rounded down, and the nanoseconds after these seconds.
 #[unsafe(no_mangle)]
 pub extern "C" fn ixdtf_instant(given: &Record<'_>, seconds: &mut i64, nanoseconds: &mut u32) -> u32
-    // It is 0 exactly where the record has an instant, and else 103.
+    // The result is 0 exactly if the record has an instant. Otherwise it is 103.
     ensures there { (result ≡ 0) ↔ HasInstant (contents given.now) }
     ensures none { (result ≡ 103) ↔ ¬ (HasInstant (contents given.now)) }
     ensures instant { result ≡ 0 → IsInstantOf (contents given.now) seconds.new nanoseconds.new }
@@ -77,8 +78,9 @@ pub extern "C" fn ixdtf_instant(given: &Record<'_>, seconds: &mut i64, nanosecon
     )
 }
 
-/// Writes the instant of the record: the whole seconds since 1970-01-01T00:00:00Z, rounded down, and the nanoseconds after them.
-/// It returns 0; or 103 where the record has no instant.
+/// Writes the instant of a record, and returns 0. Returns 103, and writes nothing, if the record has no instant.
+///
+/// The instant is the number of seconds since 1970-01-01T00:00:00Z, rounded down, and the nanoseconds after these seconds.
 #[unsafe(no_mangle)]
 pub extern "C" fn ixdtf16_instant(
     given: &wide::Record<'_>,

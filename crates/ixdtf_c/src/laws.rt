@@ -1,6 +1,6 @@
-//! What follows from the contracts of several calls.
+//! The law about a caller that lists annotations and replies to them.
 //!
-//! A law is a function whose contract states it, and which does nothing.
+//! A law is a theorem for callers. It is the contract of a function that does nothing.
 
 ghost use Rattle.ixdtf_c.specs.Narrow.{annotation_by as narrow_by};
 ghost use Rattle.ixdtf_c.specs.Wide.{annotation_by as wide_by};
@@ -9,13 +9,14 @@ ghost use Rattle.ixdtf_c.specs.Replying.{ReplyingGives, ReplyingIsHandling};
 use ixdtf::encoding::EncodingType;
 use ixdtf::records::Annotation;
 
-/// To list the annotations of a text, to reply to each in turn and to stop at the first refusal gives what the reader with a
-/// handler gives.
+/// States that replying to listed annotations has the same outcome as a handler.
 ///
-/// - `gives`: what comes of it is what the text gives with the annotations that were replied to and the replies, in the words
-///   of the library's readers with a handler.
-/// - `handling`: it is what the library's reader of the same kind returns with a handler of these replies, which is asked about
-///   the same annotations.
+/// A caller lists all annotations of a text, replies to them in order, and stops at the first reply that is refused.
+///
+/// - `gives`, `wide_gives`: The text gives this outcome with the first of these annotations and the first of these replies.
+///   The definition of this relation is `GivesResult`. Its two cases are in the contracts of the readers with a handler.
+/// - `handling`, `wide_handling`: If the replies of a handler are the first of these replies, a reader of the same kind with
+///   this handler has the same outcome. The handler is called for the first of these annotations.
 pub fn replying_is_handling<'a, T: EncodingType, F>()
 where
     T::CodeUnit: 'a,

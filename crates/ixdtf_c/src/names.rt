@@ -1,4 +1,4 @@
-//! The names that the header gives to what calls return.
+//! The names of the numbers that functions return. They are the names in the C header.
 
 ghost use Rattle.std.specs.Prelude.{◌≡◌, ◌++◌, ◌∷◌, []};
 ghost use Rattle.ixdtf_c.specs.Names.{name_of};
@@ -6,7 +6,7 @@ ghost use Rattle.ixdtf_c.specs.Names.{name_of};
 use crate::errors::Text;
 use crate::slices::to_c;
 
-/// The names of 0 to 46, each with a zero behind it.
+/// The names of the numbers 0 to 46. A NUL follows each name.
 static NAMES: [&[u8]; 47] = [
     b"IXDTF_OK\0",
     b"IXDTF_IMPL_ASSERT\0",
@@ -57,7 +57,7 @@ static NAMES: [&[u8]; 47] = [
     b"IXDTF_INVALID_MONTH_DAY\0",
 ];
 
-/// The name of what a call returns, with a zero behind it.
+/// Returns the name of a number, with a NUL after it. For a number without a name, returns only the NUL.
 fn name_and_zero(number: u32) -> &'static [u8]
     ensures { result.now ≡ name_of number ++ (0 ∷ []) }
 {
@@ -79,7 +79,9 @@ fn name_and_zero(number: u32) -> &'static [u8]
     b"\0"
 }
 
-/// Writes the name of what a call returns, and no text for another number. A zero stands behind the text, and is not of it.
+/// Writes the name that a number has in the C header, such as `IXDTF_DATE_MONTH` for 10.
+///
+/// For a number without a name, the name is empty. A NUL follows the name in memory. The length of the slice does not count it.
 #[unsafe(no_mangle)]
 pub extern "C" fn ixdtf_error_constant(number: u32, out: &mut Text<'_>)
     ensures name { out.new.bytes.now ≡ name_of number }

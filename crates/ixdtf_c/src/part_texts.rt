@@ -1,4 +1,4 @@
-//! The offsets and time zones that C hands in to be printed.
+//! The conversion of the offsets and time zones of C into those of the library, which prints them.
 
 ghost use Rattle.std.specs.Prelude.{◌≡◌, Some, None, IfSome, IfNone, IsSomeAnd};
 ghost use Rattle.ixdtf_c.specs.Narrow.{zone_contents};
@@ -12,7 +12,7 @@ use crate::printing::{offset_of, zone_of};
 use ixdtf::encoding::Utf8;
 use ixdtf::records::{TimeZoneRecord, UtcOffsetRecord, UtcOffsetRecordOrZ};
 
-/// The offset, where its form is one of numbers and its fraction is one.
+/// Returns the offset. Returns `None` if `form` is neither 2 nor 3, or if the fraction is not valid.
 pub fn shift_of(given: &Offset) -> Option<UtcOffsetRecord>
     ensures found { IfSome result (λ found. shift_by given.now ≡ Some found) }
     ensures none { IfNone result (¬ (IsSomeAnd (shift_by given.now) IsPrintableOffset)) }
@@ -27,7 +27,7 @@ pub fn shift_of(given: &Offset) -> Option<UtcOffsetRecord>
     }
 }
 
-/// The time zone, where its form is that of a name or of an offset.
+/// Returns the time zone. Returns `None` if `form` is neither 1 nor 2.
 pub fn area_of<'a>(given: &Zone<'a>) -> Option<TimeZoneRecord<'a, Utf8>>
     ensures found { IfSome result (λ found. area_by (zone_contents given.now) ≡ Some (zone_in found)) }
     ensures none { IfNone result (area_by (zone_contents given.now) ≡ None) }

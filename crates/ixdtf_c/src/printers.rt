@@ -1,4 +1,7 @@
-//! The functions that print durations, offsets, time zones, times, year-months and month-days.
+//! The functions for C that print durations, offsets, time zones, times, years with months, and months with days.
+//!
+//! The text that they print is the canonical text. The function `ixdtf_print`, which prints the records of
+//! `ixdtf_parse`, is in the module `printing`.
 
 ghost use Rattle.std.specs.Prelude.{◌≡◌, ◌≤◌, length, IsSomeAnd};
 ghost use Rattle.ixdtf_c.specs.Lasting.{contents as duration_contents};
@@ -18,8 +21,11 @@ use crate::forms::Offset;
 use crate::narrow::{Record, Zone};
 use crate::texts::{AsMonthDay, AsTime, AsYearMonth, length_into, print_into};
 
-/// Writes the canonical text of the duration into the front of the bytes, and how many bytes these are. It returns 0; or 101 where no
-/// text stands for it, and else 102 where the bytes are fewer than those of the text, and the count is then how many these are.
+/// Prints a duration, such as `P1Y2DT3H`.
+///
+/// Writes the text to the first bytes of `out`, and its length to `count`. Returns 0 if the text is written. Returns 101 if
+/// there is no text for which `ixdtf_parse_duration` writes this duration. Returns 102 if `out` is too short. Then `count` is
+/// the length of the text.
 #[unsafe(no_mangle)]
 pub extern "C" fn ixdtf_print_duration(
     given: &Duration<'_>,
@@ -33,7 +39,9 @@ pub extern "C" fn ixdtf_print_duration(
     print_into(given, out, count)
 }
 
-/// How many bytes the canonical text of the duration has, and 0 where no text stands for it.
+/// Returns the length, in bytes, of the canonical text of a duration.
+///
+/// Returns 0 if the duration cannot be printed.
 #[unsafe(no_mangle)]
 pub extern "C" fn ixdtf_printed_duration_length(given: &Duration<'_>) -> usize
     ensures length { IsSomeAnd (duration_by (duration_contents given.now)) IsPrintableDuration →
@@ -43,8 +51,11 @@ pub extern "C" fn ixdtf_printed_duration_length(given: &Duration<'_>) -> usize
     length_into(given)
 }
 
-/// Writes the canonical text of the offset into the front of the bytes, and how many bytes these are. It returns 0; or 101 where no
-/// text stands for it, and else 102 where the bytes are fewer than those of the text, and the count is then how many these are.
+/// Prints an offset, such as `-05:00`.
+///
+/// Writes the text to the first bytes of `out`, and its length to `count`. Returns 0 if the text is written. Returns 101 if
+/// there is no text for which `ixdtf_parse_offset` writes this offset. Returns 102 if `out` is too short. Then `count` is the
+/// length of the text, or `usize::MAX` if the length is greater.
 #[unsafe(no_mangle)]
 pub extern "C" fn ixdtf_print_offset(given: &Offset, out: &mut [u8], count: &mut usize) -> u32
     ensures prints { GivesText (IsSomeAnd (shift_by given.now) IsPrintableOffset)
@@ -54,7 +65,9 @@ pub extern "C" fn ixdtf_print_offset(given: &Offset, out: &mut [u8], count: &mut
     print_into(given, out, count)
 }
 
-/// How many bytes the canonical text of the offset has, and 0 where no text stands for it, or its length is no `usize`.
+/// Returns the length, in bytes, of the canonical text of an offset.
+///
+/// Returns 0 if the offset cannot be printed, or if the length is greater than `usize::MAX`.
 #[unsafe(no_mangle)]
 pub extern "C" fn ixdtf_printed_offset_length(given: &Offset) -> usize
     ensures length { IsSomeAnd (shift_by given.now) IsPrintableOffset →
@@ -65,8 +78,11 @@ pub extern "C" fn ixdtf_printed_offset_length(given: &Offset) -> usize
     length_into(given)
 }
 
-/// Writes the canonical text of the time zone, without brackets, into the front of the bytes, and how many bytes these are. It returns 0; or 101 where no
-/// text stands for it, and else 102 where the bytes are fewer than those of the text, and the count is then how many these are.
+/// Prints a time zone without brackets, such as `Europe/Berlin`.
+///
+/// Writes the text to the first bytes of `out`, and its length to `count`. Returns 0 if the text is written. Returns 101 if
+/// there is no text for which `ixdtf_parse_identifier` writes this name or this offset. Returns 102 if `out` is too short. Then
+/// `count` is the length of the text, or `usize::MAX` if the length is greater. `is_critical` does not matter.
 #[unsafe(no_mangle)]
 pub extern "C" fn ixdtf_print_zone(given: &Zone<'_>, out: &mut [u8], count: &mut usize) -> u32
     ensures prints { GivesText (IsSomeAnd (area_by (zone_contents given.now)) IsPrintableZone)
@@ -76,7 +92,9 @@ pub extern "C" fn ixdtf_print_zone(given: &Zone<'_>, out: &mut [u8], count: &mut
     print_into(given, out, count)
 }
 
-/// How many bytes the canonical text of the time zone, without brackets has, and 0 where no text stands for it, or its length is no `usize`.
+/// Returns the length, in bytes, of the canonical text of a time zone without brackets.
+///
+/// Returns 0 if the zone cannot be printed, or if the length is greater than `usize::MAX`.
 #[unsafe(no_mangle)]
 pub extern "C" fn ixdtf_printed_zone_length(given: &Zone<'_>) -> usize
     ensures length { IsSomeAnd (area_by (zone_contents given.now)) IsPrintableZone →
@@ -87,8 +105,11 @@ pub extern "C" fn ixdtf_printed_zone_length(given: &Zone<'_>) -> usize
     length_into(given)
 }
 
-/// Writes the canonical text of a time, with its offset, zone and calendar, into the front of the bytes, and how many bytes these are. It returns 0; or 101 where no
-/// text stands for it, and else 102 where the bytes are fewer than those of the text, and the count is then how many these are.
+/// Prints a time with its offset, its zone and its calendar, such as `08:48:00Z[u-ca=hebrew]`.
+///
+/// Writes the text to the first bytes of `out`, and its length to `count`. Returns 0 if the text is written. Returns 101 if
+/// there is no text for which `ixdtf_parse_time` writes this record. Returns 102 if `out` is too short. Then `count` is the
+/// length of the text, or `usize::MAX` if the length is greater.
 #[unsafe(no_mangle)]
 pub extern "C" fn ixdtf_print_time(given: &Record<'_>, out: &mut [u8], count: &mut usize) -> u32
     ensures prints { GivesText (IsSomeAnd (record_by (contents given.now)) IsPrintableTime)
@@ -98,7 +119,9 @@ pub extern "C" fn ixdtf_print_time(given: &Record<'_>, out: &mut [u8], count: &m
     print_into(&AsTime { record: given }, out, count)
 }
 
-/// How many bytes the canonical text of a time, with its offset, zone and calendar has, and 0 where no text stands for it, or its length is no `usize`.
+/// Returns the length, in bytes, of the canonical text of a time with its offset, its zone and its calendar.
+///
+/// Returns 0 if the record cannot be printed, or if the length is greater than `usize::MAX`.
 #[unsafe(no_mangle)]
 pub extern "C" fn ixdtf_printed_time_length(given: &Record<'_>) -> usize
     ensures length { IsSomeAnd (record_by (contents given.now)) IsPrintableTime →
@@ -109,8 +132,11 @@ pub extern "C" fn ixdtf_printed_time_length(given: &Record<'_>) -> usize
     length_into(&AsTime { record: given })
 }
 
-/// Writes the canonical text of a year and a month into the front of the bytes, and how many bytes these are. It returns 0; or 101 where no
-/// text stands for it, and else 102 where the bytes are fewer than those of the text, and the count is then how many these are.
+/// Prints a year and a month with their zone and their calendar, such as `2024-03[Europe/Berlin]`.
+///
+/// Writes the text to the first bytes of `out`, and its length to `count`. Returns 0 if the text is written. Returns 101 if
+/// there is no text for which `ixdtf_parse_year_month` writes this record. Returns 102 if `out` is too short. Then `count` is
+/// the length of the text, or `usize::MAX` if the length is greater.
 #[unsafe(no_mangle)]
 pub extern "C" fn ixdtf_print_year_month(
     given: &Record<'_>,
@@ -124,7 +150,9 @@ pub extern "C" fn ixdtf_print_year_month(
     print_into(&AsYearMonth { record: given }, out, count)
 }
 
-/// How many bytes the canonical text of a year and a month has, and 0 where no text stands for it, or its length is no `usize`.
+/// Returns the length, in bytes, of the canonical text of a year and a month with their zone and their calendar.
+///
+/// Returns 0 if the record cannot be printed, or if the length is greater than `usize::MAX`.
 #[unsafe(no_mangle)]
 pub extern "C" fn ixdtf_printed_year_month_length(given: &Record<'_>) -> usize
     ensures length { IsSomeAnd (record_by (contents given.now)) IsPrintableYearMonth →
@@ -135,8 +163,11 @@ pub extern "C" fn ixdtf_printed_year_month_length(given: &Record<'_>) -> usize
     length_into(&AsYearMonth { record: given })
 }
 
-/// Writes the canonical text of a month and a day into the front of the bytes, and how many bytes these are. It returns 0; or 101 where no
-/// text stands for it, and else 102 where the bytes are fewer than those of the text, and the count is then how many these are.
+/// Prints a month and a day with their zone and their calendar, such as `03-02[u-ca=iso8601]`.
+///
+/// Writes the text to the first bytes of `out`, and its length to `count`. Returns 0 if the text is written. Returns 101 if
+/// there is no text for which `ixdtf_parse_month_day` writes this record. Returns 102 if `out` is too short. Then `count` is the
+/// length of the text, or `usize::MAX` if the length is greater.
 #[unsafe(no_mangle)]
 pub extern "C" fn ixdtf_print_month_day(
     given: &Record<'_>,
@@ -150,7 +181,9 @@ pub extern "C" fn ixdtf_print_month_day(
     print_into(&AsMonthDay { record: given }, out, count)
 }
 
-/// How many bytes the canonical text of a month and a day has, and 0 where no text stands for it, or its length is no `usize`.
+/// Returns the length, in bytes, of the canonical text of a month and a day with their zone and their calendar.
+///
+/// Returns 0 if the record cannot be printed, or if the length is greater than `usize::MAX`.
 #[unsafe(no_mangle)]
 pub extern "C" fn ixdtf_printed_month_day_length(given: &Record<'_>) -> usize
     ensures length { IsSomeAnd (record_by (contents given.now)) IsPrintableMonthDay →

@@ -1,4 +1,4 @@
-//! Printing records that C hands in.
+//! The function that prints a record for C, and the conversion of the structs of C into records of the library.
 
 ghost use Rattle.std.specs.Prelude.{◌≡◌, ◌≢◌, ◌↔◌, ◌<◌, ◌≤◌, Some, None, length, map, min, take, drop};
 ghost use Rattle.std.specs.Prelude.{option_map, IfSome, IfNone, OnSome, IsSomeAnd};
@@ -22,7 +22,9 @@ use ixdtf::records::{
 };
 use ixdtf_print::{PrintError, length_of, print};
 
-/// The fraction of so many digits and this value, where there is one of them.
+/// Returns the fraction with `digits` digits, whose first 18 digits are the number `value`.
+///
+/// Returns `Some(None)` if `digits` is 0. Returns `None` if `value` has more digits than `digits` says, or more than 18.
 pub fn fraction_of(digits: u8, value: u64) -> Option<Option<Fraction>>
     ensures found { IfSome result (λ fraction. fraction ≡ fraction_by digits value) }
     ensures digits { OnSome result (HasDigits (fraction_by digits value)) }
@@ -37,7 +39,7 @@ pub fn fraction_of(digits: u8, value: u64) -> Option<Option<Fraction>>
     }
 }
 
-/// The date.
+/// Returns the date, or `None` if it is absent.
 pub fn date_of(date: &Date) -> Option<DateRecord>
     ensures { result ≡ date_by date.now }
 {
@@ -51,7 +53,7 @@ pub fn date_of(date: &Date) -> Option<DateRecord>
     })
 }
 
-/// The time, where its fraction is one.
+/// Returns the time, or `Some(None)` if it is absent. Returns `None` if its fraction is not valid: see [`fraction_of`].
 pub fn time_of(time: &Time) -> Option<Option<TimeRecord>>
     ensures found { IfSome result (λ found. found ≡ time_by time.now) }
     ensures digits { OnSome result (IfSome (time_by time.now) (λ it. HasDigits it.fraction)) }
@@ -71,7 +73,7 @@ pub fn time_of(time: &Time) -> Option<Option<TimeRecord>>
     }
 }
 
-/// The offset in hours and minutes.
+/// Returns the offset with this sign, this hour and this minute.
 fn minutes_of(is_negative: bool, hour: u8, minute: u8) -> MinutePrecisionOffset
     ensures { result ≡ minutes_by is_negative hour minute }
 {
@@ -82,7 +84,9 @@ fn minutes_of(is_negative: bool, hour: u8, minute: u8) -> MinutePrecisionOffset
     }
 }
 
-/// The offset, where its form has a name and its fraction is one.
+/// Returns the offset, or `Some(None)` if it is absent.
+///
+/// Returns `None` if `form` is not 0 to 3, or if the fraction is not valid: see [`fraction_of`].
 pub fn offset_of(offset: &Offset) -> Option<Option<UtcOffsetRecordOrZ>>
     ensures found { IfSome result (λ found. offset_by offset.now ≡ Some found) }
     ensures digits { OnSome result
@@ -117,7 +121,7 @@ pub fn offset_of(offset: &Offset) -> Option<Option<UtcOffsetRecordOrZ>>
     }
 }
 
-/// The time zone, where its form has a name.
+/// Returns the time zone, or `Some(None)` if it is absent. Returns `None` if `form` is not 0 to 2.
 pub fn zone_of<'a>(zone: &Zone<'a>) -> Option<Option<TimeZoneAnnotation<'a, Utf8>>>
     ensures found { IfSome result (λ found.
         zone_by (zone_contents zone.now) ≡ Some (option_map (note_of (λ unit. unit)) found)) }
@@ -141,7 +145,9 @@ pub fn zone_of<'a>(zone: &Zone<'a>) -> Option<Option<TimeZoneAnnotation<'a, Utf8
     }))
 }
 
-/// The record, where its forms have names and its fractions are such. No record is printed without that.
+/// Returns the record of the library with the parts of `given`.
+///
+/// Returns `None` if a `form` or a fraction is not valid. There is no text for which `ixdtf_parse` writes such a record.
 pub fn record_of<'a>(given: &Record<'a>) -> Option<IxdtfParseRecord<'a, Utf8>>
     ensures found { IfSome result
         (λ found. record_by (contents given.now) ≡ Some (parsed_of (λ unit. unit) found)) }
@@ -171,7 +177,7 @@ pub fn record_of<'a>(given: &Record<'a>) -> Option<IxdtfParseRecord<'a, Utf8>>
     })
 }
 
-/// Prints a record of the library, as [`ixdtf_print`] does what its numbers stand for.
+/// Does what [`ixdtf_print`] does, for a record of the library.
 #[inline(always)]
 fn print_found(found: &IxdtfParseRecord<'_, Utf8>, out: &mut [u8], count: &mut usize) -> u32
     ensures printed { (result ≡ 0) ↔ (IsPrintable (parsed_of (λ unit. unit) found.now) ×
@@ -204,20 +210,22 @@ fn print_found(found: &IxdtfParseRecord<'_, Utf8>, out: &mut [u8], count: &mut u
     }
 }
 
-/// Writes the canonical text of the record into the front of the bytes, and how many bytes these are. It returns 0; or 101
-/// where no text stands for the record, and else 102 where the bytes are fewer than those of the text, and the count is then
-/// how many these are.
+/// Prints a date, or a date and a time, with its offset, its zone and its calendar, such as `2024-03-02T08:48:00Z`.
+///
+/// Writes the text to the first bytes of `out`, and its length to `count`. Returns 0 if the text is written. Returns 101 if
+/// there is no text for which `ixdtf_parse` writes this record. Returns 102 if `out` is too short. Then `count` is the length of
+/// the text, or `usize::MAX` if the length is greater.
 #[unsafe(no_mangle)]
 pub extern "C" fn ixdtf_print(given: &Record<'_>, out: &mut [u8], count: &mut usize) -> u32
-    // Of each record and room, one of the three is returned.
+    // For each record and each length of `out`, exactly one of these three numbers is returned.
     ensures printed { (result ≡ 0) ↔ IsSomeAnd (record_by (contents given.now)) (λ found.
         IsPrintable found × (length (canonical_text found) ≤ length out.old)) }
     ensures not_printable { (result ≡ 101) ↔
         ¬ (IsSomeAnd (record_by (contents given.now)) IsPrintable) }
     ensures too_short { (result ≡ 102) ↔ IsSomeAnd (record_by (contents given.now)) (λ found.
         IsPrintable found × (length out.old < length (canonical_text found))) }
-    // After 0 the first bytes are the canonical text of what the numbers stand for, which is read back as it, and the others
-    // are as they were.
+    // After 0, the first bytes of `out` are the canonical text of the record, and the other bytes are unchanged. `parse` reads
+    // the same record from this text.
     ensures count { result ≡ 0 → IsSomeAnd (record_by (contents given.now))
         (λ found. count.new ≡ length (canonical_text found)) }
     ensures fits { result ≡ 0 → count.new ≤ length out.new }
@@ -225,7 +233,8 @@ pub extern "C" fn ixdtf_print(given: &Record<'_>, out: &mut [u8], count: &mut us
         (λ found. map byte_letter (take count.new out.new) ≡ canonical_text found) }
     ensures read_back { result ≡ 0 → IsSomeAnd (record_by (contents given.now)) IsReadBack }
     ensures rest { result ≡ 0 → drop count.new out.new ≡ drop count.new out.old }
-    // Else the bytes are as they were; and after 102 the count is that of the bytes that it takes, as far as the number goes.
+    // After 101 or 102, `out` is unchanged. After 101, `count` is unchanged too. After 102, `count` is the length of the text,
+    // or the greatest `usize` if the length is greater.
     ensures unchanged { result ≢ 0 → out.new ≡ out.old }
     ensures uncounted { result ≡ 101 → count.new ≡ count.old }
     ensures needed { result ≡ 102 → IsSomeAnd (record_by (contents given.now))

@@ -1,4 +1,4 @@
-//! The readers of either width, and what is kept of replies to annotations.
+//! The readers and the check of replies, for 8-bit and for 16-bit text.
 
 ghost use Rattle.std.specs.Prelude.{◌≡◌, ◌≢◌, Result, map, option_map};
 ghost use Rattle.ixdtf.specs.Views.{parsed_of, note_of};
@@ -17,9 +17,10 @@ use ixdtf::encoding::EncodingType;
 use ixdtf::parsers::{CoreReader, FromStop, IxdtfParser, Profile, TimeZoneParser};
 use ixdtf::records::{IxdtfParseRecord, TimeZoneAnnotation, TimeZoneRecord, UtcOffsetRecordOrZ};
 
-/// Reads as the reader of the kind does without a handler.
+/// Reads a text with the reader of the kind `C`, without a handler.
 ///
-/// It is generic in its error, since a function that names a lifetime in a bound may not name `'static`, as `LocatedError` does.
+/// This function is generic in the error, because `LocatedError` contains a `&'static str`. Rattle's borrow checker does not
+/// support a signature that names `'static` in a function that uses a bound with a lifetime, such as the bound of a handler.
 #[inline(always)]
 fn read_as<'a, E: FromStop, T: EncodingType, C: CoreReader>(
     text: &'a [T::CodeUnit],
@@ -37,7 +38,7 @@ where
     parser.read_lending_handler::<E, C, _>(&mut handler)
 }
 
-/// A record in which no more than an offset and a zone stand.
+/// Returns a record that has only an offset and a zone, or only one of them.
 #[inline(always)]
 fn with_parts<'a, T: EncodingType>(
     offset: Option<UtcOffsetRecordOrZ>,
@@ -57,7 +58,8 @@ fn with_parts<'a, T: EncodingType>(
     }
 }
 
-/// Reads as the reader of the kind does without a handler, and writes what was read.
+/// Reads a text with the reader of the kind `C`, without a handler. Writes the record, or the location and the position of the
+/// error. Returns 0 or the number of the error.
 #[inline(always)]
 pub fn read_into<'a, T: EncodingType, C: CoreReader, R: RecordOf<'a, T>>(
     text: &'a [T::CodeUnit],
@@ -80,7 +82,8 @@ where
     }
 }
 
-/// Reads a date-time of RFC 3339, and writes it.
+/// Reads a date-time of RFC 3339. Writes the record, or the location and the position of the error. Returns 0 or the number of
+/// the error.
 #[inline(always)]
 pub fn rfc3339_into<'a, T: EncodingType, R: RecordOf<'a, T>>(
     text: &'a [T::CodeUnit],
@@ -99,7 +102,7 @@ pub fn rfc3339_into<'a, T: EncodingType, R: RecordOf<'a, T>>(
     }
 }
 
-/// Reads an offset, and writes it.
+/// Reads an offset. Writes the record, or the location and the position of the error. Returns 0 or the number of the error.
 #[inline(always)]
 pub fn offset_into<'a, T: EncodingType, R: RecordOf<'a, T>>(
     text: &'a [T::CodeUnit],
@@ -119,7 +122,7 @@ pub fn offset_into<'a, T: EncodingType, R: RecordOf<'a, T>>(
     }
 }
 
-/// Reads a time zone, and writes it.
+/// Reads a time zone. Writes the record, or the location and the position of the error. Returns 0 or the number of the error.
 #[inline(always)]
 pub fn zone_into<'a, T: EncodingType, R: RecordOf<'a, T>>(
     text: &'a [T::CodeUnit],
@@ -142,7 +145,8 @@ pub fn zone_into<'a, T: EncodingType, R: RecordOf<'a, T>>(
     }
 }
 
-/// Reads the name of a time zone, and writes it.
+/// Reads the name of a time zone. Writes the record, or the location and the position of the error. Returns 0 or the number of
+/// the error.
 #[inline(always)]
 pub fn name_into<'a, T: EncodingType, R: RecordOf<'a, T>>(
     text: &'a [T::CodeUnit],
@@ -165,8 +169,9 @@ pub fn name_into<'a, T: EncodingType, R: RecordOf<'a, T>>(
     }
 }
 
-/// Takes a reply to an annotation: keeps it where it is the first calendar, and returns 0, or the number of the error that it
-/// is refused with.
+/// Checks the reply to an annotation. Returns 0 if the reply is accepted, and otherwise the number of the error.
+///
+/// If the key of an accepted reply is `u-ca`, and no calendar was kept before, the reply is kept in `calendar`.
 #[inline(always)]
 pub fn take_reply<'a, T: EncodingType, A: AnnotationOf<'a, T>, K: CalendarOf<'a, T>>(
     calendar: &mut K,
@@ -180,7 +185,7 @@ where
 {
     let mut kept = calendar.read();
     let found = reply.read();
-    // This parser reads nothing. It counts the code units that are compared.
+    // This parser reads no text. Its method checks the reply, and the parser counts the accesses to code units.
     let mut parser = IxdtfParser::<T>::new(found.key);
     match parser.keep_first_calendar(&mut kept, Some(found)) {
         Ok(()) => {

@@ -1,11 +1,11 @@
-//! Slices in the structs that C sees.
+//! Slices in the structs that are passed between C and Rust.
 
 ghost use Rattle.std.specs.Prelude.{◌≡◌};
 
-/// A slice in a struct, which C has as a pointer and a length.
+/// A slice in a struct. In C it is a pointer and a length.
 pub type Slice<'a, U> = &'a [U];
 
-/// The slice as C has it.
+/// Returns the slice for a struct.
 #[inline(always)]
 pub fn to_c<'a, U>(slice: &'a [U]) -> Slice<'a, U>
     ensures { result ≡ slice.entry }
@@ -13,7 +13,9 @@ pub fn to_c<'a, U>(slice: &'a [U]) -> Slice<'a, U>
     slice
 }
 
-/// The slice that C hands in. Of one without units the pointer, which C may have as `NULL`, is not handed on.
+/// Returns the slice that C passed in a struct.
+///
+/// If the slice is empty, C may pass `NULL` as its pointer. So this function returns another empty slice.
 #[inline(always)]
 pub fn from_c<'a, U>(given: Slice<'a, U>) -> &'a [U]
     ensures { result.now ≡ given.now }

@@ -1,4 +1,5 @@
-//! Each call on its happy path, and once on a text that it refuses. What is tried stands in tables that both widths walk.
+//! Tests of the functions for C. The tables in `rows` have texts that are accepted and some that are refused. The tests for 8-bit
+//! text and for 16-bit text use the same tables.
 
 mod fields;
 mod narrow;
@@ -19,7 +20,7 @@ fn tells_texts_and_the_version(rt: HostRuntime) {
     }
 }
 
-/// Numbers of errors with their texts.
+/// Each row has a number and the text of the error with this number.
 const ERROR_TEXTS: [(u32, &[u8]); 4] = [
     (12, b"Unexpected end while parsing a date value."),
     (47, b""),

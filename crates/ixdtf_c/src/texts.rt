@@ -1,4 +1,5 @@
-//! Printing of what the library's other printers print than records of dates.
+//! The functions that print durations, offsets, time zones, times, years with months, and months with days. The functions of the
+//! module `printers` call them.
 
 ghost use Rattle.std.specs.Prelude.{◌≡◌, ◌≤◌, length, None, IfSome, OnOk, IsSomeAnd};
 ghost use Rattle.ixdtf.specs.language.Letters.{Text};
@@ -27,43 +28,47 @@ use ixdtf_print::{
     zone_length,
 };
 
-/// What C hands in, and a printer of the library prints.
+/// A value of C that a printer of the library can print.
 pub trait HasText {
-    /// Its numbers stand for something that has a text.
+    /// States that the reader returns this value for some text.
     ghost printable: { Self → Type 0 };
 
-    /// The canonical text of that.
+    /// The canonical text of the value.
     ghost canonical: { Self → Text };
 
-    /// Its reader reads that from its canonical text, which is that of no other one.
+    /// States that the reader returns this value for its canonical text, and that no other value has this canonical text.
     ghost reads_back: { Self → Type 0 };
 
-    /// Prints it.
+    /// Prints the value, and returns the length of the text in bytes.
     fn print(&self, out: &mut [u8]) -> Result<usize, PrintError>
         ensures prints { PrintsOrRefuses (printable self.now) (canonical self.now) out.old out.new result }
         ensures printable { OnOk result (printable self.now) }
         ensures read_back { OnOk result (reads_back self.now) };
 
-    /// How many bytes it takes, where it is printable and that is a `usize`.
+    /// Returns the length of the canonical text in bytes.
+    ///
+    /// Returns `None` if the value cannot be printed, or if the length is greater than `usize::MAX`.
     fn needs(&self) -> Option<usize>
         ensures count { IfSome result (λ n. n ≡ length (canonical self.now)) }
         ensures none { result ≡ None → ¬ (printable self.now × (length (canonical self.now) ≤ usize.MAX)) }
         ensures not_printable { ¬ (printable self.now) → result ≡ None };
 }
 
-/// A record of a time, and maybe an offset.
+/// A record that is printed as `ixdtf_parse_time` reads it: a time, and an offset, a zone and a calendar if they are present.
 #[derive(Clone, Copy)]
 pub struct AsTime<'a> {
     pub record: &'a Record<'a>,
 }
 
-/// A record of a year and a month.
+/// A record that is printed as `ixdtf_parse_year_month` reads it: a year and a month, and a zone and a calendar if they are
+/// present.
 #[derive(Clone, Copy)]
 pub struct AsYearMonth<'a> {
     pub record: &'a Record<'a>,
 }
 
-/// A record of a month and a day.
+/// A record that is printed as `ixdtf_parse_month_day` reads it: a month and a day, and a zone and a calendar if they are
+/// present.
 #[derive(Clone, Copy)]
 pub struct AsMonthDay<'a> {
     pub record: &'a Record<'a>,
@@ -213,8 +218,10 @@ impl<'a> HasText for AsMonthDay<'a> {
     }
 }
 
-/// Prints it, and writes how many bytes it has, or how many it takes where they are too few. It returns 0; or 101 where it is not
-/// printable, and else 102 where the bytes are too few.
+/// Prints a value to the first bytes of `out`, and writes the length of the text to `count`. Returns 0.
+///
+/// Returns 101 if the value cannot be printed. Returns 102 if `out` is too short. Then `count` is the length of the text, or
+/// `usize::MAX` if the length is greater.
 #[inline(always)]
 pub fn print_into<P: HasText>(found: &P, out: &mut [u8], count: &mut usize) -> u32
     ensures prints { GivesText (P.printable found.now) (P.canonical found.now) out.old out.new count.old count.new result }
@@ -233,7 +240,9 @@ pub fn print_into<P: HasText>(found: &P, out: &mut [u8], count: &mut usize) -> u
     }
 }
 
-/// How many bytes it takes, and 0 where it is not printable or that is no `usize`.
+/// Returns the length of the canonical text in bytes.
+///
+/// Returns 0 if the value cannot be printed, or if the length is greater than `usize::MAX`.
 #[inline(always)]
 pub fn length_into<P: HasText>(found: &P) -> usize
     ensures length { P.printable found.now → length (P.canonical found.now) ≤ usize.MAX → result ≡ length (P.canonical found.now) }

@@ -1,4 +1,4 @@
-//! A caller of the library for C who has a handler.
+//! A caller that uses the library for C with a handler. It shows that a list of annotations can replace a handler.
 
 ghost use Rattle.std.specs.Prelude.{◌≡◌, ◌≢◌, ◌≤◌, None, length, map, option_map, Result};
 ghost use Rattle.ixdtf_grammar.specs.declared.profile.Profile.TheVariants.{Crate};
@@ -17,7 +17,7 @@ use crate::narrow::{Annotation, Calendar, Record};
 use ixdtf::encoding::Utf8;
 use ixdtf::records;
 
-/// Asks the handler about an annotation.
+/// Calls the handler for an annotation.
 #[inline(always)]
 fn ask<'a, F>(
     handler: &mut F,
@@ -32,7 +32,7 @@ where
     handler(annotation)
 }
 
-/// Hands a reply over, where there is one.
+/// Passes a reply to [`ixdtf_reply`], if the handler returned one. Returns 0 or the number of the error.
 fn hand_over<'a>(calendar: &mut Calendar<'a>, reply: Option<records::Annotation<'a, Utf8>>) -> u32
     ensures { HandsOver (calendar_by calendar.old) (calendar_by calendar.new)
         (option_map (pair_of (λ unit. unit)) reply.entry) result }
@@ -50,7 +50,8 @@ fn hand_over<'a>(calendar: &mut Calendar<'a>, reply: Option<records::Annotation<
     }
 }
 
-/// Asks the handler about each annotation in turn and hands its replies over, up to the first that is refused.
+/// Calls the handler for each annotation in order, and passes each reply to [`ixdtf_reply`]. Stops at the first reply that is
+/// refused, and returns the number of its error. Returns 0 if no reply is refused.
 fn reply_in_turn<'a, F>(
     annotations: &[Annotation<'a>],
     calendar: &mut Calendar<'a>,
@@ -77,7 +78,7 @@ where
     0
 }
 
-/// The units of the calendar, and none where there is none.
+/// Returns the code units of the calendar that was kept. The slice is empty if none was kept.
 fn units_of<'a>(calendar: &Calendar<'a>) -> &'a [u8]
     ensures { map (λ unit. unit) result.now ≡ units_for (calendar_value (calendar_by calendar.now)) }
 {
@@ -88,10 +89,14 @@ fn units_of<'a>(calendar: &Calendar<'a>) -> &'a [u8]
     }
 }
 
-/// Reads as [`ixdtf_parse_with_annotations`] does, asks the handler about each annotation, hands each of its replies to
-/// [`ixdtf_reply`], and stops at the first that is refused. With room for all annotations this is the library's
-/// `parse_with_annotation_handler`. After a refusal the record is as it was, but for the location and the place. The place is
-/// that of the reader: where a reply is refused, it is not the reply's.
+/// Reads a date, or a date and a time, and calls the handler for each annotation, with the functions for C.
+///
+/// This function calls [`ixdtf_parse_with_annotations`], passes each reply of the handler to [`ixdtf_reply`], and stops at the
+/// first reply that is refused. If the array is long enough for all annotations, the outcome is the one of
+/// `parse_with_annotation_handler`, without its position: `place` is always the one that [`ixdtf_parse_with_annotations`] wrote,
+/// also if a reply is refused. If the array is too short, the handler is not called.
+///
+/// After an error, the record is unchanged, except for `location` and `place`.
 pub fn parse_in_turn<'a, F>(
     text: &'a [u8],
     annotations: &mut [Annotation<'a>],

@@ -1,4 +1,4 @@
-//! Records of 16-bit sources, as C sees them.
+//! The structs for 16-bit text that are passed between C and Rust.
 
 ghost use Rattle.std.specs.Prelude.{◌≡◌, map, option_map};
 ghost use Rattle.ixdtf.specs.Handlers.{pair_of};
@@ -14,25 +14,25 @@ use ixdtf::LocatedError;
 use ixdtf::encoding::Utf16;
 use ixdtf::records::{self, IxdtfParseRecord};
 
-/// A time zone, where it is there.
+/// A time zone. A reader writes 0, false or an empty slice to each field that does not belong to its `form`.
 #[derive(Clone, Copy)]
 #[repr(C)]
 pub struct Zone<'a> {
-    /// The units of the name, and none where there is no name.
+    /// The code units of the name. The slice is empty if `form` is not 1.
     pub name: Slice<'a, u16>,
-    /// 0: there is none. 1: a name. 2: an offset.
+    /// 0: there is no zone. 1: the zone is a name. 2: the zone is an offset.
     pub form: u8,
-    /// Whether a `!` stands before it.
+    /// Whether the zone is critical: its bracket begins with `[!`.
     pub is_critical: bool,
-    /// Whether the sign of the offset is a `-`.
+    /// Whether the sign of the offset is `-`. This is also true for `-00:00`.
     pub is_negative: bool,
-    /// The hours of the offset.
+    /// The hours of the offset, 0 to 23.
     pub hour: u8,
-    /// The minutes of the offset.
+    /// The minutes of the offset, 0 to 59.
     pub minute: u8,
 }
 
-/// What was read.
+/// The record that a reader of dates, times, offsets or zones writes.
 #[derive(Clone, Copy)]
 #[repr(C)]
 pub struct Record<'a> {
@@ -44,41 +44,41 @@ pub struct Record<'a> {
     pub offset: Offset,
     /// The time zone.
     pub zone: Zone<'a>,
-    /// The units of the calendar, and none where there is no calendar.
+    /// The code units of the calendar, such as `hebrew`. The slice is empty if there is no calendar.
     pub calendar: Slice<'a, u16>,
-    /// Whether there is a calendar.
+    /// Whether a calendar is present.
     pub has_calendar: bool,
-    /// What the text broke off in, of the error `AbruptEnd`, and else nothing.
+    /// What was being parsed when the text ended, if the error is `AbruptEnd`. Otherwise the slice is empty.
     pub location: Slice<'a, u8>,
-    /// How many units stand before the place of the error, and 0 where there is none.
+    /// The position of the error: the number of code units before it. It is 0 if there is no error.
     pub place: usize,
 }
 
-/// An annotation.
+/// An annotation of a text, such as `[u-ca=hebrew]`, or a reply.
 #[derive(Clone, Copy)]
 #[repr(C)]
 pub struct Annotation<'a> {
-    /// The units of the key.
+    /// The code units of the key, such as `u-ca`.
     pub key: Slice<'a, u16>,
-    /// The units of the value.
+    /// The code units of the value, such as `hebrew`.
     pub value: Slice<'a, u16>,
-    /// Whether a `!` stands before it.
+    /// Whether the annotation is critical, as in `[!u-ca=hebrew]`.
     pub is_critical: bool,
 }
 
-/// The calendar that is kept of the replies so far, where there is one.
+/// The calendar that was kept from the replies up to now.
 #[derive(Clone, Copy)]
 #[repr(C)]
 pub struct Calendar<'a> {
-    /// Its value.
+    /// The value of the calendar. It has no meaning if `is_there` is false.
     pub value: Slice<'a, u16>,
-    /// Whether it is critical.
+    /// Whether the calendar is critical. It has no meaning if `is_there` is false.
     pub is_critical: bool,
-    /// Whether there is one.
+    /// Whether a calendar was kept.
     pub is_there: bool,
 }
 
-/// The key of calendars.
+/// The key of an annotation that names a calendar.
 const CALENDAR_KEY: &[u16] = &[0x75, 0x2d, 0x63, 0x61];
 
 impl<'a> ZoneOf<'a, Utf16> for Zone<'a> {
@@ -181,7 +181,7 @@ impl<'a> CalendarOf<'a, Utf16> for Calendar<'a> {
     }
 }
 
-/// Writes the calendar that was kept into a record, or that there is none.
+/// Writes the calendar that was kept to a record. If none was kept, the record then has no calendar.
 #[unsafe(no_mangle)]
 pub extern "C" fn ixdtf16_keep_calendar<'a>(out: &mut Record<'a>, calendar: &Calendar<'a>)
     ensures units { map (λ unit. unit) out.new.calendar.now ≡

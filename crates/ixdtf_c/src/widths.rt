@@ -1,4 +1,4 @@
-//! What the records of both widths have alike, by the encoding of their units.
+//! Traits of the structs for 8-bit and for 16-bit text. Code that is generic in the encoding uses them.
 
 ghost use Rattle.std.specs.Prelude.{◌≡◌, ◌≢◌, Option, map, option_map, IfSome};
 ghost use Rattle.ixdtf.specs.Handlers.{calendar_key, pair_of};
@@ -15,12 +15,12 @@ use ixdtf::LocatedError;
 use ixdtf::encoding::EncodingType;
 use ixdtf::records::{self, IxdtfParseRecord, TimeZoneAnnotation, TimeZoneRecord};
 
-/// A time zone in units of the encoding.
+/// A time zone whose name has code units of the encoding `T`.
 pub trait ZoneOf<'a, T: EncodingType> {
-    /// Its fields, with the units of its name.
+    /// The fields of the zone. The name is a list of the numbers of its code units.
     ghost contents: { Self → ZoneContents };
 
-    /// Writes each field.
+    /// Writes every field of the zone.
     fn put(
         &mut self,
         name: &'a [T::CodeUnit],
@@ -40,7 +40,7 @@ pub trait ZoneOf<'a, T: EncodingType> {
         } };
 }
 
-/// Writes the numbers of the zone, and zeros where there is none.
+/// Writes a zone. If there is none, each field becomes 0, false or empty.
 #[inline(always)]
 pub fn put_zone<'a, T: EncodingType, Z: ZoneOf<'a, T>>(
     out: &mut Z,
@@ -64,20 +64,22 @@ pub fn put_zone<'a, T: EncodingType, Z: ZoneOf<'a, T>>(
     }
 }
 
-/// A record of units of the encoding.
+/// A record whose slices have code units of the encoding `T`.
 pub trait RecordOf<'a, T: EncodingType> {
-    /// Its fields, with the units of its slices.
+    /// The fields of the record. Each slice is a list of the numbers of its code units.
     ghost contents: { Self → Contents };
 
-    /// The second is the first, but for the location and the place of an error.
+    /// States that the second record is equal to the first, except for `location` and `place`.
     ghost same_but_error: { Self → Self → Type 0 };
 
-    /// Writes what was read, clears what was not, and says that there is no error. Each part is written in place, in the arm that
-    /// reads it: a record that is put together first takes sixty instructions more.
+    /// Writes every field of the record. The fields of a part that is absent, `location` and `place` become 0, false or empty.
+    ///
+    /// Each part is written directly to the record of the caller, in the match arm that reads it. It took sixty instructions
+    /// more to build a record first and then to copy it.
     fn write(&mut self, found: &IxdtfParseRecord<'a, T>)
         ensures { contents self.new ≡ record_for (parsed_of T.number found.now) };
 
-    /// Writes the location and the place of an error, and returns the error's number.
+    /// Writes the location and the position of an error, and returns the number of the error.
     fn refuse(&mut self, located: LocatedError) -> u32
         ensures number { result ≡ number_for (fault_of_located located) }
         ensures some { result ≢ 0 }
@@ -88,27 +90,28 @@ pub trait RecordOf<'a, T: EncodingType> {
         ensures unchanged { same_but_error self.old self.new };
 }
 
-/// An annotation in units of the encoding.
+/// An annotation whose key and value have code units of the encoding `T`.
 pub trait AnnotationOf<'a, T: EncodingType> {
-    /// The pair that it is.
+    /// The annotation, as a key and a value that are lists of numbers.
     ghost pair: { Self → Pair };
 
-    /// The annotation as the library has it.
+    /// Returns the annotation in the type of the library.
     fn read(&self) -> records::Annotation<'a, T>
         ensures { pair_of T.number result ≡ pair self.now };
 }
 
-/// The calendar that is kept, in units of the encoding.
+/// The calendar that was kept. Its value has code units of the encoding `T`.
 pub trait CalendarOf<'a, T: EncodingType> {
-    /// The pair that it is, where there is one.
+    /// The annotation that was kept, or `None`. Its key is `u-ca`.
     ghost kept_of: { Self → Option Pair };
 
-    /// It as an annotation, where there is one.
+    /// Returns the annotation that was kept, or `None`. Its key is `u-ca`.
     fn read(&self) -> Option<records::Annotation<'a, T>>
         ensures kept { kept_of self.now ≡ option_map (pair_of T.number) result }
         ensures key { IfSome result (λ it. map T.number it.key.now ≡ calendar_key) };
 
-    /// Keeps what this one has besides its key, or none.
+    /// Keeps the value of an annotation, and whether it is critical. The key is not stored, because it is always `u-ca`. For
+    /// `None`, no calendar is kept.
     fn write(&mut self, kept: Option<records::Annotation<'a, T>>)
         ensures { kept_of self.new ≡ option_map (λ it. keyed (pair_of T.number it)) kept.entry };
 }

@@ -1,4 +1,4 @@
--- What the functions of the code use.
+-- Lemmas for the proofs of the code.
 pub mod CanonicalLengths
 pub mod DigitLoop
 pub mod DisplayedBytes

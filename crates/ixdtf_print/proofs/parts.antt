@@ -1,4 +1,4 @@
--- What canonical texts and what `parse` reads are made of.
+-- The parts of canonical texts and of the texts that `parse` accepts.
 pub mod DerivedDates
 pub mod DerivedDurations
 pub mod DerivedTimes

@@ -1,4 +1,4 @@
--- What follows for every record.
+-- Theorems about all records.
 pub mod BracketedRecords
 pub mod DisplayedDurations
 pub mod DisplayedText

@@ -3,6 +3,6 @@ use Rattle.std.specs.Prelude.{ℕ, ◌<◌, length}
 use Rattle.ixdtf.specs.language.Languages.{Parsed}
 use Rattle.ixdtf_print.specs.{Canonical.canonical_text}
 
--- the canonical text of the record and a newline fit into so many bytes
+-- The canonical text of the record and a newline fit into `size` bytes.
 abbrev pub FitsArray : ℕ → Parsed → Type 0
 FitsArray size found = length (canonical_text found) < size

@@ -1,4 +1,5 @@
--- Which records have a text, by their fields. Private clauses say it so; `IsPrintable` of `Printable.antt` is what is meant.
+-- Which records have a text, stated for their fields. Only private clauses use these definitions. Public contracts use
+-- `IsPrintable` of `Printable.antt`.
 use Rattle.ixdtf_grammar.specs.declared.records.UtcOffsetRecord.TheVariants as offsets
 use Rattle.ixdtf_grammar.specs.declared.records.UtcOffsetRecordOrZ.TheVariants as stands
 use Rattle.std.specs.Prelude.{ℕ, ◌≤◌, ◌<◌, ◌^◌, min, List, map, Option, Some, None, nat_abs}
@@ -7,7 +8,7 @@ use Rattle.ixdtf_grammar.specs.declared.records.UtcOffsetRecordOrZ.{UtcOffsetRec
 use Rattle.ixdtf.specs.language.{Letters.Letter.Plain, Dates.IsDayOfMonth, Fractions.FractionParts, ZoneNames.{Zone, ZoneName, Zone.{Name, Offset}}}
 use Rattle.ixdtf.specs.language.{Brackets.{ZoneNote, Value}, Languages.Parsed}
 
--- a day of the Gregorian calendar, in a year of at most six digits
+-- The date is a day of the Gregorian calendar, in a year of at most six digits.
 pub record IsDay (date : DateRecord) : Type 0 where
   pub year : nat_abs date.year ≤ 999999
   pub month_from : 1 ≤ date.month
@@ -18,7 +19,7 @@ abbrev pub HasDay : Option DateRecord → Type 0
 HasDay None = ⊥
 HasDay (Some date) = IsDay date
 
--- 1 to 255 digits, and a value that the first of them can have
+-- The fraction has 1 to 255 digits, and a value that its first 18 digits can have.
 pub record AreDigits (fraction : FractionParts) : Type 0 where
   pub count_from : 1 ≤ fraction.count
   pub count_to : fraction.count ≤ 255
@@ -28,7 +29,7 @@ abbrev pub HasDigits : Option FractionParts → Type 0
 HasDigits None = Unit {0}
 HasDigits (Some fraction) = AreDigits fraction
 
--- a time of day, or an offset with seconds, whose last second is this one
+-- The numbers are a time of day or an offset with seconds. The greatest second is `last`.
 pub record IsClock (last h m s : ℕ) (part : Option FractionParts) : Type 0 where
   pub hour : h ≤ 23
   pub minute : m ≤ 59
@@ -47,7 +48,7 @@ IsShift (stands.Offset (offsets.MinutePrecision offset)) = IsMinuteClock offset
 IsShift (stands.Offset (offsets.FullPrecisionOffset offset)) =
     IsClock 59 offset.minute_precision_offset.hour offset.minute_precision_offset.minute offset.second offset.fraction
 
--- an offset stands only behind a time
+-- An offset follows only a time, and both have texts.
 abbrev pub HasTime : Option TimeRecord → Option UtcOffsetRecordOrZ → Type 0
 HasTime None None = Unit {0}
 HasTime None (Some offset) = ⊥
@@ -66,11 +67,11 @@ abbrev pub HasCalendar : Option (List ℕ) → Type 0
 HasCalendar None = Unit {0}
 HasCalendar (Some value) = Value (map Plain value)
 
--- the zone and the calendar have texts
+-- The zone and the calendar have texts.
 abbrev pub HasBrackets : Parsed → Type 0
 HasBrackets found = HasZone found.zone × HasCalendar found.calendar
 
--- each field has a text, and the date is there
+-- Each field has a text, and there is a date.
 pub record IsSpelled (found : Parsed) : Type 0 where
   pub date : HasDay found.date
   pub time : HasTime found.time found.offset

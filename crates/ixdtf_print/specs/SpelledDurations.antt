@@ -1,10 +1,11 @@
--- Which durations have a text, by their fields. Private clauses say it so; `IsPrintableDuration` of `Durations.antt` is what is meant.
+-- Which durations have a text, stated for their fields. Only private clauses use these definitions. Public contracts use
+-- `IsPrintableDuration` of `Durations.antt`.
 use Rattle.std.specs.Prelude.{◌<◌, ◌^◌, Option, Some, None}
 use Rattle.ixdtf_grammar.specs.declared.records.DateDurationRecord.{DateDurationRecord}
 use Rattle.ixdtf_grammar.specs.declared.records.TimeDurationRecord.{TimeDurationRecord, TheVariants.{Hours, Minutes, Seconds}}
 use Rattle.ixdtf_print.specs.Spelled.{HasDigits}
 
--- numbers in the ranges of their units
+-- The numbers are in the ranges of their duration units.
 pub record AreDateUnits (date : DateDurationRecord) : Type 0 where
   pub years : date.years < 2 ^ 32
   pub months : date.months < 2 ^ 32
@@ -24,13 +25,13 @@ abbrev pub HasTimeUnits : Option TimeDurationRecord → Type 0
 HasTimeUnits None = Unit {0}
 HasTimeUnits (Some time) = AreTimeUnits time
 
--- a date or a time is there
+-- There is a date or a time.
 abbrev pub HasPart : Option DateDurationRecord → Option TimeDurationRecord → Type 0
 HasPart (Some date) time = Unit {0}
 HasPart None (Some time) = Unit {0}
 HasPart None None = ⊥
 
--- the two parts of a duration that has a text, whatever its sign is
+-- A duration with this date and this time has a text, whatever its sign is.
 pub record AreParts (of_date : Option DateDurationRecord) (of_time : Option TimeDurationRecord) : Type 0 where
   pub date : HasDateUnits of_date
   pub time : HasTimeUnits of_time

@@ -17,14 +17,15 @@ use std::fmt;
 /// Writes the canonical text of the record to the beginning of the slice, such as `2024-03-02T08:48:00Z[u-ca=hebrew]`.
 ///
 /// The canonical text has these parts, if the record has them: the date; the time, with its seconds; the offset, with
-/// or without seconds as it was written; the zone, with its `!`; and the calendar. Some parts of a parsed text are not
+/// or without seconds as it was written; the zone, with its `!` if it is critical; and the calendar. Some parts of a parsed text are not
 /// in the record, and so not in the canonical text: the `!` of a calendar, and all other annotations. Digits of a
 /// fraction after the first 18 are written as zeros.
 ///
-/// A record of a year and a month has the first day of the month, and a record of a month and a day has the year 0.
-/// Their canonical texts are these dates. A record of `parse_time` has no date, and no canonical text. To write what
-/// these readers read, call [`print_year_month`](crate::print_year_month), [`print_month_day`](crate::print_month_day)
-/// and [`print_time`](crate::print_time).
+/// A record of `parse_year_month` has the first day of the month, so this function writes `2020-11-01` for `2020-11`. A
+/// record of `parse_month_day` has the year 0, so this function writes `0000-11-07` for `11-07`. A record of `parse_time`
+/// has no date, so this function refuses it. To print these records in their own forms, call
+/// [`print_year_month`](crate::print_year_month), [`print_month_day`](crate::print_month_day) and
+/// [`print_time`](crate::print_time).
 ///
 /// Returns the number of bytes that were written.
 ///
@@ -54,7 +55,8 @@ use std::fmt;
 ///
 /// After an error, the slice is unchanged.
 ///
-/// - [`PrintError::NotPrintable`]: the record has no canonical text.
+/// - [`PrintError::NotPrintable`]: the record has no canonical text. It has no date, or an offset without a time, or a field
+///   whose value no text has.
 /// - [`PrintError::TooShort`]: the slice is shorter than the canonical text.
 pub fn print(parsed: &IxdtfParseRecord<'_, Utf8>, out: &mut [u8]) -> Result<usize, PrintError>
     ensures count { IfOk result
@@ -77,9 +79,9 @@ pub fn print(parsed: &IxdtfParseRecord<'_, Utf8>, out: &mut [u8]) -> Result<usiz
 /// Writes the canonical text of the record to the beginning of a slice that is long enough, like [`print`]. Returns the
 /// number of bytes.
 ///
-/// It tests neither the record nor the length of the slice. A caller that has just parsed the record from a text knows
-/// that both are right.
-// For crates of this repository, and no part of the interface.
+/// The function tests neither the record nor the length of the slice. A caller can use it if it has just parsed the record
+/// from a text, and knows the greatest length of such a text.
+// Only other crates of this repository use this item. It is not part of the public interface.
 #[doc(hidden)]
 pub fn print_with_room(parsed: &IxdtfParseRecord<'_, Utf8>, room: &mut [u8]) -> usize
     requires { length (canonical_text (record_of parsed.now)) ≤ length room.old }
@@ -117,7 +119,7 @@ pub fn printed_length(parsed: &IxdtfParseRecord<'_, Utf8>) -> Option<usize>
 }
 
 /// Returns the number of bytes of the canonical text of the record.
-// For crates of this repository, and no part of the interface.
+// Only other crates of this repository use this item. It is not part of the public interface.
 #[doc(hidden)]
 pub fn length_of(parsed: &IxdtfParseRecord<'_, Utf8>) -> u128
     ensures { result ≡ length (canonical_text (record_of parsed.now)) }
@@ -148,8 +150,8 @@ pub struct Canonical<'a> {
 impl<'a> Canonical<'a> {
     /// Creates a value that displays the record.
     ///
-    /// Returns `None` if the record has no canonical text. For example, a record of `parse_time` has no date, and no
-    /// text.
+    /// Returns `None` if the record has no canonical text. For example, a record of `parse_time` has no date, and so no
+    /// canonical text.
     pub fn of(parsed: &'a IxdtfParseRecord<'a, Utf8>) -> Option<Canonical<'a>>
         ensures shows { IfSome result
             (λ canonical. record_of canonical.parsed.now ≡ record_of parsed.now) }

@@ -1,4 +1,4 @@
-//! Tests whether a record has a canonical text.
+//! Functions that test whether a record has a canonical text.
 ghost use Rattle.std.specs.Prelude.{◌↔◌, IsTrue, map, option_map};
 ghost use Rattle.ixdtf.specs.Views.{note_of, zone_of};
 ghost use Rattle.ixdtf_print.specs.Printable.{record_of};
@@ -69,7 +69,7 @@ pub fn is_shift(offset: UtcOffsetRecordOrZ) -> bool
     }
 }
 
-/// Returns whether there is a date, and it is a day.
+/// Returns whether there is a date, and this date is a day of the Gregorian calendar.
 fn has_day(date: Option<DateRecord>) -> bool
     ensures { IsTrue result ↔ HasDay date }
 {
@@ -92,7 +92,7 @@ pub fn has_time(time: Option<TimeRecord>, offset: Option<UtcOffsetRecordOrZ>) ->
     }
 }
 
-/// Returns whether the bytes are the name of a zone.
+/// Returns whether the bytes are the name of a time zone, as `parse_iana_identifier` accepts it.
 fn is_name(name: &[u8]) -> bool
     ensures { IsTrue result ↔ ZoneName (map Plain name.now) }
 {

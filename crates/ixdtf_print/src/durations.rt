@@ -19,17 +19,20 @@ use crate::text::{self, CanonicalText, Tail};
 use ixdtf::records::{DateDurationRecord, DurationParseRecord, Fraction, Sign, TimeDurationRecord};
 use std::fmt;
 
-/// At least as many bytes as a duration has: 2 up to its `P`, 84 of its date, and 320 of its time.
+/// An upper bound of the number of bytes of a duration: 2 for its sign and its `P`, 84 for its date, and 320 for its time.
 const MOST_OF_DURATION: usize = 406;
 
-/// Writes the canonical text of a duration, such as `P1Y2M3DT4H5.5M`, into the front of the slice. Returns the number of its
-/// bytes.
+/// Writes the canonical text of a duration to the beginning of the slice, such as `P1Y2M3DT4H5.5M`.
 ///
-/// The canonical text begins with `-` if the duration is negative. It has each unit that is not zero, and no leading zeros.
-/// If all numbers of the date are zero, it has `0D`. The last unit of the time is written even if it is zero, since the record
-/// says which unit is the last one: `PT0H` and `PT0S` are two records.
+/// The duration is a record that [`IsoDurationParser::parse`](ixdtf::parsers::IsoDurationParser::parse) returns. The
+/// canonical text begins with `-` if the duration is negative. A duration unit whose number is zero is left out, with two
+/// exceptions. If all numbers of the date are zero, the date is written as `0D`. The last unit of the time is always
+/// written, because the record says which unit is the last one: `PT0H` and `PT0S` are parsed as different records. Numbers
+/// have no leading zeros. Digits of a fraction after the first 18 are written as zeros.
 ///
-/// The canonical text is at most as long as the text from which the duration was read.
+/// Returns the number of bytes that were written. The canonical text is at most as long as the text that was parsed.
+///
+/// # Examples
 ///
 /// ```rust
 /// use ixdtf::parsers::IsoDurationParser;
@@ -46,10 +49,10 @@ const MOST_OF_DURATION: usize = 406;
 ///
 /// # Errors
 ///
-/// - [`PrintError::NotPrintable`] if the duration has neither a date nor a time, so that no text stands for it;
-/// - [`PrintError::TooShort`] if the slice is shorter than the canonical text.
+/// After an error, the slice is unchanged.
 ///
-/// After an error the slice is unchanged.
+/// - [`PrintError::NotPrintable`]: the duration has no canonical text, because it has neither a date nor a time.
+/// - [`PrintError::TooShort`]: the slice is shorter than the canonical text.
 pub fn print_duration(duration: &DurationParseRecord, out: &mut [u8]) -> Result<usize, PrintError>
     ensures prints { PrintsOrRefuses (IsPrintableDuration duration.now) (duration_text duration.now) out.old out.new result }
     ensures read_back { OnOk result (IsDurationReadBack duration.now) }
@@ -80,7 +83,7 @@ pub fn print_duration(duration: &DurationParseRecord, out: &mut [u8]) -> Result<
 ///
 /// After an error, the slice is unchanged.
 ///
-/// - [`PrintError::NotPrintable`]: the duration has neither a date nor a time, so no text stands for it.
+/// - [`PrintError::NotPrintable`]: the duration has no canonical text, because it has neither a date nor a time.
 /// - [`PrintError::TooShort`]: the slice is shorter than the canonical text.
 pub fn print_duration_utf16(
     duration: &DurationParseRecord,
@@ -93,8 +96,12 @@ pub fn print_duration_utf16(
     text::print_utf16(CanonicalDuration { duration }, out)
 }
 
-/// Returns the number of bytes of the canonical text of a duration. A slice of this length is long enough for
-/// [`print_duration`](crate::print_duration). Returns `None` if no text stands for the duration.
+/// Returns the number of bytes of the canonical text of a duration.
+///
+/// A slice of this length is long enough for [`print_duration`](crate::print_duration). Returns `None` if the duration has
+/// no canonical text, because it has neither a date nor a time.
+///
+/// # Examples
 ///
 /// ```rust
 /// use ixdtf::parsers::IsoDurationParser;
@@ -110,7 +117,7 @@ pub fn duration_length(duration: &DurationParseRecord) -> Option<usize>
     text::printed_length(CanonicalDuration { duration })
 }
 
-/// Whether there is a date or a time. Any numbers fit.
+/// Returns whether there is a date or a time. The numbers need no test, because every value of their types has a text.
 #[inline(always)]
 fn has_part(date: Option<DateDurationRecord>, time: Option<TimeDurationRecord>) -> bool
     ensures { IsTrue result ↔ AreParts date time }
@@ -118,8 +125,12 @@ fn has_part(date: Option<DateDurationRecord>, time: Option<TimeDurationRecord>) 
     date.is_some() || time.is_some()
 }
 
-/// A duration whose `Display` writes its canonical text, as [`print_duration`](crate::print_duration) does. It does not
-/// allocate, and it ignores width and fill.
+/// A duration that `Display` writes as its canonical text, such as `-PT1H30.5M`.
+///
+/// This is the text that [`print_duration`](crate::print_duration) writes into a slice. `Display` does not allocate, and
+/// ignores width and fill.
+///
+/// # Examples
 ///
 /// ```rust
 /// use ixdtf::parsers::IsoDurationParser;
@@ -134,7 +145,8 @@ pub struct CanonicalDuration<'a> {
 }
 
 impl<'a> CanonicalDuration<'a> {
-    /// Returns the duration to display. Returns `None` if no text stands for it: it has neither a date nor a time.
+    /// Creates a value that displays the duration. Returns `None` if the duration has no canonical text, because it has
+    /// neither a date nor a time.
     pub fn of(duration: &'a DurationParseRecord) -> Option<CanonicalDuration<'a>>
         ensures shows { IfSome result (λ canonical. canonical.duration.now ≡ duration.now) }
         ensures text { IfSome result
@@ -179,7 +191,7 @@ impl<'a> CanonicalText for CanonicalDuration<'a> {
     }
 }
 
-// Display heeds no width and no fill.
+// `Display` ignores width and fill.
 impl<'a> fmt::Display for CanonicalDuration<'a> {
     ghost use Rattle.std.specs.Prelude.{Some};
     ghost use Rattle.ixdtf_print.specs.Durations.{duration_text};
@@ -194,9 +206,9 @@ impl<'a> fmt::Display for CanonicalDuration<'a> {
     }
 }
 
-// ---- lengths
+// ---- Lengths
 
-/// How many bytes the unit has: none where its number is zero.
+/// Returns the number of bytes of a duration unit: 0 if its number is zero.
 fn unit_length(number: u64, letter: u8) -> u16
     ensures length { result ≡ length (unit_text number letter) }
     ensures small { result ≤ 21 }
@@ -208,7 +220,7 @@ fn unit_length(number: u64, letter: u8) -> u16
     }
 }
 
-/// How many bytes the units of the date have.
+/// Returns the number of bytes of the date.
 fn date_length(date: Option<DateDurationRecord>) -> u16
     ensures length { result ≡ length (date_part_text date) }
     ensures small { result ≤ 84 }
@@ -225,14 +237,14 @@ fn date_length(date: Option<DateDurationRecord>) -> u16
         + unit_length(date.days, b'D')
 }
 
-/// Whether all numbers of the date are zero.
+/// Returns whether all numbers of the date are zero.
 fn is_zero(date: DateDurationRecord) -> bool
     ensures { result ≡ has_no_unit date }
 {
     date.years == 0 && date.months == 0 && date.weeks == 0 && date.days == 0
 }
 
-/// How many bytes the last number of a time has, with its fraction and its letter.
+/// Returns the number of bytes of the last unit of a time: its number, its fraction and its letter.
 fn last_length(number: u64, fraction: Option<Fraction>, letter: u8) -> u16
     ensures length { result ≡ length (last_text number fraction letter) }
     ensures small { result ≤ 277 }
@@ -240,7 +252,7 @@ fn last_length(number: u64, fraction: Option<Fraction>, letter: u8) -> u16
     digit_count(number) + fraction_length(fraction) + 1
 }
 
-/// How many bytes the units of the time have, with the `T`.
+/// Returns the number of bytes of the time, with its `T`.
 fn time_length(time: Option<TimeDurationRecord>) -> u16
     ensures length { result ≡ length (time_part_text time) }
     ensures small { result ≤ 320 }
@@ -272,7 +284,7 @@ fn time_length(time: Option<TimeDurationRecord>) -> u16
     }
 }
 
-/// How many bytes the sign and the `P` have.
+/// Returns the number of bytes of the sign and the `P`.
 fn start_length(sign: Sign) -> u16
     ensures length { result ≡ length (start_text sign) }
     ensures small { result ≤ 2 }
@@ -283,7 +295,7 @@ fn start_length(sign: Sign) -> u16
     }
 }
 
-/// How many bytes the canonical text of the duration has.
+/// Returns the number of bytes of the canonical text of the duration.
 fn length_of_duration(duration: &DurationParseRecord) -> u16
     ensures length { result ≡ length (duration_text duration.now) }
     ensures small { result ≤ 406 }
@@ -291,9 +303,9 @@ fn length_of_duration(duration: &DurationParseRecord) -> u16
     start_length(duration.sign) + date_length(duration.date) + time_length(duration.time)
 }
 
-// ---- bytes
+// ---- Bytes
 
-/// Puts the unit at the place, where its number is not zero, and returns the place behind it.
+/// Writes the duration unit at index `at`, if its number is not zero. Returns the index after it.
 #[tactic(auto, using(crate::proofs::code::PutBytes::putting))]
 fn put_unit(out: &mut [u8], at: usize, number: u64, letter: u8) -> usize
     requires { HasRoom out.old at (unit_text number letter) }
@@ -306,7 +318,7 @@ fn put_unit(out: &mut [u8], at: usize, number: u64, letter: u8) -> usize
     put_byte(out, end, letter)
 }
 
-/// Puts the units of the date at the place, and returns the place behind them.
+/// Writes the units of the date at index `at`. Returns the index after them.
 #[tactic(auto, using(crate::proofs::code::PutBytes::putting), unfolding(crate::specs::Durations::date_units_text))]
 fn put_date_units(out: &mut [u8], at: usize, date: DateDurationRecord) -> usize
     requires { HasRoom out.old at (date_units_text date) }
@@ -318,7 +330,7 @@ fn put_date_units(out: &mut [u8], at: usize, date: DateDurationRecord) -> usize
     put_unit(out, days, date.days, b'D')
 }
 
-/// Puts the date at the place, where there is one, and returns the place behind it.
+/// Writes the date at index `at`, if there is one. Returns the index after it.
 fn put_date(out: &mut [u8], at: usize, date: Option<DateDurationRecord>) -> usize
     requires { HasRoom out.old at (date_part_text date) }
     ensures { Prints out.old out.new at result (date_part_text date) }
@@ -332,7 +344,7 @@ fn put_date(out: &mut [u8], at: usize, date: Option<DateDurationRecord>) -> usiz
     put_date_units(out, at, date)
 }
 
-/// Puts the last number of a time at the place, with its fraction and its letter, and returns the place behind them.
+/// Writes the last unit of a time at index `at`: its number, its fraction and its letter. Returns the index after it.
 #[tactic(auto, using(crate::proofs::code::PutBytes::putting), unfolding(crate::specs::Durations::last_text))]
 fn put_last(out: &mut [u8], at: usize, number: u64, fraction: Option<Fraction>, letter: u8) -> usize
     requires { HasRoom out.old at (last_text number fraction letter) }
@@ -343,7 +355,7 @@ fn put_last(out: &mut [u8], at: usize, number: u64, fraction: Option<Fraction>, 
     put_byte(out, end, letter)
 }
 
-/// Puts the units of the time at the place, and returns the place behind them.
+/// Writes the units of the time at index `at`. Returns the index after them.
 #[tactic(auto, using(crate::proofs::code::PutBytes::putting))]
 fn put_time_units(out: &mut [u8], at: usize, time: TimeDurationRecord) -> usize
     requires { HasRoom out.old at (time_units_text time) }
@@ -372,7 +384,7 @@ fn put_time_units(out: &mut [u8], at: usize, time: TimeDurationRecord) -> usize
     }
 }
 
-/// Puts the time at the place, behind a `T`, where there is one, and returns the place behind it.
+/// Writes a `T` and the time at index `at`, if there is a time. Returns the index after it.
 #[tactic(auto, using(crate::proofs::code::PutBytes::putting))]
 fn put_time(out: &mut [u8], at: usize, time: Option<TimeDurationRecord>) -> usize
     requires { HasRoom out.old at (time_part_text time) }
@@ -385,7 +397,7 @@ fn put_time(out: &mut [u8], at: usize, time: Option<TimeDurationRecord>) -> usiz
     put_time_units(out, units, time)
 }
 
-/// Puts the sign, where it is negative, and the `P` at the place, and returns the place behind them.
+/// Writes the sign, if it is negative, and the `P` at index `at`. Returns the index after them.
 fn put_start(out: &mut [u8], at: usize, sign: Sign) -> usize
     requires { HasRoom out.old at (start_text sign) }
     ensures { Prints out.old out.new at result (start_text sign) }
@@ -396,7 +408,7 @@ fn put_start(out: &mut [u8], at: usize, sign: Sign) -> usize
     }
 }
 
-/// Puts the duration at the front, and returns the place behind it.
+/// Writes the duration at the beginning of the slice. Returns the index after it.
 #[tactic(auto, using(crate::proofs::code::PutBytes::putting), unfolding(crate::specs::Durations::duration_text))]
 fn put_duration(out: &mut [u8], duration: &DurationParseRecord) -> usize
     requires { HasRoom out.old 0 (duration_text duration.now) }

@@ -1,4 +1,4 @@
-//! What holds of canonical texts, for callers to cite.
+//! Laws about canonical texts. A caller can use them in its proofs.
 ghost use Rattle.ixdtf_print.specs.Durations.{DurationFits, DurationIsReadBack};
 ghost use Rattle.ixdtf_print.specs.Laws.{CanonicalFits, CanonicalIsReadBack, Rfc9557IsReadBack};
 ghost use Rattle.ixdtf_print.specs.MonthDays.{MonthDayFits, MonthDayIsReadBack};
@@ -32,15 +32,19 @@ pub fn rfc9557_is_read_back()
     ensures { Rfc9557IsReadBack }
 {}
 
-/// The canonical text of a duration that [`IsoDurationParser::parse`](ixdtf::parsers::IsoDurationParser::parse) reads from a
-/// text, under either profile, is at most as long as the text.
+/// States that the canonical text of a duration is at most as long as the text that was parsed.
+///
+/// The law is about the durations that [`IsoDurationParser::parse`](ixdtf::parsers::IsoDurationParser::parse) returns,
+/// under either profile. To use it, call the function, which does nothing.
 pub fn duration_fits()
     ensures { DurationFits }
 {}
 
-/// [`IsoDurationParser::parse`](ixdtf::parsers::IsoDurationParser::parse) reads each duration that it reads from some text
-/// from the canonical text of the duration too, under either profile, and nothing else from it. No two such durations have
-/// one canonical text.
+/// States that the canonical text of a duration is parsed as this duration.
+///
+/// Suppose that [`IsoDurationParser::parse`](ixdtf::parsers::IsoDurationParser::parse) returns a duration for some text,
+/// under some profile. Then it also returns this duration for the canonical text of the duration, under either profile, and
+/// no other such duration has this canonical text.
 pub fn duration_is_read_back()
     ensures { DurationIsReadBack }
 {}

@@ -1,7 +1,8 @@
-//! Prints the records that `ixdtf` returns. Each record that can be printed has one canonical text.
+//! Prints the records that `ixdtf` returns. Each kind of record, such as date-times or durations, has its own functions.
 //!
-//! `ixdtf` parses the canonical text as an equal record, and no other record has the same canonical text. So texts can
-//! be stored, compared and exchanged in this form.
+//! The text that a function writes for a record is its canonical text. `ixdtf` parses the canonical text as an equal
+//! record. Two records of the same kind that are not equal have different canonical texts. So you can store, compare and
+//! exchange texts in this form.
 #![tactic(auto)]
 
 mod canonical;
@@ -26,10 +27,10 @@ mod year_months;
 mod zones;
 
 pub use canonical::{Canonical, print, printed_length};
-// For crates of this repository, and no part of the interface.
+// Only other crates of this repository use this item. It is not part of the public interface.
 #[doc(hidden)]
 pub use canonical::{length_of, print_with_room};
-// For crates of this repository, and no part of the interface.
+// Only other crates of this repository use this item. It is not part of the public interface.
 #[doc(hidden)]
 pub use digits::put_digits;
 pub use durations::{CanonicalDuration, duration_length, print_duration, print_duration_utf16};
@@ -39,12 +40,12 @@ pub use laws::{
     month_day_is_read_back, offset_fits, offset_is_read_back, rfc9557_is_read_back, time_fits,
     time_is_read_back, year_month_fits, year_month_is_read_back, zone_fits, zone_is_read_back,
 };
-// For crates of this repository, and no part of the interface.
+// Only other crates of this repository use this item. It is not part of the public interface.
 #[doc(hidden)]
 pub use message::error_parts;
 pub use month_days::{CanonicalMonthDay, month_day_length, print_month_day};
 pub use offsets::{CanonicalOffset, offset_length, print_offset, print_offset_utf16};
-// For crates of this repository, and no part of the interface.
+// Only other crates of this repository use this item. It is not part of the public interface.
 #[doc(hidden)]
 pub use printed::PrintedText;
 pub use times::{CanonicalTime, print_time, time_length};

@@ -5,10 +5,10 @@ ghost use Rattle.ixdtf.specs.table.Faults.{fault_of};
 
 use ixdtf::ParseError;
 
-/// Returns the two parts of what `Display` writes for an error: the message, and the location of an `AbruptEnd`.
+/// Returns the two parts of the text that `Display` writes for an error: the message, and the location of an `AbruptEnd`.
 ///
-/// With them, a program can write the error into a line without `Display`.
-// For crates of this repository, and no part of the interface.
+/// With these two parts, a program can write the error into a line without `Display`.
+// Only other crates of this repository use this item. It is not part of the public interface.
 #[doc(hidden)]
 #[inline(always)]
 pub fn error_parts(error: ParseError) -> (&'static str, &'static str)

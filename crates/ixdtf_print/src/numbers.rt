@@ -1,4 +1,4 @@
-//! Numbers without leading zeros put into a slice.
+//! Functions that write numbers without leading zeros into a slice.
 ghost use Rattle.std.specs.Prelude.{◌≡◌, ◌<◌, ◌≤◌, length};
 ghost use Rattle.ixdtf.specs.language.Digits.{padded_digits};
 ghost use Rattle.ixdtf_print.specs.Durations.{number_text};
@@ -7,7 +7,7 @@ ghost use Rattle.ixdtf_print.specs.Prints.{HasRoom, Prints};
 use crate::digits::{ones_digit, put_four, tens_digit};
 use crate::put::{put, put_byte};
 
-/// How many digits the number has, without leading zeros. Most numbers are small.
+/// Returns the number of digits of the number, without leading zeros. A number of one digit needs no logarithm.
 #[inline(always)]
 pub fn digit_count(number: u64) -> u16
     ensures length { result ≡ length (number_text number) }
@@ -19,9 +19,10 @@ pub fn digit_count(number: u64) -> u16
     number.ilog10() as u16 + 1
 }
 
-/// Puts the number at the place, without leading zeros, and returns the place behind it. Most numbers are small.
+/// Writes the number without leading zeros at index `at`. Returns the index after it.
 ///
-/// It is a call of its own, since a body of it at each unit takes more instructions.
+/// Most numbers are small, so numbers below 10,000 are tested first. The function is not inlined: a copy of it at each duration
+/// unit would take more instructions.
 #[inline(never)]
 pub fn put_number(out: &mut [u8], at: usize, number: u64) -> usize
     requires { HasRoom out.old at (number_text number) }
@@ -33,7 +34,7 @@ pub fn put_number(out: &mut [u8], at: usize, number: u64) -> usize
     put_long(out, at, number)
 }
 
-/// Puts any number at the place, and returns the place behind it: eight digits at a time.
+/// Writes any number at index `at`, eight digits at a time. Returns the index after it.
 #[inline(never)]
 fn put_long(out: &mut [u8], at: usize, number: u64) -> usize
     requires { HasRoom out.old at (number_text number) }
@@ -46,7 +47,7 @@ fn put_long(out: &mut [u8], at: usize, number: u64) -> usize
     put_eight(out, last, number % 100_000_000)
 }
 
-/// Puts what stands before the last eight digits of a number at the place, and returns the place behind it.
+/// Writes the part of a number before its last eight digits at index `at`. Returns the index after it.
 fn put_front(out: &mut [u8], at: usize, number: u64) -> usize
     requires room { HasRoom out.old at (number_text number) }
     requires small { number < 1000000000000 }
@@ -59,7 +60,7 @@ fn put_front(out: &mut [u8], at: usize, number: u64) -> usize
     put_eight(out, last, number % 100_000_000)
 }
 
-/// Puts eight digits of the number at the place, and returns the place behind them.
+/// Writes a number below 100,000,000 with eight digits at index `at`. Returns the index after them.
 fn put_eight(out: &mut [u8], at: usize, number: u64) -> usize
     requires room { HasRoom out.old at (padded_digits 8 number) }
     requires small { number < 100000000 }
@@ -69,7 +70,7 @@ fn put_eight(out: &mut [u8], at: usize, number: u64) -> usize
     put_four(out, last, number % 10_000)
 }
 
-/// Puts a number of at most eight digits at the place, and returns the place behind it.
+/// Writes a number of at most eight digits at index `at`. Returns the index after it.
 fn put_below_100_000_000(out: &mut [u8], at: usize, number: u64) -> usize
     requires room { HasRoom out.old at (number_text number) }
     requires small { number < 100000000 }
@@ -82,7 +83,7 @@ fn put_below_100_000_000(out: &mut [u8], at: usize, number: u64) -> usize
     put_four(out, last, number % 10_000)
 }
 
-/// Puts a number of at most four digits at the place, and returns the place behind it.
+/// Writes a number of at most four digits at index `at`. Returns the index after it.
 #[inline(always)]
 fn put_below_10_000(out: &mut [u8], at: usize, number: u64) -> usize
     requires room { HasRoom out.old at (number_text number) }
@@ -97,7 +98,7 @@ fn put_below_10_000(out: &mut [u8], at: usize, number: u64) -> usize
     put(out, last, &[tens_digit(rest), ones_digit(rest)])
 }
 
-/// Puts a number of one or two digits at the place, and returns the place behind it.
+/// Writes a number of one or two digits at index `at`. Returns the index after it.
 #[inline(always)]
 fn put_below_100(out: &mut [u8], at: usize, number: u8) -> usize
     requires room { HasRoom out.old at (number_text number) }

@@ -1,4 +1,4 @@
-//! The canonical text that a program printed last.
+//! An array for the canonical text that a program printed last.
 ghost use Rattle.std.specs.Prelude.{◌≡◌, ◌<◌, ◌++◌, ◌∷◌, ℕ, List, [], length, map, take, slice_index};
 ghost use Rattle.ixdtf.specs.language.Letters.{byte_letter};
 ghost use Rattle.ixdtf_print.specs.Canonical.{canonical_text, zone_text};
@@ -24,7 +24,8 @@ use std::marker::Model;
 
 /// A canonical text and a newline after it, in an array of `SIZE` bytes.
 ///
-/// A program uses one such array for all its lines. To clear an array for each line would take longer than to fill it.
+/// A program uses one such array for all its lines, because to clear an array for each line would take longer than to
+/// write the line.
 #[derive(Drop)]
 pub struct PrintedText<const SIZE: usize> {
     bytes: [u8; SIZE],
@@ -36,12 +37,12 @@ impl<const SIZE: usize> Model for PrintedText<SIZE> {
 
     ghost view = { λ text. take text.count text.bytes };
 
-    // A newline follows the text.
+    // A newline follows the text in the array.
     ghost invariant = { λ text. (text.count < SIZE) × (slice_index text.bytes text.count ≡ 10) };
 }
 
 impl<const SIZE: usize> PrintedText<SIZE> {
-    /// Creates an empty text with a newline.
+    /// Creates an empty text, with a newline after it.
     pub fn empty() -> PrintedText<SIZE>
         requires { 0 < SIZE }
         ensures { result ≡ [] }
@@ -51,7 +52,7 @@ impl<const SIZE: usize> PrintedText<SIZE> {
         PrintedText { bytes, count: 0 }
     }
 
-    /// Prints the record. It replaces what was printed before.
+    /// Prints the record. Its text replaces the text before.
     pub fn print(&mut self, parts: &IxdtfParseRecord<'_, Utf8>)
         requires { FitsArray SIZE (record_of parts.now) }
         ensures { map byte_letter self.new ≡ canonical_text (record_of parts.now) }
@@ -61,7 +62,7 @@ impl<const SIZE: usize> PrintedText<SIZE> {
         self.count = count;
     }
 
-    /// Prints a duration that was read. It replaces what was printed before.
+    /// Prints a duration that a reader returned. Its text replaces the text before.
     pub fn print_duration(&mut self, duration: &DurationParseRecord)
         requires printable { IsPrintableDuration duration.now }
         requires fits { length (duration_text duration.now) < SIZE }
@@ -73,7 +74,7 @@ impl<const SIZE: usize> PrintedText<SIZE> {
         }
     }
 
-    /// Prints an offset that was read. It replaces what was printed before.
+    /// Prints an offset that a reader returned. Its text replaces the text before.
     pub fn print_offset(&mut self, offset: &UtcOffsetRecord)
         requires printable { IsPrintableOffset offset.now }
         requires fits { length (utc_offset_text offset.now) < SIZE }
@@ -85,7 +86,7 @@ impl<const SIZE: usize> PrintedText<SIZE> {
         }
     }
 
-    /// Prints a zone that was read. It replaces what was printed before.
+    /// Prints a zone that a reader returned. Its text replaces the text before.
     pub fn print_zone(&mut self, zone: &TimeZoneRecord<'_, Utf8>)
         requires printable { IsPrintableZone (zone_in zone.now) }
         requires fits { length (zone_text (zone_in zone.now)) < SIZE }
@@ -97,7 +98,7 @@ impl<const SIZE: usize> PrintedText<SIZE> {
         }
     }
 
-    /// Prints a time that was read. It replaces what was printed before.
+    /// Prints a time that a reader returned. Its text replaces the text before.
     pub fn print_time(&mut self, parts: &IxdtfParseRecord<'_, Utf8>)
         requires printable { IsPrintableTime (record_of parts.now) }
         requires fits { length (lone_time_text (record_of parts.now)) < SIZE }
@@ -109,7 +110,7 @@ impl<const SIZE: usize> PrintedText<SIZE> {
         }
     }
 
-    /// Prints a year and a month that was read. It replaces what was printed before.
+    /// Prints a record of a year and a month that a reader returned. Its text replaces the text before.
     pub fn print_year_month(&mut self, parts: &IxdtfParseRecord<'_, Utf8>)
         requires printable { IsPrintableYearMonth (record_of parts.now) }
         requires fits { length (year_month_text (record_of parts.now)) < SIZE }
@@ -121,7 +122,7 @@ impl<const SIZE: usize> PrintedText<SIZE> {
         }
     }
 
-    /// Prints a month and a day that was read. It replaces what was printed before.
+    /// Prints a record of a month and a day that a reader returned. Its text replaces the text before.
     pub fn print_month_day(&mut self, parts: &IxdtfParseRecord<'_, Utf8>)
         requires printable { IsPrintableMonthDay (record_of parts.now) }
         requires fits { length (month_day_text (record_of parts.now)) < SIZE }
@@ -133,7 +134,7 @@ impl<const SIZE: usize> PrintedText<SIZE> {
         }
     }
 
-    /// Returns the bytes of the text, and the newline.
+    /// Returns the bytes of the text and the newline after it.
     pub fn as_line(&self) -> &[u8]
         ensures { result.now ≡ self.now ++ 10 ∷ [] }
     {

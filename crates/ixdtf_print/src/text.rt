@@ -1,4 +1,4 @@
-//! What all canonical texts have in common.
+//! Functions for all kinds of canonical texts.
 ghost use Rattle.std.specs.Prelude.{◌≡◌, ◌↔◌, ◌+◌, ◌<◌, ◌≤◌, ◌^◌, ◌++◌, IsTrue, length, map, take, drop, None, IfSome, OnSome, OnOk};
 ghost use Rattle.std.specs.Fmt.{WritesStyledOnOk};
 ghost use Rattle.ixdtf.specs.language.Letters.{Text, Plain};
@@ -16,11 +16,11 @@ use ixdtf::encoding::Utf8;
 use ixdtf::records::{IxdtfParseRecord, TimeZoneRecord};
 use std::fmt;
 
-/// The greatest number of bytes of a core. The core of a date-time is the longest one. A date has at most 13 bytes. A time
-/// and an offset have at most 265 bytes each, with a fraction of 255 digits.
+/// The greatest number of bytes of a core. The core of a date-time is the longest one: its date has at most 13 bytes. Its
+/// time and its offset have at most 265 bytes each, because a fraction has at most 255 digits.
 const MOST_OF_CORE: usize = 543;
 
-/// The end of a canonical text, after its core. It has names, which can have any length.
+/// The end of a canonical text, after its core. The tail can have names, and a name can have any length.
 pub enum Tail<'a> {
     /// There is nothing after the core.
     Nothing,
@@ -30,21 +30,21 @@ pub enum Tail<'a> {
     Brackets(&'a IxdtfParseRecord<'a, Utf8>),
 }
 
-/// A record that has a canonical text as one kind of record.
+/// A record of one kind, such as a time or a duration, that can be printed.
 ///
-/// A kind says what its texts are. The functions of this module write, count and display them. A canonical text has two
-/// parts: the core, whose length is limited, and the tail.
+/// An implementation says what the canonical texts of its kind are. The functions of this module write, count and display
+/// these texts. A canonical text has two parts: the core, whose length is limited, and the tail.
 pub trait CanonicalText: Copy {
     // The canonical text of the record.
     ghost text: { Self → Text };
 
-    // The front of this text, up to the tail.
+    // The core: the part of the canonical text before the tail.
     ghost core: { Self → Text };
 
-    // Some text stands for the record.
+    // A reader returns this record for some text.
     ghost IsPrintable: { Self → Type 0 };
 
-    // The record is read back from its canonical text.
+    // The reader returns this record for its canonical text too.
     ghost IsReadBack: { Self → Type 0 };
 
     /// Returns whether the record has a canonical text.
@@ -132,7 +132,7 @@ pub fn print<T: CanonicalText>(text: T, out: &mut [u8]) -> Result<usize, PrintEr
     Ok(put(text, out))
 }
 
-/// Writes the canonical text as 16-bit code units, like `print`. It is only for texts without a tail.
+/// Writes the canonical text as 16-bit code units, like `print`. The text must have no tail.
 pub fn print_utf16<T: CanonicalText>(text: T, out: &mut [u16]) -> Result<usize, PrintError>
     requires { T.text text ≡ T.core text }
     ensures prints { PrintsOrRefuses (T.IsPrintable text) (T.text text) out.old out.new result }
@@ -171,7 +171,7 @@ pub fn printed_length<T: CanonicalText>(text: T) -> Option<usize>
     }
 }
 
-/// Returns the record again, if it has a canonical text.
+/// Returns the record unchanged if it has a canonical text, and `None` otherwise.
 pub fn checked<T: CanonicalText>(text: T) -> Option<T>
     ensures same { IfSome result (λ canonical. canonical ≡ text) }
     ensures shown { OnSome result (map Plain (bytes_of (T.text text)) ≡ T.text text) }

@@ -25,7 +25,7 @@ pub fn write_brackets<W: fmt::Write>(
     write_calendar(f, parsed.calendar)
 }
 
-/// The first bytes, so many.
+/// Returns the first `count` bytes.
 pub fn front_of(bytes: &[u8], count: usize) -> &[u8]
     requires { count ≤ length bytes.now }
     ensures { result.now ≡ take count bytes.now }
@@ -98,7 +98,7 @@ fn write_calendar<W: fmt::Write>(f: &mut fmt::Formatter<W>, calendar: Option<&[u
     }
 }
 
-/// Writes each byte as the character of its number. Of a record that has a text they are ASCII.
+/// Writes each byte as the character with its number. If a record has a canonical text, the bytes of its names are ASCII.
 pub fn write_bytes<W: fmt::Write>(f: &mut fmt::Formatter<W>, bytes: &[u8]) -> fmt::Result
     ensures { WritesStyledOnOk W.write_str_gives f.old result (encode_utf8_all bytes.now) f.new }
 {

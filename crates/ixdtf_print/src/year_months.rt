@@ -21,10 +21,11 @@ use std::fmt;
 /// Writes the canonical text of a year and a month to the beginning of the slice, such as `2020-11[u-ca=hebrew]`.
 ///
 /// The record is one that [`IxdtfParser::parse_year_month`](ixdtf::parsers::IxdtfParser::parse_year_month) returns. The
-/// canonical text has the year, with four digits or with a sign and six digits, and the month. If the record has them, the
-/// zone and the calendar follow, as [`print`](crate::print) writes them.
+/// canonical text has the year, with four digits or with a sign and six digits, and the month. If the record has a
+/// zone or a calendar, they follow the month, as [`print`](crate::print) writes them.
 ///
-/// A date whose day is 1 is the same record: `print` writes it as `2020-11-01`, and this function as `2020-11`.
+/// The record of the date `2020-11-01` is equal to the record of `2020-11`. `print` writes both as `2020-11-01`, and this
+/// function writes both as `2020-11`.
 ///
 /// Returns the number of bytes that were written. The canonical text has at most 4 bytes more than the text that was
 /// parsed.
@@ -55,7 +56,7 @@ use std::fmt;
 /// After an error, the slice is unchanged.
 ///
 /// - [`PrintError::NotPrintable`]: the record has no canonical text. It has no date, or another day than 1, or a time, or an
-///   offset, or a part that no text has.
+///   offset, or a field whose value no text has.
 /// - [`PrintError::TooShort`]: the slice is shorter than the canonical text.
 pub fn print_year_month(
     parsed: &IxdtfParseRecord<'_, Utf8>,
@@ -174,7 +175,7 @@ fn is_spelled(parsed: &IxdtfParseRecord<'_, Utf8>) -> bool
     has_lone_month(parsed.date, parsed.time, parsed.offset) && has_brackets(parsed)
 }
 
-/// Returns whether there is the first day of a month, and neither a time nor an offset.
+/// Returns whether the date is the first day of a month, and there is neither a time nor an offset.
 fn has_lone_month(
     date: Option<DateRecord>,
     time: Option<TimeRecord>,
@@ -197,7 +198,7 @@ fn is_first_day(date: DateRecord) -> bool
     date.year.unsigned_abs() <= 999_999 && 1 <= date.month && date.month <= 12 && date.day == 1
 }
 
-// ---- lengths
+// ---- Lengths
 
 /// Returns the number of bytes of the year and the month.
 #[tactic(auto, using(crate::proofs::code::LoneLengths::lone_lengths))]
@@ -217,7 +218,7 @@ fn optional_month_length(date: Option<DateRecord>) -> u16
     }
 }
 
-// ---- bytes
+// ---- Bytes
 
 /// Writes the year and the month at index `at`, if there is a date. Returns the index after them.
 fn put_optional_month(out: &mut [u8], at: usize, date: Option<DateRecord>) -> usize

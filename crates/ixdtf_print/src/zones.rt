@@ -20,7 +20,7 @@ use std::fmt;
 /// returns. A name is written as it is. An offset has a sign, an hour and a minute. The canonical text has no brackets.
 ///
 /// The name that [`TimeZoneParser::parse_iana_identifier`](ixdtf::parsers::TimeZoneParser::parse_iana_identifier) returns
-/// is its own canonical text. `TimeZoneRecord::Name(name)` is the zone of this name.
+/// is its own canonical text. To print this name, pass it as `TimeZoneRecord::Name(name)`.
 ///
 /// Returns the number of bytes that were written. The canonical text has at most 3 bytes more than the text that was
 /// parsed.
@@ -44,8 +44,8 @@ use std::fmt;
 ///
 /// After an error, the slice is unchanged.
 ///
-/// - [`PrintError::NotPrintable`]: the zone has no canonical text. Its name is not the name of a zone, or a number of its
-///   offset is out of its range.
+/// - [`PrintError::NotPrintable`]: the zone has no canonical text. Its name is one that `parse_iana_identifier` refuses,
+///   or a number of its offset is out of its range.
 /// - [`PrintError::TooShort`]: the slice is shorter than the canonical text.
 pub fn print_zone(zone: &TimeZoneRecord<'_, Utf8>, out: &mut [u8]) -> Result<usize, PrintError>
     ensures prints { PrintsOrRefuses (IsPrintableZone (zone_in zone.now)) (zone_text (zone_in zone.now)) out.old out.new result }

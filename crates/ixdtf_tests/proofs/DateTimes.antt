@@ -18,7 +18,7 @@ use Rattle.ixdtf.specs.table.Faults.Fault.{TimeMinuteSecond, TimeSecond, Fractio
 use Rattle.ixdtf.specs.table.Faults.Fault.{InvalidMinutePrecisionOffset}
 use Rattle.ixdtf.specs.table.LineNames.{LineName}
 use Rattle.ixdtf.specs.table.LineNames.LineName.{of_date_time, of_bracket}
-use Rattle.ixdtf.specs.table.LineNames.BracketLine.{first_name_form, first_offset_form}
+use Rattle.ixdtf.specs.table.LineNames.BracketLine.{first_dots_form, first_name_form, first_offset_form}
 use Rattle.ixdtf.specs.table.LineNames.DateTimeLine.{four_digits, after_four_digits, field_digits, field_range, after_field, after_point}
 use Rattle.ixdtf.specs.table.LineNames.DateTimeLine.{after_secfrac, after_utc}
 use Rattle.ixdtf.specs.table.Lines.{abrupt_digit, abrupt_date, abrupt_offset}
@@ -98,8 +98,10 @@ each_row_of_extended_date_times = (refl, refl)
 -- These zones are not exactly those of RFC 9557.
 inexact_zones : Compute parse_rfc9557 (
     stands (of_bracket first_name_form) IanaChar (codes "2024-03-02T08:48:00Z[a/1]|")
-    ∷ stands (of_bracket first_name_form) IanaChar (codes "2024-03-02T08:48:00Z[.]|x")
-    ∷ stands (of_bracket first_name_form) IanaChar (codes "2024-03-02T08:48:00Z[!Europe/..]|[u-ca=hebrew]")
+    ∷ stands (of_bracket first_name_form) IanaChar (codes "2024-03-02T08:48:00Z[a/1/...]|")
+    ∷ stands (of_bracket first_dots_form) IanaChar (codes "2024-03-02T08:48:00Z[a/1/..]|")
+    ∷ stands (of_bracket first_dots_form) IanaChar (codes "2024-03-02T08:48:00Z[.]|x")
+    ∷ stands (of_bracket first_dots_form) IanaChar (codes "2024-03-02T08:48:00Z[!Europe/..]|[u-ca=hebrew]")
     ∷ stands (of_bracket first_offset_form) InvalidMinutePrecisionOffset (codes "2024-03-02T08:48:00Z[+05]|[")
     ∷ stands (of_bracket first_offset_form) InvalidMinutePrecisionOffset (codes "2024-03-02T08:48:00Z[!-0530]|")
     ∷ [])

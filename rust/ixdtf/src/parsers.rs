@@ -36,7 +36,7 @@ mod time_groups;
 mod time_zone_parser;
 mod zone;
 
-// These are only for crates of this repository, and not a part of the public interface. `read_lending_handler` is
+// Only crates of this repository use these types. They are not part of the public interface. `read_lending_handler` is
 // generic in them.
 #[doc(hidden)]
 pub use self::cores::{CoreReader, DateTimes, InternetDateTimes, MonthDays, Times, YearMonths};
@@ -45,12 +45,12 @@ pub use self::duration::IsoDurationParser;
 use crate::encoding::{EncodingType, Utf8, Utf16};
 pub use self::profile::Profile;
 use crate::cursor::Cursor;
-// For the printer.
+// The printer uses this function. It is not part of the public interface.
 #[doc(hidden)]
 pub use crate::classes::is_annotation_value_component;
 #[doc(hidden)]
 pub use crate::stop::FromStop;
-// For the printer.
+// The printer uses this function. It is not part of the public interface.
 #[doc(hidden)]
 pub use self::dates::days_in_month;
 

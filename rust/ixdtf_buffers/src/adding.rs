@@ -4,9 +4,10 @@
 //!
 //! The programs make the text of an answer or of a report in such an array, and write the complete text with one call.
 //! Each function takes the index at which it begins to write, and returns the index after the last byte that it wrote.
-//! The index is passed from call to call in a register. A count in memory would be read and written for each byte.
+//! The index is passed from call to call in a register. If it were a count in memory, it would be read and written for
+//! each byte.
 
-/// The size in bytes of the array of an answer. An answer without names always fits.
+/// The size in bytes of the array for an answer. An answer that contains no names always fits into the array.
 pub const ROOM: usize = 192;
 
 /// The number of digits of the greatest `u64`.
@@ -91,7 +92,7 @@ pub fn add_signed<const SIZE: usize>(room: &mut [u8; SIZE], at: usize, number: i
     }
 }
 
-/// Writes a number that has a sign, or not exactly four digits. It returns the index after the number.
+/// Writes a number that has a sign, or not exactly four digits, and returns the index after it.
 #[cold]
 #[inline(never)]
 fn add_other_signed<const SIZE: usize>(room: &mut [u8; SIZE], at: usize, number: i32) -> usize {

@@ -9,7 +9,7 @@ use crate::place::place_of;
 use crate::sink::Sink;
 use crate::source::Source;
 
-/// A task that handles lines of at most `LIMIT` bytes. It is also told about each longer line.
+/// A task that handles lines of at most `LIMIT` bytes. For each longer line, the task gets `None` instead of the bytes.
 pub trait LineTask<const LIMIT: usize> {
     /// Handles one line, and writes its result to the output. `line` is `None` if the line has more than `LIMIT` bytes.
     ///

@@ -12,7 +12,7 @@ pub trait Sink {
     /// Returns `RunError::Write` if the write fails.
     fn write_some(&mut self, bytes: &[u8]) -> Result<usize, RunError>;
 
-    /// Flushes what was written. Returns `RunError::Write` if this fails.
+    /// Flushes the bytes that were written. Returns `RunError::Write` if the flush fails.
     fn flush_all(&mut self) -> Result<(), RunError>;
 }
 

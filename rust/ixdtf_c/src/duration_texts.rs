@@ -1,12 +1,12 @@
 // Made by tools/to_rust.py of crates/ixdtf_c/src/duration_texts.rt. Do not edit.
 
-//! The durations that C hands in to be printed.
+//! The conversion of the durations of C into durations of the library, which prints them.
 
 use crate::durations::Duration;
 use crate::printing::fraction_of;
 use ixdtf::records::{DateDurationRecord, DurationParseRecord, Sign, TimeDurationRecord};
 
-/// The years, months, weeks and days, where they are there.
+/// Returns the years, months, weeks and days, or `None` if they are absent.
 fn date_units_of(given: &Duration<'_>) -> Option<DateDurationRecord> {
     if !given.has_date {
         return None;
@@ -19,7 +19,9 @@ fn date_units_of(given: &Duration<'_>) -> Option<DateDurationRecord> {
     })
 }
 
-/// The hours, minutes and seconds, where their form has a name and their fraction is one.
+/// Returns the hours, minutes and seconds, or `Some(None)` if they are absent.
+///
+/// Returns `None` if `time_form` is not 0 to 3, or if the fraction is not valid: see [`fraction_of`].
 pub fn time_units_of(given: &Duration<'_>) -> Option<Option<TimeDurationRecord>> {
     if given.time_form == 0 {
         return Some(None);
@@ -45,7 +47,7 @@ pub fn time_units_of(given: &Duration<'_>) -> Option<Option<TimeDurationRecord>>
     }
 }
 
-/// The duration, where the form of its time has a name and its fraction is one.
+/// Returns the duration. Returns `None` if `time_form` is not 0 to 3, or if the fraction is not valid: see [`fraction_of`].
 pub fn duration_of(given: &Duration<'_>) -> Option<DurationParseRecord> {
     let Some(time) = time_units_of(given) else {
         return None;

@@ -1,11 +1,13 @@
 // Made by tools/to_rust.py of crates/ixdtf_c/src/errors.rt. Do not edit.
 
-//! Errors as C sees them.
+//! The numbers and the texts of errors for C.
 
 use crate::slices::{Slice, to_c};
 use ixdtf::ParseError;
 
-/// The number of an error, from 1, in the order in which `ParseError` declares them, and where the text ended, of `AbruptEnd`.
+/// Returns the number of an error, and the location of `AbruptEnd`. For every other error, the location is empty.
+///
+/// The numbers begin at 1 and follow the order in which `ParseError` declares the errors.
 #[inline(always)]
 pub fn number_and_location(error: ParseError) -> (u32, &'static [u8]) {
     match error {
@@ -59,15 +61,15 @@ pub fn number_and_location(error: ParseError) -> (u32, &'static [u8]) {
     }
 }
 
-/// A text.
+/// A text that is passed to C.
 #[derive(Clone, Copy)]
 #[repr(C)]
 pub struct Text<'a> {
-    /// Its bytes.
+    /// The bytes of the text.
     pub bytes: Slice<'a, u8>,
 }
 
-/// The errors in the order of their numbers, from 1 on, where `AbruptEnd` has no location.
+/// The errors with the numbers 1 to 46, in order. The location of `AbruptEnd` is empty.
 static ERRORS: [ParseError; 46] = [
     ParseError::ImplAssert,
     ParseError::NonAsciiCodePoint,
@@ -117,12 +119,14 @@ static ERRORS: [ParseError; 46] = [
     ParseError::InvalidMonthDay,
 ];
 
-/// The error of a number from 1 to 46, where `AbruptEnd` has no location.
+/// Returns the error with a number from 1 to 46. The location of `AbruptEnd` is empty.
 fn error_by_number(number: u32) -> ParseError {
     ERRORS[number as usize - 1]
 }
 
-/// Writes the text of the error of a number, from 1 to 46, and no text for another number.
+/// Writes the text of an error, such as `Invalid character while parsing month value.` for the number 10.
+///
+/// The errors have the numbers 1 to 46. For every other number, the text is empty.
 #[unsafe(no_mangle)]
 pub extern "C" fn ixdtf_error_text(number: u32, out: &mut Text<'_>) {
     if number < 1 || number > 46 {

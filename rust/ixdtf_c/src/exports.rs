@@ -1,13 +1,18 @@
 // Made by tools/to_rust.py of crates/ixdtf_c/src/exports.rt. Do not edit.
 
-//! The readers that the header declares, of 8-bit and of 16-bit sources. Each call is one line over a reader of either width.
+//! The readers that the C header declares, for 8-bit text and for 16-bit text, and the functions that check replies. Each
+//! function only calls a function of another module, which does the work.
 //!
-//! - `read`: the number and what is written, all of it, are those of what the library's reader returns of the text. That of a
-//!   duration is 0 only where no other reader of dates, times and durations has the text.
-//! - `lists`: they are those of what the text gives where its annotations are passed over; these are counted, and the first of
-//!   them are written.
-//! - `few`: five times the number of the annotations is at most the length of the text, so a room of a fifth of its length is enough.
-//! - `unchanged`: after a refusal what `out` refers to is as it was, its slices too, but for the location and the place.
+//! These clauses are in the contracts of the readers:
+//!
+//! - `read`: The outcome of the text determines the number that is returned and every field of the record. The outcome is a
+//!   record of the grammar, or an error with its position. A text reader returns 0 only if no other text reader accepts the
+//!   text under the same profile.
+//! - `lists`: This clause is like `read`, for a reader that drops each annotation. It also says that `count` is the number of
+//!   annotations before the end of the text, or before its error. The first of these annotations are in the array, in order.
+//! - `few`: Five times the number of annotations is at most the length of the text. So the array is long enough if it has a
+//!   fifth of this length.
+//! - `unchanged`: After an error, the record is unchanged, also its slices, except for `location` and `place`.
 
 use crate::durations::{Duration, duration_into};
 use crate::narrow::{Annotation, Calendar, Record};
@@ -16,7 +21,8 @@ use crate::{narrow_annotations, wide, wide_annotations};
 use ixdtf::encoding::{Utf8, Utf16};
 use ixdtf::parsers::{DateTimes, InternetDateTimes, MonthDays, Profile, Times, YearMonths};
 
-/// Reads a date, or a date and a time, and the brackets after it.
+/// Reads a date, such as `2024-03-02`, or a date and a time, such as `2024-03-02T08:48:00-05:00`.
+/// A zone and annotations may follow in brackets.
 #[unsafe(no_mangle)]
 pub unsafe extern "C" fn ixdtf_parse<'a>(text: *const u8, text_length: usize, out: &mut Record<'a>) -> u32 {
     // SAFETY: the header requires this of the caller.
@@ -24,7 +30,7 @@ pub unsafe extern "C" fn ixdtf_parse<'a>(text: *const u8, text_length: usize, ou
     read_into::<Utf8, DateTimes, _>(text, Profile::Crate, out)
 }
 
-/// Reads a year and a month, and the brackets after it.
+/// Reads a year and a month, such as `2024-03`. A zone and annotations may follow in brackets.
 #[unsafe(no_mangle)]
 pub unsafe extern "C" fn ixdtf_parse_year_month<'a>(text: *const u8, text_length: usize, out: &mut Record<'a>) -> u32 {
     // SAFETY: the header requires this of the caller.
@@ -32,7 +38,7 @@ pub unsafe extern "C" fn ixdtf_parse_year_month<'a>(text: *const u8, text_length
     read_into::<Utf8, YearMonths, _>(text, Profile::Crate, out)
 }
 
-/// Reads a month and a day, and the brackets after it.
+/// Reads a month and a day, such as `11-07`. A zone and annotations may follow in brackets.
 #[unsafe(no_mangle)]
 pub unsafe extern "C" fn ixdtf_parse_month_day<'a>(text: *const u8, text_length: usize, out: &mut Record<'a>) -> u32 {
     // SAFETY: the header requires this of the caller.
@@ -40,7 +46,7 @@ pub unsafe extern "C" fn ixdtf_parse_month_day<'a>(text: *const u8, text_length:
     read_into::<Utf8, MonthDays, _>(text, Profile::Crate, out)
 }
 
-/// Reads a time, and the brackets after it.
+/// Reads a time, such as `T12:30`. A zone and annotations may follow in brackets.
 #[unsafe(no_mangle)]
 pub unsafe extern "C" fn ixdtf_parse_time<'a>(text: *const u8, text_length: usize, out: &mut Record<'a>) -> u32 {
     // SAFETY: the header requires this of the caller.
@@ -48,7 +54,7 @@ pub unsafe extern "C" fn ixdtf_parse_time<'a>(text: *const u8, text_length: usiz
     read_into::<Utf8, Times, _>(text, Profile::Crate, out)
 }
 
-/// Reads a month and a day, and the brackets after it, under the strict profile.
+/// Reads a month and a day, such as `11-07`, under the strict profile. A zone and annotations may follow in brackets.
 #[unsafe(no_mangle)]
 pub unsafe extern "C" fn ixdtf_parse_month_day_strict<'a>(text: *const u8, text_length: usize, out: &mut Record<'a>) -> u32 {
     // SAFETY: the header requires this of the caller.
@@ -56,7 +62,7 @@ pub unsafe extern "C" fn ixdtf_parse_month_day_strict<'a>(text: *const u8, text_
     read_into::<Utf8, MonthDays, _>(text, Profile::Strict, out)
 }
 
-/// Reads a time, and the brackets after it, under the strict profile.
+/// Reads a time, such as `T12:30`, under the strict profile. A zone and annotations may follow in brackets.
 #[unsafe(no_mangle)]
 pub unsafe extern "C" fn ixdtf_parse_time_strict<'a>(text: *const u8, text_length: usize, out: &mut Record<'a>) -> u32 {
     // SAFETY: the header requires this of the caller.
@@ -64,7 +70,7 @@ pub unsafe extern "C" fn ixdtf_parse_time_strict<'a>(text: *const u8, text_lengt
     read_into::<Utf8, Times, _>(text, Profile::Strict, out)
 }
 
-/// Reads a date-time of RFC 3339, section 5.6.
+/// Reads a date-time of RFC 3339, section 5.6, such as `2024-03-02T08:48:00-05:00`.
 #[unsafe(no_mangle)]
 pub unsafe extern "C" fn ixdtf_parse_rfc3339<'a>(text: *const u8, text_length: usize, out: &mut Record<'a>) -> u32 {
     // SAFETY: the header requires this of the caller.
@@ -72,7 +78,7 @@ pub unsafe extern "C" fn ixdtf_parse_rfc3339<'a>(text: *const u8, text_length: u
     rfc3339_into::<Utf8, _>(text, out)
 }
 
-/// Reads a date-time of RFC 9557, section 4.1.
+/// Reads a date-time-ext of RFC 9557, section 4.1, such as `2024-03-02T08:48:00-05:00[America/New_York]`.
 #[unsafe(no_mangle)]
 pub unsafe extern "C" fn ixdtf_parse_rfc9557<'a>(text: *const u8, text_length: usize, out: &mut Record<'a>) -> u32 {
     // SAFETY: the header requires this of the caller.
@@ -80,7 +86,7 @@ pub unsafe extern "C" fn ixdtf_parse_rfc9557<'a>(text: *const u8, text_length: u
     read_into::<Utf8, InternetDateTimes, _>(text, Profile::Crate, out)
 }
 
-/// Reads an offset.
+/// Reads an offset from UTC, such as `+05:30`.
 #[unsafe(no_mangle)]
 pub unsafe extern "C" fn ixdtf_parse_offset<'a>(text: *const u8, text_length: usize, out: &mut Record<'a>) -> u32 {
     // SAFETY: the header requires this of the caller.
@@ -88,7 +94,7 @@ pub unsafe extern "C" fn ixdtf_parse_offset<'a>(text: *const u8, text_length: us
     offset_into::<Utf8, _>(text, out)
 }
 
-/// Reads a time zone.
+/// Reads a time zone without brackets. It is a name or an offset, such as `Europe/Berlin` or `+05:30`.
 #[unsafe(no_mangle)]
 pub unsafe extern "C" fn ixdtf_parse_identifier<'a>(text: *const u8, text_length: usize, out: &mut Record<'a>) -> u32 {
     // SAFETY: the header requires this of the caller.
@@ -96,7 +102,7 @@ pub unsafe extern "C" fn ixdtf_parse_identifier<'a>(text: *const u8, text_length
     zone_into::<Utf8, _>(text, out)
 }
 
-/// Reads the name of a time zone.
+/// Reads the name of a time zone, such as `Europe/Berlin`.
 #[unsafe(no_mangle)]
 pub unsafe extern "C" fn ixdtf_parse_iana_identifier<'a>(text: *const u8, text_length: usize, out: &mut Record<'a>) -> u32 {
     // SAFETY: the header requires this of the caller.
@@ -104,7 +110,7 @@ pub unsafe extern "C" fn ixdtf_parse_iana_identifier<'a>(text: *const u8, text_l
     name_into::<Utf8, _>(text, out)
 }
 
-/// Reads a duration.
+/// Reads a duration, such as `P1Y2M3DT4H`.
 #[unsafe(no_mangle)]
 pub unsafe extern "C" fn ixdtf_parse_duration(text: *const u8, text_length: usize, out: &mut Duration<'_>) -> u32 {
     // SAFETY: the header requires this of the caller.
@@ -112,7 +118,7 @@ pub unsafe extern "C" fn ixdtf_parse_duration(text: *const u8, text_length: usiz
     duration_into::<Utf8>(text, Profile::Crate, out)
 }
 
-/// Reads a duration, under the strict profile.
+/// Reads a duration, such as `P1Y2M3DT4H`, under the strict profile.
 #[unsafe(no_mangle)]
 pub unsafe extern "C" fn ixdtf_parse_duration_strict(text: *const u8, text_length: usize, out: &mut Duration<'_>) -> u32 {
     // SAFETY: the header requires this of the caller.
@@ -120,7 +126,9 @@ pub unsafe extern "C" fn ixdtf_parse_duration_strict(text: *const u8, text_lengt
     duration_into::<Utf8>(text, Profile::Strict, out)
 }
 
-/// Reads a date, or a date and a time, and the brackets after it. The annotations are passed over and listed.
+/// Reads a date, such as `2024-03-02`, or a date and a time, such as `2024-03-02T08:48:00-05:00`.
+/// A zone and annotations may follow in brackets.
+/// Lists the annotations in `annotations`. Refuses none of them, and writes no calendar.
 #[unsafe(no_mangle)]
 pub unsafe extern "C" fn ixdtf_parse_with_annotations<'a>(
     text: *const u8,
@@ -137,7 +145,8 @@ pub unsafe extern "C" fn ixdtf_parse_with_annotations<'a>(
     narrow_annotations::list_into::<DateTimes>(text, Profile::Crate, annotations, count, out)
 }
 
-/// Reads a year and a month, and the brackets after it. The annotations are passed over and listed.
+/// Reads a year and a month, such as `2024-03`. A zone and annotations may follow in brackets.
+/// Lists the annotations in `annotations`. Refuses none of them, and writes no calendar.
 #[unsafe(no_mangle)]
 pub unsafe extern "C" fn ixdtf_parse_year_month_with_annotations<'a>(
     text: *const u8,
@@ -154,7 +163,8 @@ pub unsafe extern "C" fn ixdtf_parse_year_month_with_annotations<'a>(
     narrow_annotations::list_into::<YearMonths>(text, Profile::Crate, annotations, count, out)
 }
 
-/// Reads a month and a day, and the brackets after it. The annotations are passed over and listed.
+/// Reads a month and a day, such as `11-07`. A zone and annotations may follow in brackets.
+/// Lists the annotations in `annotations`. Refuses none of them, and writes no calendar.
 #[unsafe(no_mangle)]
 pub unsafe extern "C" fn ixdtf_parse_month_day_with_annotations<'a>(
     text: *const u8,
@@ -171,7 +181,8 @@ pub unsafe extern "C" fn ixdtf_parse_month_day_with_annotations<'a>(
     narrow_annotations::list_into::<MonthDays>(text, Profile::Crate, annotations, count, out)
 }
 
-/// Reads a time, and the brackets after it. The annotations are passed over and listed.
+/// Reads a time, such as `T12:30`. A zone and annotations may follow in brackets.
+/// Lists the annotations in `annotations`. Refuses none of them, and writes no calendar.
 #[unsafe(no_mangle)]
 pub unsafe extern "C" fn ixdtf_parse_time_with_annotations<'a>(
     text: *const u8,
@@ -188,7 +199,8 @@ pub unsafe extern "C" fn ixdtf_parse_time_with_annotations<'a>(
     narrow_annotations::list_into::<Times>(text, Profile::Crate, annotations, count, out)
 }
 
-/// Reads a date-time of RFC 9557, section 4.1. The annotations are passed over and listed.
+/// Reads a date-time-ext of RFC 9557, section 4.1, such as `2024-03-02T08:48:00-05:00[America/New_York]`.
+/// Lists the annotations in `annotations`. Refuses none of them, and writes no calendar.
 #[unsafe(no_mangle)]
 pub unsafe extern "C" fn ixdtf_parse_rfc9557_with_annotations<'a>(
     text: *const u8,
@@ -211,7 +223,8 @@ pub unsafe extern "C" fn ixdtf_parse_rfc9557_with_annotations<'a>(
     )
 }
 
-/// Reads a month and a day, and the brackets after it, under the strict profile. The annotations are passed over and listed.
+/// Reads a month and a day, such as `11-07`, under the strict profile. A zone and annotations may follow in brackets.
+/// Lists the annotations in `annotations`. Refuses none of them, and writes no calendar.
 #[unsafe(no_mangle)]
 pub unsafe extern "C" fn ixdtf_parse_month_day_with_annotations_strict<'a>(
     text: *const u8,
@@ -228,7 +241,8 @@ pub unsafe extern "C" fn ixdtf_parse_month_day_with_annotations_strict<'a>(
     narrow_annotations::list_into::<MonthDays>(text, Profile::Strict, annotations, count, out)
 }
 
-/// Reads a time, and the brackets after it, under the strict profile. The annotations are passed over and listed.
+/// Reads a time, such as `T12:30`, under the strict profile. A zone and annotations may follow in brackets.
+/// Lists the annotations in `annotations`. Refuses none of them, and writes no calendar.
 #[unsafe(no_mangle)]
 pub unsafe extern "C" fn ixdtf_parse_time_with_annotations_strict<'a>(
     text: *const u8,
@@ -245,14 +259,16 @@ pub unsafe extern "C" fn ixdtf_parse_time_with_annotations_strict<'a>(
     narrow_annotations::list_into::<Times>(text, Profile::Strict, annotations, count, out)
 }
 
-/// Takes a reply to an annotation: keeps it where it is the first calendar, and returns 0, or the number of the error that it
-/// is refused with.
+/// Checks the reply to an annotation. Returns 0 if the reply is accepted, and otherwise the number of the error.
+///
+/// If the key of an accepted reply is `u-ca`, and no calendar was kept before, the reply is kept in `calendar`.
 #[unsafe(no_mangle)]
 pub extern "C" fn ixdtf_reply<'a>(calendar: &mut Calendar<'a>, reply: &Annotation<'a>) -> u32 {
     take_reply::<Utf8, _, _>(calendar, reply)
 }
 
-/// Reads a date, or a date and a time, and the brackets after it.
+/// Reads a date, such as `2024-03-02`, or a date and a time, such as `2024-03-02T08:48:00-05:00`.
+/// A zone and annotations may follow in brackets.
 #[unsafe(no_mangle)]
 pub unsafe extern "C" fn ixdtf16_parse<'a>(text: *const u16, text_length: usize, out: &mut wide::Record<'a>) -> u32 {
     // SAFETY: the header requires this of the caller.
@@ -260,7 +276,7 @@ pub unsafe extern "C" fn ixdtf16_parse<'a>(text: *const u16, text_length: usize,
     read_into::<Utf16, DateTimes, _>(text, Profile::Crate, out)
 }
 
-/// Reads a year and a month, and the brackets after it.
+/// Reads a year and a month, such as `2024-03`. A zone and annotations may follow in brackets.
 #[unsafe(no_mangle)]
 pub unsafe extern "C" fn ixdtf16_parse_year_month<'a>(text: *const u16, text_length: usize, out: &mut wide::Record<'a>) -> u32 {
     // SAFETY: the header requires this of the caller.
@@ -268,7 +284,7 @@ pub unsafe extern "C" fn ixdtf16_parse_year_month<'a>(text: *const u16, text_len
     read_into::<Utf16, YearMonths, _>(text, Profile::Crate, out)
 }
 
-/// Reads a month and a day, and the brackets after it.
+/// Reads a month and a day, such as `11-07`. A zone and annotations may follow in brackets.
 #[unsafe(no_mangle)]
 pub unsafe extern "C" fn ixdtf16_parse_month_day<'a>(text: *const u16, text_length: usize, out: &mut wide::Record<'a>) -> u32 {
     // SAFETY: the header requires this of the caller.
@@ -276,7 +292,7 @@ pub unsafe extern "C" fn ixdtf16_parse_month_day<'a>(text: *const u16, text_leng
     read_into::<Utf16, MonthDays, _>(text, Profile::Crate, out)
 }
 
-/// Reads a time, and the brackets after it.
+/// Reads a time, such as `T12:30`. A zone and annotations may follow in brackets.
 #[unsafe(no_mangle)]
 pub unsafe extern "C" fn ixdtf16_parse_time<'a>(text: *const u16, text_length: usize, out: &mut wide::Record<'a>) -> u32 {
     // SAFETY: the header requires this of the caller.
@@ -284,7 +300,7 @@ pub unsafe extern "C" fn ixdtf16_parse_time<'a>(text: *const u16, text_length: u
     read_into::<Utf16, Times, _>(text, Profile::Crate, out)
 }
 
-/// Reads a month and a day, and the brackets after it, under the strict profile.
+/// Reads a month and a day, such as `11-07`, under the strict profile. A zone and annotations may follow in brackets.
 #[unsafe(no_mangle)]
 pub unsafe extern "C" fn ixdtf16_parse_month_day_strict<'a>(
     text: *const u16,
@@ -296,7 +312,7 @@ pub unsafe extern "C" fn ixdtf16_parse_month_day_strict<'a>(
     read_into::<Utf16, MonthDays, _>(text, Profile::Strict, out)
 }
 
-/// Reads a time, and the brackets after it, under the strict profile.
+/// Reads a time, such as `T12:30`, under the strict profile. A zone and annotations may follow in brackets.
 #[unsafe(no_mangle)]
 pub unsafe extern "C" fn ixdtf16_parse_time_strict<'a>(text: *const u16, text_length: usize, out: &mut wide::Record<'a>) -> u32 {
     // SAFETY: the header requires this of the caller.
@@ -304,7 +320,7 @@ pub unsafe extern "C" fn ixdtf16_parse_time_strict<'a>(text: *const u16, text_le
     read_into::<Utf16, Times, _>(text, Profile::Strict, out)
 }
 
-/// Reads a date-time of RFC 3339, section 5.6.
+/// Reads a date-time of RFC 3339, section 5.6, such as `2024-03-02T08:48:00-05:00`.
 #[unsafe(no_mangle)]
 pub unsafe extern "C" fn ixdtf16_parse_rfc3339<'a>(text: *const u16, text_length: usize, out: &mut wide::Record<'a>) -> u32 {
     // SAFETY: the header requires this of the caller.
@@ -312,7 +328,7 @@ pub unsafe extern "C" fn ixdtf16_parse_rfc3339<'a>(text: *const u16, text_length
     rfc3339_into::<Utf16, _>(text, out)
 }
 
-/// Reads a date-time of RFC 9557, section 4.1.
+/// Reads a date-time-ext of RFC 9557, section 4.1, such as `2024-03-02T08:48:00-05:00[America/New_York]`.
 #[unsafe(no_mangle)]
 pub unsafe extern "C" fn ixdtf16_parse_rfc9557<'a>(text: *const u16, text_length: usize, out: &mut wide::Record<'a>) -> u32 {
     // SAFETY: the header requires this of the caller.
@@ -320,7 +336,7 @@ pub unsafe extern "C" fn ixdtf16_parse_rfc9557<'a>(text: *const u16, text_length
     read_into::<Utf16, InternetDateTimes, _>(text, Profile::Crate, out)
 }
 
-/// Reads an offset.
+/// Reads an offset from UTC, such as `+05:30`.
 #[unsafe(no_mangle)]
 pub unsafe extern "C" fn ixdtf16_parse_offset<'a>(text: *const u16, text_length: usize, out: &mut wide::Record<'a>) -> u32 {
     // SAFETY: the header requires this of the caller.
@@ -328,7 +344,7 @@ pub unsafe extern "C" fn ixdtf16_parse_offset<'a>(text: *const u16, text_length:
     offset_into::<Utf16, _>(text, out)
 }
 
-/// Reads a time zone.
+/// Reads a time zone without brackets. It is a name or an offset, such as `Europe/Berlin` or `+05:30`.
 #[unsafe(no_mangle)]
 pub unsafe extern "C" fn ixdtf16_parse_identifier<'a>(text: *const u16, text_length: usize, out: &mut wide::Record<'a>) -> u32 {
     // SAFETY: the header requires this of the caller.
@@ -336,7 +352,7 @@ pub unsafe extern "C" fn ixdtf16_parse_identifier<'a>(text: *const u16, text_len
     zone_into::<Utf16, _>(text, out)
 }
 
-/// Reads the name of a time zone.
+/// Reads the name of a time zone, such as `Europe/Berlin`.
 #[unsafe(no_mangle)]
 pub unsafe extern "C" fn ixdtf16_parse_iana_identifier<'a>(
     text: *const u16,
@@ -348,7 +364,7 @@ pub unsafe extern "C" fn ixdtf16_parse_iana_identifier<'a>(
     name_into::<Utf16, _>(text, out)
 }
 
-/// Reads a duration.
+/// Reads a duration, such as `P1Y2M3DT4H`.
 #[unsafe(no_mangle)]
 pub unsafe extern "C" fn ixdtf16_parse_duration(text: *const u16, text_length: usize, out: &mut Duration<'_>) -> u32 {
     // SAFETY: the header requires this of the caller.
@@ -356,7 +372,7 @@ pub unsafe extern "C" fn ixdtf16_parse_duration(text: *const u16, text_length: u
     duration_into::<Utf16>(text, Profile::Crate, out)
 }
 
-/// Reads a duration, under the strict profile.
+/// Reads a duration, such as `P1Y2M3DT4H`, under the strict profile.
 #[unsafe(no_mangle)]
 pub unsafe extern "C" fn ixdtf16_parse_duration_strict(text: *const u16, text_length: usize, out: &mut Duration<'_>) -> u32 {
     // SAFETY: the header requires this of the caller.
@@ -364,7 +380,9 @@ pub unsafe extern "C" fn ixdtf16_parse_duration_strict(text: *const u16, text_le
     duration_into::<Utf16>(text, Profile::Strict, out)
 }
 
-/// Reads a date, or a date and a time, and the brackets after it. The annotations are passed over and listed.
+/// Reads a date, such as `2024-03-02`, or a date and a time, such as `2024-03-02T08:48:00-05:00`.
+/// A zone and annotations may follow in brackets.
+/// Lists the annotations in `annotations`. Refuses none of them, and writes no calendar.
 #[unsafe(no_mangle)]
 pub unsafe extern "C" fn ixdtf16_parse_with_annotations<'a>(
     text: *const u16,
@@ -381,7 +399,8 @@ pub unsafe extern "C" fn ixdtf16_parse_with_annotations<'a>(
     wide_annotations::list_into::<DateTimes>(text, Profile::Crate, annotations, count, out)
 }
 
-/// Reads a year and a month, and the brackets after it. The annotations are passed over and listed.
+/// Reads a year and a month, such as `2024-03`. A zone and annotations may follow in brackets.
+/// Lists the annotations in `annotations`. Refuses none of them, and writes no calendar.
 #[unsafe(no_mangle)]
 pub unsafe extern "C" fn ixdtf16_parse_year_month_with_annotations<'a>(
     text: *const u16,
@@ -398,7 +417,8 @@ pub unsafe extern "C" fn ixdtf16_parse_year_month_with_annotations<'a>(
     wide_annotations::list_into::<YearMonths>(text, Profile::Crate, annotations, count, out)
 }
 
-/// Reads a month and a day, and the brackets after it. The annotations are passed over and listed.
+/// Reads a month and a day, such as `11-07`. A zone and annotations may follow in brackets.
+/// Lists the annotations in `annotations`. Refuses none of them, and writes no calendar.
 #[unsafe(no_mangle)]
 pub unsafe extern "C" fn ixdtf16_parse_month_day_with_annotations<'a>(
     text: *const u16,
@@ -415,7 +435,8 @@ pub unsafe extern "C" fn ixdtf16_parse_month_day_with_annotations<'a>(
     wide_annotations::list_into::<MonthDays>(text, Profile::Crate, annotations, count, out)
 }
 
-/// Reads a time, and the brackets after it. The annotations are passed over and listed.
+/// Reads a time, such as `T12:30`. A zone and annotations may follow in brackets.
+/// Lists the annotations in `annotations`. Refuses none of them, and writes no calendar.
 #[unsafe(no_mangle)]
 pub unsafe extern "C" fn ixdtf16_parse_time_with_annotations<'a>(
     text: *const u16,
@@ -432,7 +453,8 @@ pub unsafe extern "C" fn ixdtf16_parse_time_with_annotations<'a>(
     wide_annotations::list_into::<Times>(text, Profile::Crate, annotations, count, out)
 }
 
-/// Reads a date-time of RFC 9557, section 4.1. The annotations are passed over and listed.
+/// Reads a date-time-ext of RFC 9557, section 4.1, such as `2024-03-02T08:48:00-05:00[America/New_York]`.
+/// Lists the annotations in `annotations`. Refuses none of them, and writes no calendar.
 #[unsafe(no_mangle)]
 pub unsafe extern "C" fn ixdtf16_parse_rfc9557_with_annotations<'a>(
     text: *const u16,
@@ -449,7 +471,8 @@ pub unsafe extern "C" fn ixdtf16_parse_rfc9557_with_annotations<'a>(
     wide_annotations::list_into::<InternetDateTimes>(text, Profile::Crate, annotations, count, out)
 }
 
-/// Reads a month and a day, and the brackets after it, under the strict profile. The annotations are passed over and listed.
+/// Reads a month and a day, such as `11-07`, under the strict profile. A zone and annotations may follow in brackets.
+/// Lists the annotations in `annotations`. Refuses none of them, and writes no calendar.
 #[unsafe(no_mangle)]
 pub unsafe extern "C" fn ixdtf16_parse_month_day_with_annotations_strict<'a>(
     text: *const u16,
@@ -466,7 +489,8 @@ pub unsafe extern "C" fn ixdtf16_parse_month_day_with_annotations_strict<'a>(
     wide_annotations::list_into::<MonthDays>(text, Profile::Strict, annotations, count, out)
 }
 
-/// Reads a time, and the brackets after it, under the strict profile. The annotations are passed over and listed.
+/// Reads a time, such as `T12:30`, under the strict profile. A zone and annotations may follow in brackets.
+/// Lists the annotations in `annotations`. Refuses none of them, and writes no calendar.
 #[unsafe(no_mangle)]
 pub unsafe extern "C" fn ixdtf16_parse_time_with_annotations_strict<'a>(
     text: *const u16,
@@ -483,8 +507,9 @@ pub unsafe extern "C" fn ixdtf16_parse_time_with_annotations_strict<'a>(
     wide_annotations::list_into::<Times>(text, Profile::Strict, annotations, count, out)
 }
 
-/// Takes a reply to an annotation: keeps it where it is the first calendar, and returns 0, or the number of the error that it
-/// is refused with.
+/// Checks the reply to an annotation. Returns 0 if the reply is accepted, and otherwise the number of the error.
+///
+/// If the key of an accepted reply is `u-ca`, and no calendar was kept before, the reply is kept in `calendar`.
 #[unsafe(no_mangle)]
 pub extern "C" fn ixdtf16_reply<'a>(
     calendar: &mut wide::Calendar<'a>,

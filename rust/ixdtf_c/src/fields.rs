@@ -1,6 +1,6 @@
 // Made by tools/to_rust.py of crates/ixdtf_c/src/fields.rt. Do not edit.
 
-//! What programs compute of the fields of a record.
+//! Functions for C that compute something from the fields of a record.
 
 use crate::forms::Offset;
 use crate::narrow::Record;
@@ -8,7 +8,10 @@ use crate::printing::record_of;
 use ixdtf::records::Fraction;
 use ixdtf_print::printed_length;
 
-/// The whole nanoseconds of a fraction of a second, by its value and by how many digits it has, and 0 where no fraction has both.
+/// Returns the nanoseconds of a fraction of a second, such as 250000000 for `fraction` 25 and `digits` 2.
+///
+/// Drops all digits after the ninth. Returns 0 if `digits` is 0, or if `fraction` has more digits than `digits` says, or more
+/// than 18.
 #[unsafe(no_mangle)]
 pub extern "C" fn ixdtf_nanoseconds(fraction: u64, digits: u8) -> u32 {
     match Fraction::of_parts(digits, fraction) {
@@ -17,7 +20,7 @@ pub extern "C" fn ixdtf_nanoseconds(fraction: u64, digits: u8) -> u32 {
     }
 }
 
-/// The seconds of an offset without its sign, cut to whole ones, and 0 where it has no numbers.
+/// Returns the whole seconds of an offset, without its sign. Returns 0 if `form` is neither 2 nor 3.
 fn whole_seconds(offset: &Offset) -> u32 {
     let minutes = u32::from(offset.hour) * 3600 + u32::from(offset.minute) * 60;
     if offset.form == 2 {
@@ -29,7 +32,9 @@ fn whole_seconds(offset: &Offset) -> u32 {
     0
 }
 
-/// How many seconds local time is ahead of UTC, cut to whole ones, and 0 where the offset has no numbers.
+/// Returns how many seconds local time is ahead of UTC, such as -18000 for `-05:00`.
+///
+/// Drops a fraction of a second. Returns 0 if `form` is neither 2 nor 3, for example for `Z`.
 #[unsafe(no_mangle)]
 pub extern "C" fn ixdtf_offset_seconds(offset: &Offset) -> i32 {
     let seconds = whole_seconds(offset) as i32;
@@ -40,7 +45,9 @@ pub extern "C" fn ixdtf_offset_seconds(offset: &Offset) -> i32 {
     }
 }
 
-/// How many bytes the canonical text of the record has, and 0 where no text stands for the record, or its length is no `usize`.
+/// Returns the length, in bytes, of the canonical text that `ixdtf_print` writes.
+///
+/// Returns 0 if the record cannot be printed, or if the length is greater than `usize::MAX`.
 #[unsafe(no_mangle)]
 pub extern "C" fn ixdtf_printed_length(given: &Record<'_>) -> usize {
     let Some(found) = record_of(given) else {

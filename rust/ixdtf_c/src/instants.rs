@@ -1,6 +1,6 @@
 // Made by tools/to_rust.py of crates/ixdtf_c/src/instants.rt. Do not edit.
 
-//! The instants of records.
+//! Functions for C that return the instant of a record.
 
 use crate::forms::{Date, Offset, Time};
 use crate::narrow::Record;
@@ -10,7 +10,7 @@ use ixdtf::Instant;
 use ixdtf::encoding::Utf8;
 use ixdtf::records::IxdtfParseRecord;
 
-/// The instant of a date, a time and an offset, where there is one.
+/// Returns the instant of a date, a time and an offset, or `None` if they have no instant.
 fn instant_of(date: &Date, time: &Time, offset: &Offset) -> Option<Instant> {
     let Some(time) = time_of(time) else {
         return None;
@@ -28,7 +28,7 @@ fn instant_of(date: &Date, time: &Time, offset: &Offset) -> Option<Instant> {
     record.instant()
 }
 
-/// Writes the instant of a date, a time and an offset, and returns 0, or 103 where there is none.
+/// Writes the instant of a date, a time and an offset, and returns 0. Returns 103 if they have no instant.
 fn put_instant(
     date: &Date,
     time: &Time,
@@ -46,8 +46,9 @@ fn put_instant(
     }
 }
 
-/// Writes the instant of the record: the whole seconds since 1970-01-01T00:00:00Z, rounded down, and the nanoseconds after them.
-/// It returns 0; or 103 where the record has no instant.
+/// Writes the instant of a record, and returns 0. Returns 103, and writes nothing, if the record has no instant.
+///
+/// The instant is the number of seconds since 1970-01-01T00:00:00Z, rounded down, and the nanoseconds after these seconds.
 #[unsafe(no_mangle)]
 pub extern "C" fn ixdtf_instant(given: &Record<'_>, seconds: &mut i64, nanoseconds: &mut u32) -> u32 {
     put_instant(
@@ -59,8 +60,9 @@ pub extern "C" fn ixdtf_instant(given: &Record<'_>, seconds: &mut i64, nanosecon
     )
 }
 
-/// Writes the instant of the record: the whole seconds since 1970-01-01T00:00:00Z, rounded down, and the nanoseconds after them.
-/// It returns 0; or 103 where the record has no instant.
+/// Writes the instant of a record, and returns 0. Returns 103, and writes nothing, if the record has no instant.
+///
+/// The instant is the number of seconds since 1970-01-01T00:00:00Z, rounded down, and the nanoseconds after these seconds.
 #[unsafe(no_mangle)]
 pub extern "C" fn ixdtf16_instant(
     given: &wide::Record<'_>,

@@ -1,13 +1,13 @@
 // Made by tools/to_rust.py of crates/ixdtf_c/src/last_fractions.rt. Do not edit.
 
-//! The fraction of the last unit of a duration, in seconds and nanoseconds.
+//! The fraction of a duration, in seconds and nanoseconds. It is a fraction of the last duration unit of the time.
 
 use crate::durations::Duration;
 
-/// The nanoseconds of a second.
+/// The number of nanoseconds in a second.
 const BILLION: u64 = 1_000_000_000;
 
-/// The seconds of the last unit of a time, and 0 where its form has none.
+/// Returns the number of seconds in the last duration unit of a time, or 0 if `form` is not 1 to 3.
 fn seconds_of_unit(form: u8) -> u64 {
     match form {
         1 => 3600,
@@ -17,7 +17,7 @@ fn seconds_of_unit(form: u8) -> u64 {
     }
 }
 
-/// How often the divisor goes into the product of the value and the seconds, where nothing is left.
+/// Divides `value * seconds` by `divisor`. Returns `None` if a remainder is left.
 fn quotient(value: u64, divisor: u64, seconds: u64) -> Option<u64> {
     let rest = value % divisor * seconds;
     if rest % divisor != 0 {
@@ -26,7 +26,10 @@ fn quotient(value: u64, divisor: u64, seconds: u64) -> Option<u64> {
     Some(value / divisor * seconds + rest / divisor)
 }
 
-/// The nanoseconds of a fraction of a unit of so many seconds, where they are a whole number that is known.
+/// Returns the nanoseconds of a fraction of a duration unit. The unit has `seconds` seconds.
+///
+/// Returns `None` if the nanoseconds are not a whole number, or if the fraction has more than 18 digits, because only the first
+/// 18 are known. Also returns `None` if `value` has more digits than `digits` says.
 fn exact_nanoseconds(value: u64, digits: u8, seconds: u64) -> Option<u64> {
     if digits > 18 || value >= 10u64.pow(u32::from(digits)) {
         return None;
@@ -37,7 +40,9 @@ fn exact_nanoseconds(value: u64, digits: u8, seconds: u64) -> Option<u64> {
     quotient(value, 10u64.pow(u32::from(digits - 9)), seconds)
 }
 
-/// The nanoseconds of the fraction of the last unit, where they are a whole number that is known.
+/// Returns the nanoseconds of the fraction of a duration, or 0 if it has no fraction or no last duration unit.
+///
+/// Returns `None` like [`exact_nanoseconds`].
 fn last_nanoseconds(given: &Duration<'_>) -> Option<u64> {
     let seconds = seconds_of_unit(given.time_form);
     if seconds == 0 || given.fraction_digits == 0 {
@@ -46,8 +51,10 @@ fn last_nanoseconds(given: &Duration<'_>) -> Option<u64> {
     exact_nanoseconds(given.fraction, given.fraction_digits, seconds)
 }
 
-/// Writes what the fraction of the last unit of a duration is in whole seconds, and in nanoseconds after them. It returns 0; or
-/// 104 where that is no whole number of nanoseconds, or where it is not known, since the fraction has more than 18 digits.
+/// Writes the fraction of a duration in seconds and nanoseconds, such as 1800 and 0 for `PT1.5H`, and returns 0.
+///
+/// Returns 104, and writes nothing, if the fraction is not a whole number of nanoseconds, or if it has more than 18 digits,
+/// because only the first 18 are known. Also returns 104 if `fraction` has more digits than `fraction_digits` says.
 #[unsafe(no_mangle)]
 pub extern "C" fn ixdtf_duration_fraction(
     given: &Duration<'_>,

@@ -1,6 +1,6 @@
 // Made by tools/to_rust.py of crates/ixdtf_c/src/lib.rt. Do not edit.
 
-//! The readers of `ixdtf` for callers in C, and in any language that calls C.
+//! The readers and printers of `ixdtf`, for programs in C and in each language that can call C.
 
 #![cfg_attr(not(test), no_std)]
 

@@ -1,11 +1,11 @@
 // Made by tools/to_rust.py of crates/ixdtf_c/src/names.rt. Do not edit.
 
-//! The names that the header gives to what calls return.
+//! The names of the numbers that functions return. They are the names in the C header.
 
 use crate::errors::Text;
 use crate::slices::to_c;
 
-/// The names of 0 to 46, each with a zero behind it.
+/// The names of the numbers 0 to 46. A NUL follows each name.
 static NAMES: [&[u8]; 47] = [
     b"IXDTF_OK\0",
     b"IXDTF_IMPL_ASSERT\0",
@@ -56,7 +56,7 @@ static NAMES: [&[u8]; 47] = [
     b"IXDTF_INVALID_MONTH_DAY\0",
 ];
 
-/// The name of what a call returns, with a zero behind it.
+/// Returns the name of a number, with a NUL after it. For a number without a name, returns only the NUL.
 fn name_and_zero(number: u32) -> &'static [u8] {
     if number <= 46 {
         return NAMES[number as usize];
@@ -76,7 +76,9 @@ fn name_and_zero(number: u32) -> &'static [u8] {
     b"\0"
 }
 
-/// Writes the name of what a call returns, and no text for another number. A zero stands behind the text, and is not of it.
+/// Writes the name that a number has in the C header, such as `IXDTF_DATE_MONTH` for 10.
+///
+/// For a number without a name, the name is empty. A NUL follows the name in memory. The length of the slice does not count it.
 #[unsafe(no_mangle)]
 pub extern "C" fn ixdtf_error_constant(number: u32, out: &mut Text<'_>) {
     let name = name_and_zero(number);

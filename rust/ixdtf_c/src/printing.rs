@@ -1,6 +1,6 @@
 // Made by tools/to_rust.py of crates/ixdtf_c/src/printing.rt. Do not edit.
 
-//! Printing records that C hands in.
+//! The function that prints a record for C, and the conversion of the structs of C into records of the library.
 
 use crate::forms::{Date, Offset, Time};
 use crate::narrow::{Record, Zone};
@@ -12,7 +12,9 @@ use ixdtf::records::{
 };
 use ixdtf_print::{PrintError, length_of, print};
 
-/// The fraction of so many digits and this value, where there is one of them.
+/// Returns the fraction with `digits` digits, whose first 18 digits are the number `value`.
+///
+/// Returns `Some(None)` if `digits` is 0. Returns `None` if `value` has more digits than `digits` says, or more than 18.
 pub fn fraction_of(digits: u8, value: u64) -> Option<Option<Fraction>> {
     if digits == 0 {
         return Some(None);
@@ -23,7 +25,7 @@ pub fn fraction_of(digits: u8, value: u64) -> Option<Option<Fraction>> {
     }
 }
 
-/// The date.
+/// Returns the date, or `None` if it is absent.
 pub fn date_of(date: &Date) -> Option<DateRecord> {
     if !date.is_there {
         return None;
@@ -35,7 +37,7 @@ pub fn date_of(date: &Date) -> Option<DateRecord> {
     })
 }
 
-/// The time, where its fraction is one.
+/// Returns the time, or `Some(None)` if it is absent. Returns `None` if its fraction is not valid: see [`fraction_of`].
 pub fn time_of(time: &Time) -> Option<Option<TimeRecord>> {
     if !time.is_there {
         return Some(None);
@@ -51,7 +53,7 @@ pub fn time_of(time: &Time) -> Option<Option<TimeRecord>> {
     }
 }
 
-/// The offset in hours and minutes.
+/// Returns the offset with this sign, this hour and this minute.
 fn minutes_of(is_negative: bool, hour: u8, minute: u8) -> MinutePrecisionOffset {
     MinutePrecisionOffset {
         sign: Sign::from(!is_negative),
@@ -60,7 +62,9 @@ fn minutes_of(is_negative: bool, hour: u8, minute: u8) -> MinutePrecisionOffset 
     }
 }
 
-/// The offset, where its form has a name and its fraction is one.
+/// Returns the offset, or `Some(None)` if it is absent.
+///
+/// Returns `None` if `form` is not 0 to 3, or if the fraction is not valid: see [`fraction_of`].
 pub fn offset_of(offset: &Offset) -> Option<Option<UtcOffsetRecordOrZ>> {
     if offset.form == 0 {
         return Some(None);
@@ -89,7 +93,7 @@ pub fn offset_of(offset: &Offset) -> Option<Option<UtcOffsetRecordOrZ>> {
     }
 }
 
-/// The time zone, where its form has a name.
+/// Returns the time zone, or `Some(None)` if it is absent. Returns `None` if `form` is not 0 to 2.
 pub fn zone_of<'a>(zone: &Zone<'a>) -> Option<Option<TimeZoneAnnotation<'a, Utf8>>> {
     if zone.form == 0 {
         return Some(None);
@@ -109,7 +113,9 @@ pub fn zone_of<'a>(zone: &Zone<'a>) -> Option<Option<TimeZoneAnnotation<'a, Utf8
     }))
 }
 
-/// The record, where its forms have names and its fractions are such. No record is printed without that.
+/// Returns the record of the library with the parts of `given`.
+///
+/// Returns `None` if a `form` or a fraction is not valid. There is no text for which `ixdtf_parse` writes such a record.
 pub fn record_of<'a>(given: &Record<'a>) -> Option<IxdtfParseRecord<'a, Utf8>> {
     let Some(time) = time_of(&given.time) else {
         return None;
@@ -134,7 +140,7 @@ pub fn record_of<'a>(given: &Record<'a>) -> Option<IxdtfParseRecord<'a, Utf8>> {
     })
 }
 
-/// Prints a record of the library, as [`ixdtf_print`] does what its numbers stand for.
+/// Does what [`ixdtf_print`] does, for a record of the library.
 #[inline(always)]
 fn print_found(found: &IxdtfParseRecord<'_, Utf8>, out: &mut [u8], count: &mut usize) -> u32 {
     match print(found, out) {
@@ -150,9 +156,11 @@ fn print_found(found: &IxdtfParseRecord<'_, Utf8>, out: &mut [u8], count: &mut u
     }
 }
 
-/// Writes the canonical text of the record into the front of the bytes, and how many bytes these are. It returns 0; or 101
-/// where no text stands for the record, and else 102 where the bytes are fewer than those of the text, and the count is then
-/// how many these are.
+/// Prints a date, or a date and a time, with its offset, its zone and its calendar, such as `2024-03-02T08:48:00Z`.
+///
+/// Writes the text to the first bytes of `out`, and its length to `count`. Returns 0 if the text is written. Returns 101 if
+/// there is no text for which `ixdtf_parse` writes this record. Returns 102 if `out` is too short. Then `count` is the length of
+/// the text, or `usize::MAX` if the length is greater.
 #[unsafe(no_mangle)]
 pub unsafe extern "C" fn ixdtf_print(given: &Record<'_>, out: *mut u8, out_length: usize, count: &mut usize) -> u32 {
     // SAFETY: the header requires this of the caller.

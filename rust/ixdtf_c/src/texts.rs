@@ -1,6 +1,7 @@
 // Made by tools/to_rust.py of crates/ixdtf_c/src/texts.rt. Do not edit.
 
-//! Printing of what the library's other printers print than records of dates.
+//! The functions that print durations, offsets, time zones, times, years with months, and months with days. The functions of the
+//! module `printers` call them.
 
 use crate::duration_texts::duration_of;
 use crate::durations::Duration;
@@ -14,28 +15,32 @@ use ixdtf_print::{
     zone_length,
 };
 
-/// What C hands in, and a printer of the library prints.
+/// A value of C that a printer of the library can print.
 pub trait HasText {
-    /// Prints it.
+    /// Prints the value, and returns the length of the text in bytes.
     fn print(&self, out: &mut [u8]) -> Result<usize, PrintError>;
 
-    /// How many bytes it takes, where it is printable and that is a `usize`.
+    /// Returns the length of the canonical text in bytes.
+    ///
+    /// Returns `None` if the value cannot be printed, or if the length is greater than `usize::MAX`.
     fn needs(&self) -> Option<usize>;
 }
 
-/// A record of a time, and maybe an offset.
+/// A record that is printed as `ixdtf_parse_time` reads it: a time, and an offset, a zone and a calendar if they are present.
 #[derive(Clone, Copy)]
 pub struct AsTime<'a> {
     pub record: &'a Record<'a>,
 }
 
-/// A record of a year and a month.
+/// A record that is printed as `ixdtf_parse_year_month` reads it: a year and a month, and a zone and a calendar if they are
+/// present.
 #[derive(Clone, Copy)]
 pub struct AsYearMonth<'a> {
     pub record: &'a Record<'a>,
 }
 
-/// A record of a month and a day.
+/// A record that is printed as `ixdtf_parse_month_day` reads it: a month and a day, and a zone and a calendar if they are
+/// present.
 #[derive(Clone, Copy)]
 pub struct AsMonthDay<'a> {
     pub record: &'a Record<'a>,
@@ -149,8 +154,10 @@ impl<'a> HasText for AsMonthDay<'a> {
     }
 }
 
-/// Prints it, and writes how many bytes it has, or how many it takes where they are too few. It returns 0; or 101 where it is not
-/// printable, and else 102 where the bytes are too few.
+/// Prints a value to the first bytes of `out`, and writes the length of the text to `count`. Returns 0.
+///
+/// Returns 101 if the value cannot be printed. Returns 102 if `out` is too short. Then `count` is the length of the text, or
+/// `usize::MAX` if the length is greater.
 #[inline(always)]
 pub fn print_into<P: HasText>(found: &P, out: &mut [u8], count: &mut usize) -> u32 {
     match found.print(out) {
@@ -166,7 +173,9 @@ pub fn print_into<P: HasText>(found: &P, out: &mut [u8], count: &mut usize) -> u
     }
 }
 
-/// How many bytes it takes, and 0 where it is not printable or that is no `usize`.
+/// Returns the length of the canonical text in bytes.
+///
+/// Returns 0 if the value cannot be printed, or if the length is greater than `usize::MAX`.
 #[inline(always)]
 pub fn length_into<P: HasText>(found: &P) -> usize {
     found.needs().unwrap_or(0)

@@ -1,6 +1,6 @@
 // Made by tools/to_rust.py of crates/ixdtf_c/src/wide_annotations.rt. Do not edit.
 
-//! The readers of 16-bit sources that list the annotations.
+//! The readers of 16-bit text that list annotations.
 
 use crate::slices::to_c;
 use crate::wide::{Annotation, Record};
@@ -10,14 +10,14 @@ use ixdtf::encoding::Utf16;
 use ixdtf::parsers::{CoreReader, FromStop, IxdtfParser, Profile};
 use ixdtf::records::{self, IxdtfParseRecord};
 
-/// The annotations that a reader listed.
+/// The list of the annotations of a text. If the array is too short, the list has only the first annotations.
 struct List<'l, 'a> {
     slots: &'l mut [Annotation<'a>],
     count: usize,
 }
 
 impl<'l, 'a> List<'l, 'a> {
-    /// Writes an annotation to its place, where there is room.
+    /// Adds an annotation to the array, if the array is long enough, and counts the annotation.
     #[inline(always)]
     fn add(&mut self, annotation: records::Annotation<'a, Utf16>) {
         if self.count < self.slots.len() {
@@ -31,9 +31,10 @@ impl<'l, 'a> List<'l, 'a> {
     }
 }
 
-/// Reads as the reader of the kind does, passes the annotations over, and lists them.
+/// Reads a text with the reader of the kind `C`. Lists the annotations, and drops each of them.
 ///
-/// It is generic in its error, since a function that names a lifetime in a bound may not name `'static`, as `LocatedError` does.
+/// This function is generic in the error, because `LocatedError` contains a `&'static str`. Rattle's borrow checker does not
+/// support a signature that names `'static` in a function that uses a bound with a lifetime, such as the bound of a handler.
 #[inline(always)]
 fn list_as<'a, E: FromStop, C: CoreReader>(
     text: &'a [u16],
@@ -48,7 +49,7 @@ fn list_as<'a, E: FromStop, C: CoreReader>(
     parser.read_lending_handler::<E, C, _>(&mut handler)
 }
 
-/// Reads and lists as [`list_as`] does, and writes what was read.
+/// Does what [`list_as`] does, and writes the record or the error for C. Returns 0 or the number of the error.
 #[inline(always)]
 pub fn list_into<'a, C: CoreReader>(
     text: &'a [u16],

@@ -1,15 +1,15 @@
 // Made by tools/to_rust.py of crates/ixdtf_c/src/widths.rt. Do not edit.
 
-//! What the records of both widths have alike, by the encoding of their units.
+//! Traits of the structs for 8-bit and for 16-bit text. Code that is generic in the encoding uses them.
 
 use crate::forms::is_negative;
 use ixdtf::LocatedError;
 use ixdtf::encoding::EncodingType;
 use ixdtf::records::{self, IxdtfParseRecord, TimeZoneAnnotation, TimeZoneRecord};
 
-/// A time zone in units of the encoding.
+/// A time zone whose name has code units of the encoding `T`.
 pub trait ZoneOf<'a, T: EncodingType> {
-    /// Writes each field.
+    /// Writes every field of the zone.
     fn put(
         &mut self,
         name: &'a [T::CodeUnit],
@@ -21,7 +21,7 @@ pub trait ZoneOf<'a, T: EncodingType> {
     );
 }
 
-/// Writes the numbers of the zone, and zeros where there is none.
+/// Writes a zone. If there is none, each field becomes 0, false or empty.
 #[inline(always)]
 pub fn put_zone<'a, T: EncodingType, Z: ZoneOf<'a, T>>(
     out: &mut Z,
@@ -44,27 +44,30 @@ pub fn put_zone<'a, T: EncodingType, Z: ZoneOf<'a, T>>(
     }
 }
 
-/// A record of units of the encoding.
+/// A record whose slices have code units of the encoding `T`.
 pub trait RecordOf<'a, T: EncodingType> {
-    /// Writes what was read, clears what was not, and says that there is no error. Each part is written in place, in the arm that
-    /// reads it: a record that is put together first takes sixty instructions more.
+    /// Writes every field of the record. The fields of a part that is absent, `location` and `place` become 0, false or empty.
+    ///
+    /// Each part is written directly to the record of the caller, in the match arm that reads it. It took sixty instructions
+    /// more to build a record first and then to copy it.
     fn write(&mut self, found: &IxdtfParseRecord<'a, T>);
 
-    /// Writes the location and the place of an error, and returns the error's number.
+    /// Writes the location and the position of an error, and returns the number of the error.
     fn refuse(&mut self, located: LocatedError) -> u32;
 }
 
-/// An annotation in units of the encoding.
+/// An annotation whose key and value have code units of the encoding `T`.
 pub trait AnnotationOf<'a, T: EncodingType> {
-    /// The annotation as the library has it.
+    /// Returns the annotation in the type of the library.
     fn read(&self) -> records::Annotation<'a, T>;
 }
 
-/// The calendar that is kept, in units of the encoding.
+/// The calendar that was kept. Its value has code units of the encoding `T`.
 pub trait CalendarOf<'a, T: EncodingType> {
-    /// It as an annotation, where there is one.
+    /// Returns the annotation that was kept, or `None`. Its key is `u-ca`.
     fn read(&self) -> Option<records::Annotation<'a, T>>;
 
-    /// Keeps what this one has besides its key, or none.
+    /// Keeps the value of an annotation, and whether it is critical. The key is not stored, because it is always `u-ca`. For
+    /// `None`, no calendar is kept.
     fn write(&mut self, kept: Option<records::Annotation<'a, T>>);
 }

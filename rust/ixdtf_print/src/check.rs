@@ -1,6 +1,6 @@
 // Made by tools/to_rust.py of crates/ixdtf_print/src/check.rt. Do not edit.
 
-//! Tests whether a record has a canonical text.
+//! Functions that test whether a record has a canonical text.
 
 use ixdtf::encoding::Utf8;
 use ixdtf::parsers::{TimeZoneParser, days_in_month, is_annotation_value_component};
@@ -54,7 +54,7 @@ pub fn is_shift(offset: UtcOffsetRecordOrZ) -> bool {
     }
 }
 
-/// Returns whether there is a date, and it is a day.
+/// Returns whether there is a date, and this date is a day of the Gregorian calendar.
 fn has_day(date: Option<DateRecord>) -> bool {
     match date {
         None => false,
@@ -73,7 +73,7 @@ pub fn has_time(time: Option<TimeRecord>, offset: Option<UtcOffsetRecordOrZ>) ->
     }
 }
 
-/// Returns whether the bytes are the name of a zone.
+/// Returns whether the bytes are the name of a time zone, as `parse_iana_identifier` accepts it.
 fn is_name(name: &[u8]) -> bool {
     TimeZoneParser::from_utf8(name)
         .parse_iana_identifier()

@@ -5,7 +5,8 @@
 use crate::put::{put, put_byte, set_byte};
 use ixdtf::records::Fraction;
 
-// For each byte, the digit of its tens and the digit of its ones. Both are in one table, so that one address is enough.
+// For each number of 0 to 255, the digit of its tens and the digit of its ones. One struct has both tables, so that the code
+// needs only one address.
 // A table look-up takes fewer instructions than the divisions.
 struct WrittenDigits {
     tens: [u8; 256],
@@ -17,13 +18,13 @@ static WRITTEN_DIGITS: WrittenDigits = WrittenDigits {
     ones: *b"0123456789012345678901234567890123456789012345678901234567890123456789012345678901234567890123456789012345678901234567890123456789012345678901234567890123456789012345678901234567890123456789012345678901234567890123456789012345678901234567890123456789012345",
 };
 
-/// Returns the digit of the tens.
+/// Returns the ASCII digit of the tens of the number.
 #[inline(always)]
 pub fn tens_digit(number: u8) -> u8 {
     WRITTEN_DIGITS.tens[number as usize]
 }
 
-/// Returns the digit of the ones.
+/// Returns the ASCII digit of the ones of the number.
 #[inline(always)]
 pub fn ones_digit(number: u8) -> u8 {
     WRITTEN_DIGITS.ones[number as usize]
@@ -34,7 +35,7 @@ pub fn put_two(out: &mut [u8], at: usize, number: u8) -> usize {
     put(out, at, &[tens_digit(number), ones_digit(number)])
 }
 
-/// Writes a number with four digits at index `at`. Returns the index after them.
+/// Writes a number below 10,000 with four digits at index `at`. Returns the index after them.
 pub fn put_four(out: &mut [u8], at: usize, number: u64) -> usize {
     let hundreds = (number / 100) as u8;
     let rest = (number % 100) as u8;
@@ -52,8 +53,8 @@ pub fn put_four(out: &mut [u8], at: usize, number: u64) -> usize {
 
 /// Writes the last `count` digits of the number at index `at`, with leading zeros. Returns the index after them.
 ///
-/// It writes two digits at a time, the last ones first. It is not inlined: the compiler would turn a loop that writes
-/// only zeros into a call of `memset`, and the library for C must not call other functions.
+/// The loop writes two digits at a time, and begins with the last two. The function is not inlined: for the number 0 the
+/// compiler would turn the inlined loop into a call of `memset`, and the library for C must not call other functions.
 #[inline(never)]
 pub fn put_digits(out: &mut [u8], at: usize, count: usize, number: u64) -> usize {
     let end = at + count;
@@ -81,7 +82,7 @@ pub fn put_fraction(out: &mut [u8], at: usize, fraction: Option<Fraction>) -> us
     let count = usize::from(fraction.digit_count());
     let value = put_byte(out, at, b'.');
     let zeros = put_digits(out, value, count.min(18), fraction.leading_value());
-    // Usually, no zeros follow.
+    // Most fractions have at most 18 digits, so no zeros follow the value.
     if count <= 18 {
         return zeros;
     }

@@ -20,11 +20,13 @@ use core::fmt;
 #[derive(Clone, Copy, Debug, PartialEq)]
 pub enum PrintError {
     /// The record has no canonical text. For [`print`](crate::print), this is a record that has no date, or an offset
-    /// without a time, or a part that no text has. Each other printer says which records it refuses.
+    /// without a time, or a field whose value no text has. The documentation of each other function that prints says which
+    /// records it refuses.
     NotPrintable,
-    /// The canonical text of the record is longer than the slice. [`printed_length`](crate::printed_length) returns its
-    /// length. If `parse` returned the record, the canonical text has at most 14 bytes more than the text that was
-    /// parsed. Each other printer has a function for the length too, and a number of bytes of its own.
+    /// The canonical text of the record is longer than the slice. For [`print`](crate::print), the function
+    /// [`printed_length`](crate::printed_length) returns the length of the canonical text. If `parse` returned the record,
+    /// the canonical text has at most 14 bytes more than the text that was parsed. For each other kind of record there is
+    /// another function for the length, such as [`time_length`](crate::time_length), and another limit instead of 14.
     TooShort,
 }
 

@@ -8,11 +8,11 @@ use ixdtf::records::{
     UtcOffsetRecord, UtcOffsetRecordOrZ,
 };
 
-/// An upper bound of the bytes of a canonical text, without the name of its zone and without its calendar. The date,
+/// An upper bound of the number of bytes of a canonical text without the name of its zone and its calendar. The date,
 /// the time and the offset have at most 543 bytes, the bracket of a zone 9, and the bracket of a calendar 7.
 const MOST_BESIDES_NAMES: usize = 560;
 
-/// How many bytes the fraction has, with its point.
+/// Returns the number of bytes of the fraction, with its point.
 #[must_use]
 pub fn fraction_length(fraction: Option<Fraction>) -> u16 {
     match fraction {
@@ -108,9 +108,9 @@ pub fn core_length(parsed: &IxdtfParseRecord<'_, Utf8>) -> u16 {
 
 /// Tests quickly whether the canonical text of a record that has one fits into `room` bytes.
 ///
-/// `true` means that it fits. `false` means that the length must be counted: the text may fit or not. The result is
-/// `true` if `room` is at least `MOST_BESIDES_NAMES`, and the zone and the calendar each have at most half of the other
-/// bytes.
+/// `true` means that the text fits. `false` means that the caller must count the length, because the text may fit or not.
+/// The result is `true` if `room` is at least `MOST_BESIDES_NAMES`, and the name of the zone and the calendar each have at
+/// most half of the bytes of `room` above this number.
 #[inline(always)]
 #[must_use]
 pub fn has_plenty(parsed: &IxdtfParseRecord<'_, Utf8>, room: usize) -> bool {
@@ -121,7 +121,7 @@ pub fn has_plenty(parsed: &IxdtfParseRecord<'_, Utf8>, room: usize) -> bool {
     is_short_bracket(&parsed.tz, half) && is_short_calendar(parsed.calendar, half)
 }
 
-/// Returns whether the bracket of a zone has at most `most` bytes and nine more.
+/// Returns `true` only if the bracket of a zone has at most `most + 9` bytes.
 #[inline(always)]
 fn is_short_bracket(note: &Option<TimeZoneAnnotation<'_, Utf8>>, most: usize) -> bool {
     match note {
@@ -130,7 +130,7 @@ fn is_short_bracket(note: &Option<TimeZoneAnnotation<'_, Utf8>>, most: usize) ->
     }
 }
 
-/// Returns whether a zone has at most `most` bytes and six more.
+/// Returns `true` only if a zone has at most `most + 6` bytes.
 #[inline(always)]
 fn is_short_zone(zone: &TimeZoneRecord<'_, Utf8>, most: usize) -> bool {
     match zone {
@@ -140,7 +140,7 @@ fn is_short_zone(zone: &TimeZoneRecord<'_, Utf8>, most: usize) -> bool {
     }
 }
 
-/// Returns whether the bracket of a calendar has at most `most` bytes and seven more.
+/// Returns `true` only if the bracket of a calendar has at most `most + 7` bytes.
 #[inline(always)]
 fn is_short_calendar(calendar: Option<&[u8]>, most: usize) -> bool {
     match calendar {

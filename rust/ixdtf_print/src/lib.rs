@@ -25,20 +25,20 @@ mod year_months;
 mod zones;
 
 pub use canonical::{Canonical, print, printed_length};
-// For crates of this repository, and no part of the interface.
+// Only other crates of this repository use this item. It is not part of the public interface.
 #[doc(hidden)]
 pub use canonical::{length_of, print_with_room};
-// For crates of this repository, and no part of the interface.
+// Only other crates of this repository use this item. It is not part of the public interface.
 #[doc(hidden)]
 pub use digits::put_digits;
 pub use durations::{CanonicalDuration, duration_length, print_duration, print_duration_utf16};
 pub use error::PrintError;
-// For crates of this repository, and no part of the interface.
+// Only other crates of this repository use this item. It is not part of the public interface.
 #[doc(hidden)]
 pub use message::error_parts;
 pub use month_days::{CanonicalMonthDay, month_day_length, print_month_day};
 pub use offsets::{CanonicalOffset, offset_length, print_offset, print_offset_utf16};
-// For crates of this repository, and no part of the interface.
+// Only other crates of this repository use this item. It is not part of the public interface.
 #[doc(hidden)]
 pub use printed::PrintedText;
 pub use times::{CanonicalTime, print_time, time_length};

@@ -15,11 +15,12 @@ use core::fmt;
 /// Writes the canonical text of a month and a day to the beginning of the slice, such as `11-07[u-ca=hebrew]`.
 ///
 /// The record is one that [`IxdtfParser::parse_month_day`](ixdtf::parsers::IxdtfParser::parse_month_day) returns. The
-/// canonical text has the month and the day, without hyphens before them. If the record has them, the zone and the calendar
-/// follow, as [`print`](crate::print) writes them. The day can be 00: under the default profile, `parse_month_day` returns
-/// such a record.
+/// canonical text has the month and the day, without hyphens before them. If the record has a zone or a calendar,
+/// they follow the day, as [`print`](crate::print) writes them. The day can be 00, because `parse_month_day` returns such a
+/// record under the default profile.
 ///
-/// A date in the year 0 is the same record: `print` writes it as `0000-11-07`, and this function as `11-07`.
+/// The record of the date `0000-11-07` is equal to the record of `11-07`. `print` writes both as `0000-11-07`, and this
+/// function writes both as `11-07`.
 ///
 /// Returns the number of bytes that were written. The canonical text has at most 4 bytes more than the text that was
 /// parsed.
@@ -50,7 +51,7 @@ use core::fmt;
 /// After an error, the slice is unchanged.
 ///
 /// - [`PrintError::NotPrintable`]: the record has no canonical text. It has no date, or another year than 0, or a time, or
-///   an offset, or a part that no text has.
+///   an offset, or a field whose value no text has.
 /// - [`PrintError::TooShort`]: the slice is shorter than the canonical text.
 pub fn print_month_day(
     parsed: &IxdtfParseRecord<'_, Utf8>,
@@ -133,7 +134,7 @@ fn is_spelled(parsed: &IxdtfParseRecord<'_, Utf8>) -> bool {
     has_lone_day(parsed.date, parsed.time, parsed.offset) && has_brackets(parsed)
 }
 
-/// Returns whether there is a day of the year 0, and neither a time nor an offset. The day may be 0.
+/// Returns whether the date is a day of the year 0, and there is neither a time nor an offset. The day may be 0.
 fn has_lone_day(
     date: Option<DateRecord>,
     time: Option<TimeRecord>,
@@ -155,7 +156,7 @@ fn is_day_of_any_year(date: DateRecord) -> bool {
         && date.day <= days_in_month(0, date.month)
 }
 
-// ---- lengths
+// ---- Lengths
 
 /// Returns the number of bytes of the month and the day.
 fn optional_day_length(date: Option<DateRecord>) -> u16 {
@@ -165,7 +166,7 @@ fn optional_day_length(date: Option<DateRecord>) -> u16 {
     }
 }
 
-// ---- bytes
+// ---- Bytes
 
 /// Writes the month and the day at index `at`, if there is a date. Returns the index after them.
 fn put_optional_day(out: &mut [u8], at: usize, date: Option<DateRecord>) -> usize {

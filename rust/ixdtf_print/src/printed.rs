@@ -1,6 +1,6 @@
 // Made by tools/to_rust.py of crates/ixdtf_print/src/printed.rt. Do not edit.
 
-//! The canonical text that a program printed last.
+//! An array for the canonical text that a program printed last.
 
 use crate::canonical::print_with_room;
 use crate::durations::print_duration;
@@ -14,28 +14,29 @@ use ixdtf::records::{DurationParseRecord, IxdtfParseRecord, TimeZoneRecord, UtcO
 
 /// A canonical text and a newline after it, in an array of `SIZE` bytes.
 ///
-/// A program uses one such array for all its lines. To clear an array for each line would take longer than to fill it.
+/// A program uses one such array for all its lines, because to clear an array for each line would take longer than to
+/// write the line.
 pub struct PrintedText<const SIZE: usize> {
     bytes: [u8; SIZE],
     count: usize,
 }
 
 impl<const SIZE: usize> PrintedText<SIZE> {
-    /// Creates an empty text with a newline.
+    /// Creates an empty text, with a newline after it.
     pub fn empty() -> PrintedText<SIZE> {
         let mut bytes = [0; SIZE];
         bytes[0] = b'\n';
         PrintedText { bytes, count: 0 }
     }
 
-    /// Prints the record. It replaces what was printed before.
+    /// Prints the record. Its text replaces the text before.
     pub fn print(&mut self, parts: &IxdtfParseRecord<'_, Utf8>) {
         let count = print_with_room(parts, &mut self.bytes);
         self.bytes[count] = b'\n';
         self.count = count;
     }
 
-    /// Prints a duration that was read. It replaces what was printed before.
+    /// Prints a duration that a reader returned. Its text replaces the text before.
     pub fn print_duration(&mut self, duration: &DurationParseRecord) {
         if let Ok(count) = print_duration(duration, &mut self.bytes) {
             self.bytes[count] = b'\n';
@@ -43,7 +44,7 @@ impl<const SIZE: usize> PrintedText<SIZE> {
         }
     }
 
-    /// Prints an offset that was read. It replaces what was printed before.
+    /// Prints an offset that a reader returned. Its text replaces the text before.
     pub fn print_offset(&mut self, offset: &UtcOffsetRecord) {
         if let Ok(count) = print_offset(offset, &mut self.bytes) {
             self.bytes[count] = b'\n';
@@ -51,7 +52,7 @@ impl<const SIZE: usize> PrintedText<SIZE> {
         }
     }
 
-    /// Prints a zone that was read. It replaces what was printed before.
+    /// Prints a zone that a reader returned. Its text replaces the text before.
     pub fn print_zone(&mut self, zone: &TimeZoneRecord<'_, Utf8>) {
         if let Ok(count) = print_zone(zone, &mut self.bytes) {
             self.bytes[count] = b'\n';
@@ -59,7 +60,7 @@ impl<const SIZE: usize> PrintedText<SIZE> {
         }
     }
 
-    /// Prints a time that was read. It replaces what was printed before.
+    /// Prints a time that a reader returned. Its text replaces the text before.
     pub fn print_time(&mut self, parts: &IxdtfParseRecord<'_, Utf8>) {
         if let Ok(count) = print_time(parts, &mut self.bytes) {
             self.bytes[count] = b'\n';
@@ -67,7 +68,7 @@ impl<const SIZE: usize> PrintedText<SIZE> {
         }
     }
 
-    /// Prints a year and a month that was read. It replaces what was printed before.
+    /// Prints a record of a year and a month that a reader returned. Its text replaces the text before.
     pub fn print_year_month(&mut self, parts: &IxdtfParseRecord<'_, Utf8>) {
         if let Ok(count) = print_year_month(parts, &mut self.bytes) {
             self.bytes[count] = b'\n';
@@ -75,7 +76,7 @@ impl<const SIZE: usize> PrintedText<SIZE> {
         }
     }
 
-    /// Prints a month and a day that was read. It replaces what was printed before.
+    /// Prints a record of a month and a day that a reader returned. Its text replaces the text before.
     pub fn print_month_day(&mut self, parts: &IxdtfParseRecord<'_, Utf8>) {
         if let Ok(count) = print_month_day(parts, &mut self.bytes) {
             self.bytes[count] = b'\n';
@@ -83,7 +84,7 @@ impl<const SIZE: usize> PrintedText<SIZE> {
         }
     }
 
-    /// Returns the bytes of the text, and the newline.
+    /// Returns the bytes of the text and the newline after it.
     pub fn as_line(&self) -> &[u8] {
         &self.bytes[..self.count + 1]
     }

@@ -32,13 +32,14 @@ pub fn put_each(out: &mut [u8], at: usize, bytes: &[u8]) -> usize {
     place
 }
 
-/// Writes sixteen bytes. It is not inlined, because of what [`put_each`] says.
+/// Writes sixteen bytes. The function is not inlined: otherwise the compiler could turn the loop of [`put_each`] into a
+/// call of `memcpy`.
 #[inline(never)]
 fn put_sixteen(out: &mut [u8], at: usize, bytes: &[u8; 16]) -> usize {
     put(out, at, bytes)
 }
 
-/// Writes the first `COUNT` bytes, if there are so many. Returns the index after them, and the other bytes.
+/// Writes the first `COUNT` bytes, if there are at least `COUNT` bytes. Returns the index after them, and the other bytes.
 #[inline(always)]
 fn put_first<'a, const COUNT: usize>(
     out: &mut [u8],

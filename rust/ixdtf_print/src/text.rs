@@ -1,6 +1,6 @@
 // Made by tools/to_rust.py of crates/ixdtf_print/src/text.rt. Do not edit.
 
-//! What all canonical texts have in common.
+//! Functions for all kinds of canonical texts.
 
 use crate::error::PrintError;
 use crate::fields::{put_brackets, put_zone};
@@ -11,11 +11,11 @@ use ixdtf::encoding::Utf8;
 use ixdtf::records::{IxdtfParseRecord, TimeZoneRecord};
 use core::fmt;
 
-/// The greatest number of bytes of a core. The core of a date-time is the longest one. A date has at most 13 bytes. A time
-/// and an offset have at most 265 bytes each, with a fraction of 255 digits.
+/// The greatest number of bytes of a core. The core of a date-time is the longest one: its date has at most 13 bytes. Its
+/// time and its offset have at most 265 bytes each, because a fraction has at most 255 digits.
 const MOST_OF_CORE: usize = 543;
 
-/// The end of a canonical text, after its core. It has names, which can have any length.
+/// The end of a canonical text, after its core. The tail can have names, and a name can have any length.
 pub enum Tail<'a> {
     /// There is nothing after the core.
     Nothing,
@@ -25,10 +25,10 @@ pub enum Tail<'a> {
     Brackets(&'a IxdtfParseRecord<'a, Utf8>),
 }
 
-/// A record that has a canonical text as one kind of record.
+/// A record of one kind, such as a time or a duration, that can be printed.
 ///
-/// A kind says what its texts are. The functions of this module write, count and display them. A canonical text has two
-/// parts: the core, whose length is limited, and the tail.
+/// An implementation says what the canonical texts of its kind are. The functions of this module write, count and display
+/// these texts. A canonical text has two parts: the core, whose length is limited, and the tail.
 pub trait CanonicalText: Copy {
     /// Returns whether the record has a canonical text.
     fn is_printable(self) -> bool;
@@ -91,7 +91,7 @@ pub fn print<T: CanonicalText>(text: T, out: &mut [u8]) -> Result<usize, PrintEr
     Ok(put(text, out))
 }
 
-/// Writes the canonical text as 16-bit code units, like `print`. It is only for texts without a tail.
+/// Writes the canonical text as 16-bit code units, like `print`. The text must have no tail.
 pub fn print_utf16<T: CanonicalText>(text: T, out: &mut [u16]) -> Result<usize, PrintError> {
     if !text.is_printable() {
         Err(PrintError::NotPrintable)
@@ -119,7 +119,7 @@ pub fn printed_length<T: CanonicalText>(text: T) -> Option<usize> {
     }
 }
 
-/// Returns the record again, if it has a canonical text.
+/// Returns the record unchanged if it has a canonical text, and `None` otherwise.
 pub fn checked<T: CanonicalText>(text: T) -> Option<T> {
     if !text.is_printable() {
         return None;

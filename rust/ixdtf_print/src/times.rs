@@ -15,9 +15,9 @@ use core::fmt;
 /// Writes the canonical text of a time to the beginning of the slice, such as `08:48:00Z[u-ca=hebrew]`.
 ///
 /// The time is a record that [`IxdtfParser::parse_time`](ixdtf::parsers::IxdtfParser::parse_time) returns. The canonical
-/// text has the time with its seconds, and no `T`. If the record has them, the offset, the zone and the calendar follow, as
-/// [`print`](crate::print) writes them. `parse_time` never takes the canonical text for the beginning of a date, because
-/// its third byte is a colon.
+/// text has the time with its seconds, and no `T`. If the record has an offset, a zone or a calendar, they follow the time,
+/// as [`print`](crate::print) writes them. `parse_time` accepts the canonical text without a `T`: it cannot begin with a
+/// month and a day, or with a year and a month, because its third byte is a colon.
 ///
 /// Returns the number of bytes that were written. The canonical text has at most 12 bytes more than the text that was
 /// parsed.
@@ -47,7 +47,8 @@ use core::fmt;
 ///
 /// After an error, the slice is unchanged.
 ///
-/// - [`PrintError::NotPrintable`]: the record has no canonical text. It has a date, or no time, or a part that no text has.
+/// - [`PrintError::NotPrintable`]: the record has no canonical text. It has a date, or no time, or a field whose value no
+///   text has.
 /// - [`PrintError::TooShort`]: the slice is shorter than the canonical text.
 pub fn print_time(parsed: &IxdtfParseRecord<'_, Utf8>, out: &mut [u8]) -> Result<usize, PrintError> {
     text::print(CanonicalTime { parsed }, out)
@@ -127,7 +128,7 @@ fn is_spelled(parsed: &IxdtfParseRecord<'_, Utf8>) -> bool {
     has_lone_time(parsed.date, parsed.time, parsed.offset) && has_brackets(parsed)
 }
 
-/// Returns whether there are a time and maybe an offset that have texts, and no date.
+/// Returns whether there is no date, a time that has a text, and no offset without a text.
 fn has_lone_time(
     date: Option<DateRecord>,
     time: Option<TimeRecord>,
@@ -140,7 +141,7 @@ fn has_lone_time(
     }
 }
 
-// ---- lengths
+// ---- Lengths
 
 /// Returns the number of bytes of the time, without a `T`.
 fn unmarked_time_length(time: Option<TimeRecord>) -> u16 {
@@ -155,7 +156,7 @@ fn time_core_length(parsed: &IxdtfParseRecord<'_, Utf8>) -> u16 {
     unmarked_time_length(parsed.time) + shift_length(parsed.offset)
 }
 
-// ---- bytes
+// ---- Bytes
 
 /// Writes an hour, a minute and a second at index `at`. Returns the index after them.
 fn put_unmarked_seconds(out: &mut [u8], at: usize, hour: u8, minute: u8, second: u8) -> usize {

@@ -16,7 +16,7 @@ pub fn write_brackets(
     write_calendar(f, parsed.calendar)
 }
 
-/// The first bytes, so many.
+/// Returns the first `count` bytes.
 pub fn front_of(bytes: &[u8], count: usize) -> &[u8] {
     // `bytes` always has `count` bytes, as the proof shows. The compiler does not know the proof: because of this test,
     // it compiles no code for a panic.
@@ -75,7 +75,7 @@ fn write_calendar(f: &mut fmt::Formatter<'_>, calendar: Option<&[u8]>) -> fmt::R
     }
 }
 
-/// Writes each byte as the character of its number. Of a record that has a text they are ASCII.
+/// Writes each byte as the character with its number. If a record has a canonical text, the bytes of its names are ASCII.
 pub fn write_bytes(f: &mut fmt::Formatter<'_>, bytes: &[u8]) -> fmt::Result {
     for byte in bytes {
         write_byte(f, *byte)?;

@@ -1,4 +1,4 @@
--- What the loop over the pairs keeps, and what follows at its ends.
+-- The invariant of the loop over the annotations, and what follows at each of its ends.
 use Rattle.std.proofs.Common.{◌≡◌, ℕ, List, [], ◌∷◌, ◌++◌, Option, None, Result, Ok, Err, refl, sym, ◌∙◌, ap, inl, inr, append_assoc, option_map}
 use Rattle.std.proofs.{lemmas.List.{map-append, append-nil}, SliceLists.chained_more}
 use Rattle.std.specs.Option.{option_or}
@@ -11,29 +11,29 @@ use Rattle.ixdtf_reading.specs.reading.Chains.{FitsAfterBrackets, PairsUpTo, Pai
 use Rattle.ixdtf_reading.proofs.{to_reading.ExactBracket.IsBracketBy, to_grammar.Wholes.{after_brackets, tail_of, bracket_stands}, theorems.Replies.first_calendar-more}
 use Rattle.ixdtf_reading.proofs.theorems.Replies.{NoneRefused-more, NoneRefused-nothing}
 
--- ---- texts of pairs
+-- ---- texts of annotations
 
--- one more pair behind others
+-- One more annotation follows others.
 pub pairs_more : (front : Text) (pairs : List Pair) (bracket : Text) (pair : Pair) → ArePairs front pairs → IsPair bracket pair
     → ArePairs (front ++ bracket) (pairs ++ pair ∷ [])
 pairs_more front [] bracket pair is last = (bracket, [], ap (λ f. f ++ bracket) is ∙ sym (append-nil bracket), last, refl)
 pairs_more front (p ∷ pairs) bracket pair h last =
     (h.0, h.1 ++ bracket, ap (λ f. f ++ bracket) h.2 ∙ append_assoc h.0 h.1 bracket, h.3, pairs_more h.1 pairs bracket pair h.4 last)
 
--- the same of a text as far as the rest
+-- One more annotation follows others, in a text with a rest after them.
 upto_more : (text : Text) (pairs : List Pair) (rest bracket after : Text) (pair : Pair) → PairsUpTo text pairs rest → rest ≡ bracket ++ after
     → IsPair bracket pair → PairsUpTo text (pairs ++ pair ∷ []) after
 upto_more text pairs rest bracket after pair h is last =
     (h.0 ++ bracket, h.1 ∙ ap (λ r. h.0 ++ r) is ∙ sym (append_assoc h.0 bracket after), pairs_more h.0 pairs bracket pair h.2 last)
 
--- ---- the loop over the pairs
+-- ---- the loop over the annotations
 
 module _ {T U F : Type 0} (number : U → ℕ) (step : Step T U F) (handler : F) (first : List Pair) (text : Text) where
-  -- the pair that a reply names, if any
+  -- The annotation of a reply, if there is one.
   abbrev reply_of : Option (Annotation T U) → Option Pair
   reply_of reply = option_map (pair_of number) reply
 
-  -- the calls so far left this state, this rest of the text, and this calendar
+  -- The calls so far left the handler in this state, this rest of the text, and this calendar.
   pub record SoFar (state : F) (rest : Text) (calendar : Option Pair) : Type 0 where
     pub calls : Calls T U
     pub chain : IsChain step handler calls state
@@ -43,7 +43,7 @@ module _ {T U F : Type 0} (number : U → ℕ) (step : Step T U F) (handler : F)
     pub accepted : NoneRefused (replies_of number calls)
     pub kept : calendar ≡ first_calendar (replies_of number calls)
 
-  -- no call was made yet
+  -- No call was made yet.
   pub so_far_start : first ≡ [] → SoFar handler text None
   so_far_start none = record {
     calls = [];
@@ -55,7 +55,7 @@ module _ {T U F : Type 0} (number : U → ℕ) (step : Step T U F) (handler : F)
     kept = refl;
   }
 
-  -- a call on the first pair
+  -- The handler is called with the first annotation.
   module _ {annotation : Annotation T U} {reply : Option (Annotation T U)} {next : F} {pair : Pair}
       (alone : first ≡ pair ∷ []) (same : pair_of number annotation ≡ pair) (called : step handler annotation reply next) where
     one_call : Calls T U
@@ -96,7 +96,7 @@ module _ {T U F : Type 0} (number : U → ℕ) (step : Step T U F) (handler : F)
         } in
         record { calls = one_call; chain = one_chain; more = []; all = one_handed; gives = (text, ([], refl, refl), inl (last, refl)) }
 
-  -- a call on one more pair
+  -- The handler is called with one more annotation.
   module _ {state : F} {rest : Text} {calendar : Option Pair} {annotation : Annotation T U} {bracket : Text} (after : Text)
       {reply : Option (Annotation T U)} {next : F} (so_far : SoFar state rest calendar) (is_pair : IsPair bracket (pair_of number annotation))
       (read : rest ≡ bracket ++ after)
@@ -121,7 +121,7 @@ module _ {T U F : Type 0} (number : U → ℕ) (step : Step T U F) (handler : F)
     more_upto : PairsUpTo text (so_far.more ++ pair_of number annotation ∷ []) after
     more_upto = upto_more text so_far.more rest bracket after (pair_of number annotation) so_far.upto read is_pair
 
-    -- its reply is not refused
+    -- The reply is not refused.
     pub so_far_more : (kept : Option Pair) → ((fault : Fault) → ¬ (RefusedBeside calendar (reply_of reply) fault))
         → kept ≡ option_or calendar (first_calendar (reply_of reply ∷ [])) → SoFar next after kept
     so_far_more kept accepted is = record {
@@ -137,7 +137,7 @@ module _ {T U F : Type 0} (number : U → ℕ) (step : Step T U F) (handler : F)
           ∙ sym (first_calendar-more (replies_of number so_far.calls) (reply_of reply)) ∙ ap first_calendar (sym more_replies);
     }
 
-    -- its reply is refused
+    -- The reply is refused.
     pub read_refused : (fault : Fault) → RefusedBeside calendar (reply_of reply) fault → PairsRead number step handler next first text (Err (fault, after))
     read_refused fault refused =
         let last : LastRefused (replies_of number more_calls) fault = record {
@@ -155,7 +155,7 @@ module _ {T U F : Type 0} (number : U → ℕ) (step : Step T U F) (handler : F)
           gives = (after, more_upto, inl (last, refl));
         }
 
-  -- nothing is left of the text
+  -- No text is left.
   pub read_whole : {state : F} {rest : Text} {calendar : Option Pair} → SoFar state rest calendar → rest ≡ []
       → PairsRead number step handler state first text (Ok calendar)
   read_whole so_far none =
@@ -169,7 +169,7 @@ module _ {T U F : Type 0} (number : U → ℕ) (step : Step T U F) (handler : F)
         gives = (rw (← whole) front.2, so_far.accepted, so_far.kept);
       }
 
-  -- a row fits what is left
+  -- A row fits the rest of the text.
   pub read_fault : {state : F} {rest : Text} {calendar : Option Pair} → SoFar state rest calendar → (row : Row) (placed : Placed) → FitsAfterBrackets row rest
       → error_of row ≡ placed
       → PairsRead number step handler state first text (Err placed)
@@ -181,16 +181,16 @@ module _ {T U F : Type 0} (number : U → ℕ) (step : Step T U F) (handler : F)
     gives = (rest, so_far.upto, inr ((row, fits, is), so_far.accepted));
   }
 
--- ---- the whole text
+-- ---- the complete text
 
--- what the code returns for the whole text, for what it returns for the pairs
+-- The result for the complete text, computed from the result for the annotations.
 abbrev pub text_result : Core → Bracket → Result (Option Pair) Placed → Result Parsed Placed
 text_result core b (Ok calendar) = Ok (with_calendar (parsed_with core (zone_in b)) (calendar_value calendar))
 text_result core b (Err placed) = Err placed
 
 module _ (kind : CoreKind) (text cores bracket rest : Text) (core : Core) (b : Bracket) (is : text ≡ cores ++ (bracket ++ rest))
     (is_core : IsCore kind cores core) (is_bracket : IsBracketBy (has_exact_zones kind) bracket b) where
-  -- a core, a first bracket and more pairs
+  -- The text is a core, a first bracket and more annotations.
   whole_of : (front : Text) (more : List Pair) → ArePairs front more
       → IsBracketed kind (cores ++ (bracket ++ front)) (parsed_with core (zone_in b)) (pairs_in b ++ more)
   whole_of front more pairs = let tail = tail_of _ b bracket front more is_bracket pairs in
@@ -199,7 +199,7 @@ module _ (kind : CoreKind) (text cores bracket rest : Text) (core : Core) (b : B
   split_of : (front left : Text) → rest ≡ front ++ left → text ≡ (cores ++ (bracket ++ front)) ++ left
   split_of front left e = is ∙ rw e (simp append_assoc)
 
-  -- a row that fits behind whole brackets fits the text
+  -- If a row fits after complete brackets, it fits the text.
   fits_text : (more : List Pair) (left : Text) (row : Row) → PairsUpTo rest more left → FitsAfterBrackets row left
       → Fits (bracketed kind) row (pairs_in b ++ more) text
   fits_text more left row upto_left fits =
@@ -215,7 +215,7 @@ module _ (kind : CoreKind) (text cores bracket rest : Text) (core : Core) (b : B
       ) fits
 
   module _ {T U F : Type 0} (number : U → ℕ) (step : Step T U F) (handler last : F) where
-    -- what the code returns for the pairs, for the whole text
+    -- The result for the annotations gives the result for the complete text.
     pub text_read : (result : Result (Option Pair) Placed) → PairsRead number step handler last (pairs_in b) rest result
         → TextRead number step handler last (bracketed kind) text (text_result core b result)
     text_read (Ok calendar) h = record {
@@ -250,12 +250,12 @@ module _ (kind : CoreKind) (text cores bracket rest : Text) (core : Core) (b : B
 -- ---- a text without a call
 
 module _ {T U F : Type 0} (number : U → ℕ) (step : Step T U F) (handler : F) (text : Text) where
-  -- a text with a fault before any pair
+  -- The text has an error before the first annotation.
   pub text_fault : (reader : Reader) (placed : Placed) → (row : Row) × Fits reader row [] text × (error_of row ≡ placed)
       → TextRead number step handler handler reader text (Err placed)
   text_fault reader placed h = record { calls = []; chain = refl; gives = inr (h, NoneRefused-nothing) }
 
-  -- a core alone
+  -- The text is only a core.
   pub text_derived : (kind : CoreKind) (core : Core) → IsCore kind text core
       → TextRead number step handler handler (bracketed kind) text (Ok (with_calendar (parsed_with core None) None))
   text_derived kind core is_core = record {

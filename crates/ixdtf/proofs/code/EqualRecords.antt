@@ -1,4 +1,4 @@
--- When records are equal: where contracts see them as the same.
+-- Two records are equal if and only if contracts see them as the same.
 use Rattle.ixdtf_grammar.specs.declared.records.UtcOffsetRecord.TheVariants as offsets
 use Rattle.ixdtf_grammar.specs.declared.records.UtcOffsetRecordOrZ.TheVariants as offsets_or_z
 use Rattle.ixdtf_grammar.specs.declared.records.TimeZoneRecord.TheVariants as zones
@@ -16,7 +16,7 @@ use Rattle.ixdtf_grammar.specs.declared.records.{TimeZoneRecord.TimeZoneRecord}
 use Rattle.ixdtf_grammar.specs.{declared.records.TimeDurationRecord.TimeDurationRecord, language.{Fractions.FractionParts, ZoneNames.Zone.{Name, Offset}}}
 use Rattle.ixdtf_grammar.specs.{Laws.IsEqualityBy, Views.zone_of}
 
--- a test holds exactly where what is seen is the same
+-- The test returns true if and only if contracts see the two values as the same.
 abbrev pub Exact : {K V : Type 0} → (K → V) → (K → K → Bool) → Type 0
 Exact {K} {V} seen eq = (a b : K) → IsTrue (eq a b) ↔ (seen a ≡ seen b)
 
@@ -30,11 +30,11 @@ by_exact {K} {V} {seen} {eq} exact = record {
   };
 }
 
--- of a part
+-- If the test is exact for a part, it is exact for the values by this part.
 pub on_part : {J K V : Type 0} (part : J → K) {seen : K → V} {eq : K → K → Bool} → Exact seen eq → Exact (λ x. seen (part x)) (λ x y. eq (part x) (part y))
 on_part part exact a b = exact (part a) (part b)
 
--- of two parts
+-- Two exact tests of two parts, joined with `&&`, are exact for the pair.
 pub on_both : {K V W : Type 0} {f : K → V} {g : K → W} {E F : K → K → Bool} →
     Exact f E → Exact g F → Exact {V = V × W} (λ x. (f x, g x)) (λ x y. E x y && F x y)
 on_both {K} {V} {W} {f} {g} {E} {F} e h a b = (to, λ p. both_true ((e a b).1 (ap (λ x. x.0) p)) ((h a b).1 (ap (λ x. x.1) p)))
@@ -42,24 +42,24 @@ on_both {K} {V} {W} {f} {g} {E} {F} e h a b = (to, λ p. both_true ((e a b).1 (a
     to : IsTrue (E a b && F a b) → ◌≡◌ {A = V × W} (f a, g a) (f b, g b)
     to t i = ((e a b).0 (first_so (E a b) (F a b) t) i, (h a b).0 (second_so (E a b) (F a b) t) i)
 
--- of what is put together, and can be taken apart again
+-- A test stays exact if the values are seen through a function that can be undone.
 pub put_together : {K V W : Type 0} {seen : K → V} {eq : K → K → Bool} (to : V → W) (back : W → V) →
     ((x : V) → back (to x) ≡ x) → Exact seen eq → Exact (λ x. to (seen x)) eq
 put_together {seen = seen} to back undone exact a b =
     (λ t. ap to ((exact a b).0 t), λ p. (exact a b).1 (sym (undone (seen a)) ∙ ap back p ∙ undone (seen b)))
 
--- of what may be there
+-- If a test is exact for values, it is exact for optional values.
 pub on_option : {K V : Type 0} {seen : K → V} {eq : K → K → Bool} → Exact seen eq → Exact (option_map seen) (option_eq eq)
 on_option exact None None = (λ t. refl, λ p. refl)
 on_option exact None (Some y) = (λ t. absurd cc, λ p. absurd cc)
 on_option exact (Some x) None = (λ t. absurd cc, λ p. absurd cc)
 on_option exact (Some x) (Some y) = (λ t. ap Some ((exact x y).0 t), λ p. (exact x y).1 cc)
 
--- of what may be there, seen as it is
+-- If a test is exact for values that are seen as they are, it is exact for optional values.
 pub on_option_itself : {K : Type 0} {eq : K → K → Bool} → Exact (λ x. x) eq → Exact (λ o. o) (option_eq eq)
 on_option_itself exact a b = let both = on_option exact a b in (rw (option_map_id a, option_map_id b) at both)
 
--- zones, by the tests of their two variants
+-- The test of zones consists of the tests of their two variants.
 pub record ByVariant {T U : Type 0} (eq : TimeZoneRecord T U → TimeZoneRecord T U → Bool) (eq_names : _ → _ → Bool) (eq_offsets : _ → _ → Bool) : Type 0 where
   pub names : (u v : _) → eq (zones.Name u) (zones.Name v) ≡ eq_names u v
   pub offsets : (o p : _) → eq (zones.Offset o) (zones.Offset p) ≡ eq_offsets o p
@@ -73,7 +73,7 @@ module _ {T U : Type 0} (number : U → ℕ) {eq : TimeZoneRecord T U → TimeZo
   zones_exact by names shifts (zones.Name u) (zones.Offset p) = rw (by.name_first u p) (λ t. absurd cc, λ e. absurd cc)
   zones_exact by names shifts (zones.Offset o) (zones.Name v) = rw (by.offset_first o v) (λ t. absurd cc, λ e. absurd cc)
 
--- offsets
+-- The test of offsets is exact.
 pub offsets_exact : Exact (λ o. o) minute_offsets.eq-value.it → Exact (λ o. o) full_offsets.eq-value.it → Exact (λ o. o) offset_records.eq-value.it
 offsets_exact short long (offsets.MinutePrecision o) (offsets.MinutePrecision p) =
     (λ t. ap offsets.MinutePrecision ((short o p).0 t), λ e. (short o p).1 cc)
@@ -81,14 +81,14 @@ offsets_exact short long (offsets.FullPrecisionOffset o) (offsets.FullPrecisionO
     (λ t. ap offsets.FullPrecisionOffset ((long o p).0 t), λ e. (long o p).1 cc)
 offsets_exact short long o p = (λ t. absurd cc, λ e. absurd cc)
 
--- offsets, or `Z`
+-- The test of offsets or `Z` is exact.
 pub offsets_or_z_exact : Exact (λ o. o) offset_records.eq-value.it → Exact (λ o. o) offsets_or_z_equal.eq-value.it
 offsets_or_z_exact shifts (offsets_or_z.Offset o) (offsets_or_z.Offset p) =
     (λ t. ap offsets_or_z.Offset ((shifts o p).0 t), λ e. (shifts o p).1 cc)
 offsets_or_z_exact shifts offsets_or_z.Z offsets_or_z.Z = (λ t. refl, λ e. refl)
 offsets_or_z_exact shifts o p = (λ t. absurd cc, λ e. absurd cc)
 
--- what stands in the time groups of a duration
+-- The hours of a duration and a fraction.
 abbrev InHours : Type 0
 InHours = ℕ × Option FractionParts
 
@@ -101,11 +101,11 @@ minutes_of p = time_durations.Minutes p.0 p.1.0 p.1.1
 abbrev seconds_of : ℕ × (ℕ × InHours) → TimeDurationRecord
 seconds_of p = time_durations.Seconds p.0 p.1.0 p.1.1.0 p.1.1.1
 
--- one more number before the others
+-- The test stays exact with one more number before the others.
 with_number : {V : Type 0} {eq : V → V → Bool} → Exact (λ v. v) eq → Exact (λ p. p) (λ (p q : ℕ × V). nat_eq p.0 q.0 && eq p.1 q.1)
 with_number exact = on_both (on_part (λ p. p.0) unsigned_Decides) (on_part (λ p. p.1) exact)
 
--- the time groups of a duration
+-- The test of the time of a duration is exact.
 pub time_durations_exact : Exact (λ f. f) (option_eq fractions.eq-value.it) → Exact (λ o. o) time_durations_equal.eq-value.it
 time_durations_exact fraction (time_durations.Hours h f) (time_durations.Hours i g) =
     let hours = with_number fraction (h, f) (i, g) in

@@ -1,4 +1,4 @@
--- A core that begins with a date and a time at fixed places is read from their second on.
+-- The reading of a core that begins with a date and a time in fixed columns continues after their second.
 use Rattle.std.proofs.Common.{◌≡◌, ℕ, IsTrue, ◌∷◌, ◌++◌, refl, ap, ◌∙◌, inl, inr}
 use Rattle.ixdtf_grammar.specs.{declared.records.{DateRecord.DateRecord, TimeRecord.TimeRecord}, language.Letters.{Text, date_time_separator, Letter.Plain}}
 use Rattle.ixdtf_grammar.specs.language.{Dates.IsDate, Times.Clock.Time, FixedPlaces.{FixedDate, FixedDateTime}}

@@ -1,4 +1,5 @@
--- A form with a handler only passes its arguments on to `read_as`, at its error and its kind of cores. Assumes `Logic`.
+-- A variant with a handler only passes its arguments on to `read_as`, with its error and its kind of cores. This proof assumes
+-- `Logic`.
 use denote.Param.Glue
 use denote.Param.Members as Members
 use denote.Builtin
@@ -69,7 +70,7 @@ pub use contract.BorrowLft.{◌⊑◌, ⊑_refl, ⊑_static}
 unfoldable pub use contract.Running.{tables_of}
 pub use mathlib.Core.Path.{◌≡◌, refl, sym, subst}
 
--- a kind of cores, as such a function passes it
+-- A kind of cores, as such a function passes it.
 pub record Kind : Type 2 where
   pub row : RattleType
   pub laws : Laws row
@@ -86,7 +87,7 @@ kind_of R laws is ghosts dict static = record {
   static = static;
 }
 
--- an error, its bound, and whether the form promises its place
+-- An error, its bound, and whether the contract of the variant states the position of the error.
 pub record Error : Type 2 where
   pub given : RattleType
   pub laws : Laws given
@@ -102,12 +103,12 @@ plain = record { given = ParseError.the_row; laws = error_laws.the_row_laws; is 
 abbrev pub located : Error
 located = record { given = LocatedError.the_row; laws = located_laws.the_row_laws; is = refl; ghosts = with_place.ghosts; dict = with_place.dict; static = ⊑_static; has_place = true }
 
--- the error, as `read_as` takes it
+-- The error, as `read_as` takes it.
 abbrev E : Error → RattleType
 E X = taken X.given
 
 module _ {M : Type 1} (𝓤 : Ura M) where
-  -- of what `read_as` ensures without the place and with it, what the form ensures
+  -- `read_as` has a clause without the position and one with it. The contract of the variant has one of these two.
   abbrev Said : Bool → SProp 𝓤 → SProp 𝓤 → SProp 𝓤
   Said false handles places = handles
   Said true handles places = places
@@ -146,19 +147,19 @@ module _ {M : Type 1} (𝓤 : Ura M) (𝓛 : Logic 𝓤) (𝓜 : Model 𝓤 𝓛
   abbrev k : Spec 𝓤 S'
   k = G.spec T' U (E X) K.row F g₀ d₀ gₛ dₛ gₑ dₑ g₁ d₁ gₕ dₕ g₂ d₂ g₃ d₃ gᵢ dᵢ X.ghosts X.dict K.ghosts K.dict g d d' d'' Q 𝓛 𝓜.mem 𝓡.returns
 
-  -- neither the error nor the kind names a lifetime, so their tokens may be any
+  -- Neither the error nor the kind names a lifetime, so any tokens fit.
   abbrev f : Lfts 5 → Lfts 7
   f τs = (τs.0, (τs.1.0, (τs.1.1.0, (τs.1.1.1.0, (τs.1.0, (τs.1.0, (τs.1.1.1.1.0, tt)))))))
 
   abbrev asked : (τs : Lfts 5) → Denots (types_at S'.params (f τs)) → SProp 𝓤
   asked τs a = R.requires-callable T' U F g₀ d₀ gₛ dₛ gₑ dₑ g₁ d₁ gₕ dₕ g₂ d₂ g₃ d₃ gᵢ dᵢ g d d' d'' P 𝓛 τs 𝓜.mem 𝓡.returns a.0 a.1.0
 
-  -- what `read_as` runs
+  -- The function that `read_as` runs.
   abbrev run : Fun 𝓤
   run = 𝓡.run (𝓡.env (G_key.name (bounded (a_type ∷ a_type ∷ a_type ∷ a_type ∷ a_type ∷ []) (T', (U, (E X, (K.row, (F, tt)))))
       (dcons d₀ (dcons dₛ (dcons dₑ (dcons d₁ (dcons dₕ (dcons d₂ (dcons d₃ (dcons dᵢ (dcons X.dict (dcons K.dict (dcons d (dcons d' (dcons d'' dnil))))))))))))))))
 
-  -- what `read_as` ensures without the place and with it, at these values at exit
+  -- The clauses of `read_as` without the position and with it, for these values at exit.
   abbrev handles : (τs : Lfts 5) (a : Denots (types_at S'.params (f τs))) → Outs (f τs) S'.params (yes, (no, tt)) → Res S' (f τs) → SProp 𝓤
   handles τs a e = G.ensures-handles T' U (E X) K.row F g₀ d₀ gₛ dₛ gₑ dₑ g₁ d₁ gₕ dₕ g₂ d₂ g₃ d₃ gᵢ dᵢ X.ghosts X.dict K.ghosts K.dict g d d' d'' Q 𝓛 (f τs) 𝓜.mem 𝓡.returns
       a.0 a.1.0 record { entry = a.0; exit = e.0 } record { entry = a.1.0; exit = e.1.0 }
@@ -167,7 +168,7 @@ module _ {M : Type 1} (𝓤 : Ura M) (𝓛 : Logic 𝓤) (𝓜 : Model 𝓤 𝓛
   places τs a e = G.ensures-places T' U (E X) K.row F g₀ d₀ gₛ dₛ gₑ dₑ g₁ d₁ gₕ dₕ g₂ d₂ g₃ d₃ gᵢ dᵢ X.ghosts X.dict K.ghosts K.dict g d d' d'' Q 𝓛 (f τs) 𝓜.mem 𝓡.returns
       a.0 a.1.0 record { entry = a.0; exit = e.0 } record { entry = a.1.0; exit = e.1.0 }
 
-  -- the contract of the form: one of the two, where the handler may be called
+  -- The contract of the variant ensures one of the two clauses, if the handler can always be called.
   abbrev c : Spec 𝓤 S
   c τs a = record {
     ghost = Unit {0};
@@ -178,7 +179,7 @@ module _ {M : Type 1} (𝓤 : Ura M) (𝓛 : Logic 𝓤) (𝓜 : Model 𝓤 𝓛
   abbrev c' : (τs : Lfts 5) (a : Denots (types_at S'.params (f τs))) → SpecAt 𝓤 S' (f τs)
   c' τs a = record { ghost = (c τs a).ghost; requires = (c τs a).requires; ensures = (c τs a).ensures }
 
-  -- `read_as` ensures it
+  -- `read_as` ensures this clause.
   ensured : (τs : Lfts 5) (a : Denots (types_at S'.params (f τs))) (r : Res S' (f τs)) → ent 𝓤 ((k (f τs) a).ensures tt r) ((c' τs a).ensures tt r)
   ensured τs a r =
       let Lasts : Fins (f τs) S'.params (yes, (no, tt)) a → SProp 𝓤 = λ ws. sem 𝓛 (lasts_of (f τs) S'.params (yes, (no, tt)) a ws) in
@@ -188,7 +189,7 @@ module _ {M : Type 1} (𝓤 : Ura M) (𝓛 : Logic 𝓤) (𝓜 : Model 𝓤 𝓛
       via 𝓤 (sep 𝓤 (Lasts ws) (Said 𝓤 X.has_place (Plain ws) (Placed ws))) (mono_r 𝓤 (Lasts ws) (says 𝓤 X.has_place (Plain ws) (Placed ws)))
       (ex_i 𝓤 (λ vs. sep 𝓤 (Lasts vs) (Said 𝓤 X.has_place (Plain vs) (Placed vs))) ws))
 
-  -- `read_as` meets the contract of the form
+  -- `read_as` meets the contract of the variant.
   met : Wired 𝓡.env G_symbol.code → raised_bound.Met 𝓛 𝓜 𝓡 𝓡.env (E X) X.ghosts X.dict
       → cores_bound.Met 𝓛 𝓜 𝓡 𝓡.env K.row K.ghosts K.dict → Triple 𝓤 run (triple_of 𝓛 S c)
   met wired raising cored =
@@ -208,7 +209,7 @@ module _ {M : Type 1} (𝓤 : Ura M) (𝓛 : Logic 𝓤) (𝓜 : Model 𝓤 𝓛
       (λ κs p. subst (λ (β : Lft). GO.Met 𝓛 𝓜 𝓡 𝓡.env β T' U (E X) K.row F (Members.once g) d') p.2 (b' p.0 p.1))
       b'')
 
-  -- so does the form, which calls it
+  -- The variant calls `read_as`, so it meets the contract too.
   pub form : Wired 𝓡.env G_symbol.code → raised_bound.Met 𝓛 𝓜 𝓡 𝓡.env (E X) X.ghosts X.dict → cores_bound.Met 𝓛 𝓜 𝓡 𝓡.env K.row K.ghosts K.dict
       → (h : Handing) (here : Callee) → ((κs : Lfts 5) → h.result ≡ layout (Got X.given (at κs) 0 1 T' U)) → run ≡ 𝓣.C h.callee
       → Closed 𝓤 𝓛.H 𝓣.C 𝓣.Λ here (handing_on h (layout F)) → Triple 𝓤 (𝓣.C here) (triple_of 𝓛 S c)

@@ -1,5 +1,5 @@
--- A function that only passes its two arguments on to a callee with the same contract meets that contract: the first is a
--- reference, which it borrows anew, and the second is of any type.
+-- A function meets the contract of its callee if it only passes its two arguments to the callee and has the same contract. The
+-- first argument is a reference, which the function borrows again. The second argument can have any type.
 use mathlib.Core.Path.{sym, subst, refl}
 use mathlib.Core.List.{List, [], ◌∷◌, ◌++◌}
 use Prim.Native.Nat.{ℕ}
@@ -29,7 +29,7 @@ use denote.Triple.Spec.{triple_of, Spec}
 use denote.Triple.Statement.{Triple}
 use denote.Triple.Table.{entered}
 
--- what such a function is made of beside its second argument: what its MIR says of lifetimes and types, and whom it calls
+-- The parts of such a function beside its second argument: the lifetimes and types in its MIR, and its callee.
 pub record Handing : Type 0 where
   pub lifetimes : ℕ
   pub outlives : List (ℕ × ℕ)
@@ -56,13 +56,13 @@ handing_on h second = record {
       (seq (assign (place 4 []) (rv_opd (copy (place 2 [])))) (seq (call h.callee (copy (place 3 []) ∷ copy (place 4 []) ∷ []) (place 0 [])) return));
 }
 
--- its signature: the reference and what it refers to, the other argument, by its number among the types, and the result
+-- The signature of such a function: the type behind the reference, the second argument by its number among the types, and the result.
 module _ (bounds : List (Outlives 5)) (Held : Lfts 5 → RattleType) (number : ℕ) (F : RattleType) (Got : Lfts 5 → RattleType) where
   abbrev pub handing : Signature
   handing = record { lifetimes = 5; outlives = bounds; params = mut_ref_to (0 ∷ []) tt (plain Held) ∷ plain (λ κs. param number F) ∷ []; result = plain Got }
 
   module _ {M : Type 1} {𝓤 : Ura M} (𝓛 : Logic 𝓤) (𝓣 : Tables 𝓤 𝓛.H) (c : Spec 𝓤 handing) where
-    -- the result has the type of the place that takes it
+    -- The result has the type of the MIR place that takes it.
     abbrev pub Lands : Ty → Type 0
     Lands result = (κs : Lfts 5) (x : (Got κs).Denot) (r : Val) → Is (Got κs) x (r ∷ []) → T (has_ty result r) × WT r
 

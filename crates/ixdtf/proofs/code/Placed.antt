@@ -1,4 +1,4 @@
--- What was read of a whole text, by the record that it was written into.
+-- What was read of a complete text, stated for the record into which it was written.
 use Rattle.std.proofs.Common.{◌≡◌, ℕ, Bool, true, false, List, Option, None, Ok, Err}
 use Rattle.ixdtf_grammar.specs.{declared.records.IxdtfParseRecord.IxdtfParseRecord, language.{Letters.Text, Cores.Core, Brackets.Pair}}
 use Rattle.ixdtf_grammar.specs.{language.Languages.{Parsed, parsed_with}, Handlers.{Step, with_calendar, calendar_value}, Views.parsed_of}
@@ -6,7 +6,7 @@ use Rattle.ixdtf_reading.specs.reading.{Looks.{Placed, error_of}, Brackets.{Brac
 use Rattle.ixdtf_reading.specs.reading.Clauses.{core_in}
 use Rattle.ixdtf.proofs.code.Tail.{core_alone, first_read}
 
--- a record without brackets
+-- The record of a text without brackets.
 pub no_brackets : {T U : Type 0} (number : U → ℕ) (found : IxdtfParseRecord T U) → found.tz ≡ None → found.calendar ≡ None
     → parsed_of number found ≡ with_calendar (parsed_with (core_in found) None) None
 no_brackets number found p q = cc

@@ -1,4 +1,4 @@
--- What a reader of whole texts promises, from what reading into a record does.
+-- The contract of a reader of complete texts follows from the contract of the function that reads into a record.
 use Rattle.std.proofs.Common.{◌≡◌, ℕ, ◌+◌, ◌≤◌, map, Result, Ok, Err, refl, arith}
 use Rattle.ixdtf_grammar.specs.{declared.located.LocatedError.LocatedError, language.{Letters.{Letter, Text}, Languages.{Parsed, Found}}}
 use Rattle.ixdtf_grammar.specs.{language.Readers.{Reader, CoreKind, Reader.bracketed}, table.Faults.{Fault, fault_of_located}, Handlers.{Step, replies_of}}
@@ -11,14 +11,14 @@ use Rattle.ixdtf_reading.proofs.theorems.OnePlace.{one_unhandled_place}
 use Rattle.ixdtf.proofs.code.Counted.{cost_of, own_costs_nothing, text_of}
 use Rattle.ixdtf.specs.Readings.{ReadsInto, ReadsUnhandled, HandlesTextTo}
 
--- a reading into a record that ended well, and one that was refused
+-- The results of reading into a record: success, and an error.
 abbrev ended : Result Unit StopAt
 ended = Ok tt
 
 abbrev stopped : StopAt → Result Unit StopAt
 stopped why = Err why
 
--- what it leaves, with another value and another error that has the same fault, and with a wider bound
+-- What the function leaves is also true with another value, with another error that has the same fault, and with a greater bound.
 module _ {X E : Type 0} (fault : E → Fault) {most more : ℕ} (fits : most ≤ more) {old new : Unread} where
   leaves_ok : (found : X) → LeavesBehind fault_of_stop_at most old ended new → LeavesBehind fault more old (Ok found) new
   leaves_ok found leaves = record { empty = leaves.empty; unchanged = tt; comes = tt; looks = omega (arith, fits, leaves.looks); counted = leaves.counted }
@@ -33,13 +33,13 @@ module _ {X E : Type 0} (fault : E → Fault) {most more : ℕ} (fits : most ≤
     counted = leaves.counted;
   }
 
--- a bound within itself
+-- A bound is at most itself.
 at_most : {n : ℕ} → n ≤ n
 at_most = omega arith
 
 -- ---- without a handler
 
--- where the handler returns each annotation
+-- The handler returns each annotation.
 pub unhandled : {T U F : Type 0} (letter : ℕ → Letter) (number : U → ℕ) (step : Step T U F) (handler last : F) (found : Parsed) (kind : CoreKind)
     (old new : UnreadUnder) (result : Result Unit StopAt) → OwnReplies step → ReadsInto letter number step handler last found (bracketed kind) old result new
     → ReadsUnhandled letter found (bracketed kind) old result new
@@ -106,7 +106,7 @@ module _ {X : Type 0} (letter : ℕ → Letter) (view : X → Parsed) (reader : 
 
 module _ {T U F X E : Type 0} (letter : ℕ → Letter) (number : U → ℕ) (step : Step T U F) (handler last : F) (view : X → Parsed) (reader : Reader)
     (old new : UnreadUnder) (fault : E → Fault) where
-  -- what the replies cost is within the bound
+  -- The accesses that the replies take are within the bound.
   within : {spent : ℕ} {text : Text} {result : Result Parsed Placed} (read : TextRead number (Counting step) (handler, 0) (last, spent) reader text result)
       → most_looks old.rest + spent ≤ most_looks_beside old.rest (replies_of number read.calls)
   within read = omega (arith, cost_of number step read.calls _ _ read.chain)
@@ -136,7 +136,7 @@ module _ {T U F X E : Type 0} (letter : ℕ → Letter) (number : U → ℕ) (st
         profile = read.profile;
       }
 
-  -- with the place of an error, and then with the state that the handler is left in
+  -- The contract also states the position of an error, and then the state in which the handler is left.
   module _ (stands : ℕ → E → Type 0) where
     pub handles_ok_at : (found : X) → ReadsInto letter number step handler last (view found) reader old ended new
         → HandlesTextAt letter number step handler fault stands view reader old (Ok found) new
@@ -181,9 +181,9 @@ module _ {T U F X E : Type 0} (letter : ℕ → Letter) (number : U → ℕ) (st
         let to = handled_to_at_err number step handler last reader (map letter old.rest) fault stands view why e same there (left, lengths, alone) in
         record { handled = to; no_row = tt; no_other_reader = tt; leaves = leaves_err fault (within counted) e why same read.leaves; profile = read.profile }
 
--- ---- of a part alone
+-- ---- a part on its own
 
--- what a reader of a part alone promises, from what its reading gives and what it leaves
+-- The contract of a reader of one part follows from what it read and what it leaves.
 pub part_at : {U A : Type 0} {letter : ℕ → Letter} {view : U → A} {reader : Reader} {found : A → Found} {same : _} {none : _} {reading : Text → Read Placed A}
     {old new left : Unread} {reads : _} {met : A → Text → Type 0} {gives : _} {result : Result U LocatedError}
     → Located letter view reader found same none reading old new reads met gives result → LeavesBehind fault_of_located (most_looks old.rest) old result left

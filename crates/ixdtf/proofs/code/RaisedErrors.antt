@@ -1,4 +1,4 @@
--- The error of a function that is generic in its error, by its row.
+-- The type of the error of a function that is generic in its error, given by the row of this type.
 use Rattle.std.specs.contracts.result.Result
 use Rattle.std.proofs.result.Result.TheLaws as result_laws
 use Rattle.ixdtf_grammar.specs.contracts.records.IxdtfParseRecord
@@ -15,7 +15,7 @@ use denote.Param.Laws.{Laws, param_laws, copied_laws, arg_laws}
 use denote.Enum.Loose.{loose_lawful}
 use types.Logic.{Logic}
 use seplogic.Ra.Ura.{Ura}
--- the names that such a proof cites besides
+-- The other names that a proof about such a function needs.
 pub use mathlib.Core.Path.{◌≡◌, refl, subst}
 pub use mathlib.Core.List.{[], ◌∷◌}
 pub use mir.Syntax.{named}
@@ -36,7 +36,7 @@ pub use denote.Triple.Spec.{SpecAt}
 pub use denote.Triple.Table.{run_framed}
 pub use Rattle.ixdtf.proofs.code.HandsOn.{hands_on}
 
--- the claim under which such a function has its bound, from that under which its caller has it
+-- The claim under which such a function has its bound, made from the claim under which its caller has it.
 abbrev pub Under : (n : ℕ) → (Lfts 5 → Type 0) → Lfts (suc (suc n)) → Type 0
 Under n P κs = (τs : Lfts 5) × P τs × (τs.1.0 ≡ κs.1.0)
 
@@ -44,14 +44,14 @@ module _ (Error : RattleType) where
   abbrev pub written : Ty
   written = bare (layout Error)
 
-  -- as such a function takes it
+  -- The error, as such a function takes it.
   abbrev pub taken : RattleType
   taken = arg written no Error
 
   pub taken_laws : Laws Error → bare written ≡ written → Laws taken
   taken_laws error_laws is = arg_laws written no Error error_laws is
 
-  -- a record, of an encoding and its code units by their numbers among the types, or this error
+  -- The result is a record or this error. The numbers are those of the encoding and of its code unit among the types.
   module _ (at : NamedLft) (i j : ℕ) (T' U : RattleType) where
     abbrev pub RecordRow : RattleType
     RecordRow = IxdtfParseRecord.the_row at (param i T') (copied j U)

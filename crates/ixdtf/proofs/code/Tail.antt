@@ -1,4 +1,4 @@
--- What the code read of a core, and of the first bracket after it, as what the text is.
+-- What the code read as a core, and as the first bracket after it, gives what the text is.
 use Rattle.std.proofs.Common.{◌≡◌, ℕ, ◌≤◌, ◌+◌, suc, Bool, true, false, List, [], ◌∷◌, ◌++◌, length, map, Option, None, Result, Ok, Err, refl, sym, ap, ◌∙◌, subst}
 use Rattle.std.proofs.{Common.arith, lemmas.List.{length-map, length-append}}
 use Rattle.ixdtf_grammar.specs.language.{Letters.{Letter, Text, Letter.Plain}, Cores.Core, Brackets.Pair, Languages.parsed_with, Readers.{CoreKind, has_exact_zones}}
@@ -12,20 +12,20 @@ use Rattle.ixdtf.specs.Readings.{core_looks}
 use Rattle.ixdtf_brackets.specs.BracketTypes.{exact_looks}
 use Rattle.ixdtf.proofs.code.Chains.{text_result, text_fault, text_derived, text_read}
 
--- ---- what is looked at
+-- ---- accesses
 
 pub core_at_most : (exact : Bool) (count : ℕ) → core_looks exact count ≤ count + 38
 core_at_most true count = omega arith
 core_at_most false count = omega arith
 
--- where a zone has to be exact, the core costs so much less
+-- If a zone has to be exact, the bound for the core is smaller by the accesses that the test of the zone takes.
 pub looks_at_most : (exact same : Bool) → exact ≡ same → (count left : ℕ) → suc left ≤ count → core_looks same count + exact_looks exact left ≤ count + 38
 looks_at_most true same is count left less = rw (← is) (omega (arith, less))
 looks_at_most false same is count left less = rw (← is) (omega (arith, less))
 
 -- ---- a core
 
--- what a core was read of
+-- The text from which a core was read begins with this core.
 core_is : (kind : CoreKind) (text rest : Text) (core : ClosedCore) → core_at error_of kind text ≡ Ok (core, rest) → CoreFront kind text core rest
 core_is kind text rest core is = subst (ReadsCore error_of kind text) is (core_read error_of text kind)
 
@@ -33,14 +33,14 @@ split_shortens : (text front rest : Text) (has_bracket : Bool) → Splits text f
 split_shortens text front rest true h = omega (arith, ap (λ t. length t) h, length-append front (Plain 91 ∷ rest))
 split_shortens text front rest false h = omega (arith, ap (λ t. length t) h.1)
 
--- what is left after a core is no longer than the text
+-- The rest after a core is not longer than the text.
 pub core_shortens : (kind : CoreKind) (letter : ℕ → Letter) (units left : List ℕ) (core : ClosedCore)
     → core_at error_of kind (map letter units) ≡ Ok (core, map letter left) → length left ≤ length units
 core_shortens kind letter units left core is =
     let h = core_is kind _ _ core is in
     omega (arith, split_shortens _ h.0 _ core.1 h.1, length-map units letter, length-map left letter)
 
--- what is left after a core and a `[` is shorter than the text
+-- The rest after a core and a `[` is shorter than the text.
 pub core_opens : (kind : CoreKind) (letter : ℕ → Letter) (units left : List ℕ) (core : Core)
     → core_at error_of kind (map letter units) ≡ Ok ((core, true), map letter left) → suc (length left) ≤ length units
 core_opens kind letter units left core is =
@@ -48,7 +48,7 @@ core_opens kind letter units left core is =
     let opens = ap (λ t. length t) h.1 in
     omega (arith, opens, length-append h.0 (Plain 91 ∷ map letter left), length-map units letter, length-map left letter)
 
--- nothing is left after a core without a bracket
+-- If no bracket follows a core, no text is left after it.
 pub core_ends_text : (kind : CoreKind) (text rest : Text) (core : Core) → core_at error_of kind text ≡ Ok ((core, false), rest) → rest ≡ []
 core_ends_text kind text rest core is = (core_is kind text rest (core, false) is).1.1
 
@@ -61,30 +61,30 @@ bracket_is : (exact : Bool) (inner rest : Text) (bracket : Bracket) → bracket_
     → BracketFront exact (Plain 91 ∷ inner) bracket rest
 bracket_is exact inner rest bracket is = subst (OnBracket exact inner) is (bracket_by_read error_of exact inner)
 
--- what is left after a bracket is no longer than the text
+-- The rest after a bracket is not longer than the text.
 pub bracket_shortens : (exact : Bool) (letter : ℕ → Letter) (units left : List ℕ) (bracket : Bracket) → bracket_by error_of exact (map letter units) ≡ Ok (bracket, map letter left)
     → length left ≤ suc (length units)
 bracket_shortens exact letter units left bracket is =
     let h = bracket_is exact _ _ bracket is in
     omega (arith, ap (λ t. length t) h.1, length-append h.0 (map letter left), length-map units letter, length-map left letter)
 
--- ---- the whole text
+-- ---- the complete text
 
 module _ {T U F : Type 0} (number : U → ℕ) (step : Step T U F) (handler : F) where
-  -- a core that is refused
+  -- The core is refused.
   pub core_refused : (kind : CoreKind) (text : Text) (fault : Placed) → core_at error_of kind text ≡ Err fault
       → TextRead number step handler handler (bracketed kind) text (Err fault)
   core_refused kind text fault is =
       let row = subst (ReadsCore error_of kind text) is (core_read error_of text kind) in
       text_fault number step handler text _ fault (row.0, row.2, sym row.1)
 
-  -- a core, and the end
+  -- The text is a core, and ends after it.
   pub core_alone : (exact : Bool) (core : Core) (rest : Text) → TextReadAfter number step handler handler exact core false rest (Ok (with_calendar (parsed_with core None) None))
   core_alone exact core rest kind text asked is =
       let h = core_is kind text rest (core, false) is in
       text_derived number step handler text kind core (rw h.1.0 h.2)
 
-  -- a first bracket that is refused
+  -- The first bracket is refused.
   pub first_refused : (exact : Bool) (core : Core) (inner : Text) (fault : Placed) → bracket_by error_of exact inner ≡ Err fault
       → TextReadAfter number step handler handler exact core true inner (Err fault)
   first_refused exact core inner fault refused kind text asked is =
@@ -93,7 +93,7 @@ module _ {T U F : Type 0} (number : U → ℕ) (step : Step T U F) (handler : F)
       let fits : FitsBracket (has_exact_zones kind) row.0 (Plain 91 ∷ inner) = rw asked row.2 in
       text_fault number step handler text _ fault (row.0, after_core_by kind row.0 text h.0 (Plain 91 ∷ inner) h.1 (core, h.2) fits, sym row.1)
 
-  -- a first bracket, and the pairs after it
+  -- A first bracket was read, and the annotations after it.
   pub first_read : (exact : Bool) (core : Core) (inner : Text) (last : F) (bracket : Bracket) (rest : Text) (result : Result (Option Pair) Placed)
       → bracket_by error_of exact inner ≡ Ok (bracket, rest) → PairsRead number step handler last (pairs_in bracket) rest result
       → TextReadAfter number step handler last exact core true inner (text_result core bracket result)

@@ -36,7 +36,7 @@ use ixdtf_times::time::{Clock, TimeShape, WholeTime, parse_after_second, parse_c
 
 /// A type that reads cores of one kind.
 ///
-/// The functions that read complete texts are generic in it. So no code tests the kind while it runs.
+/// The functions that read complete texts are generic in this type. So no code tests the kind at run time.
 pub trait CoreReader {
     /// The kind of the cores, under a profile.
     ghost kind: { Profile → CoreKind };
@@ -55,7 +55,7 @@ pub trait CoreReader {
         ensures kept { KeepsBrackets found.old found.new }
         ensures looks { Spends (core_looks (exact_zones (kind profile)) (length cursor.old.rest)) cursor.old cursor.new };
 
-    /// Returns whether a zone behind the core has to be exactly one of RFC 9557.
+    /// Returns whether a zone after the core has to be exactly one of RFC 9557.
     fn has_exact_zones() -> bool
         ensures { (profile : Profile) → result ≡ exact_zones (kind profile) };
 }
@@ -216,8 +216,8 @@ fn parse_date_time<'a, T: EncodingType>(
 
 /// Reads what follows a date and a time in fixed columns, and writes all into the record.
 ///
-/// `time` is a local variable of this function, for speed. If a function that is not inlined wrote it, it would be in
-/// memory, and the processor would have to wait for single bytes before it could copy them as one block.
+/// For speed, `time` is a local variable of this function. If a function that is not inlined wrote `time`, it would be in
+/// memory. Then the processor would have to wait for single bytes before it could copy them as one block.
 #[inline(always)]
 #[tactic(auto, unfolding(ixdtf_reading::specs::reading::Cores::whole_time_core_at))]
 fn parse_after_fixed<'a, T: EncodingType>(
@@ -284,7 +284,7 @@ fn parse_timed<'a, T: EncodingType>(
     parse_after_time(cursor, time, found)
 }
 
-/// Reads a time as far as it goes. It works on a second cursor, so that `cursor` can stay a local variable.
+/// Reads a time, and not what follows it. The function works on a second cursor, so that `cursor` can stay a local variable.
 #[inline(always)]
 fn parse_time_of_day<'a, T: EncodingType>(
     cursor: &mut Cursor<'a, T>,

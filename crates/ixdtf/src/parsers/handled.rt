@@ -74,7 +74,7 @@ impl<'a, T: EncodingType> IxdtfParser<'a, T> {
     /// assert_eq!((read, calls), (Err(ParseError::InvalidEnd), 2));
     /// ```
     ///
-    /// A function that passes a handler on needs the bound of this function:
+    /// A function that passes its handler on to this method needs the same bound on the type of the handler:
     ///
     /// ```rust
     /// use ixdtf::ParserResult;
@@ -95,7 +95,7 @@ impl<'a, T: EncodingType> IxdtfParser<'a, T> {
     ///
     /// # Errors
     ///
-    /// The errors of [`parse`](Self::parse). `CriticalDuplicateCalendar` and `UnrecognizedCritical` are about the
+    /// Returns the errors of [`parse`](Self::parse). `CriticalDuplicateCalendar` and `UnrecognizedCritical` are about the
     /// annotations that the handler returns, and not about those in the text. After the first of these two errors, the
     /// rest of the text is not read.
     pub fn parse_with_annotation_handler<F>(
@@ -130,7 +130,7 @@ impl<'a, T: EncodingType> IxdtfParser<'a, T> {
     ///
     /// # Errors
     ///
-    /// The errors of [`parse_rfc9557`](Self::parse_rfc9557). `CriticalDuplicateCalendar` and `UnrecognizedCritical`
+    /// Returns the errors of [`parse_rfc9557`](Self::parse_rfc9557). `CriticalDuplicateCalendar` and `UnrecognizedCritical`
     /// are about the annotations that the handler returns.
     pub fn parse_rfc9557_with_annotation_handler<F>(
         &mut self,
@@ -163,7 +163,7 @@ impl<'a, T: EncodingType> IxdtfParser<'a, T> {
     ///
     /// # Errors
     ///
-    /// The errors of [`parse_year_month`](Self::parse_year_month). `CriticalDuplicateCalendar` and
+    /// Returns the errors of [`parse_year_month`](Self::parse_year_month). `CriticalDuplicateCalendar` and
     /// `UnrecognizedCritical` are about the annotations that the handler returns.
     pub fn parse_year_month_with_annotation_handler<F>(
         &mut self,
@@ -196,7 +196,7 @@ impl<'a, T: EncodingType> IxdtfParser<'a, T> {
     ///
     /// # Errors
     ///
-    /// The errors of [`parse_month_day`](Self::parse_month_day). `CriticalDuplicateCalendar` and `UnrecognizedCritical`
+    /// Returns the errors of [`parse_month_day`](Self::parse_month_day). `CriticalDuplicateCalendar` and `UnrecognizedCritical`
     /// are about the annotations that the handler returns.
     pub fn parse_month_day_with_annotation_handler<F>(
         &mut self,
@@ -229,7 +229,7 @@ impl<'a, T: EncodingType> IxdtfParser<'a, T> {
     ///
     /// # Errors
     ///
-    /// The errors of [`parse_time`](Self::parse_time). `CriticalDuplicateCalendar` and `UnrecognizedCritical` are about
+    /// Returns the errors of [`parse_time`](Self::parse_time). `CriticalDuplicateCalendar` and `UnrecognizedCritical` are about
     /// the annotations that the handler returns.
     pub fn parse_time_with_annotation_handler<F>(
         &mut self,
@@ -244,7 +244,7 @@ impl<'a, T: EncodingType> IxdtfParser<'a, T> {
         self.read_as::<ParseError, Times, F>(handler)
     }
 
-    /// Parses the remaining input as a date, or as a date and a time, with a handler. An error has its position.
+    /// Parses the remaining input as a date, or as a date and a time, with a handler. An error includes its position.
     ///
     /// This is [`parse_with_annotation_handler`](Self::parse_with_annotation_handler) with positions as in
     /// [`parse_located`](Self::parse_located).
@@ -261,7 +261,7 @@ impl<'a, T: EncodingType> IxdtfParser<'a, T> {
     ///
     /// # Errors
     ///
-    /// The errors of [`parse_with_annotation_handler`](Self::parse_with_annotation_handler), each with its position. If
+    /// Returns the errors of [`parse_with_annotation_handler`](Self::parse_with_annotation_handler), each with its position. If
     /// a reply is refused, the position is after the bracket of its annotation.
     pub fn parse_with_annotation_handler_located<F>(
         &mut self,
@@ -276,7 +276,7 @@ impl<'a, T: EncodingType> IxdtfParser<'a, T> {
         self.read_as::<LocatedError, DateTimes, F>(handler)
     }
 
-    /// Parses the remaining input as a text of RFC 9557, with a handler. An error has its position.
+    /// Parses the remaining input as a text of RFC 9557, with a handler. An error includes its position.
     ///
     /// This is [`parse_rfc9557_with_annotation_handler`](Self::parse_rfc9557_with_annotation_handler) with positions as
     /// in [`parse_rfc9557_located`](Self::parse_rfc9557_located).
@@ -293,7 +293,7 @@ impl<'a, T: EncodingType> IxdtfParser<'a, T> {
     ///
     /// # Errors
     ///
-    /// The errors of [`parse_rfc9557_with_annotation_handler`](Self::parse_rfc9557_with_annotation_handler), each with
+    /// Returns the errors of [`parse_rfc9557_with_annotation_handler`](Self::parse_rfc9557_with_annotation_handler), each with
     /// its position. If a reply is refused, the position is after the bracket of its annotation.
     pub fn parse_rfc9557_with_annotation_handler_located<F>(
         &mut self,
@@ -308,7 +308,7 @@ impl<'a, T: EncodingType> IxdtfParser<'a, T> {
         self.read_as::<LocatedError, InternetDateTimes, F>(handler)
     }
 
-    /// Parses the remaining input as a year and a month, with a handler. An error has its position.
+    /// Parses the remaining input as a year and a month, with a handler. An error includes its position.
     ///
     /// This is [`parse_year_month_with_annotation_handler`](Self::parse_year_month_with_annotation_handler) with
     /// positions as in [`parse_year_month_located`](Self::parse_year_month_located).
@@ -325,7 +325,7 @@ impl<'a, T: EncodingType> IxdtfParser<'a, T> {
     ///
     /// # Errors
     ///
-    /// The errors of [`parse_year_month_with_annotation_handler`](Self::parse_year_month_with_annotation_handler), each
+    /// Returns the errors of [`parse_year_month_with_annotation_handler`](Self::parse_year_month_with_annotation_handler), each
     /// with its position. If a reply is refused, the position is after the bracket of its annotation.
     pub fn parse_year_month_with_annotation_handler_located<F>(
         &mut self,
@@ -340,7 +340,7 @@ impl<'a, T: EncodingType> IxdtfParser<'a, T> {
         self.read_as::<LocatedError, YearMonths, F>(handler)
     }
 
-    /// Parses the remaining input as a month and a day, with a handler. An error has its position.
+    /// Parses the remaining input as a month and a day, with a handler. An error includes its position.
     ///
     /// This is [`parse_month_day_with_annotation_handler`](Self::parse_month_day_with_annotation_handler) with
     /// positions as in [`parse_month_day_located`](Self::parse_month_day_located).
@@ -357,7 +357,7 @@ impl<'a, T: EncodingType> IxdtfParser<'a, T> {
     ///
     /// # Errors
     ///
-    /// The errors of [`parse_month_day_with_annotation_handler`](Self::parse_month_day_with_annotation_handler), each
+    /// Returns the errors of [`parse_month_day_with_annotation_handler`](Self::parse_month_day_with_annotation_handler), each
     /// with its position. If a reply is refused, the position is after the bracket of its annotation.
     pub fn parse_month_day_with_annotation_handler_located<F>(
         &mut self,
@@ -372,7 +372,7 @@ impl<'a, T: EncodingType> IxdtfParser<'a, T> {
         self.read_as::<LocatedError, MonthDays, F>(handler)
     }
 
-    /// Parses the remaining input as a time, with a handler. An error has its position.
+    /// Parses the remaining input as a time, with a handler. An error includes its position.
     ///
     /// This is [`parse_time_with_annotation_handler`](Self::parse_time_with_annotation_handler) with positions as in
     /// [`parse_time_located`](Self::parse_time_located).
@@ -389,7 +389,7 @@ impl<'a, T: EncodingType> IxdtfParser<'a, T> {
     ///
     /// # Errors
     ///
-    /// The errors of [`parse_time_with_annotation_handler`](Self::parse_time_with_annotation_handler), each with its
+    /// Returns the errors of [`parse_time_with_annotation_handler`](Self::parse_time_with_annotation_handler), each with its
     /// position. If a reply is refused, the position is after the bracket of its annotation.
     pub fn parse_time_with_annotation_handler_located<F>(
         &mut self,
@@ -433,7 +433,7 @@ impl<'a, T: EncodingType> IxdtfParser<'a, T> {
     ///
     /// # Errors
     ///
-    /// The errors of the reader of this kind with a handler.
+    /// Returns the errors of the reader of this kind with a handler.
     #[doc(hidden)]
     #[inline(always)]
     pub fn read_lending_handler<E: FromStop, C: CoreReader, F>(

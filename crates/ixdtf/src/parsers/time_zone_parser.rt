@@ -260,7 +260,7 @@ impl<'a, T: EncodingType> TimeZoneParser<'a, T> {
         }
     }
 
-    /// Parses the remaining input as an offset from UTC, like [`parse_offset`](Self::parse_offset). An error has its
+    /// Parses the remaining input as an offset from UTC, like [`parse_offset`](Self::parse_offset). An error includes its
     /// position.
     ///
     /// The position is the number of code units before the error. It is the index of the code unit that does not fit,
@@ -285,7 +285,7 @@ impl<'a, T: EncodingType> TimeZoneParser<'a, T> {
     ///
     /// # Errors
     ///
-    /// The errors of [`parse_offset`](Self::parse_offset), each with its position.
+    /// Returns the errors of [`parse_offset`](Self::parse_offset), each with its position.
     pub fn parse_offset_located(&mut self) -> Result<UtcOffsetRecord, LocatedError>
         ensures reads { ReadsPartAt T.letter (λ offset. offset) shifted parse_offset self.old result self.new }
     {
@@ -295,7 +295,7 @@ impl<'a, T: EncodingType> TimeZoneParser<'a, T> {
     }
 
     /// Parses the remaining input as the name of a time zone, like
-    /// [`parse_iana_identifier`](Self::parse_iana_identifier). An error has its position.
+    /// [`parse_iana_identifier`](Self::parse_iana_identifier). An error includes its position.
     ///
     /// The position is the number of code units before the error. It is the index of the code unit that does not fit,
     /// or the end of the input if the input ends too early.
@@ -317,7 +317,7 @@ impl<'a, T: EncodingType> TimeZoneParser<'a, T> {
     ///
     /// # Errors
     ///
-    /// The errors of [`parse_iana_identifier`](Self::parse_iana_identifier), each with its position.
+    /// Returns the errors of [`parse_iana_identifier`](Self::parse_iana_identifier), each with its position.
     pub fn parse_iana_identifier_located(&mut self) -> Result<&'a [T::CodeUnit], LocatedError>
         ensures reads { ReadsPartAt T.letter (λ units. map T.number units.now) named parse_iana_identifier self.old result self.new }
     {
@@ -326,7 +326,7 @@ impl<'a, T: EncodingType> TimeZoneParser<'a, T> {
         self.cursor.settle(here, outcome)
     }
 
-    /// Parses the remaining input as a time zone, like [`parse_identifier`](Self::parse_identifier). An error has its
+    /// Parses the remaining input as a time zone, like [`parse_identifier`](Self::parse_identifier). An error includes its
     /// position.
     ///
     /// The position is the number of code units before the error. It is the index of the code unit that does not fit,
@@ -350,7 +350,7 @@ impl<'a, T: EncodingType> TimeZoneParser<'a, T> {
     ///
     /// # Errors
     ///
-    /// The errors of [`parse_identifier`](Self::parse_identifier), each with its position.
+    /// Returns the errors of [`parse_identifier`](Self::parse_identifier), each with its position.
     pub fn parse_identifier_located(&mut self) -> Result<TimeZoneRecord<'a, T>, LocatedError>
         ensures reads { ReadsPartAt T.letter (zone_of T.number) identified parse_identifier self.old result self.new }
     {

@@ -1,4 +1,4 @@
-//! What is computed of the fields of a record, and the names of what calls return.
+//! Tests of the functions that compute something from the fields of a record, and of the names of numbers.
 
 use super::narrow::RECORD;
 use super::rows::DURATION;
@@ -14,7 +14,7 @@ use crate::names::ixdtf_error_constant;
 use crate::narrow::{Annotation, Calendar, ixdtf_keep_calendar};
 use crate::wide::ixdtf16_keep_calendar;
 
-/// Numbers of fractions with how many digits they have, and their nanoseconds.
+/// Each row has the digits of a fraction as one number, the number of digits, and the nanoseconds.
 const FRACTIONS: [(u64, u8, u32); 7] = [
     (5, 1, 500_000_000),
     (987_654_321, 9, 987_654_321),
@@ -32,7 +32,7 @@ fn gives_nanoseconds(rt: HostRuntime) {
     }
 }
 
-/// Offsets with their seconds.
+/// Each row has the text of an offset, and its seconds.
 const OFFSETS: [(&[u8], i32); 4] = [
     (b"+05:30", 19800),
     (b"-05:00", -18000),
@@ -52,7 +52,7 @@ fn gives_seconds(rt: HostRuntime) {
     assert_eq!(rt; ixdtf_offset_seconds(&record.offset), 0);
 }
 
-/// What is returned of a date, of a date and a time, and of these with `Z` and with an offset, and the instant.
+/// Each row has a text, the number that `ixdtf_instant` returns, and the seconds and nanoseconds afterwards.
 const INSTANTS: [(&[u8], u32, i64, u32); 4] = [
     (b"2024-03-02", 103, 7, 8),
     (b"2024-03-02T08:48", 103, 7, 8),
@@ -77,7 +77,7 @@ fn gives_instants(rt: HostRuntime) {
     assert_eq!(rt; found.1, 200_000_000);
 }
 
-/// What is returned of durations, and their fractions.
+/// Each row has a duration, the number that `ixdtf_duration_fraction` returns, and the seconds and nanoseconds afterwards.
 const LAST_FRACTIONS: [(&[u8], u32, u32, u32); 5] = [
     (b"PT1.5H", 0, 1800, 0),
     (b"-PT0,000000001M", 0, 0, 60),
@@ -109,7 +109,7 @@ fn gives_lengths(rt: HostRuntime) {
     assert_eq!(rt; ixdtf_printed_length(&record), 0);
 }
 
-/// Numbers with the names of what they are.
+/// Each row has a number and its name. The number 47 has no name.
 const NAMES: [(u32, &[u8]); 8] = [
     (0, b"IXDTF_OK"),
     (10, b"IXDTF_DATE_MONTH"),

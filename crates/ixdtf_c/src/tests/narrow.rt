@@ -1,4 +1,4 @@
-//! Each call on 8-bit units.
+//! Tests of the functions for 8-bit text.
 
 use super::rows::{
     Call, DATE, DURATION, DURATION_ROWS, LIST_ROWS, ListCall, OFFSET, REPLY_ROWS, ROWS, TIME,
@@ -7,7 +7,7 @@ use crate::exports::*;
 use crate::narrow::{Annotation, Calendar, Record, Zone};
 use crate::turns::parse_in_turn;
 
-/// A record in which all fields are set.
+/// A record in which no field is 0, false or empty.
 pub(super) const RECORD: Record<'static> = Record {
     date: DATE,
     time: TIME,
@@ -26,14 +26,14 @@ pub(super) const RECORD: Record<'static> = Record {
     place: 1,
 };
 
-/// An annotation of no units.
+/// An annotation whose key and value are empty.
 const ANNOTATION: Annotation<'static> = Annotation {
     key: &[],
     value: &[],
     is_critical: false,
 };
 
-/// Makes the call.
+/// Calls the reader that `call` names.
 fn call<'a>(call: Call, text: &'a [u8], out: &mut Record<'a>) -> u32 {
     match call {
         Call::Parse => ixdtf_parse(text, out),
@@ -50,7 +50,7 @@ fn call<'a>(call: Call, text: &'a [u8], out: &mut Record<'a>) -> u32 {
     }
 }
 
-/// Makes the call that lists.
+/// Calls the reader that `call` names. This reader lists annotations.
 fn list<'a>(
     call: ListCall,
     text: &'a [u8],

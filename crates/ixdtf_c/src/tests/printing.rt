@@ -1,4 +1,4 @@
-//! Records printed as their canonical texts.
+//! Tests of the printers.
 
 use super::narrow::RECORD;
 use super::rows::DURATION;
@@ -17,7 +17,7 @@ use crate::printers::{
 use crate::printing::ixdtf_print;
 use std::process::Abort;
 
-/// The record is printed so, and into one byte less it is not.
+/// Checks that a record is printed as `canonical`, and that it is not printed if the array is one byte too short.
 fn check_printed(rt: &impl Abort, given: &Record<'_>, canonical: &[u8]) {
     let mut out = [7; 128];
     let mut count = 9;
@@ -33,7 +33,7 @@ fn check_printed(rt: &impl Abort, given: &Record<'_>, canonical: &[u8]) {
     assert!(rt; out.iter().all(|byte| *byte == 7));
 }
 
-/// The record is not printed, and what was handed in stays.
+/// Checks that a record cannot be printed, and that the array and `count` are unchanged.
 fn check_refused(rt: &impl Abort, given: &Record<'_>) {
     let mut out = [7; 128];
     let mut count = 9;
@@ -42,7 +42,7 @@ fn check_refused(rt: &impl Abort, given: &Record<'_>) {
     assert!(rt; out.iter().all(|byte| *byte == 7));
 }
 
-/// Texts, and the canonical ones of what they give.
+/// Each row has a text, and the canonical text of its record.
 const CANONICAL: [(&[u8], &[u8]); 3] = [
     (
         b"20240302 084800,250-053010,5[!etc/utc][u-ca=hebrew][a=b]",
@@ -64,7 +64,7 @@ fn prints_what_was_read(rt: HostRuntime) {
     }
 }
 
-/// The date of 2024-02-29.
+/// The date 2024-02-29.
 const DATE: Date = Date {
     year: 2024,
     month: 2,
@@ -93,7 +93,7 @@ const OFFSET: Offset = Offset {
     second: 0,
 };
 
-/// Dates, times and offsets of which no record is printed.
+/// Each row has a date, a time and an offset. The record with these three parts cannot be printed.
 const NOT_PRINTED: [(Date, Time, Offset); 6] = [
     (Date { year: 2023, ..DATE }, TIME, OFFSET),
     (
@@ -156,7 +156,7 @@ fn prints_no_record_without_a_text(rt: HostRuntime) {
     check_refused(&rt, &record);
 }
 
-/// Texts of durations, and the canonical ones.
+/// Each row has the text of a duration, and its canonical text.
 const CANONICAL_DURATIONS: [(&[u8], &[u8]); 3] = [
     (b"+p1y0m03dt04,50m", b"P1Y3DT4.50M"),
     (b"-P0W", b"-P0D"),

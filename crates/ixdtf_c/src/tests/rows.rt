@@ -1,9 +1,9 @@
-//! What the calls are tried on.
+//! The tables of texts and replies for the tests of both widths.
 
 use crate::durations::Duration;
 use crate::forms::{Date, Offset, Time};
 
-/// The calls that read a record.
+/// The readers that write a record.
 #[derive(Clone, Copy)]
 pub(super) enum Call {
     Parse,
@@ -19,26 +19,26 @@ pub(super) enum Call {
     IanaIdentifier,
 }
 
-/// A text, and what a call gives of it in a record in which all fields are set.
+/// A text, and what a reader returns and writes for it. Before the call, no field of the record is 0, false or empty.
 #[derive(Clone, Copy)]
 pub(super) struct Row {
     pub call: Call,
     pub text: &'static [u8],
-    /// What the call returns.
+    /// The number that the function returns.
     pub number: u32,
     /// The year, the month and the day.
     pub date: (i32, u8, u8),
-    /// The hour, the minute, and the number of the fraction.
+    /// The hour, the minute, and the digits of the fraction as one number.
     pub time: (u8, u8, u64),
-    /// The form, the hours and the seconds.
+    /// The form, the hours and the seconds of the offset.
     pub offset: (u8, u8, u8),
-    /// The form, the hours, and how many units the name has.
+    /// The form and the hours of the zone, and the number of code units of its name.
     pub zone: (u8, u8, usize),
-    /// How many units the calendar and the location have, and the place.
+    /// The lengths of the calendar and of the location, and the position of the error.
     pub others: (usize, usize, usize),
 }
 
-/// The date of a record in which all fields are set.
+/// A date in which no field is 0 or false.
 pub(super) const DATE: Date = Date {
     year: 1,
     month: 1,
@@ -46,7 +46,7 @@ pub(super) const DATE: Date = Date {
     is_there: true,
 };
 
-/// Its time.
+/// A time in which no field is 0 or false.
 pub(super) const TIME: Time = Time {
     fraction: 1,
     fraction_digits: 1,
@@ -56,7 +56,7 @@ pub(super) const TIME: Time = Time {
     is_there: true,
 };
 
-/// Its offset.
+/// An offset in which no field is 0 or false.
 pub(super) const OFFSET: Offset = Offset {
     fraction: 1,
     fraction_digits: 1,
@@ -270,7 +270,7 @@ pub(super) const ROWS: [Row; 20] = [
     },
 ];
 
-/// The calls that list annotations.
+/// The readers that list annotations.
 #[derive(Clone, Copy)]
 pub(super) enum ListCall {
     Parse,
@@ -282,16 +282,17 @@ pub(super) enum ListCall {
     Rfc9557,
 }
 
-/// A text, and what a call that lists gives of it, with room for two annotations.
+/// A text, and what a reader that lists annotations returns and writes for it. The array has two elements.
 #[derive(Clone, Copy)]
 pub(super) struct ListRow {
     pub call: ListCall,
     pub text: &'static [u8],
-    /// What the call returns, and the place.
+    /// The number that the function returns, and the position of the error.
     pub outcome: (u32, usize),
-    /// How many annotations there are.
+    /// The number of annotations.
     pub count: usize,
-    /// Whether the second is critical, and how many units its key and its value have; those of the slot where it has none.
+    /// Whether the second element is critical, and the lengths of its key and its value. If the text has only one annotation,
+    /// the second element is unchanged.
     pub second: (bool, usize, usize),
 }
 
@@ -354,16 +355,16 @@ pub(super) const LIST_ROWS: [ListRow; 8] = [
     },
 ];
 
-/// A text, and what a reader of durations gives of it.
+/// The text of a duration, and what the reader returns and writes for it. Before the call, all fields are those of [`DURATION`].
 #[derive(Clone, Copy)]
 pub(super) struct DurationRow {
     pub is_strict: bool,
     pub text: &'static [u8],
-    /// What the call returns, and the place.
+    /// The number that the function returns, and the position of the error.
     pub outcome: (u32, usize),
     /// Whether the duration is negative, and its years, weeks and days.
     pub date: (bool, u32, u32, u64),
-    /// The form, the hours, the minutes and the number of the fraction.
+    /// The form, the hours and the minutes of the time, and the digits of the fraction as one number.
     pub time: (u8, u64, u64, u64),
 }
 
@@ -391,7 +392,7 @@ pub(super) const DURATION_ROWS: [DurationRow; 3] = [
     },
 ];
 
-/// A duration in which all fields are set.
+/// A duration in which no field is 0, false or empty.
 pub(super) const DURATION: Duration<'static> = Duration {
     days: 9,
     hours: 9,
@@ -409,15 +410,15 @@ pub(super) const DURATION: Duration<'static> = Duration {
     place: 9,
 };
 
-/// A reply, and what is returned and kept after those before it.
+/// A reply, the number that is returned for it, and the calendar afterwards. The replies before it were passed first.
 #[derive(Clone, Copy)]
 pub(super) struct ReplyRow {
     pub key: &'static [u8],
     pub value: &'static [u8],
     pub is_critical: bool,
-    /// What the call returns.
+    /// The number that the function returns.
     pub number: u32,
-    /// Whether a calendar is kept, and how many units it has.
+    /// Whether a calendar is kept, and the number of code units of its value.
     pub kept: (bool, usize),
 }
 

@@ -1,10 +1,10 @@
-//! Each call on 16-bit units.
+//! Tests of the functions for 16-bit text.
 
 use super::rows::{Call, DATE, DURATION, DURATION_ROWS, LIST_ROWS, ListCall, OFFSET, ROWS, TIME};
 use crate::exports::*;
 use crate::wide::{Annotation, Calendar, Record, Zone};
 
-/// A record in which all fields are set.
+/// A record in which no field is 0, false or empty.
 pub(super) const RECORD: Record<'static> = Record {
     date: DATE,
     time: TIME,
@@ -23,14 +23,14 @@ pub(super) const RECORD: Record<'static> = Record {
     place: 1,
 };
 
-/// An annotation of no units.
+/// An annotation whose key and value are empty.
 const ANNOTATION: Annotation<'static> = Annotation {
     key: &[],
     value: &[],
     is_critical: false,
 };
 
-/// The units of the bytes.
+/// Returns the bytes as 16-bit code units. The code units after them are 0.
 fn units_of(bytes: &[u8]) -> [u16; 64] {
     let mut units = [0u16; 64];
     for (unit, byte) in units.iter_mut().zip(bytes) {
@@ -39,7 +39,7 @@ fn units_of(bytes: &[u8]) -> [u16; 64] {
     units
 }
 
-/// Makes the call.
+/// Calls the reader that `call` names.
 fn call<'a>(call: Call, text: &'a [u16], out: &mut Record<'a>) -> u32 {
     match call {
         Call::Parse => ixdtf16_parse(text, out),
@@ -56,7 +56,7 @@ fn call<'a>(call: Call, text: &'a [u16], out: &mut Record<'a>) -> u32 {
     }
 }
 
-/// Makes the call that lists.
+/// Calls the reader that `call` names. This reader lists annotations.
 fn list<'a>(
     call: ListCall,
     text: &'a [u16],

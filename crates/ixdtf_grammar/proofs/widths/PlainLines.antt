@@ -1,4 +1,4 @@
--- The front of each line is plain.
+-- The prefix of each line is plain.
 use Rattle.std.proofs.Common.{Bool}
 use Rattle.ixdtf_grammar.specs.{declared.{profile.Profile.Profile, records.DateRecord.DateRecord}, language.{Shapes.some, Dates.{Year, Month}}}
 use Rattle.ixdtf_grammar.specs.language.{Months.MonthDayText, Times.{Clock, TimeShape, BasicMinuteText, ColonMinuteText, ClockOf}}
@@ -14,7 +14,7 @@ use Rattle.ixdtf_grammar.specs.table.LineNames.{CoreLine.{dates, year_months, mo
 use Rattle.ixdtf_grammar.specs.table.LineNames.ClockLine.{minute_digits, minute_range, after_basic_minute, after_colon_minute, second_digits, second_range}
 use Rattle.ixdtf_grammar.specs.table.LineNames.{ClockLine.{after_second, fraction_start, after_fraction}, OffsetLine.{offset_start, after_zulu}}
 use Rattle.ixdtf_grammar.specs.table.LineNames.ZoneLine.{identifier_start, zone_name_start, in_zone_name, after_zone_slash}
-use Rattle.ixdtf_grammar.specs.table.LineNames.BracketLine.{first_bracket_start, first_critical_start, first_bracket_scan, first_name_form, first_offset_form, after_bracket}
+use Rattle.ixdtf_grammar.specs.table.LineNames.BracketLine.{first_bracket_start, first_critical_start, first_bracket_scan, first_dots_form, first_name_form, first_offset_form, after_bracket}
 use Rattle.ixdtf_grammar.specs.table.LineNames.PairLine.{key_start, critical_key_start, in_key, value_start, in_value, after_value_hyphen}
 use Rattle.ixdtf_grammar.specs.table.LineNames.DurationLine.{duration_start, after_duration_sign, after_duration_designator, after_date_groups}
 use Rattle.ixdtf_grammar.specs.table.LineNames.DurationLine.{after_time_designator, group_digits, group_value_range, unit_order, date_unit_range}
@@ -89,7 +89,7 @@ plain_clock clock shape = plain_inside (in_clock clock shape)
 plain_hour : PlainShape (some Hour)
 plain_hour = plain_some (λ text hour h. (plain_digits 2).plain text h.0)
 
--- a minute, before the digits of a second
+-- An hour and a minute are plain, before the digits of a second.
 plain_minute : PlainShape (some BasicMinuteText)
 plain_minute = plain_inside (in_clock Time basic_minutes)
 
@@ -128,6 +128,7 @@ plain_bracket_line : (name : BracketLine) → PlainShape (front_of (bracket_line
 plain_bracket_line first_bracket_start = plain_one
 plain_bracket_line first_critical_start = plain_one and_then plain_one
 plain_bracket_line first_bracket_scan = plain_one and_then plain_many plain_one
+plain_bracket_line first_dots_form = record { plain = λ text h. zone_bracket_plain text _ h.2.0 }
 plain_bracket_line first_name_form = record { plain = λ text h. zone_bracket_plain text _ h.2.0 }
 plain_bracket_line first_offset_form = record { plain = λ text h. zone_bracket_plain text _ h.2.0 }
 plain_bracket_line after_bracket = plain_nothing

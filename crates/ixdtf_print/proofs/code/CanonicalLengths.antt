@@ -52,7 +52,7 @@ pub canonical_long : (found : Parsed) → length (canonical_text found) ≡ leng
 unfolding canonical_text
 canonical_long found = length-append (core_text found) (brackets_text found)
 
--- a text that is short wherever there is one is always counted
+-- If a text is short whenever there is one, its length is always counted.
 pub always_counted : {A P F : Type 0} → A ↔ ¬ (P × F) → (P → F) → A ↔ ¬ P
 always_counted both short = (λ a p. both.0 a (p, short p), λ none. both.1 (λ h. none h.0))
 

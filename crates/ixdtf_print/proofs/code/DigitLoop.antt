@@ -6,7 +6,7 @@ use Rattle.ixdtf_grammar.proofs.PaddedDigits.{length-padded}
 use Rattle.ixdtf_print.specs.Prints.{HasRoom, Prints}
 use Rattle.ixdtf_print.proofs.code.PutBytes.{text_long, puts_length, puts_nothing, puts_before}
 
--- the digits of a number are those of its tenth, and its last digit
+-- The digits of a number are the digits of `number / 10` and its last digit.
 pub last_digit : (count number : ℕ) → padded_digits (suc count) number ≡ padded_digits count (number / 10) ++ (Plain (48 + number % 10) ∷ [])
 last_digit zero number = rw div-one refl
 last_digit (suc count) number =
@@ -14,7 +14,7 @@ last_digit (suc count) number =
     ∙ sym (div-div-eq-div-mul number 10 (10 ^ count)) in
     rw (tenth, last_digit count number) refl
 
--- The last digits of a number were put, and those of what is left of it go before them.
+-- The last digits of a number were written. The digits of `left`, the rest of the number, go before them.
 pub record LastDigits (old new : List ℕ) (from place to left count number : ℕ) : Type 0 where
   pub begun : from ≤ place
   pub done : Text
@@ -32,7 +32,7 @@ no_digit out from count number =
     }
 
 module _ {old new : List ℕ} {from place to left count number : ℕ} where
-  -- they end with the digits of the whole number
+  -- The written digits end at the index after the complete number.
   ends_all : LastDigits old new from place to left count number → to ≡ from + count
   ends_all d =
       omega (
@@ -45,7 +45,7 @@ module _ {old new : List ℕ} {from place to left count number : ℕ} where
         length-padded count number,
       )
 
-  -- there is room before them
+  -- The slice has enough bytes before the written digits.
   pub inside_room : HasRoom old from (padded_digits count number) → LastDigits old new from place to left count number
       → (place ≤ length old) × (length new ≡ length old)
   inside_room room d =
@@ -70,7 +70,7 @@ module _ {old new : List ℕ} {from place to left count number : ℕ} where
       let none : place - from ≡ 0 = omega arith in
       subst (Prints old new from to) (ap (λ k. padded_digits k left ++ d.done) (sym none) ∙ d.whole) (subst (λ k. Prints old new k to d.done) here d.puts)
 
--- two digits at once
+-- One step writes two digits.
 pub next_pair : {old new : List ℕ} {from place to left count number : ℕ} (pair here rest tens ones : ℕ) → HasRoom old from (padded_digits count number)
     → 2 ≤ place - from → pair ≡ left % 100 → tens ≡ 48 + pair / 10 % 10 → ones ≡ 48 + pair % 10 → here ≡ place - 2 → rest ≡ left / 100
     → LastDigits old new from place to left count number → LastDigits old (set (set new (place - 1) ones) here tens) from here to rest count number
@@ -81,7 +81,7 @@ next_pair {place = place} {left = left} pair here rest tens ones room more p t o
     let hundredth : rest ≡ left / 10 / 10 = omega arith in
     rw (last, first, before, hundredth) (next_digit room (omega arith) (next_digit room (omega arith) d))
 
--- the first digit, where their number is odd
+-- If the number of digits is odd, the first digit is written on its own.
 pub first_digit : {old new : List ℕ} {from place to left count number : ℕ} → HasRoom old from (padded_digits count number) → place ≡ from + 1
     → LastDigits old new from place to left count number → Prints old (set new from (48 + left % 10)) from to (padded_digits count number)
 first_digit {old = old} {new = new} {from = from} {place = place} {to = to} {left = left} {count = count} {number = number} room e d =

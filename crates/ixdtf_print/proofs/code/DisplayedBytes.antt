@@ -1,4 +1,4 @@
--- What is displayed of the parts of a canonical text.
+-- What `Display` writes for the parts of a canonical text.
 use Rattle.std.proofs.Common.{ℕ, ◌+◌, ◌<◌, ◌≡◌, List, [], ◌∷◌, ◌++◌, map, length, take, get_or, Some, codes, refl, sym, ◌∙◌, ap, arith, add-one, append-nil}
 use Rattle.std.proofs.{Common.take_all, Math.Seq.take-suc, lemmas.{List.map-append, Str.encodes-append}}
 use Rattle.std.specs.{Char.encode_utf8, Str.encode_utf8_all}
@@ -17,7 +17,7 @@ numbers (byte ∷ bytes) = ap (λ l. byte ∷ l) (numbers bytes)
 pub bytes-plain : (bytes : List ℕ) → bytes_of (map Plain bytes) ≡ encode_utf8_all bytes
 bytes-plain bytes = ap encode_utf8_all (numbers bytes)
 
--- ---- bytes, one behind another
+-- ---- bytes, one after another
 
 pub one_more : (bytes : List ℕ) (i d : ℕ) → i < length bytes
     → encode_utf8_all (take i bytes) ++ encode_utf8 (get_or bytes i d) ≡ encode_utf8_all (take (i + 1) bytes)
@@ -27,7 +27,7 @@ one_more bytes i d more =
     ∙ sym (encodes-append (take i bytes) (get_or bytes i d ∷ []))
     ∙ ap encode_utf8_all (sym longer)
 
--- ---- what was put at the front
+-- ---- what was written at the beginning
 
 front_bytes : (old new : List ℕ) (to : ℕ) (text : Text) → Prints old new 0 to text → encode_utf8_all (take to new) ≡ bytes_of text
 front_bytes old new to text p =
@@ -55,7 +55,7 @@ calendar_key : bytes_of (map Plain (codes "[u-ca=")) ≡ codes "[u-ca="
 unfolding lib.Utf8.encode
 calendar_key = refl
 
--- three texts in a row, of which the last is `]`
+-- Three texts follow each other, and the last is `]`.
 closed : (opening inside : Text) → bytes_of opening ++ (bytes_of inside ++ codes "]") ≡ bytes_of (opening ++ (inside ++ (Plain 93 ∷ [])))
 closed opening inside =
     ap (λ l. bytes_of opening ++ (bytes_of inside ++ l)) (sym closing)
@@ -74,7 +74,7 @@ calendar_bytes value =
     ∙ ap (λ l. bytes_of (map Plain (codes "[u-ca=")) ++ (l ++ codes "]")) (sym (bytes-plain value))
     ∙ closed (map Plain (codes "[u-ca=")) (map Plain value)
 
--- ---- the whole text
+-- ---- the complete text
 
 pub brackets_bytes : (found : Parsed) → bytes_of (bracket_text found.zone) ++ bytes_of (calendar_text found.calendar) ≡ bytes_of (brackets_text found)
 brackets_bytes found = sym (bytes-append (bracket_text found.zone) (calendar_text found.calendar))

@@ -8,7 +8,7 @@ use Rattle.ixdtf_grammar.proofs.PaddedDigits.{decimal-whole, ten_pos}
 use Rattle.ixdtf_print.specs.Durations.{number_text}
 use Rattle.ixdtf_print.proofs.{code.DigitLoop.last_digit, parts.PaddedDigits.padded_are, parts.DerivedDates.decimal_below}
 
--- the digits of a number are as many of its padded digits
+-- A number below 10 has one padded digit: the number itself.
 one_padded : (n : ℕ) → n < 10 → padded_digits 1 n ≡ map Plain ((48 + n) ∷ [])
 one_padded n small = let same : 48 + n / 1 % 10 ≡ 48 + n = omega arith in ap (λ c. Plain c ∷ []) same
 
@@ -29,7 +29,7 @@ number_long n = let spell : ℕ → Letter = λ n. Plain n in length-map (decima
 pub one_digit_is : (n : ℕ) → n < 10 → number_text n ≡ Plain (48 + n) ∷ []
 one_digit_is n small = ap (λ (l : List ℕ). map Plain l) (decimal_digit n small)
 
--- ---- how many they are
+-- ---- the number of digits
 
 ten_times : (n : ℕ) (ds : List ℕ) → 10 ≤ n → n / 10 < 10 ^ length ds → n < 10 ^ length (ds ++ ((48 + n % 10) ∷ []))
 ten_times n ds big h =
@@ -39,7 +39,7 @@ ten_times n ds big h =
 pub below_power : (n : ℕ) → n < 2 ^ 64 → n < 10 ^ length (decimal n)
 below_power = decimal_by_steps (λ m ds. m < 10 ^ length ds) (λ m small. small) ten_times
 
--- by the greatest power of ten that is not above the number
+-- The greatest power of ten that is not above the number gives the number of digits.
 pub counted : (n k : ℕ) → 10 ^ k ≤ n → n < 10 * 10 ^ k → n < 2 ^ 64 → length (number_text n) ≡ k + 1
 counted n k from to small = by_test (nat_le (length (decimal n)) k) refl
   where
@@ -49,12 +49,12 @@ counted n k from to small = by_test (nat_le (length (decimal n)) k) refl
         let more : k < length (decimal n) = grind (arith, nat_tests, h) in
         omega (arith, more, number_long n, length-decimal-le (suc k) n (omega arith) (rw (pow-succ' 10 k) (omega arith)) small)
 
--- no more than those of any text of the number
+-- A number has at most as many digits as any text of digits for this number.
 pub no_longer : (k n : ℕ) (text : Text) → digits (suc k) text → n ≡ decimal_of text → n < 2 ^ 64 → length (number_text n) ≤ suc k
 no_longer k n text d is small =
     omega (arith, number_long n, length-decimal-le (suc k) n (omega arith) (rw is (decimal_below (suc k) text d)) small)
 
--- ---- the digits of a front, and the last ones
+-- ---- the first digits, and the last ones
 
 pub number_split : (k n : ℕ) → 10 ^ k ≤ n → n < 2 ^ 64 → number_text n ≡ number_text (n / 10 ^ k) ++ padded_digits k n
 number_split zero n from small = rw (div-one, append-nil) refl
@@ -77,7 +77,7 @@ two_digits_are n tens ones from to t o =
     let last : 48 + n / 1 % 10 ≡ ones = omega arith in
     number_split 1 n from small ∙ rw (one_digit_is (n / 10) (omega arith)) (λ i. Plain (first i) ∷ (Plain (last i) ∷ []))
 
--- the last two digits by the rest of a division
+-- The rest of a division gives the last two digits.
 pub last_two : (n rest tens ones : ℕ) → 100 ≤ n → n < 2 ^ 64 → rest ≡ n % 100 → tens ≡ 48 + rest / 10 % 10 → ones ≡ 48 + rest % 10
     → number_text n ≡ number_text (n / 100) ++ (Plain tens ∷ (Plain ones ∷ []))
 last_two n rest tens ones from small is t o =
@@ -96,7 +96,7 @@ padded_append (suc a) b (suc k) n e =
     let rest : padded_digits k n ≡ padded_digits a (n / 10 ^ b) ++ padded_digits b n = padded_append a b k n (omega arith) in
     λ i. Plain (48 + front i % 10) ∷ rest i
 
--- the last four digits are those of the rest of a division
+-- The last four digits are those of the rest of a division by 10,000.
 four_rest : (n : ℕ) → padded_digits 4 n ≡ padded_digits 4 (n % 10000)
 four_rest n =
     let first : 48 + n / 1000 % 10 ≡ 48 + n % 10000 / 1000 % 10 = omega arith in

@@ -8,7 +8,7 @@ use Rattle.ixdtf_print.specs.Prints.{HasRoom, Prints, PrintsFront}
 long_bytes : (bytes : List ℕ) (text : Text) → map Plain bytes ≡ text → length bytes ≡ length text
 long_bytes bytes text e = let spell : ℕ → Letter = λ n. Plain n in sym (length-map bytes spell) ∙ ap length e
 
--- the text has as many letters as bytes were put
+-- The text has as many code units as bytes were written.
 pub text_long : (old new : List ℕ) (from to : ℕ) (text : Text) (p : Prints old new from to text) → to ≡ from + length text
 text_long old new from to text p = omega (arith, p.ends, long_bytes p.bytes text p.spelled)
 
@@ -42,13 +42,13 @@ puts_then {old = old} {mid = mid} {new = new} {from = from} {between = between} 
       ends = omega (arith, p.ends, q.ends, length-append p.bytes q.bytes);
     }
 
--- the slice is as long as it was
+-- The length of the slice is unchanged.
 pub puts_length : (old new : List ℕ) (from to : ℕ) (text : Text) (p : Prints old new from to text) → to ≤ length old → length new ≡ length old
 puts_length old new from to text p inside =
     let front : length (take from old) ≡ from = length-take-le from old (omega (arith, p.ends)) in
     rw p.is (omega (arith, length-append (take from old) (p.bytes ++ drop to old), length-append p.bytes (drop to old), front, length-drop to old, p.ends))
 
--- ---- room
+-- ---- capacity
 
 pub room_first : {out : List ℕ} {from : ℕ} {first : Text} (second : Text) → HasRoom out from (first ++ second) → HasRoom out from first
 room_first {first = first} second h = record { room = omega (arith, h.room, length-append first second) }
@@ -78,7 +78,7 @@ puts_nothing out at = record {
   ends = omega arith;
 }
 
--- ---- bytes put in pieces
+-- ---- bytes written in slices
 
 letters_split : (bytes front back : List ℕ) → bytes ≡ front ++ back → map Plain bytes ≡ map Plain front ++ map Plain back
 letters_split bytes front back e =
@@ -91,7 +91,7 @@ pieces n bytes front back f b = sym (take-append-drop n bytes) ∙ rw (f, b) ref
 pub none_so_far : (out bytes : List ℕ) (at : ℕ) → PrintsFront out out at at bytes bytes
 none_so_far out bytes at = record { done = []; whole = refl; puts = puts_nothing out at }
 
--- the first of the bytes were put, and then the first of the others
+-- The first bytes were written, and then the first of the other bytes.
 pub further : {old mid new : List ℕ} {from between to : ℕ} {bytes rest left : List ℕ} → HasRoom old from (map Plain bytes)
     → PrintsFront old mid from between bytes rest → PrintsFront mid new between to rest left → PrintsFront old new from to bytes left
 further {old = old} {from = from} {bytes = bytes} {left = left} room s p =
@@ -101,7 +101,7 @@ further {old = old} {from = from} {bytes = bytes} {left = left} room s p =
     let enough : HasRoom old from (map spell (s.done ++ p.done)) = room_first _ (rw (letters_split bytes (s.done ++ p.done) left whole) at room) in
     record { done = s.done ++ p.done; whole = whole; puts = rw both (puts_then (rw both at enough) s.puts p.puts) }
 
--- so many of them were put
+-- The first `n` bytes were written.
 pub first_put : {old new : List ℕ} {from to : ℕ} (n : ℕ) (bytes front back : List ℕ) → front ≡ take n bytes → back ≡ drop n bytes
     → Prints old new from to (map Plain front) → PrintsFront old new from to bytes back
 first_put n bytes front back f b p = record { done = front; whole = pieces n bytes front back f b; puts = p }
@@ -112,7 +112,7 @@ all_put {old = old} {new = new} {from = from} {to = to} {rest = []} none s =
     subst (λ (l : List ℕ). Prints old new from to (map Plain l)) (sym (s.whole ∙ append-nil s.done)) s.puts
 all_put {rest = c ∷ rest} none s = absurd (omega (arith, none))
 
--- ---- one byte in front of what was put
+-- ---- one byte before the written bytes
 
 pub puts_before : {old mid : List ℕ} {from to : ℕ} {text : Text} (at c : ℕ) → from ≡ suc at → from ≤ length old → Prints old mid from to text
     → Prints old (set mid at c) at to (Plain c ∷ text)

@@ -4,7 +4,7 @@ use Rattle.std.proofs.{Common.{get_or, length, refl, ◌∙◌, ap, arith, add-o
 use Rattle.ixdtf.specs.language.{Letters.{Text, hyphen, value_char, Letter.Plain}, Brackets.Value}
 use Rattle.ixdtf_print.proofs.code.ValueTest.{goes_as_value, value_test}
 
--- what goes on from a place
+-- The bytes from index `i` on continue a value.
 abbrev pub from_place : Bool → List ℕ → ℕ → Bool
 from_place in_run bytes i = goes_as_value in_run (map Plain (drop i bytes))
 

@@ -1,16 +1,16 @@
--- A test of the values of annotations, and that it tells them.
+-- A test of the values of annotations, and the proof that it accepts exactly these values.
 use Rattle.std.proofs.Common.{ℕ, ◌≡◌, ◌↔◌, IsTrue, Bool, true, false, cond, ◌&&◌, if◌then◌else◌, List, [], ◌∷◌, ◌++◌, refl, ◌∙◌, arith}
 use Rattle.std.proofs.lemmas.Bool.Decides.{nat_tests}
 use Rattle.ixdtf.specs.language.{Letters.{Text, hyphen, value_char, Letter.{Plain, Bad}}, Shapes.{Shape, one, ◌then◌, many, Joined}}
 use Rattle.ixdtf.specs.language.Brackets.{Value, ValueRun}
 
--- the letters go on as a value, up to its end; a letter of a run may have stood before them
+-- The code units continue a value up to its end. `in_run` says whether the code unit before them is in a run.
 unfoldable pub goes_as_value : Bool → Text → Bool
 goes_as_value in_run [] = in_run
 goes_as_value in_run (Bad ∷ rest) = false
 goes_as_value in_run (Plain c ∷ rest) = if value_char c then goes_as_value true rest else (if hyphen c && in_run then goes_as_value false rest else false)
 
--- what goes on after a letter of a run
+-- The texts that can follow a code unit of a run.
 abbrev Rest : Shape
 Rest = many (one value_char) then many (one hyphen then ValueRun)
 

@@ -1,11 +1,11 @@
--- Bytes put as 16-bit code units, one behind another.
+-- Bytes that are written as 16-bit code units, one after another.
 use Rattle.std.proofs.Common.{ℕ, ◌+◌, ◌<◌, ◌≡◌, List, [], ◌∷◌, ◌++◌, map, length, take, drop, get_or, ap, sym, ◌∙◌, arith, add-one}
 use Rattle.std.proofs.{Math.Seq.take-suc, lemmas.List.{map-append, take-append-drop}}
 use Rattle.ixdtf.specs.language.Letters.{Letter, Text, Letter.Plain}
 use Rattle.ixdtf_print.specs.Prints.{HasRoom, Prints}
 use Rattle.ixdtf_print.proofs.code.PutBytes.{puts_then, room_first, room_then, text_long, front_of_new}
 
--- the text of one more of the bytes
+-- One step adds one byte to the text.
 one_longer : (bytes : List ℕ) (i d : ℕ) → i < length bytes
     → map Plain (take (i + 1) bytes) ≡ map Plain (take i bytes) ++ (Plain (get_or bytes i d) ∷ [])
 one_longer bytes i d more =
@@ -13,7 +13,7 @@ one_longer bytes i d more =
     let longer : take (i + 1) bytes ≡ take i bytes ++ (get_or bytes i d ∷ []) = rw add-one (take-suc bytes i d more) in
     ap (map spell) longer ∙ map-append spell (take i bytes) (get_or bytes i d ∷ [])
 
--- there is room for the first bytes where there is for all
+-- If the slice is long enough for all bytes, it is long enough for the first ones.
 room_for_front : (out : List ℕ) (bytes : List ℕ) (i : ℕ) → HasRoom out 0 (map Plain bytes) → HasRoom out 0 (map Plain (take i bytes))
 room_for_front out bytes i room =
     let spell : ℕ → Letter = λ n. Plain n in
@@ -32,7 +32,7 @@ pub next_put : {old mid new : List ℕ} {at to : ℕ} (bytes : List ℕ) (i d : 
 next_put {old = old} bytes i d more room p q =
     rw (one_longer bytes i d more) (puts_then (rw (one_longer bytes i d more) at (room_for_front old bytes (i + 1) room)) p q)
 
--- what was put at the front spells the text
+-- The first `count` code units of the slice are the text.
 pub counted_spelled : (old new : List ℕ) (to count : ℕ) (text : Text) → Prints old new 0 to text → count ≡ length text
     → map Plain (take count new) ≡ text
 counted_spelled old new to count text p counted =

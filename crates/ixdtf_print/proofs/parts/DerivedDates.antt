@@ -1,4 +1,4 @@
--- What is derived from a text has fields that have texts, and its canonical text is not much longer than the text.
+-- A date that is derived from a text has a canonical text, which is not much longer than the text.
 use Rattle.std.proofs.Common.{ℕ, zero, suc, ◌+◌, ◌-◌, ◌<◌, ◌≤◌, ◌≡◌, ◌^◌, min, IsTrue, Bool, true, false, cond, ℤ, pos, negsuc, neg_ℤ, nat_abs}
 use Rattle.std.proofs.{Common.{length, take, Some, refl, ◌∙◌, ap, inl, inr, arith, nat_le}, lemmas.Bool.{leb-true, Decides.nat_tests}}
 use Rattle.std.proofs.{lemmas.List.{take_all, length-append, length-replicate}, Math.Nat.{pow-succ', mul-le-mul_left}}
@@ -20,7 +20,7 @@ decimal_below (suc n) text h =
     let small = one_digit h.0 h.3 in
     rw (h.2, digits_long n h.1 h.4, pow-succ' 10 n) (omega (arith, more, mul-le-mul_left (10 ^ n) small))
 
--- the first digits
+-- The first digits of a text of digits are digits.
 first_digits : (k n : ℕ) (text : Text) → k ≤ n → digits n text → digits k (take k text)
 first_digits zero n text h d = refl
 first_digits (suc k) zero text h d = absurd (omega arith)

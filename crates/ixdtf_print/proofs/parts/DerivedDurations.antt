@@ -1,4 +1,4 @@
--- What is derived as a duration has a text, which is at most as long.
+-- A duration that is derived from a text has a canonical text, which is at most as long as the text.
 use Rattle.std.proofs.Common.{ℕ, suc, ◌+◌, ◌<◌, ◌≤◌, ◌≡◌, ◌^◌, IsTrue, Bool, true, false, cond, nat_eq, nat_le, List, [], ◌∷◌, ◌++◌, length, map, codes, Option, Some, None, refl}
 use Rattle.std.proofs.{Common.{sym, ◌∙◌, ap, inl, inr, arith}, lemmas.{Bool.Decides.nat_tests, List.length-append}}
 use Rattle.ixdtf_grammar.specs.declared.{profile.Profile.{Profile}, records.Sign.{Sign, TheVariants.{Positive, Negative}}}
@@ -16,7 +16,7 @@ use Rattle.ixdtf_print.proofs.{code.PlainNumbers.no_longer, parts.DerivedDates.o
 
 -- ---- numbers and units
 
--- a number of digits is at most as long without its leading zeros, and they are one at least
+-- Without leading zeros, a number is at most as long as its digits, and it has at least one digit.
 of_number : (text : Text) (n : ℕ) → Number text n → (n < 2 ^ 64) × (length (number_text n) ≤ length text) × (1 ≤ length text)
 unfolding greatest_value
 of_number text n h =
@@ -31,7 +31,7 @@ unit_most n c = by_test (nat_eq n 0)
     by_test true = omega arith
     by_test false = omega (arith, length-append (number_text n) (Plain c ∷ []))
 
--- an upper end of the numbers of a unit, by its index alone
+-- The index of a duration unit gives an upper bound of its numbers.
 greatest_at : (unit : DurationUnit) → greatest unit ≡ cond (nat_le (unit_index unit) 2) 4294967295 greatest_value
 greatest_at years = refl
 greatest_at months = refl
@@ -55,7 +55,7 @@ number_in_range profile half unit text (g ∷ earlier) h = by_test (same_unit g.
     by_test true same before = omega (arith, h.6, same_greatest g.unit unit same)
     by_test false different before = before
 
--- ---- how long the units are
+-- ---- the lengths of the units
 
 abbrev dates_long : List Group → ℕ
 dates_long groups = length (unit_text (number_of years groups) 89) + length (unit_text (number_of months groups) 77)
@@ -92,7 +92,7 @@ of_group half text g h =
     let number = of_number h.ds g.value h.number in
     rw h.is (omega (arith, number.1, length-append {A = Letter}), omega (arith, number.2, length-append {A = Letter}))
 
--- of any measure of groups that a group more raises by no more than its length
+-- If one more group raises a measure of groups by at most the length of the group, the measure is at most the length of the text.
 groups_long : (profile : Profile) (half : Half) (long : List Group → ℕ)
     → ((unit : DurationUnit) (value : ℕ) (fraction : Option FractionParts) (earlier : List Group)
     → long (group_of unit value fraction ∷ earlier) ≤ long earlier + length (number_text value) + 1)
@@ -121,7 +121,7 @@ part_long found most two all = by_test (has_no_unit found)
     by_test true = two
     by_test false = all
 
--- the units of one group or more
+-- The duration units of one or more groups.
 abbrev units_of : List Group → DateDurationRecord
 units_of groups = record {
   years = number_of years groups;
@@ -162,7 +162,7 @@ time_unit c = by_test (hour_letter c) (minute_letter c)
     by_test false true = refl
     by_test false false = refl
 
--- a last group of a time, and its text
+-- The group is the last one of a time, and the text is its text.
 record IsLast (text : Text) (g : Group) : Type 0 where
   unit : IsTimeUnit g.unit
   value : g.value < 2 ^ 64
@@ -195,7 +195,7 @@ pub last_long : (value : ℕ) (fraction : Option FractionParts) (c : ℕ)
 unfolding last_text
 last_long value fraction c = omega (arith, length-append {A = Letter})
 
--- a time that is there
+-- There is a time, and the text of its duration units has at most `most` code units.
 abbrev IsTimed : ℕ → Option TimeDurationRecord → Type 0
 IsTimed most None = ⊥
 IsTimed most (Some found) = AreTimeUnits found × (length (time_units_text found) ≤ most)
@@ -237,7 +237,7 @@ timed_part : (most : ℕ) (found : Option TimeDurationRecord) → IsTimed most f
 timed_part most None h = absurd h
 timed_part most (Some found) h = (h.0, omega (arith, h.1), tt)
 
--- ---- the whole duration
+-- ---- the complete duration
 
 of_start : (text : Text) (s : Sign) → SignedDesignator text s → length (start_text s) ≤ length text
 of_start text s (inl (p, is)) = rw (is, p.1) (omega arith)
@@ -247,7 +247,7 @@ of_start text s (inr (c, rest, is, signed, p, _)) = rw (is, p.1) (most s)
     most Positive = omega arith
     most Negative = omega arith
 
--- what the times of a duration stand for
+-- The time of a duration, if it has one, has a text that is not longer than the text of its groups.
 of_times : (profile : Profile) (text : Text) (times : List Group) → TimePart profile text times
     → HasTimeUnits (time_duration times) × (length (time_part_text (time_duration times)) ≤ length text)
 of_times profile text times (inl (none, no_times)) = rw (no_times, none) (tt, omega arith)

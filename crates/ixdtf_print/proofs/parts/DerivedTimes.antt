@@ -27,7 +27,7 @@ pub minutes_long : (h m : ℕ) → length (minutes_text h m) ≡ 5
 unfolding minutes_text two_digits
 minutes_long h m = refl
 
--- how many letters a canonical clock may have more than a text of a shape with seconds, or without
+-- A canonical clock has at most this number of code units more than a text with or without seconds.
 abbrev spare : Bool → ℕ
 spare true = 2
 spare false = 6
@@ -50,7 +50,7 @@ of_minutes clock text time hour minute no_second no_fraction least = rw no_fract
   omega (arith, clock_long time.hour time.minute time.second None, least),
 )
 
--- a time with seconds has no fraction, and is a clock with any fraction
+-- A time with seconds has no fraction yet. With any fraction, it is a clock.
 of_seconds : (clock : Clock) (text : Text) (time : TimeRecord) (part : Option FractionParts) → SecondText clock text time → HasDigits part
     → IsClock (greatest_second clock) time.hour time.minute time.second part × (time.fraction ≡ None) × (6 ≤ length text)
 of_seconds clock text time part (inl h) d = (
@@ -149,7 +149,7 @@ opening_least : (text : Text) (critical : Bool) → Opens text critical → 1 �
 opening_least text true h = omega (arith, opening_long text true h)
 opening_least text false h = omega (arith, opening_long text false h)
 
--- a calendar that has a text, which is no longer than this one
+-- If there is a calendar, it has a text, and this text is not longer than the given one.
 abbrev pub Calendared : Text → Option (List ℕ) → Type 0
 Calendared text calendar = HasCalendar calendar × (length (calendar_text calendar) ≤ length text)
 

@@ -20,7 +20,7 @@ pub up_to : (greatest number : ℕ) → greatest < 100 → number ≤ greatest �
 unfolding two_digits
 up_to greatest number g h = (padded_are 2 number, sym (decimal-whole 2 number (omega arith)), h)
 
--- ---- any number of digits, one list after another
+-- ---- lists of digits, one after another
 
 pub digits-append : (a b : ℕ) (xs ys : Text) → digits a xs → digits b ys → digits (a + b) (xs ++ ys)
 digits-append zero b xs ys h g = rw h (let e : zero + b ≡ b = omega arith in rw e g)
@@ -32,7 +32,7 @@ pub zeros_are : (count : ℕ) → digits count (replicate count (Plain 48))
 zeros_are zero = refl
 zeros_are (suc count) = (48, replicate count (Plain 48), refl, refl, zeros_are count)
 
--- the digits of zero are zeros
+-- The digits of zero are zeros.
 padded_zero : (count : ℕ) → padded_digits count 0 ≡ replicate count (Plain 48)
 padded_zero zero = refl
 padded_zero (suc count) = rw (zero-div, padded_zero count) refl
@@ -51,7 +51,7 @@ pub fraction_is : (fraction : FractionParts) → fraction_text (Some fraction)
 unfolding fraction_digits
 fraction_is fraction = rw (padded_zero (fraction.count - 18)) refl
 
--- of at most 18 digits none follow the value
+-- If a fraction has at most 18 digits, no zeros follow its value.
 pub few_digits_are : (fraction : FractionParts) → fraction.count ≤ 18 → fraction_text (Some fraction)
     ≡ (Plain 46 ∷ []) ++ padded_digits (min fraction.count 18) fraction.value
 few_digits_are fraction few =

@@ -1,12 +1,12 @@
--- What a reader of texts with brackets reads without a handler, by the parts of the text, and back. The other proofs speak of these
--- parts, and not of readers.
+-- What a reader of texts with brackets returns without a handler, stated for the parts of the text, and the converse. The other
+-- proofs are about these parts, and not about readers.
 use Rattle.std.proofs.Common.{◌≡◌, ◌++◌, List, Option, refl, ◌∙◌, ap}
 use Rattle.ixdtf.specs.language.{Letters.Text, Brackets.{ZoneNote, Pair, OptionalBracket, ArePairs}, Cores.{Core, IsCore}}
 use Rattle.ixdtf.specs.language.{Languages.{Parsed, parsed_with, IsBracketed, Derives, Derives.as_parsed, Found.parsed}, Readers.{CoreKind, has_exact_zones, Reader.bracketed}}
 use Rattle.ixdtf.specs.{Handlers.{UnhandledRecord, NoneRefused, own_replies, calendar_value, first_calendar, with_calendar}}
 use Rattle.ixdtf_print.proofs.theorems.OneTexts.{StandsForOne, one_found}
 
--- a record of these parts
+-- The record of these parts.
 abbrev pub joined : Core → Option ZoneNote → List Pair → Parsed
 joined core zone pairs = record {
   date = core.date;
@@ -16,7 +16,7 @@ joined core zone pairs = record {
   calendar = calendar_value (first_calendar (own_replies pairs));
 }
 
--- a core, a zone bracket or none, and pairs, of which none is refused, in a row; and what they stand for
+-- The text is a core, a bracket with a zone or none, and annotations, none of which is refused. The record is that of these parts.
 pub record HasParts (kind : CoreKind) (text : Text) (found : Parsed) : Type 0 where
   pub cores : Text
   pub zones : Text
@@ -31,7 +31,7 @@ pub record HasParts (kind : CoreKind) (text : Text) (found : Parsed) : Type 0 wh
   pub accepted : NoneRefused (own_replies pairs)
   pub has : found ≡ joined core zone pairs
 
--- what such a reader derives is a core of its kind and brackets
+-- A reader of this kind derives a core of its kind, and brackets.
 bracketed_of : (kind : CoreKind) (text : Text) (found : Parsed) (pairs : List Pair) → Derives (bracketed kind) text (parsed found) pairs
     → IsBracketed kind text found pairs
 bracketed_of kind text found pairs (as_parsed h) = h
@@ -75,6 +75,6 @@ of_parts text found h = (
   },
 )
 
--- a text gives one record
+-- A text gives at most one record.
 pub one_record : (kind : CoreKind) → StandsForOne (UnhandledRecord (bracketed kind))
 one_record kind text a b p q = let same = one_found (bracketed kind) text (parsed a) (parsed b) p q in cc

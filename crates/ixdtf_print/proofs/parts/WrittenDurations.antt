@@ -13,16 +13,16 @@ use Rattle.ixdtf_print.specs.Durations.{number_text, unit_text, date_units_text,
 use Rattle.ixdtf_print.specs.{Durations.{start_text, duration_text}, SpelledDurations.{AreDateUnits, HasDateUnits, AreTimeUnits, HasTimeUnits, HasPart, AreParts}}
 use Rattle.ixdtf_print.proofs.{code.PlainNumbers.is_number, theorems.ReadBack.is_fraction}
 
--- ---- one group more
+-- ---- one more group
 
 abbrev group_of : DurationUnit → ℕ → Option FractionParts → Group
 group_of unit value fraction = record { unit = unit; value = value; fraction = fraction }
 
--- the groups, and behind them one of the unit where its number is not zero
+-- The groups, and after them a group of the duration unit if its number is not zero.
 abbrev with_unit : DurationUnit → ℕ → List Group → List Group
 with_unit unit value earlier = cond (nat_eq value 0) earlier (group_of unit value None ∷ earlier)
 
--- a unit behind all shorter ones, whether a unit may be repeated or not
+-- A duration unit can follow one with a smaller index, whether or not a unit may be repeated.
 follows : (profile : Profile) (before after : DurationUnit) → IsTrue (nat_le (unit_index before + 1) (unit_index after)) → IsTrue (may_follow profile before after)
 follows Crate before after h = grind (arith, nat_tests, h)
 follows Strict before after h = h
@@ -67,7 +67,7 @@ number_of_other unit other value earlier different = by_test (nat_eq value 0)
 
 -- ---- dates
 
--- groups that stand for what is there
+-- There are groups that stand for the date, if there is one.
 abbrev DateGroups : Profile → Text → Option DateDurationRecord → Type 0
 DateGroups profile text found = (groups : List Group) × Groups profile date text groups × (date_duration groups ≡ found)
 
@@ -83,7 +83,7 @@ to_weeks found = with_unit weeks found.weeks (to_months found)
 abbrev to_days : DateDurationRecord → List Group
 to_days found = with_unit days found.days (to_weeks found)
 
--- the groups of the units that are not zero
+-- The text of the duration units of a date consists of one group for each unit that is not zero.
 are_units : (profile : Profile) (found : DateDurationRecord) → AreDateUnits found → Groups profile date (date_units_text found) (to_days found)
 unfolding date_units_text greatest_value
 are_units profile found h =
@@ -123,7 +123,7 @@ units_stand found some =
     ∙ number_of_other months days found.months (to_years found) refl ∙ number_of_other years days found.years [] refl))
     some
 
--- `0D`
+-- The text `0D` is one group.
 no_days : (profile : Profile) → Groups profile date (map Plain (codes "0D")) (group_of days 0 None ∷ [])
 unfolding greatest_value
 no_days profile =
@@ -161,7 +161,7 @@ of_date profile (Some found) h = by_test (has_no_unit found) refl
 
 -- ---- times
 
--- the last group, behind others
+-- The last group follows other groups.
 last_group : (profile : Profile) (unit : DurationUnit) (value c : ℕ) (fraction : Option FractionParts) (before : Text) (earlier : List Group) → value ≤ greatest unit
     → value < 2 ^ 64 → IsTrue (designator time c) → unit ≡ unit_of time c → HasDigits fraction → Groups profile time before earlier
     → IsTrue (in_order profile earlier unit) → TimeGroups profile (before ++ last_text value fraction c) (group_of unit value fraction ∷ earlier)
@@ -189,7 +189,7 @@ last_group profile unit value c (Some fraction) before earlier most small ends i
       order,
     )
 
--- groups that stand for the time
+-- There are groups that stand for the time.
 abbrev TimesOf : Profile → TimeDurationRecord → Type 0
 TimesOf profile found = (groups : List Group) × TimeGroups profile (time_units_text found) groups × (time_duration groups ≡ Some found)
 
@@ -227,7 +227,7 @@ of_time : (profile : Profile) (found : Option TimeDurationRecord) → HasTimeUni
 of_time profile None h = ([], inl (refl, refl), refl)
 of_time profile (Some found) h = let whole = of_units profile found h in (whole.0, inr (84, time_units_text found, refl, refl, whole.1), whole.2)
 
--- ---- the whole duration
+-- ---- the complete duration
 
 is_start : (s : Sign) → SignedDesignator (start_text s) s
 is_start Positive = inl ((80, refl, refl), refl)

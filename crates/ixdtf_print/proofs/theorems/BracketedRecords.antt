@@ -1,4 +1,4 @@
--- What holds of the records of a reader of texts with brackets, whatever stands before the brackets.
+-- Theorems about the records of a reader of texts with brackets, for every kind of core.
 use Rattle.std.proofs.Common.{ℕ, ◌+◌, ◌≤◌, ◌≡◌, ◌↔◌, Bool, false, IsTrue, ◌++◌, length, map, Option, sym, arith, subst}
 use Rattle.std.proofs.lemmas.List.{length-append}
 use Rattle.ixdtf.specs.language.{Letters.{Text, Letter.Plain}, Cores.{Core, IsCore}, Languages.Parsed, Readers.{CoreKind, has_exact_zones, Reader.bracketed}}
@@ -8,7 +8,7 @@ use Rattle.ixdtf_print.specs.{Canonical.brackets_text, Printing.{HasText, EachIs
 use Rattle.ixdtf_print.proofs.{parts.ParsedParts.{to_parts, of_parts, one_record}, theorems.ReadBack.brackets_read_back, theorems.OneTexts.{has_one_text, tests_text}}
 use Rattle.ixdtf_print.proofs.theorems.{PrintableRecords.{core_in, core_of_parts, of_brackets}, DisplayedText.{ascii_of, shown_as_it_is}}
 
--- the cores of a reader: which of them have a text, which text, and by how much it is longer at most
+-- The cores of a reader: which of them have a text, what this text is, and how much longer it is at most than a text of the core.
 pub record Written : Type 1 where
   pub kind : CoreKind
   pub has_core : Option DateRecord → Option TimeRecord → Option UtcOffsetRecordOrZ → Type 0
@@ -20,7 +20,7 @@ pub record Written : Type 1 where
   pub is_core : (core : Core) → has_core core.date core.time core.offset → IsCore kind (core_text core) core
   pub of_core : (text : Text) (core : Core) → IsCore kind text core → has_core core.date core.time core.offset × (length (core_text core) ≤ length text + more)
 
--- the reader reads the record from the text
+-- The reader returns the record for the text.
 abbrev pub Stands : Written → Text → Parsed → Type 0
 Stands w text found = UnhandledRecord (bracketed w.kind) text found
 
@@ -55,7 +55,7 @@ shown w found h =
     let reading = reads w found ((printable w found).0 h) in
     shown_as_it_is (w.text_of found) (ascii_of w.kind (w.text_of found) found (to_parts w.kind (w.text_of found) found reading))
 
--- a test of the fields
+-- A test of the fields tells which records are printable.
 pub tests : (w : Written) {test : Bool} {back : Type 0} (found : Parsed) → (HasText (Stands w) found → back) → IsTrue test ↔ IsSpelledAs w.has_core found
     → TestsText test (HasText (Stands w) found) back (w.text_of found)
 tests w found = tests_text (printable w found) (shown w found)

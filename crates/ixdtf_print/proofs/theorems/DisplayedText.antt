@@ -36,10 +36,10 @@ same_letters [] h = refl
 same_letters (n ∷ units) h =
     ap (λ letter. letter ∷ wide_text units) (one_letter n h.0) ∙ ap (λ text. Plain n ∷ text) (same_letters units h.1)
 
--- code units from 1 to 126 are the same text in both widths
+-- Code units from 1 to 126 are the same text in 8-bit and in 16-bit text.
 pub same_in_both : (units : List ℕ) (text : Text) → AllOf is_shared text → map Plain units ≡ text → wide_text units ≡ text
 same_in_both units text h is = same_letters units (subst (AllOf is_shared) (sym is) h) ∙ is
 
--- the bytes that are displayed of a record that has a text are those of its canonical text
+-- The bytes that `Display` writes for a record that has a text are those of its canonical text.
 pub shown_is_canonical : (found : Parsed) → IsSpelled found → map Plain (shown_text found) ≡ canonical_text found
 shown_is_canonical found h = shown_as_it_is (canonical_text found) (ascii_of date_time (canonical_text found) found (canonical_reads_back found h))

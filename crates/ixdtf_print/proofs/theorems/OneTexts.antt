@@ -1,15 +1,15 @@
--- What a canonical text that stands for its record gives, where a text stands for one record at most.
+-- What follows if each canonical text stands for its record, and each text stands for at most one record.
 use Rattle.std.proofs.Common.{◌≡◌, ◌↔◌, Bool, IsTrue, map, subst}
 use Rattle.ixdtf.specs.language.{Letters.{Text, Letter.Plain}, Languages.Found, Readers.Reader}
 use Rattle.ixdtf.specs.Widths.{HasUnhandledOutcome, UnhandledOutcome.read_as}
 use Rattle.ixdtf_reading.proofs.theorems.OneUnhandledOutcome.{one_unhandled_outcome}
 use Rattle.ixdtf_print.specs.{Printing.{HasText, HasOneText, TestsText}, Shown.bytes_of}
 
--- a text stands for one record at most
+-- A text stands for at most one record.
 abbrev pub StandsForOne : {R : Type 0} → (Text → R → Type 0) → Type 0
 StandsForOne {R} stands = (text : Text) (a b : R) → stands text a → stands text b → a ≡ b
 
--- a reader reads one value from a text at most
+-- A reader returns at most one value for a text.
 pub one_found : (reader : Reader) (text : Text) (a b : Found) → HasUnhandledOutcome reader text (read_as a)
     → HasUnhandledOutcome reader text (read_as b) → a ≡ b
 one_found reader text a b p q =
@@ -28,7 +28,7 @@ has_one_text {R} {stands} {text_of} one reads found h =
       no_other_record = λ other k e. one (text_of found) other found (subst (λ t. stands t other) e (reads other k)) same;
     }
 
--- a test of the fields
+-- A test of the fields tells which records are printable.
 pub tests_text : {test : Bool} {printable fields back : Type 0} {canonical : Text} → printable ↔ fields
     → (printable → map Plain (bytes_of canonical) ≡ canonical) → (printable → back) → IsTrue test ↔ fields → TestsText test printable back canonical
 tests_text same shown back both = record {

@@ -29,11 +29,11 @@ duration_is_read_back duration h profile =
 pub duration_fits : DurationFits
 duration_fits profile text duration h = (of_duration profile text duration (derived profile text duration h)).1
 
--- what the parser reads under some profile can be printed
+-- A duration that the parser returns under some profile is printable.
 pub duration_printable : (profile : Profile) (duration : DurationParseRecord) → HasText (IsDurationText profile) duration → IsPrintableDuration duration
 duration_printable profile duration h = (printable_duration duration).1 (spelled profile duration h)
 
--- a test of the fields
+-- A test of the fields tells which records are printable.
 pub tests_duration : {test : Bool} (duration : DurationParseRecord) → IsTrue test ↔ AreParts duration.date duration.time
     → TestsText test (IsPrintableDuration duration) (IsDurationReadBack duration) (duration_text duration)
 tests_duration duration =

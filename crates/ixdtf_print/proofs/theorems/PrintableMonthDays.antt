@@ -54,7 +54,7 @@ is_whole : (found : Parsed) → month_day_text found ≡ optional_day_text found
 unfolding month_day_text
 is_whole found = refl
 
--- the cores of `parse_month_day`
+-- The cores of `parse_month_day`.
 abbrev lone_day : Profile → Written
 lone_day profile = record {
   kind = month_day profile;
@@ -77,7 +77,7 @@ month_day_reads_back found h = record {
   profiles = λ profile k. read_back (lone_day profile) found k;
 }
 
--- a day of any year under some profile is one under the default profile
+-- A day of any year under some profile is also one under the default profile.
 any_profile : (profile : Profile) (date : Option DateRecord) (time : Option TimeRecord) (offset : Option UtcOffsetRecordOrZ)
     → HasLoneDay profile date time offset → HasLoneDay Crate date time offset
 any_profile profile None time offset none = absurd none
@@ -86,7 +86,7 @@ any_profile profile (Some date) None None h =
 any_profile profile (Some date) None (Some offset) none = absurd none
 any_profile profile (Some date) (Some time) offset none = absurd none
 
--- what `parse_month_day` reads under some profile can be printed
+-- A record that `parse_month_day` returns under some profile is printable.
 pub month_day_printable : (profile : Profile) (found : Parsed) → HasText (IsMonthDayText profile) found → IsPrintableMonthDay found
 month_day_printable profile found h =
     let (core, brackets) = (printable (lone_day profile) found).0 h in
@@ -95,7 +95,7 @@ month_day_printable profile found h =
 pub month_day_fits : MonthDayFits
 month_day_fits profile = fits (lone_day profile)
 
--- a test of the fields
+-- A test of the fields tells which records are printable.
 pub tests_month_day : {test : Bool} (found : Parsed) → IsTrue test ↔ IsSpelledAs (HasLoneDay Crate) found
     → TestsText test (IsPrintableMonthDay found) (IsMonthDayReadBack found) (month_day_text found)
 tests_month_day found = tests (lone_day Crate) found (month_day_reads_back found)

@@ -35,7 +35,7 @@ offset_is_shown offset h =
     let is = is_utc_offset offset (spelled offset h) in
     shown_as_it_is (utc_offset_text offset) (all_within core_ascii (utc_offset_text offset) (in_signed _ _ (utc_offset_text offset) offset is))
 
--- a test of the numbers
+-- A test of the numbers tells which offsets are printable.
 pub tests_offset : {test : Bool} (offset : UtcOffsetRecord) → IsTrue test ↔ IsShift (stands.Offset offset)
     → TestsText test (IsPrintableOffset offset) (IsOffsetReadBack offset) (utc_offset_text offset)
 tests_offset offset = tests_text (printable_offset offset) (offset_is_shown offset) (offset_is_read_back offset)

@@ -43,7 +43,7 @@ of_core text core (inr h) =
       ),
     )
 
--- the brackets of a record that a text gives: they have texts, which are not much longer
+-- The brackets of a record that a text gives have texts, which are not much longer than those of the text.
 pub of_brackets : {kind : CoreKind} (text : Text) (found : Parsed) (h : HasParts kind text found)
     → HasBrackets found × (length h.cores + length (brackets_text found) ≤ length text + 3)
 of_brackets {kind = kind} text found h =
@@ -52,7 +52,7 @@ of_brackets {kind = kind} text found h =
     subst (λ read. HasBrackets read × (length h.cores + length (brackets_text read) ≤ length text + 3)) (sym h.has)
     ((zone.0, calendar.0), rw h.is (omega (arith, zone.1, calendar.1, length-append {A = Letter})))
 
--- what stands before them
+-- The core of a record.
 abbrev pub core_in : Parsed → Core
 core_in found = core_of found.date found.time found.offset
 
@@ -68,7 +68,7 @@ of_record text found h =
       omega (arith, core.2, brackets.1, length-append (core_text found) (brackets_text found)),
     )
 
--- the canonical text of a record that is read from bytes fits where 14 bytes more and a newline do
+-- If an array has space for the parsed text, 14 more bytes and a newline, the canonical text and a newline fit into it.
 pub read_fits : (size : ℕ) (bytes : List ℕ) (found : Parsed) → UnhandledRecord parse (map byte_letter bytes) found → length bytes + 14 < size → FitsArray size found
 read_fits size bytes found given room =
     let spell : ℕ → Letter = λ n. byte_letter n in
@@ -81,7 +81,7 @@ printable_iff found = (
   λ s. (canonical_text found, of_parts (canonical_text found) found (canonical_reads_back found s)),
 )
 
--- the canonical text of a printable record gives the record
+-- The canonical text of a printable record gives the record.
 canonical_is_read : (found : Parsed) → IsPrintable found → UnhandledRecord parse (canonical_text found) found
 canonical_is_read found p = of_parts (canonical_text found) found (canonical_reads_back found ((printable_iff found).0 p))
 
@@ -93,7 +93,7 @@ is_read_back found is =
       no_other_record = λ other h e. one_record date_time (canonical_text found) other found (subst (λ t. UnhandledRecord parse t other) e (canonical_is_read other h)) same;
     }
 
--- a test of the fields
+-- A test of the fields tells which records are printable.
 pub tests_printable : {test : Bool} (found : Parsed) → IsTrue test ↔ IsSpelled found
     → TestsText test (IsPrintable found) (IsReadBack found) (canonical_text found)
 tests_printable found =

@@ -14,7 +14,7 @@ use Rattle.ixdtf_print.proofs.theorems.BracketedRecords.{Written, tests, printab
 abbrev text_of : Core → Text
 text_of core = unmarked_time_text core.time ++ offset_text core.offset
 
--- the third code unit is a colon, so it does not begin as a month-day or a year-month
+-- The third code unit is a colon, so the text does not begin as a month-day or a year-month.
 has_colon : (time : TimeRecord) (more : Text) → IsTrue (colon (byte_place 2 (unmarked_time_text (Some time) ++ more)))
 unfolding clock_text seconds_text two_digits
 has_colon time more = refl
@@ -53,7 +53,7 @@ is_whole : (found : Parsed) → lone_time_text found ≡ text_of (core_of found.
 unfolding lone_time_text time_core_text
 is_whole found = refl
 
--- the cores of `parse_time`
+-- The cores of `parse_time`.
 abbrev lone_time : Profile → Written
 lone_time profile = record {
   kind = time_of_day profile;
@@ -72,14 +72,14 @@ time_is_read_back profile found h other =
     let spelled = (printable (lone_time profile) found).0 h in
     read_back (lone_time other) found ((printable (lone_time other) found).1 spelled)
 
--- what `parse_time` reads under some profile can be printed
+-- A record that `parse_time` returns under some profile is printable.
 pub time_printable : (profile : Profile) (found : Parsed) → HasText (IsTimeText profile) found → IsPrintableTime found
 time_printable profile found h = (printable (lone_time Crate) found).1 ((printable (lone_time profile) found).0 h)
 
 pub time_fits : TimeFits
 time_fits profile = fits (lone_time profile)
 
--- a test of the fields
+-- A test of the fields tells which records are printable.
 pub tests_time : {test : Bool} (found : Parsed) → IsTrue test ↔ IsSpelledAs HasLoneTime found
     → TestsText test (IsPrintableTime found) (IsTimeReadBack found) (lone_time_text found)
 tests_time found = tests (lone_time Crate) found (time_is_read_back Crate found)

@@ -49,7 +49,7 @@ is_whole : (found : Parsed) → year_month_text found ≡ optional_month_text fo
 unfolding year_month_text
 is_whole found = refl
 
--- the cores of `parse_year_month`
+-- The cores of `parse_year_month`.
 abbrev lone_month : Written
 lone_month = record {
   kind = year_month;
@@ -69,7 +69,7 @@ year_month_is_read_back = read_back lone_month
 pub year_month_fits : YearMonthFits
 year_month_fits = fits lone_month
 
--- a test of the fields
+-- A test of the fields tells which records are printable.
 pub tests_year_month : {test : Bool} (found : Parsed) → IsTrue test ↔ IsSpelledAs HasLoneMonth found
     → TestsText test (IsPrintableYearMonth found) (IsYearMonthReadBack found) (year_month_text found)
 tests_year_month found = tests (lone_month) found (year_month_is_read_back found)

@@ -36,7 +36,7 @@ all_front : (class : Class) (a b : Text) → AllOf class (a ++ b) → AllOf clas
 all_front class [] b h = tt
 all_front class (c ∷ a) b h = (h.0, all_front class a b h.1)
 
--- a zone is as in its bracket
+-- A zone has the same text as in its bracket, so it is ASCII.
 zone_ascii : (zone : Zone) → IsZoneText zone → AllOf ascii (zone_text zone)
 zone_ascii zone h =
     let note : ZoneNote = record { critical = false; zone = zone } in
@@ -46,7 +46,7 @@ zone_ascii zone h =
 zone_is_shown : (zone : Zone) → IsPrintableZone zone → map Plain (bytes_of (zone_text zone)) ≡ zone_text zone
 zone_is_shown zone h = shown_as_it_is (zone_text zone) (zone_ascii zone (spelled zone h))
 
--- a test of the name or of the numbers
+-- A test of the name or of the numbers tells which zones are printable.
 pub tests_zone : {test : Bool} (zone : Zone) → IsTrue test ↔ IsZoneText zone
     → TestsText test (IsPrintableZone zone) (IsZoneReadBack zone) (zone_text zone)
 tests_zone zone = tests_text (printable_zone zone) (zone_is_shown zone) (zone_is_read_back zone)

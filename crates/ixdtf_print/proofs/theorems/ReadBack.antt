@@ -27,7 +27,7 @@ use Rattle.ixdtf_print.proofs.{parts.ParsedParts.HasParts, parts.PaddedDigits.{p
 
 -- ---- dates
 
--- a sign and six digits
+-- A sign and six digits are a year, except `-000000`.
 extended_year : (c n : ℕ) → IsTrue (sign c) → n ≤ 999999 → (IsTrue (hyphen c) → n ≢ 0) → Year (Plain c ∷ padded_digits 6 n) (year_of c n)
 extended_year c n signs small not_zero =
     let same : decimal (padded_digits 6 n) ≡ n = decimal-whole 6 n (omega arith) in
@@ -70,7 +70,7 @@ is_date date d = (
 
 -- ---- fractions and times
 
--- the first 18 digits are those of the value
+-- The first 18 digits are those of the value.
 of_value : (value zeros : Text) (count : ℕ) → length value ≡ min count 18 → length zeros ≡ count - 18 → take 18 (value ++ zeros) ≡ value
 of_value value [] count long more = rw (append-nil value) (take_all 18 value (omega arith))
 of_value value (zero ∷ zeros) count long more =
@@ -101,11 +101,11 @@ is_fraction fraction d =
       value = λ i. record { count = count i; value = number i };
     }
 
--- a time of these numbers
+-- The time with these numbers.
 abbrev time_of : ℕ → ℕ → ℕ → Option FractionParts → TimeRecord
 time_of hour minute second fraction = record { hour = hour; minute = minute; second = second; fraction = fraction }
 
--- the digits of a clock
+-- The digits of a clock are derived as the time with these numbers.
 module _ (clock : Clock) (may : IsTrue (has_seconds clock)) (small : greatest_second clock < 100) (h m s : ℕ) (part : Option FractionParts)
     (at : IsClock (greatest_second clock) h m s part) where
   second_text : SecondText clock (seconds_text h m s) (time_of h m s None)
@@ -164,7 +164,7 @@ pub is_sign : (s : Sign) → IsTrue (sign (mark_of s)) × (s ≡ sign_at (mark_o
 is_sign Positive = (refl, refl)
 is_sign Negative = (refl, refl)
 
--- a sign, and what is written after it
+-- A sign and the text after it are an offset.
 signed : {O : Type 0} {clock : Clock} {record_of : ℕ → TimeShape → TimeRecord → O} {body : Text} {offset : O} (s : Sign) (shape : TimeShape) (time : TimeRecord)
     → ClockOf clock shape body time → offset ≡ record_of (mark_of s) shape time → IsSigned clock record_of (Plain (mark_of s) ∷ body) offset
 signed s shape time clock value = record { c = mark_of s; body = _; shape = shape; time = time; is = refl; sign = (is_sign s).0; clock = clock; value = value }
@@ -218,7 +218,7 @@ is_bracket (Some note) h = (
   tt,
 )
 
--- the pair of a calendar
+-- The annotation of a calendar.
 abbrev calendar_pair : List ℕ → Pair
 calendar_pair value = record { critical = false; key = calendar_key; value = value }
 
@@ -247,7 +247,7 @@ is_calendar_pair value h = record {
   value = refl;
 }
 
--- the pairs of a canonical text
+-- The annotations of a canonical text.
 abbrev calendar_pairs : Option (List ℕ) → List Pair
 calendar_pairs None = []
 calendar_pairs (Some value) = calendar_pair value ∷ []
@@ -256,24 +256,24 @@ are_pairs : (calendar : Option (List ℕ)) → HasCalendar calendar → ArePairs
 are_pairs None h = refl
 are_pairs (Some value) h = (calendar_text (Some value), [], sym (append-nil _), is_calendar_pair value h, refl)
 
--- a calendar that is not critical is not refused beside none
+-- A calendar that is not critical is not refused if it is the only one.
 not_refused : (value : List ℕ) (fault : Fault) → ¬ (RefusedBeside None (Some (calendar_pair value)) fault)
 not_refused value UnrecognizedCritical h = absurd cc
 not_refused value fault h = h
 
--- no reply is refused where there is one such calendar, or none
+-- If there is one such calendar, or none, no reply is refused.
 none_refused : (calendar : Option (List ℕ)) → NoneRefused (own_replies (calendar_pairs calendar))
 none_refused None = NoneRefused-nothing
 none_refused (Some value) = NoneRefused-more [] (Some (calendar_pair value)) NoneRefused-nothing (not_refused value)
 
--- they give the calendar
+-- The replies give the calendar.
 gives_calendar : (calendar : Option (List ℕ)) → calendar ≡ calendar_value (first_calendar (own_replies (calendar_pairs calendar)))
 gives_calendar None = refl
 gives_calendar (Some value) = refl
 
 -- ---- cores
 
--- the time, and the offset where there is one
+-- The text of an offset after a time, if there is an offset, is read back.
 pub timed : (time : TimeRecord) (offset : Option UtcOffsetRecordOrZ) → HasTime (Some time) offset → IsDayTime time × OptionalOffset (offset_text offset) offset
 timed time None h = (h, refl)
 timed time (Some offset) h = (h.0, is_offset offset h.1)
@@ -301,7 +301,7 @@ is_core (Some date) (Some time) offset d h = inr (record {
 
 -- ---- records
 
--- a core, and then the canonical brackets of a record, has the parts of the record
+-- A core and the canonical brackets of a record after it have the parts of the record.
 pub parts_read_back : (kind : CoreKind) (cores : Text) (found : Parsed) → IsCore kind cores (core_of found.date found.time found.offset)
     → OptionalBracket (has_exact_zones kind) (bracket_text found.zone) found.zone → HasCalendar found.calendar → HasParts kind (cores ++ brackets_text found) found
 parts_read_back kind cores found is_core is_bracket has_calendar = record {
@@ -319,12 +319,12 @@ parts_read_back kind cores found is_core is_bracket has_calendar = record {
   has = λ i. record found { calendar = gives_calendar found.calendar i };
 }
 
--- the same, where a zone need not be exact
+-- A core and the canonical brackets have the parts of the record if a zone need not be exact.
 pub brackets_read_back : (kind : CoreKind) (cores : Text) (found : Parsed) → has_exact_zones kind ≡ false → IsCore kind cores (core_of found.date found.time found.offset) → HasBrackets found
     → HasParts kind (cores ++ brackets_text found) found
 brackets_read_back kind cores found any_zone is_core h = parts_read_back kind cores found is_core (rw any_zone (is_bracket found.zone h.0)) h.1
 
--- the canonical text of a record whose fields have texts has the parts of the record
+-- If all fields of a record have texts, its canonical text has the parts of the record.
 pub canonical_reads_back : (found : Parsed) → IsSpelled found → HasParts date_time (canonical_text found) found
 unfolding canonical_text core_text
 canonical_reads_back found s =

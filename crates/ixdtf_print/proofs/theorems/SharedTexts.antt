@@ -41,7 +41,7 @@ shared_offset (offsets.FullPrecisionOffset offset) at =
     let minutes = offset.minute_precision_offset in
     (shared_mark minutes.sign, shared_clock minutes.hour minutes.minute offset.second offset.fraction at)
 
--- ---- what was printed
+-- ---- the printed text
 
 on_ok : {A E : Type 0} {known : Type 0} {before after : A → Type 0} (result : Result A E) → OnOk result known → IfOk result before
     → (known → (a : A) → before a → after a) → IfOk result after

@@ -1,4 +1,4 @@
--- Little is written of an error that a reader without a handler returns.
+-- The text of an error that a reader returns without a handler is short.
 use Rattle.std.proofs.Common.{◌≤◌, [], length, inl, inr, arith}
 use Rattle.ixdtf_grammar.specs.language.{Letters.Text, Readers.{Reader, Reader.bracketed}}
 use Rattle.ixdtf_grammar.specs.{table.{ErrorTexts.message_of, Faults.Fault}, Handlers.UnhandledFault, Widths.{HasUnhandledOutcome, UnhandledOutcome.faulted}}
@@ -11,7 +11,7 @@ unhandled_short reader text fault (pairs, gives) = elim gives [
   | inr p ↦ fault_short reader text pairs fault p.0
 ]
 
--- of one that the reader returns for the text, where each pair is its own reply
+-- If a reader returns an error with each annotation as its own reply, the message of the error has at most 69 bytes.
 pub message_short : (reader : Reader) (text : Text) (fault : Fault) → HasUnhandledOutcome reader text (faulted fault) → length (message_of fault) ≤ 69
 message_short (bracketed kind) text fault h = unhandled_short (bracketed kind) text fault h
 message_short reader text fault h = fault_short reader text [] fault h

@@ -1,10 +1,11 @@
 -- What reading a first bracket returns, where its zone may have to be exact, is a zone bracket or a pair, or a row that fits.
-use Rattle.std.proofs.Common.{◌≡◌, ◌⊎◌, Bool, true, false, IsTrue, IsFalse, Ok, Err, [], ◌∷◌, ◌++◌, refl, sym, ap, ◌∙◌, inl, inr, if◌then◌else◌}
+use Rattle.std.proofs.Common.{◌≡◌, ◌⊎◌, ℕ, List, Bool, true, false, IsTrue, IsFalse, Ok, Err, [], ◌∷◌, ◌++◌, refl, sym, ap, ◌∙◌, inl, inr, if◌then◌else◌}
 use Rattle.std.proofs.{Common.append_assoc, lemmas.Bool.both_ways}
-use Rattle.ixdtf_grammar.specs.{language.{Letters.{Text, Letter.Plain}, ZoneNames.{Zone, Zone.{Name, Offset}}, Brackets.{ZoneNote, IsZoneBracket, IsExactBracket}}}
-use Rattle.ixdtf_grammar.specs.table.{LineNames.{LineName, LineName.of_bracket, BracketLine.{first_name_form, first_offset_form}}, Rows.{Row, FitsHere}}
-use Rattle.ixdtf_reading.specs.reading.{Looks.{Read, ◌>>=◌}, Brackets.{Bracket, zoned, paired, bracket_at}}
-use Rattle.ixdtf_reading.specs.reading.ExactZones.{is_exact, behind_flag, form_row, checked, bracket_by}
+use Rattle.ixdtf_grammar.specs.table.{Faults.Fault.IanaChar, Rows.Place.anywhere}
+use Rattle.ixdtf_grammar.specs.{language.{Letters.{Text, Letter.Plain}, ZoneNames.{Zone, Zone.{Name, Offset}, has_dots}, Brackets.{ZoneNote, IsZoneBracket, IsExactBracket}}}
+use Rattle.ixdtf_grammar.specs.table.{LineNames.{LineName, LineName.of_bracket, BracketLine.{first_dots_form, first_name_form, first_offset_form}}, Rows.{Row, FitsHere}}
+use Rattle.ixdtf_reading.specs.reading.{Looks.{Read, ◌>>=◌, row_of}, Brackets.{Bracket, zoned, paired, bracket_at}}
+use Rattle.ixdtf_reading.specs.reading.ExactZones.{is_exact, behind_flag, name_line, form_row, checked, bracket_by}
 use Rattle.ixdtf_reading.proofs.{parts.{Looks.{OnRead, then_read, read_if, read_weaker}, ExactZones.{exact_holds, exact_is}}, to_reading.ExactBracket.IsBracketBy}
 use Rattle.ixdtf_reading.proofs.{to_reading.FirstBracket.bracket_takes, to_grammar.FirstBracket.{FitsAfterCore, IsBracket, bracket_read}}
 
@@ -14,6 +15,7 @@ BracketFront exact body bracket rest = (front : Text) × (body ≡ front ++ rest
 
 -- the lines of a zone that is not exact
 abbrev pub IsForm : LineName → Type 0
+IsForm (of_bracket first_dots_form) = Unit {0}
 IsForm (of_bracket first_name_form) = Unit {0}
 IsForm (of_bracket first_offset_form) = Unit {0}
 IsForm name = ⊥
@@ -30,12 +32,21 @@ module _ {E : Type 0} (fault : Row → E) where
   abbrev OnBracket : Bool → Text → Read E Bracket → Type 0
   OnBracket exact inner read = OnRead fault read (BracketFront exact (Plain 91 ∷ inner)) (λ row. FitsBracket exact row (Plain 91 ∷ inner))
 
+  -- the row of a name that is not exact
+  refused_name : (inner front rest : Text) (critical : Bool) (name : List ℕ) (dots : Bool) → has_dots name ≡ dots → Plain 91 ∷ inner ≡ front ++ rest
+      → IsZoneBracket front (record { critical = critical; zone = Name name })
+      → ¬ (IsExactBracket front (record { critical = critical; zone = Name name }))
+      → OnBracket true inner (Err (fault (row_of (of_bracket (name_line dots)) (anywhere rest) IanaChar)))
+  refused_name inner front rest critical name true has is b none =
+      (row_of (of_bracket first_dots_form) (anywhere rest) IanaChar, refl, inr (refl, tt, (front, rest, is, (critical, name, (b, none), has), (refl, refl))))
+  refused_name inner front rest critical name false has is b none =
+      (row_of (of_bracket first_name_form) (anywhere rest) IanaChar, refl, inr (refl, tt, (front, rest, is, (critical, name, (b, none), has), (refl, refl))))
+
   -- the row of a zone that is not exact
   refused : (inner front rest : Text) (critical : Bool) (zone : Zone) → Plain 91 ∷ inner ≡ front ++ rest
       → IsZoneBracket front (record { critical = critical; zone = zone }) → ¬ (IsExactBracket front (record { critical = critical; zone = zone }))
       → OnBracket true inner (Err (fault (form_row zone rest)))
-  refused inner front rest critical (Name name) is b none =
-      (form_row (Name name) rest, refl, inr (refl, tt, (front, rest, is, (critical, name, (b, none)), (refl, refl))))
+  refused inner front rest critical (Name name) is b none = refused_name inner front rest critical name (has_dots name) refl is b none
   refused inner front rest critical (Offset offset) is b none =
       (form_row (Offset offset) rest, refl, inr (refl, tt, (front, rest, is, (critical, offset, (b, none)), (refl, refl))))
 

@@ -7,7 +7,7 @@ use Rattle.ixdtf_grammar.specs.language.Languages.{Parsed, parsed_with, IsBracke
 use Rattle.ixdtf_grammar.specs.language.Languages.Derives.{as_parsed, as_dated, as_shifted, as_identified, as_named, as_lasting}
 use Rattle.ixdtf_grammar.specs.{language.Languages.Found.{dated, shifted, identified, named, lasting}, table.LineNames.LineName}
 use Rattle.ixdtf_grammar.specs.table.LineNames.{LineName.{of_clock, of_zone, of_bracket, of_pair}, ZoneLine.{in_zone_name, after_zone_slash}}
-use Rattle.ixdtf_grammar.specs.table.LineNames.BracketLine.{first_bracket_start, first_critical_start, first_bracket_scan, first_name_form, first_offset_form, after_bracket}
+use Rattle.ixdtf_grammar.specs.table.LineNames.BracketLine.{first_bracket_start, first_critical_start, first_bracket_scan, first_dots_form, first_name_form, first_offset_form, after_bracket}
 use Rattle.ixdtf_grammar.specs.table.{LineNames.PairLine.{key_start, critical_key_start}, Before.{Before, Bracketed}, Rows.{Row, Fits}}
 use Rattle.ixdtf_grammar.proofs.parts.Texts.{bracketed_text}
 use Rattle.ixdtf_reading.specs.reading.{Looks.{Read, ◌>>=◌, error_of}, Pairs.pairs_at, Durations.duration_at}
@@ -41,6 +41,7 @@ in_first kind name cores prior rest core b = absurd b
 -- what stands before the line of a zone that is not exact
 of_form : (kind : CoreKind) (name : LineName) (cores rest : Text) → some (IsCore kind) cores → IsTrue (has_exact_zones kind) → IsForm name
     → Before (bracketed kind) name [] cores rest
+of_form kind (of_bracket first_dots_form) cores rest core exact h = ((core, exact), refl)
 of_form kind (of_bracket first_name_form) cores rest core exact h = ((core, exact), refl)
 of_form kind (of_bracket first_offset_form) cores rest core exact h = ((core, exact), refl)
 of_form kind name cores rest core exact h = absurd h

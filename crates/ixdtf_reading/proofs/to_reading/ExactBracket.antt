@@ -1,11 +1,11 @@
 -- A first bracket is read, where its zone may have to be exact, and each row of its lines is returned.
-use Rattle.std.proofs.Common.{◌≡◌, ◌⊎◌, Bool, true, false, IsTrue, IsFalse, Ok, Err, [], ◌∷◌, ◌++◌, refl, sym, ap, ◌∙◌, if◌then◌else◌}
+use Rattle.std.proofs.Common.{◌≡◌, ◌⊎◌, ℕ, List, Bool, true, false, IsTrue, IsFalse, Ok, Err, [], ◌∷◌, ◌++◌, refl, sym, ap, ◌∙◌, if◌then◌else◌}
 use Rattle.std.proofs.lemmas.Bool.{both_ways, false_from_ne_true}
-use Rattle.ixdtf_grammar.specs.{language.{Letters.{Text, Letter.Plain}, ZoneNames.{Zone, Zone.{Name, Offset}}, Brackets.{ZoneNote, IsZoneBracket, IsExactBracket, MayStand}}}
-use Rattle.ixdtf_grammar.specs.table.{Faults.Fault, LineNames.{LineName, LineName.of_bracket, BracketLine.{first_name_form, first_offset_form}}, Lines.line_of}
+use Rattle.ixdtf_grammar.specs.{language.{Letters.{Text, Letter.Plain}, ZoneNames.{Zone, Zone.{Name, Offset}, has_dots}, Brackets.{ZoneNote, IsZoneBracket, IsExactBracket, MayStand}}}
+use Rattle.ixdtf_grammar.specs.table.{Faults.{Fault, Fault.IanaChar}, LineNames.{LineName, LineName.of_bracket, BracketLine.{first_dots_form, first_name_form, first_offset_form}}, Lines.line_of}
 use Rattle.ixdtf_grammar.specs.table.Rows.{Row, Place, Stops, front_of, Place.anywhere}
 use Rattle.ixdtf_reading.specs.reading.{Looks.{Read, ◌>>=◌, row_of}, Brackets.{Bracket, zoned, paired, bracket_at}}
-use Rattle.ixdtf_reading.specs.reading.ExactZones.{is_exact, behind_flag, form_row, checked, bracket_by}
+use Rattle.ixdtf_reading.specs.reading.ExactZones.{is_exact, behind_flag, name_line, form_row, checked, bracket_by}
 use Rattle.ixdtf_reading.proofs.{parts.{ExactZones.{exact_holds, exact_is}, Openings.Returned}, to_reading.FirstBracket.{bracket_takes, bracket_rows}}
 use Rattle.ixdtf_reading.proofs.to_grammar.FirstBracket.{InBracket, IsBracket}
 
@@ -41,12 +41,30 @@ module _ {E : Type 0} (fault : Row → E) where
       false_from_ne_true _ (λ test. none (exact_is front read.0 rest note read.1 is test)) in
       (read.0, read.1, rw (read.2, fails) refl)
 
+  -- a name that is not exact, with dots or without
+  inexact_name : (front rest : Text) (critical : Bool) (name : List ℕ) (dots : Bool) → has_dots name ≡ dots
+      → IsZoneBracket front (record { critical = critical; zone = Name name })
+      → ¬ (IsExactBracket front (record { critical = critical; zone = Name name }))
+      → Returned (bracket_by fault true) front rest (Err (fault (row_of (of_bracket (name_line dots)) (anywhere rest) IanaChar)))
+  inexact_name front rest critical name dots has is none =
+      let returned : Returned (bracket_by fault true) front rest (Err (fault (row_of (of_bracket (name_line (has_dots name))) (anywhere rest) IanaChar))) =
+      inexact front rest (record { critical = critical; zone = Name name }) is none in
+      rw has at returned
+
+  pub dots_form : (exact : Bool) → IsTrue exact → (place : Place) (e : Fault) (front rest : Text) → front_of (line_of true (of_bracket first_dots_form)) front
+      → Stops (line_of true (of_bracket first_dots_form)) place e rest
+      → Returned (bracket_by fault exact) front rest (Err (fault (row_of (of_bracket first_dots_form) place e)))
+  dots_form false is place e front rest f at = absurd (both_ways false refl is)
+  dots_form true is (anywhere left) e front rest f at =
+      rw (at.0, at.1) (inexact_name front rest f.0 f.1 _ f.3 f.2.0 f.2.1)
+  dots_form true is place e front rest f at = absurd at
+
   pub name_form : (exact : Bool) → IsTrue exact → (place : Place) (e : Fault) (front rest : Text) → front_of (line_of true (of_bracket first_name_form)) front
       → Stops (line_of true (of_bracket first_name_form)) place e rest
       → Returned (bracket_by fault exact) front rest (Err (fault (row_of (of_bracket first_name_form) place e)))
   name_form false is place e front rest f at = absurd (both_ways false refl is)
   name_form true is (anywhere left) e front rest f at =
-      rw (at.0, at.1) (inexact front rest (record { critical = f.0; zone = Name f.1 }) f.2.0 f.2.1)
+      rw (at.0, at.1) (inexact_name front rest f.0 f.1 _ f.3 f.2.0 f.2.1)
   name_form true is place e front rest f at = absurd at
 
   pub offset_form : (exact : Bool) → IsTrue exact → (place : Place) (e : Fault) (front rest : Text) → front_of (line_of true (of_bracket first_offset_form)) front

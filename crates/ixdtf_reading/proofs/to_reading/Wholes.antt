@@ -6,14 +6,14 @@ use Rattle.ixdtf_grammar.specs.language.{Cores.IsCore, Readers.{Reader, CoreKind
 use Rattle.ixdtf_grammar.specs.language.{Readers.Reader.parse_duration, Languages.{Parsed, parsed_with, IsBracketed, Found, Derives, Derives.as_parsed}}
 use Rattle.ixdtf_grammar.specs.{language.Languages.Derives.{as_dated, as_shifted, as_identified, as_named, as_lasting}, table.{Faults.Fault, LineNames.LineName}}
 use Rattle.ixdtf_grammar.specs.table.LineNames.{LineName.{of_core, of_clock, of_offset, of_date_time, of_zone, of_bracket, of_pair}, OffsetLine.{offset_start, after_zulu}}
-use Rattle.ixdtf_grammar.specs.table.LineNames.{ZoneLine.{in_zone_name, after_zone_slash}, BracketLine.{first_bracket_start, first_critical_start, first_name_form, first_offset_form}}
+use Rattle.ixdtf_grammar.specs.table.LineNames.{ZoneLine.{in_zone_name, after_zone_slash}, BracketLine.{first_bracket_start, first_critical_start, first_dots_form, first_name_form, first_offset_form}}
 use Rattle.ixdtf_grammar.specs.table.{LineNames.{BracketLine.{first_bracket_scan, after_bracket}, PairLine.{key_start, critical_key_start}}, Lines.line_of}
 use Rattle.ixdtf_grammar.specs.table.{Before.{BeforeBracketed, Bracketed}, Rows.{Row, Place, Stops, Fits, front_of}}
 use Rattle.ixdtf_reading.specs.reading.{Looks.{Read, ◌>>=◌, row_of}, Pairs.pairs_at, Brackets.{Bracket, zoned, paired, zone_in, pairs_in}, Cores.core_at}
 use Rattle.ixdtf_reading.specs.reading.{Wholes.{bracketed_at, annotated_at, bracketed_text_at, read_at}, Chains.AfterBrackets, ExactZones.bracket_by}
 use Rattle.ixdtf_reading.proofs.to_reading.DateTimes.{rfc_3339_takes, rfc_3339_rows}
 use Rattle.ixdtf_reading.proofs.to_reading.{Cores.{core_takes, core_line_rows, core_time_rows, core_offset_rows, core_zulu_row, core_date_time_rows}, ExactBracket.{IsBracketBy, bracket_by_takes}}
-use Rattle.ixdtf_reading.proofs.to_reading.{ExactBracket.{bracket_by_rows, name_form, offset_form}, MorePairs.{over_pairs, pairs_end, pairs_row}, Durations.{duration_takes, duration_rows}}
+use Rattle.ixdtf_reading.proofs.to_reading.{ExactBracket.{bracket_by_rows, dots_form, name_form, offset_form}, MorePairs.{over_pairs, pairs_end, pairs_row}, Durations.{duration_takes, duration_rows}}
 use Rattle.ixdtf_reading.proofs.{to_grammar.FirstBracket.InBracket, to_reading.ZonesAlone.{offset_takes, offset_rows as offset_reader_rows}}
 use Rattle.ixdtf_reading.proofs.{to_reading.ZonesAlone.{identifier_takes, identifier_rows, iana_identifier_takes, iana_identifier_rows}, parts.{Looks.RowsWhere, Openings.Returned}}
 
@@ -169,6 +169,8 @@ module _ {E : Type 0} (fault : List Pair → Row → E) (kind : CoreKind) where
       rw none (inner_row prior b.0 b.1 (of_bracket first_critical_start) place e [] front rest refl f at)
   whole_row (of_bracket first_bracket_scan) pairs place e prior front rest (b, none) f at =
       opened_row (of_bracket first_bracket_scan) place e pairs b.0 b.1 front rest prior none b.2 b.3 b.4 f at
+  whole_row (of_bracket first_dots_form) pairs place e prior front rest (b, none) f at =
+      rw none (form_row prior b.0.0 b.0.1 (of_bracket first_dots_form) place e front rest (dots_form (fault []) exact b.1 place e front rest f at))
   whole_row (of_bracket first_name_form) pairs place e prior front rest (b, none) f at =
       rw none (form_row prior b.0.0 b.0.1 (of_bracket first_name_form) place e front rest (name_form (fault []) exact b.1 place e front rest f at))
   whole_row (of_bracket first_offset_form) pairs place e prior front rest (b, none) f at =

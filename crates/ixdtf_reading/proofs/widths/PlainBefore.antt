@@ -15,7 +15,7 @@ use Rattle.ixdtf_grammar.specs.table.LineNames.MonthDayLine.{month_day_range, af
 use Rattle.ixdtf_grammar.specs.table.LineNames.TimeLine.{time_start, time_reads_as_month_day, time_reads_as_year_month}
 use Rattle.ixdtf_grammar.specs.table.LineNames.{CoreLine.{dates, year_months, month_days, times}, ClockLine.hour_start, OffsetLine.{offset_start, after_zulu}}
 use Rattle.ixdtf_grammar.specs.table.LineNames.ZoneLine.{identifier_start, zone_name_start}
-use Rattle.ixdtf_grammar.specs.table.LineNames.BracketLine.{first_bracket_start, first_critical_start, first_bracket_scan, first_name_form, first_offset_form, after_bracket}
+use Rattle.ixdtf_grammar.specs.table.LineNames.BracketLine.{first_bracket_start, first_critical_start, first_bracket_scan, first_dots_form, first_name_form, first_offset_form, after_bracket}
 use Rattle.ixdtf_grammar.specs.table.LineNames.PairLine.{key_start, critical_key_start}
 use Rattle.ixdtf_grammar.specs.table.{LineNames.LineName.{of_core, of_clock, of_offset, of_date_time, of_zone, of_bracket, of_pair, of_duration}, Rows.{Row, Fits, left_at}}
 use Rattle.ixdtf_grammar.proofs.{parts.CoreLetters.core_ends, widths.PlainTexts.{IsPlain, plain_append, PlainShape, plain_nowhere, plain_nothing, plain_one}}
@@ -144,6 +144,7 @@ before_bracketed kind (of_zone line) pairs = besides (ahead (plain_opened kind) 
 before_bracketed kind (of_bracket first_bracket_start) pairs = besides (alone (plain_core kind))
 before_bracketed kind (of_bracket first_critical_start) pairs = besides (alone (plain_core kind))
 before_bracketed kind (of_bracket first_bracket_scan) pairs = besides (alone (plain_opened kind))
+before_bracketed kind (of_bracket first_dots_form) pairs = besides (alone (plain_with (plain_core kind)))
 before_bracketed kind (of_bracket first_name_form) pairs = besides (alone (plain_with (plain_core kind)))
 before_bracketed kind (of_bracket first_offset_form) pairs = besides (alone (plain_with (plain_core kind)))
 before_bracketed kind (of_bracket after_bracket) pairs = alone (plain_bracketed kind pairs)

@@ -5,7 +5,7 @@ use Rattle.ixdtf_grammar.specs.{declared.records.Annotation.Annotation}
 use Rattle.ixdtf_grammar.specs.language.{Letters.Text, Shapes.some, Brackets.{Pair, ArePairs, Opens}, Cores.Core, Languages.{Parsed, Derives, Found.parsed}}
 use Rattle.ixdtf_grammar.specs.{language.Readers.{Reader, CoreKind, has_exact_zones, Reader.bracketed}, table.LineNames.{LineName, PairLine}}
 use Rattle.ixdtf_grammar.specs.table.LineNames.LineName.{of_core, of_clock, of_offset, of_date_time, of_zone, of_bracket, of_pair, of_duration}
-use Rattle.ixdtf_grammar.specs.table.LineNames.BracketLine.{first_bracket_start, first_critical_start, first_bracket_scan, first_name_form, first_offset_form, after_bracket}
+use Rattle.ixdtf_grammar.specs.table.LineNames.BracketLine.{first_bracket_start, first_critical_start, first_bracket_scan, first_dots_form, first_name_form, first_offset_form, after_bracket}
 use Rattle.ixdtf_grammar.specs.table.LineNames.PairLine.{key_start, critical_key_start, in_key, value_start, in_value, after_value_hyphen}
 use Rattle.ixdtf_grammar.specs.table.Rows.{Row, Fits, FitsHere}
 use Rattle.ixdtf_grammar.specs.Handlers.{Reply, first_calendar, GivesRecord, NoneRefused, LastRefused, Calls, handed, replies_of, Step, IsChain}
@@ -27,6 +27,7 @@ AfterBrackets (of_bracket after_bracket) before = before ≡ []
 AfterBrackets (of_bracket first_bracket_start) before = ⊥
 AfterBrackets (of_bracket first_critical_start) before = ⊥
 AfterBrackets (of_bracket first_bracket_scan) before = ⊥
+AfterBrackets (of_bracket first_dots_form) before = ⊥
 AfterBrackets (of_bracket first_name_form) before = ⊥
 AfterBrackets (of_bracket first_offset_form) before = ⊥
 AfterBrackets (of_core line) before = ⊥

@@ -1,7 +1,7 @@
 -- Whether a zone in a bracket is exactly one of RFC 9557 section 4.1, and reading a first bracket where it has to be.
 use Rattle.std.specs.Prelude.{ℕ, Bool, true, false, [], ◌∷◌, drop, nat_eq, ◌&&◌, if◌then◌else◌, Option, Some, None, Ok, Err}
-use Rattle.ixdtf_grammar.specs.language.{Letters.{Text, Class, slash, colon, closing, zone_lead, zone_char, Letter.{Plain, Bad}}, ZoneNames.{Zone, Zone.{Name, Offset}}}
-use Rattle.ixdtf_grammar.specs.table.{Faults.Fault.{IanaChar, InvalidMinutePrecisionOffset}, LineNames.{LineName.of_bracket, BracketLine.{first_name_form, first_offset_form}}}
+use Rattle.ixdtf_grammar.specs.language.{Letters.{Text, Class, slash, colon, closing, zone_lead, zone_char, Letter.{Plain, Bad}}, ZoneNames.{Zone, Zone.{Name, Offset}, has_dots}}
+use Rattle.ixdtf_grammar.specs.table.{Faults.Fault.{IanaChar, InvalidMinutePrecisionOffset}, LineNames.{LineName.of_bracket, BracketLine, BracketLine.{first_dots_form, first_name_form, first_offset_form}}}
 use Rattle.ixdtf_grammar.specs.table.Rows.{Row, Place.anywhere}
 use Rattle.ixdtf_reading.specs.reading.{Looks.{Read, ◌>>=◌, row_of}, Runs.on_letter, FixedPlaces.byte_place, Brackets.{Bracket, zoned, paired, bracket_at}}
 
@@ -41,9 +41,14 @@ abbrev pub behind_flag : Bool → Text → Text
 behind_flag true text = drop 1 text
 behind_flag false text = text
 
+-- The line of a name that is not exact, by whether one of its parts is `.` or `..`.
+abbrev pub name_line : Bool → BracketLine
+name_line true = first_dots_form
+name_line false = first_name_form
+
 -- the row of a zone that is not exact
 abbrev pub form_row : Zone → Text → Row
-form_row (Name name) rest = row_of (of_bracket first_name_form) (anywhere rest) IanaChar
+form_row (Name name) rest = row_of (of_bracket (name_line (has_dots name))) (anywhere rest) IanaChar
 form_row (Offset offset) rest = row_of (of_bracket first_offset_form) (anywhere rest) InvalidMinutePrecisionOffset
 
 -- a bracket that was read of a text after its `[`, whose zone has to be exact

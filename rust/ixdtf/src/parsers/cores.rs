@@ -22,7 +22,7 @@ use crate::parsers::time::{Clock, TimeShape, WholeTime, parse_after_second, pars
 
 /// A type that reads cores of one kind.
 ///
-/// The functions that read complete texts are generic in it. So no code tests the kind while it runs.
+/// The functions that read complete texts are generic in this type. So no code tests the kind at run time.
 pub trait CoreReader {
     /// Reads a core into an empty record. Returns what follows the core: the end of the input or a bracket.
     fn parse_core<'a, T: EncodingType>(
@@ -31,7 +31,7 @@ pub trait CoreReader {
         found: &mut IxdtfParseRecord<'a, T>,
     ) -> Result<AfterCore, Stop>;
 
-    /// Returns whether a zone behind the core has to be exactly one of RFC 9557.
+    /// Returns whether a zone after the core has to be exactly one of RFC 9557.
     fn has_exact_zones() -> bool;
 }
 
@@ -163,8 +163,8 @@ fn parse_date_time<'a, T: EncodingType>(
 
 /// Reads what follows a date and a time in fixed columns, and writes all into the record.
 ///
-/// `time` is a local variable of this function, for speed. If a function that is not inlined wrote it, it would be in
-/// memory, and the processor would have to wait for single bytes before it could copy them as one block.
+/// For speed, `time` is a local variable of this function. If a function that is not inlined wrote `time`, it would be in
+/// memory. Then the processor would have to wait for single bytes before it could copy them as one block.
 #[inline(always)]
 fn parse_after_fixed<'a, T: EncodingType>(
     cursor: &mut Cursor<'a, T>,
@@ -208,7 +208,7 @@ fn parse_timed<'a, T: EncodingType>(
     parse_after_time(cursor, time, found)
 }
 
-/// Reads a time as far as it goes. It works on a second cursor, so that `cursor` can stay a local variable.
+/// Reads a time, and not what follows it. The function works on a second cursor, so that `cursor` can stay a local variable.
 #[inline(always)]
 fn parse_time_of_day<'a, T: EncodingType>(
     cursor: &mut Cursor<'a, T>,

@@ -55,7 +55,7 @@ impl<'a, T: EncodingType> IxdtfParser<'a, T> {
     ///
     /// # Errors
     ///
-    /// The first part that is wrong decides. If a number is out of its range, this is the error, whatever follows the
+    /// The first wrong part of the text decides the error. A number out of its range is an error, whatever follows this
     /// number. To get the position of the error, call [`parse_rfc3339_located`](Self::parse_rfc3339_located).
     ///
     /// - `AbruptEnd`: the text ends where a digit has to follow (location `digit`), after the year (location `Date`), or
@@ -69,14 +69,14 @@ impl<'a, T: EncodingType> IxdtfParser<'a, T> {
     /// - `DateSeparator`: no `-` follows the month, or another character than `-` follows the year.
     /// - `TimeSeparator`: no `T` follows the date, or no `:` follows the hour or the minute of the time.
     /// - `FractionPart`: no digit follows the `.`, or a `,` follows the second.
-    /// - `OffsetNeedsSign`: any other character is where the offset has to begin.
+    /// - `OffsetNeedsSign`: any other character follows the second or the fraction, where the offset has to begin.
     /// - `UtcTimeSeparator`: no `:` follows the hour of the offset.
     /// - `InvalidEnd`: any character follows the offset.
     /// - `NonAsciiCodePoint`: 16-bit text has a code unit outside 1 to 126. 8-bit text never has this error.
     #[inline(always)]
     pub fn parse_rfc3339(&mut self) -> ParserResult<IxdtfParseRecord<'a, T>> {
         let mut here = self.cursor.fork();
-        // The error returns in an arm of its own, as in `parse`.
+        // The error is returned in an arm of its own, as in `parse`.
         match parse_rfc3339_text(&mut here) {
             Ok(found) => {
                 self.cursor = here;
@@ -88,7 +88,7 @@ impl<'a, T: EncodingType> IxdtfParser<'a, T> {
         }
     }
 
-    /// Parses the remaining input as a date-time of RFC 3339, like [`parse_rfc3339`](Self::parse_rfc3339). An error has its
+    /// Parses the remaining input as a date-time of RFC 3339, like [`parse_rfc3339`](Self::parse_rfc3339). An error includes its
     /// position.
     ///
     /// The position is the number of code units before the error. It is the index of the code unit that does not fit, or
@@ -102,7 +102,7 @@ impl<'a, T: EncodingType> IxdtfParser<'a, T> {
     ///
     /// for (text, error, at) in [
     ///     ("2024-03-02T08:48", ParseError::TimeSeparator, 16), // the end
-    ///     ("2024-03-02 08:48:00Z", ParseError::TimeSeparator, 10), // where the space stands
+    ///     ("2024-03-02 08:48:00Z", ParseError::TimeSeparator, 10), // at the space
     ///     ("2023-02-29T08:48:00Z", ParseError::InvalidDayRange, 10), // after the day
     /// ] {
     ///     let located = IxdtfParser::from_str(text).parse_rfc3339_located().unwrap_err();
@@ -112,7 +112,7 @@ impl<'a, T: EncodingType> IxdtfParser<'a, T> {
     ///
     /// # Errors
     ///
-    /// The errors of [`parse_rfc3339`](Self::parse_rfc3339), each with its position.
+    /// Returns the errors of [`parse_rfc3339`](Self::parse_rfc3339), each with its position.
     #[inline(always)]
     pub fn parse_rfc3339_located(&mut self) -> Result<IxdtfParseRecord<'a, T>, LocatedError> {
         let mut here = self.cursor.fork();

@@ -235,7 +235,7 @@ impl<'a, T: EncodingType> TimeZoneParser<'a, T> {
         }
     }
 
-    /// Parses the remaining input as an offset from UTC, like [`parse_offset`](Self::parse_offset). An error has its
+    /// Parses the remaining input as an offset from UTC, like [`parse_offset`](Self::parse_offset). An error includes its
     /// position.
     ///
     /// The position is the number of code units before the error. It is the index of the code unit that does not fit,
@@ -260,7 +260,7 @@ impl<'a, T: EncodingType> TimeZoneParser<'a, T> {
     ///
     /// # Errors
     ///
-    /// The errors of [`parse_offset`](Self::parse_offset), each with its position.
+    /// Returns the errors of [`parse_offset`](Self::parse_offset), each with its position.
     pub fn parse_offset_located(&mut self) -> Result<UtcOffsetRecord, LocatedError> {
         let mut here = self.cursor.fork();
         let outcome = parse_offset_text(&mut here);
@@ -268,7 +268,7 @@ impl<'a, T: EncodingType> TimeZoneParser<'a, T> {
     }
 
     /// Parses the remaining input as the name of a time zone, like
-    /// [`parse_iana_identifier`](Self::parse_iana_identifier). An error has its position.
+    /// [`parse_iana_identifier`](Self::parse_iana_identifier). An error includes its position.
     ///
     /// The position is the number of code units before the error. It is the index of the code unit that does not fit,
     /// or the end of the input if the input ends too early.
@@ -290,14 +290,14 @@ impl<'a, T: EncodingType> TimeZoneParser<'a, T> {
     ///
     /// # Errors
     ///
-    /// The errors of [`parse_iana_identifier`](Self::parse_iana_identifier), each with its position.
+    /// Returns the errors of [`parse_iana_identifier`](Self::parse_iana_identifier), each with its position.
     pub fn parse_iana_identifier_located(&mut self) -> Result<&'a [T::CodeUnit], LocatedError> {
         let mut here = self.cursor.fork();
         let outcome = parse_iana_identifier_text(&mut here);
         self.cursor.settle(here, outcome)
     }
 
-    /// Parses the remaining input as a time zone, like [`parse_identifier`](Self::parse_identifier). An error has its
+    /// Parses the remaining input as a time zone, like [`parse_identifier`](Self::parse_identifier). An error includes its
     /// position.
     ///
     /// The position is the number of code units before the error. It is the index of the code unit that does not fit,
@@ -321,7 +321,7 @@ impl<'a, T: EncodingType> TimeZoneParser<'a, T> {
     ///
     /// # Errors
     ///
-    /// The errors of [`parse_identifier`](Self::parse_identifier), each with its position.
+    /// Returns the errors of [`parse_identifier`](Self::parse_identifier), each with its position.
     pub fn parse_identifier_located(&mut self) -> Result<TimeZoneRecord<'a, T>, LocatedError> {
         let mut here = self.cursor.fork();
         let outcome = parse_identifier_text(&mut here);

@@ -70,7 +70,7 @@ impl<'a, T: EncodingType> IxdtfParser<'a, T> {
     ///
     /// # Errors
     ///
-    /// The first part that is wrong decides. A month, day, hour, minute or second out of its range is an error before
+    /// The first wrong part of the text decides the error. A month, day, hour, minute or second out of its range is an error before
     /// the next code unit is read. To get the position of the error, call [`parse_located`](Self::parse_located).
     ///
     /// - `AbruptEnd`: the text ends too early. The location is `Date` if it ends after the year, and `digit` if it ends
@@ -110,7 +110,7 @@ impl<'a, T: EncodingType> IxdtfParser<'a, T> {
     /// - `NonAsciiCodePoint`: 16-bit text has a code unit outside 1 to 126. 8-bit text never has this error.
     #[inline(always)]
     pub fn parse(&mut self) -> ParserResult<IxdtfParseRecord<'a, T>> {
-        // The error returns in an arm of its own. If both arms ended in one value, a caller that takes the record apart
+        // The error is returned in an arm of its own. If both arms ended in one value, a caller that takes the record apart
         // would read all its fields before it knows whether there is a record (docs/PERF.md).
         let mut found = IxdtfParseRecord::default();
         match self.read_unhandled::<DateTimes>(&mut found) {
@@ -159,7 +159,7 @@ impl<'a, T: EncodingType> IxdtfParser<'a, T> {
     ///
     /// # Errors
     ///
-    /// The first part that is wrong decides. To get the position of the error, call
+    /// The first wrong part of the text decides the error. To get the position of the error, call
     /// [`parse_rfc9557_located`](Self::parse_rfc9557_located). The date-time has the errors that it has in
     /// [`parse_rfc3339`](Self::parse_rfc3339), and `InvalidEnd` at any character after the offset other than a `[`.
     /// Brackets have the errors that they have in [`parse`](Self::parse). If RFC 9557 does not have a zone that
@@ -209,7 +209,7 @@ impl<'a, T: EncodingType> IxdtfParser<'a, T> {
     ///
     /// # Errors
     ///
-    /// The first part that is wrong decides. To get the position of the error, call
+    /// The first wrong part of the text decides the error. To get the position of the error, call
     /// [`parse_year_month_located`](Self::parse_year_month_located). Brackets have the errors that they have in
     /// [`parse`](Self::parse). These are the errors before the brackets:
     ///
@@ -267,7 +267,7 @@ impl<'a, T: EncodingType> IxdtfParser<'a, T> {
     ///
     /// # Errors
     ///
-    /// The first part that is wrong decides. To get the position of the error, call
+    /// The first wrong part of the text decides the error. To get the position of the error, call
     /// [`parse_month_day_located`](Self::parse_month_day_located). Brackets have the errors that they have in
     /// [`parse`](Self::parse). These are the errors before the brackets:
     ///
@@ -336,10 +336,11 @@ impl<'a, T: EncodingType> IxdtfParser<'a, T> {
     ///
     /// # Errors
     ///
-    /// The first part that is wrong decides. To get the position of the error, call
+    /// The first wrong part of the text decides the error. To get the position of the error, call
     /// [`parse_time_located`](Self::parse_time_located). Times, offsets and brackets have the errors that they have in
-    /// [`parse`](Self::parse), also at the beginning of the text. Two more errors are about a text without `T` or `t` that
-    /// is a time, with or without an offset, up to its first `[` or its end. The brackets of this text are not read:
+    /// [`parse`](Self::parse). The hour has the same errors if it is at the beginning of the text. Two more errors are about a
+    /// text without `T` or `t` that is a time, with or without an offset, up to its first `[` or its end. The brackets of
+    /// such a text are not read:
     ///
     /// - `AmbiguousTimeMonthDay`: the text begins like a month and a day.
     /// - `AmbiguousTimeYearMonth`: the text begins like a year and a month, and not like a month and a day.
@@ -356,12 +357,12 @@ impl<'a, T: EncodingType> IxdtfParser<'a, T> {
         outcome
     }
 
-    /// Parses the remaining input as a date, or as a date and a time, like [`parse`](Self::parse). An error has its
+    /// Parses the remaining input as a date, or as a date and a time, like [`parse`](Self::parse). An error includes its
     /// position.
     ///
     /// The position is the number of code units before the error. It is the index of the code unit that does not fit,
     /// or the end of the input if the input ends too early. For a number out of its range, the position is after the
-    /// number. For a refused annotation, it is after its bracket.
+    /// number. For a refused annotation, the position is after its bracket.
     ///
     /// # Examples
     ///
@@ -382,7 +383,7 @@ impl<'a, T: EncodingType> IxdtfParser<'a, T> {
     ///
     /// # Errors
     ///
-    /// The errors of [`parse`](Self::parse), each with its position.
+    /// Returns the errors of [`parse`](Self::parse), each with its position.
     #[inline(always)]
     pub fn parse_located(&mut self) -> Result<IxdtfParseRecord<'a, T>, LocatedError> {
         let mut parsed = IxdtfParseRecord::default();
@@ -395,13 +396,13 @@ impl<'a, T: EncodingType> IxdtfParser<'a, T> {
         }
     }
 
-    /// Parses the remaining input as a text of RFC 9557, like [`parse_rfc9557`](Self::parse_rfc9557). An error has its
+    /// Parses the remaining input as a text of RFC 9557, like [`parse_rfc9557`](Self::parse_rfc9557). An error includes its
     /// position.
     ///
     /// The position is the number of code units before the error. It is the index of the code unit that does not fit,
     /// or the end of the input if the input ends too early. For a number out of its range, the position is after the
-    /// number. For a refused annotation, it is after its bracket. So it is for a zone that [`parse`](Self::parse) accepts
-    /// and RFC 9557 does not have.
+    /// number. For a refused annotation, the position is after its bracket. If the zone is one that [`parse`](Self::parse)
+    /// accepts and RFC 9557 does not have, the position is after the bracket of the zone.
     ///
     /// # Examples
     ///
@@ -410,7 +411,7 @@ impl<'a, T: EncodingType> IxdtfParser<'a, T> {
     /// use ixdtf::parsers::IxdtfParser;
     ///
     /// for (text, error, at) in [
-    ///     ("2024-03-02 08:48:00Z", ParseError::TimeSeparator, 10), // where the space stands
+    ///     ("2024-03-02 08:48:00Z", ParseError::TimeSeparator, 10), // at the space
     ///     ("2024-03-02T08:48:00[UTC]", ParseError::OffsetNeedsSign, 19), // at the bracket
     ///     ("2024-03-02T08:48:00Z[UTC", ParseError::AnnotationClose, 24), // the end
     ///     ("2024-03-02T08:48:00Z[+05]", ParseError::InvalidMinutePrecisionOffset, 25), // after the bracket
@@ -423,7 +424,7 @@ impl<'a, T: EncodingType> IxdtfParser<'a, T> {
     ///
     /// # Errors
     ///
-    /// The errors of [`parse_rfc9557`](Self::parse_rfc9557), each with its position.
+    /// Returns the errors of [`parse_rfc9557`](Self::parse_rfc9557), each with its position.
     #[inline(always)]
     pub fn parse_rfc9557_located(&mut self) -> Result<IxdtfParseRecord<'a, T>, LocatedError> {
         let mut parsed = IxdtfParseRecord::default();
@@ -437,11 +438,11 @@ impl<'a, T: EncodingType> IxdtfParser<'a, T> {
     }
 
     /// Parses the remaining input as a year and a month, like [`parse_year_month`](Self::parse_year_month). An error
-    /// has its position.
+    /// includes its position.
     ///
     /// The position is the number of code units before the error. It is the index of the code unit that does not fit,
     /// or the end of the input if the input ends too early. For a number out of its range, the position is after the
-    /// number. For a refused annotation, it is after its bracket.
+    /// number. For a refused annotation, the position is after its bracket.
     ///
     /// # Examples
     ///
@@ -460,7 +461,7 @@ impl<'a, T: EncodingType> IxdtfParser<'a, T> {
     ///
     /// # Errors
     ///
-    /// The errors of [`parse_year_month`](Self::parse_year_month), each with its position.
+    /// Returns the errors of [`parse_year_month`](Self::parse_year_month), each with its position.
     #[inline(always)]
     pub fn parse_year_month_located(&mut self) -> Result<IxdtfParseRecord<'a, T>, LocatedError> {
         let mut parsed = IxdtfParseRecord::default();
@@ -473,12 +474,12 @@ impl<'a, T: EncodingType> IxdtfParser<'a, T> {
         }
     }
 
-    /// Parses the remaining input as a month and a day, like [`parse_month_day`](Self::parse_month_day). An error has
+    /// Parses the remaining input as a month and a day, like [`parse_month_day`](Self::parse_month_day). An error includes
     /// its position.
     ///
     /// The position is the number of code units before the error. It is the index of the code unit that does not fit,
     /// or the end of the input if the input ends too early. For a number out of its range, the position is after the
-    /// number. For a refused annotation, it is after its bracket.
+    /// number. For a refused annotation, the position is after its bracket.
     ///
     /// # Examples
     ///
@@ -497,7 +498,7 @@ impl<'a, T: EncodingType> IxdtfParser<'a, T> {
     ///
     /// # Errors
     ///
-    /// The errors of [`parse_month_day`](Self::parse_month_day), each with its position.
+    /// Returns the errors of [`parse_month_day`](Self::parse_month_day), each with its position.
     #[inline(always)]
     pub fn parse_month_day_located(&mut self) -> Result<IxdtfParseRecord<'a, T>, LocatedError> {
         let mut parsed = IxdtfParseRecord::default();
@@ -510,11 +511,11 @@ impl<'a, T: EncodingType> IxdtfParser<'a, T> {
         }
     }
 
-    /// Parses the remaining input as a time, like [`parse_time`](Self::parse_time). An error has its position.
+    /// Parses the remaining input as a time, like [`parse_time`](Self::parse_time). An error includes its position.
     ///
     /// The position is the number of code units before the error. It is the index of the code unit that does not fit,
     /// or the end of the input if the input ends too early. For a number out of its range, the position is after the
-    /// number. For a refused annotation, it is after its bracket.
+    /// number. For a refused annotation, the position is after its bracket.
     ///
     /// # Examples
     ///
@@ -533,7 +534,7 @@ impl<'a, T: EncodingType> IxdtfParser<'a, T> {
     ///
     /// # Errors
     ///
-    /// The errors of [`parse_time`](Self::parse_time), each with its position.
+    /// Returns the errors of [`parse_time`](Self::parse_time), each with its position.
     #[inline(always)]
     pub fn parse_time_located(&mut self) -> Result<IxdtfParseRecord<'a, T>, LocatedError> {
         let mut parsed = IxdtfParseRecord::default();
@@ -558,8 +559,8 @@ impl<'a, T: EncodingType> IxdtfParser<'a, T> {
 
 /// Returns whether the record has no date. Does not change the record.
 ///
-/// A year and a month have a date, and so have a month and a day. Their readers return separately for each answer. So
-/// the compiler knows that the returned record has a date, and therefore that the result is not an error.
+/// A year and a month have a date, and so have a month and a day. Their readers have a `return` for each of the two
+/// results. So the compiler knows that the returned record has a date, and therefore that the result is not an error.
 #[inline(always)]
 fn lacks_date<'a, T: EncodingType>(found: &mut IxdtfParseRecord<'a, T>) -> bool {
     if found.date.is_none() {

@@ -1,4 +1,4 @@
--- The function only passes its arguments on to `parse_unanswered_as`, at the public error. Assumes `Logic`.
+-- The function only passes its arguments on to `parse_unanswered_as`, with the public error. This proof assumes `Logic`.
 use denote.Param.Members as Members
 use Rattle.ixdtf_grammar.specs.contracts.error.ParseError
 use Rattle.ixdtf_grammar.proofs.error.ParseError.TheLaws as error_laws
@@ -22,7 +22,7 @@ parse_unanswered_spec {M} 𝓤 𝓛 𝓜 𝓡 wired T' F U LT LF LU cU g₀ d₀
     let 𝓣 : Tables 𝓤 𝓛.H = tables_of 𝓤 𝓛.H 𝓜 (tables 𝓤 𝓛.H 𝓜 𝓡 𝓡.env) in
     let Q = Under 4 P in
     let E = taken ParseError.the_row in
-    -- the error names no lifetime, so its token may be any
+    -- The error names no lifetime, so any token fits.
     let f : Lfts 5 → Lfts 6 = λ τs. (τs.0, (τs.1.0, (τs.1.1.0, (τs.1.0, (τs.1.1.1.0, (τs.1.1.1.1.0, tt)))))) in
     let S = R.signature T' F U g₀ d₀ gₛ dₛ gₑ dₑ g₁ d₁ gₕ dₕ g₂ d₂ g₃ d₃ gᵢ dᵢ g d d' d'' P in
     let S' = G.signature T' E F U g₀ d₀ gₛ dₛ gₑ dₑ g₁ d₁ gₕ dₕ g₂ d₂ g₃ d₃ gᵢ dᵢ raises.ghosts raises.dict g d d' d'' Q in

@@ -1,4 +1,4 @@
--- The list keeps its loan of the slots.
+-- The list keeps its reference to the array.
 use Rattle.ixdtf_c.proofs.narrow_annotations.list_into.Goals as goal
 use Rattle.std.proofs.Common.{rules}
 use Rattle.ixdtf_c.specs.Narrow.{contents}

@@ -1,4 +1,4 @@
--- The handler hands each annotation back.
+-- The handler returns each annotation.
 use Rattle.ixdtf_c.proofs.readers.read_as.Goals as goal
 use Rattle.std.proofs.{Common.rules, lemmas.Simd.map-map}
 use Rattle.ixdtf_c.proofs.Read.{reads}

@@ -1,4 +1,4 @@
--- The handler is asked about one more annotation.
+-- The handler is called for one more annotation.
 use Rattle.ixdtf_c.proofs.turns.reply_in_turn.Goals as goal
 use Rattle.std.proofs.Common.{map, drop, ◌+◌}
 use Rattle.ixdtf_c.specs.Narrow.{annotation_by}

@@ -1,4 +1,4 @@
--- The handler replies none and lists each annotation, and keeps its loan of the list.
+-- The handler lists each annotation and returns `None`. It keeps its reference to the list.
 use Rattle.ixdtf_c.proofs.wide_annotations.list_as.Goals as goal
 use Rattle.std.proofs.{Common.{rules, map, ◌≤◌, ◌-◌, ◌^◌, length}, lemmas.{List.length-map, Simd.map-map}}
 use Rattle.ixdtf.specs.language.Letters.{wide_letter}

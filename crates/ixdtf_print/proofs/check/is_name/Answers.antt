@@ -8,7 +8,7 @@ use Rattle.ixdtf.specs.language.{Readers.Reader.parse_iana_identifier, ZoneNames
 name_of : (text : Text) (name : List ℕ) → Derives parse_iana_identifier text (named name) [] → IsZoneName text name
 name_of text name (as_named h) = h
 
--- a name is derived exactly where the call returned one
+-- A name is derived if and only if the call returned one.
 names : {X : Type 0} (view : X → List ℕ) (result : Result X ParseError) (units : List ℕ)
     → ((name : List ℕ) → (returned view result ≡ Ok name) ↔ Derives parse_iana_identifier (map Plain units) (named name) [])
     → IsTrue (is_ok result) ↔ ZoneName (map Plain units)

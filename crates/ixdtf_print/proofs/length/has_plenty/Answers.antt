@@ -1,4 +1,4 @@
--- The names fit into the two halves, behind a date, a time and an offset.
+-- The names fit into the two halves of the bytes that the date, the time, the offset and the brackets leave.
 use Rattle.ixdtf_print.proofs.length.has_plenty.Goals as goal
 use Rattle.std.proofs.Common.{arith}
 use Rattle.ixdtf_print.specs.Printable.{record_of}

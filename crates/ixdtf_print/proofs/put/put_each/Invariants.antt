@@ -2,7 +2,7 @@ use Rattle.ixdtf_print.proofs.put.put_each.Given as goal
 use Rattle.std.proofs.Common.{length}
 use Rattle.ixdtf_print.specs.Prints.{PrintsFront}
 
--- those before the rest were put
+-- The bytes before `rest` were written.
 abbrev pub invariant-loop-front : goal.invariant-loop-front
 invariant-loop-front l = PrintsFront l.fn.out l.out l.at l.place l.bytes l.rest
 

@@ -3,6 +3,6 @@ use Rattle.std.proofs.Common.{map, take}
 use Rattle.ixdtf.specs.language.Letters.{Letter.Plain}
 use Rattle.ixdtf_print.specs.Prints.{Prints}
 
--- those so far are written
+-- The bytes so far are written.
 abbrev pub invariant-loop-byte : goal.invariant-loop-byte
 invariant-loop-byte l = Prints l.initial.out l.out 0 l.at (map Plain (take l.byte-index l.bytes))

@@ -1,4 +1,4 @@
--- The function only passes its arguments on to `read_as`, at its error and cores of its kind. Assumes `Logic`.
+-- The function only passes its arguments on to `read_as`, with its error and its kind of cores. This proof assumes `Logic`.
 use Rattle.ixdtf.specs.contracts.parsers.cores.YearMonths
 use Rattle.ixdtf.proofs.parsers.cores.YearMonths.TheLaws as cores_laws
 use Rattle.ixdtf.specs.contracts.parsers.cores.YearMonthsCoreReader.TheImpl as cores

@@ -4,7 +4,7 @@ use Rattle.ixdtf_times.specs.TimeTypes.{opens_bracket}
 use Rattle.ixdtf_reading.proofs.code.FixedPlaces.{reads_on}
 use Rattle.ixdtf.proofs.code.FixedCores.{fixed_core}
 
--- what follows the nineteen places is read as the whole is
+-- The result after the nineteen fixed columns is the result for the complete text.
 pub returns-in-Some-clause-core : goal.returns-in-Some-clause-core
 returns-in-Some-clause-core g c =
     reads_on g.T.EncodingType.letter (λ after. (core_in c.parse_after_fixed.new.found, opens_bracket after)) c.args.cursor.now c.take_fixed_date_time.new.cursor

@@ -10,7 +10,7 @@ use Rattle.ixdtf.proofs.parsers.replies.parse_annotations.Goals.{in-Some+in_ok-k
 if_some : {X : Type 0} {found : Option X} {x : X} (P : X → Type 0) → found ≡ Some x → IfSome found P → P x
 if_some P is held = subst (λ found. IfSome found P) is held
 
--- the reply to the first pair is refused
+-- The reply to the first annotation is refused.
 pub returns-in_err-keep_first_calendar-clause-pairs : goal.returns-in_err-keep_first_calendar-clause-pairs
 returns-in_err-keep_first_calendar-clause-pairs g c =
     let p = err_from_is_err_and c.from_residual.result c.from_residual.ensures.1 in
@@ -24,7 +24,7 @@ returns-in_err-keep_first_calendar-clause-pairs g c =
       (omega (arith, kept.alone refl), kept.counted),
     )
 
--- the loop begins with no call, or with the first pair's
+-- Before the loop, the handler was not called, or was called with the first annotation.
 pub loop-annotation-init : goal.loop-annotation-init
 loop-annotation-init g c = elim c.match-first.branch [
   | in-Some+in_ok-keep_first_calendar w ↦
@@ -49,7 +49,7 @@ loop-annotation-init g c = elim c.match-first.branch [
       }
 ]
 
--- what stands next is no pair
+-- The next part of the text is not an annotation.
 pub returns-in_err-annotation-clause-pairs : goal.returns-in_err-annotation-clause-pairs
 returns-in_err-annotation-clause-pairs g c =
     let p = err_from_is_err_and c.from_residual-in_err-annotation.result c.from_residual-in_err-annotation.ensures.1 in
@@ -61,7 +61,7 @@ returns-in_err-annotation-clause-pairs g c =
       (omega (arith, so_far.looks, c.in_err-annotation.ensures.looks), omega (arith, so_far.counted, c.in_err-annotation.ensures.looks)),
     )
 
--- a reply is refused
+-- A reply is refused.
 pub returns-in_err-keep_first_calendar-2-clause-pairs : goal.returns-in_err-keep_first_calendar-2-clause-pairs
 returns-in_err-keep_first_calendar-2-clause-pairs g c =
     let p = err_from_is_err_and c.from_residual-in_err-keep_first_calendar-2.result c.from_residual-in_err-keep_first_calendar-2.ensures.1 in
@@ -93,7 +93,7 @@ loop-annotation-preserved g c =
       counted = omega (arith, so_far.counted, c.in_ok-annotation.ensures.looks, kept.counted);
     }
 
--- the text ends
+-- The text ends.
 pub returns-clause-pairs : goal.returns-clause-pairs
 returns-clause-pairs g c =
     let next = next_is (map g.T.EncodingType.letter c.loop-annotation.cursor.rest) (map g.T.EncodingType.letter c.next_annotation.new.cursor.rest) None (search rules) in

@@ -11,7 +11,7 @@ returns-in_err-read-clause-replied g c =
     let looks = rw c.fork-here.ensures.same at c.in_err-read.ensures.looks in
     rw (p.1, p.2) (0, core_refused _ _ _ (g.C.CoreReader.kind c.args.profile) _ _ read, omega (arith, looks, core_at_most (exact_zones (g.C.CoreReader.kind c.args.profile)) (length c.args.cursor.now.rest)))
 
--- a core, and the end
+-- The text is a core, and ends after it.
 pub returns-clause-replied : goal.returns-clause-replied
 returns-clause-replied g c =
     let ends = sym c.opens_bracket.ensures ∙ c.if-opens_bracket.false in
@@ -27,7 +27,7 @@ returns-clause-empty g c =
     let read = rw (c.fork-here.ensures.same, ends) at c.in_ok-read.ensures.core in
     no_units g.T.EncodingType.letter _ (core_ends_text (g.C.CoreReader.kind c.args.profile) _ _ _ read)
 
--- the first bracket is looked through once more than it is read
+-- The first bracket is scanned once before it is read. The bound on the accesses allows this.
 pub returns-then-opens_bracket-clause-replied : goal.returns-then-opens_bracket-clause-replied
 returns-then-opens_bracket-clause-replied g c =
     let opens = sym c.opens_bracket.ensures ∙ c.if-opens_bracket.true in

@@ -10,7 +10,7 @@ returns-in_err-byte-clause-core g c =
     let p = err_from_is_err_and c.from_residual.result c.from_residual.ensures.1 in
     rw (p.1, p.2, c.look.ensures.rest) (bad_is _ _ _ c.in_err-byte.ensures.letter)
 
--- `T` or `t`, and no test of the front
+-- A `T` or `t` comes first, so no test of the prefix is needed.
 pub returns-in-Some-clause-core : goal.returns-in-Some-clause-core
 returns-in-Some-clause-core g c =
     let marked =
@@ -18,7 +18,7 @@ returns-in-Some-clause-core g c =
     let same = marked ∙ rw (c.advance.ensures.letters, c.look.ensures.rest) refl in
     reads_as _ _ c.advance.new.self c.args.cursor.now _ c.parse_timed.result _ _ same c.parse_timed.ensures.core
 
--- neither
+-- Neither `T` nor `t` comes first.
 pub returns-in_err-after-in_default-clause-core : goal.returns-in_err-after-in_default-clause-core
 returns-in_err-after-in_default-clause-core g c =
     let p = err_from_is_err_and c.from_residual-in_err-after-in_default.result c.from_residual-in_err-after-in_default.ensures.1 in
