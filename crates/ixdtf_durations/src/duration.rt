@@ -98,8 +98,8 @@ impl<'a> IsoDurationParser<'a, Utf16> {
 
     /// Creates a parser of 16-bit code units, as [`from_utf16`](Self::from_utf16) does.
     ///
-    /// This function has the name that it has in `ixdtf` 0.6.7. So a caller must name the encoding:
-    /// `IsoDurationParser::<Utf16>::from_utf8`.
+    /// In `ixdtf` 0.6.7, this function has the same name. There are two functions `from_utf8`, one for each encoding.
+    /// So a caller must name the encoding: `IsoDurationParser::<Utf16>::from_utf8`.
     ///
     /// # Examples
     ///
@@ -160,8 +160,8 @@ impl<'a, T: EncodingType> IsoDurationParser<'a, T> {
 
     /// Parses the remaining input as a duration, such as `P1Y2M3DT4H` or `-PT1H30.5M`.
     ///
-    /// A duration is `Duration` of the Temporal grammar, and a form of ISO 8601, section 5.5.2. It consists of these
-    /// parts, and has at least one group. A group is a number and the letter of its unit.
+    /// The form of a duration is `Duration` of the Temporal grammar (ISO 8601, section 5.5.2). A duration consists of
+    /// these parts, and has at least one group. A group is a number and the letter of its unit.
     ///
     /// 1. An optional sign, `+` or `-`.
     /// 2. `P`.
@@ -209,8 +209,9 @@ impl<'a, T: EncodingType> IsoDurationParser<'a, T> {
     ///
     /// # Errors
     ///
-    /// The first part that is wrong decides. In a group, the order of its unit is tested before the range of its
-    /// number. To get the position of the error, call [`parse_located`](Self::parse_located).
+    /// The error is that of the first part that is wrong. In one group, three tests follow each other: the number must be
+    /// less than 2^64, the unit must be in order, and a number of years, months or weeks must be less than 2^32. To get
+    /// the position of the error, call [`parse_located`](Self::parse_located).
     ///
     /// - `AbruptEnd`: the text is empty (location `DurationStart`), or ends after the sign (`DurationDesignator`) or
     ///   after `P` (`Duration`). After the digits of a group, the text ends or has another character than the letter of

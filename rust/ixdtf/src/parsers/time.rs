@@ -85,7 +85,7 @@ impl WholeTime {
         self.hour <= 23 && self.minute <= 59 && self.second <= 60
     }
 
-    /// The record of it, with a fraction where there is one.
+    /// Returns the record of the time, with the fraction, if there is one.
     #[inline(always)]
     pub fn with_fraction(self, fraction: Option<Fraction>) -> TimeRecord {
         TimeRecord {
@@ -149,7 +149,8 @@ pub fn next_number<'a, T: EncodingType>(
     check_most(number, greatest, stop)
 }
 
-/// Reads a time as far as it goes, and writes it to `time`. Returns which parts it has.
+/// Reads a time or an offset, and writes it to `time`. Returns which parts it has. Anything that does not continue it can
+/// follow.
 #[inline(always)]
 pub fn parse_clock<'a, T: EncodingType>(
     cursor: &mut Cursor<'a, T>,
@@ -248,7 +249,10 @@ pub fn parse_after_second<'a, T: EncodingType>(
     }
 }
 
-/// Reads the digits of a fraction after its `.` or `,`. Returns `FractionPart` if no digit follows.
+/// Reads the digits of a fraction after its `.` or `,`.
+///
+/// Returns `NonAsciiCodePoint` at a bad code unit, also after the digits. Returns `FractionPart` if no digit and no bad
+/// code unit follows the `.` or `,`.
 #[inline(always)]
 pub fn parse_fraction<'a, T: EncodingType>(cursor: &mut Cursor<'a, T>) -> Result<Fraction, Stop> {
     let mut here = cursor.fork();
@@ -257,7 +261,7 @@ pub fn parse_fraction<'a, T: EncodingType>(cursor: &mut Cursor<'a, T>) -> Result
     read
 }
 
-/// Reads the digits of a fraction. It is not inlined, because few texts have a fraction.
+/// Reads the digits of a fraction. The function is not inlined, because few texts have a fraction.
 #[inline(never)]
 fn parse_digits<'a, T: EncodingType>(cursor: &mut Cursor<'a, T>) -> Result<Fraction, Stop> {
     let mut here = cursor.fork();
