@@ -15,7 +15,8 @@ const LEAST_WRITTEN: usize = 2048;
 /// The buffer has a capacity of 4,096 bytes. A slice that does not fit into the rest of the buffer is written in these steps:
 ///
 /// 1. The first bytes of the slice fill the buffer.
-/// 2. At least 2,048 of the bytes in the buffer are written to the sink. The others stay in the buffer.
+/// 2. At least 2,048 of the bytes in the buffer are written to the sink, and at least as many as the rest of the slice has. The
+///    others stay in the buffer.
 /// 3. The rest of the slice is appended to the buffer.
 ///
 /// A slice of more than 4,096 bytes does not use the buffer. The bytes in the buffer are written to the sink, and then the slice.

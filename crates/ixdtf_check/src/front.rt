@@ -1,4 +1,4 @@
-//! A reader that can return its first line before the line is read.
+//! A reader that can show its first line, and still returns this line to later reads.
 ghost use Rattle.std.specs.Prelude.{◌≤◌};
 
 use ixdtf_buffers::place::place_of;
@@ -33,7 +33,7 @@ impl<'r, R: Read> Front<'r, R> {
         }
     }
 
-    /// Reads the first line ahead, and returns it without its newline. If the line has more than 65,536 bytes, returns
+    /// Reads the first line of the other reader, and returns it without its newline. If the line has more than 65,536 bytes, returns
     /// its first 65,536 bytes.
     pub fn first_line(&mut self) -> io::Result<&[u8]> {
         for _ in 0..ROOM {
