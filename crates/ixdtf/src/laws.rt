@@ -37,8 +37,8 @@ use ixdtf_reading::stop::FromStop;
 /// States that [`IxdtfParser::parse`] accepts every date-time of RFC 3339, section 5.6. Its `T` and `Z` may be
 /// lowercase.
 ///
-/// The law is about texts, and so about sources in every encoding. It states that each of these texts gives a record
-/// without a handler. By the clause `ok` in the contract of `parse`, `parse` then returns this record.
+/// The law is about texts, and so about sources in every encoding. It states that, without a handler, each of
+/// these texts gives a record. By the clause `ok` in the contract of `parse`, `parse` then returns this record.
 pub fn every_rfc3339_date_time_is_read()
     ensures { EveryDateTimeIsRead }
 {}

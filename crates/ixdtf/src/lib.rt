@@ -14,7 +14,8 @@
 //! - [`parsers::TimeZoneParser`] parses a text that is only an offset, or only a time zone.
 //! - [`parsers::IsoDurationParser`] parses a duration, such as `P1Y2M3DT4H`.
 //! - Each method has a variant `*_located`, whose error has a position.
-//! - [`parsers::Profile`] has stricter rules for a month and a day, for a time, and for a duration.
+//! - [`parsers::Profile`] has stricter rules for a month and a day, and for a duration. It also decides which times are
+//!   ambiguous.
 //!
 //! The grammar is written down. A reader accepts every text of its grammar, unless an annotation must be refused, and
 //! accepts no other text. For every text that it does not accept, a reader returns one error: the error that a written

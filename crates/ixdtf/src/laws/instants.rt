@@ -40,9 +40,9 @@ pub fn second_60_is_59()
 /// States that `parse` accepts the text that `Display` writes for an instant, and that the record has this instant.
 ///
 /// The law is about each instant that is not before -999999-01-01T00:00:00Z, and is before +1000000-01-01T00:00:00Z. It
-/// states that the text of this instant gives the record without a handler. By the clause `ok` in the contract of
-/// [`IxdtfParser::parse`](crate::parsers::IxdtfParser::parse), `parse` then returns this record. The record has a date, a
-/// time and `Z`, and nothing else.
+/// states that, without a handler, the text of this instant gives a record with a date, a time and `Z`, and nothing
+/// else. By the clause `ok` in the contract of [`IxdtfParser::parse`](crate::parsers::IxdtfParser::parse), `parse` then
+/// returns this record.
 pub fn text_is_read_back()
     ensures { TextIsReadBack }
 {}
