@@ -345,8 +345,8 @@ impl<'a, T: EncodingType> IxdtfParser<'a, T> {
     /// of the hour there.
     ///
     /// Two more errors are about an ambiguous text. Such a text does not begin with `T` or `t`. Its part before the first
-    /// `[`, or the complete text if it has no `[`, is a time, with or without an offset. The brackets of an ambiguous text
-    /// are not read:
+    /// `[`, or the complete text if it has no `[`, is a time, with or without an offset. But the text also begins like a
+    /// month and a day, or like a year and a month. The brackets of an ambiguous text are not read:
     ///
     /// - `AmbiguousTimeMonthDay`: the text begins like a month and a day.
     /// - `AmbiguousTimeYearMonth`: the text begins like a year and a month, and not like a month and a day.
