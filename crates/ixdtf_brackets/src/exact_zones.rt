@@ -122,8 +122,8 @@ fn zone_stop<'a, T: EncodingType>(zone: &TimeZoneAnnotation<'a, T>) -> Stop
 
 /// Reads a first bracket after its `[`. If `is_exact`, a zone must have the form of RFC 9557, section 4.1.
 ///
-/// If the zone is a name without this form, returns `IanaChar`. If it is an offset, returns
-/// `InvalidMinutePrecisionOffset`. Both have the position after the `]`.
+/// If the zone is a name without this form, returns `IanaChar`. If it is an offset without this form, returns
+/// `InvalidMinutePrecisionOffset`. Both errors have the position after the `]`.
 #[inline(always)]
 pub fn parse_bracket_by<'a, T: EncodingType>(
     cursor: &mut Cursor<'a, T>,

@@ -56,9 +56,8 @@ pub enum ParseError {
     /// - `Duration`: a duration ends after its `P`.
     /// - `DateDurationDesignator`: in the date part of a duration, the letter of a date unit does not follow the digits of
     ///   a number. This is also the location if the text ends there.
-    /// - `TimeDurationDesignator`: in the time part of a duration, neither a fraction nor the letter of a time unit follows
-    ///   the digits of a number, or this letter does not follow the digits of a fraction. This is also the location if the
-    ///   text ends there.
+    /// - `TimeDurationDesignator`: in the time part of a duration, the letter of a time unit is missing after a number, with or
+    ///   without a fraction. This is also the location if the text ends there.
     AbruptEnd {
         /// What was being parsed.
         location: &'static str,
@@ -132,9 +131,9 @@ pub enum ParseError {
     /// The value of an annotation contains a character that a value cannot contain, and that is not the `]` after it.
     /// This is also the error if no ASCII letter or digit follows the `=`, or if the text ends after the `=`.
     AnnotationValueChar,
-    /// A colon or a digit follows the minute of an offset that must not have seconds: an offset in brackets, or for
-    /// `parse_identifier`. In `parse_rfc9557`, this is also the error of an offset in brackets that does not have the
-    /// form `+05:30`.
+    /// A colon or a digit follows the minute of an offset that must not have seconds. This is an offset in brackets, or the
+    /// offset that `parse_identifier` reads. In `parse_rfc9557`, this is also the error of an offset in brackets that does
+    /// not have the form `+05:30`.
     InvalidMinutePrecisionOffset,
     /// An annotation with the key `u-ca` has another value than the first annotation with this key, and at least one of
     /// the two is critical. With a handler, this is about the annotations that the handler returned.
@@ -145,8 +144,8 @@ pub enum ParseError {
     /// A time zone begins with a character that cannot begin a time zone. For `parse_iana_identifier`, this is also the
     /// error of the empty text.
     TzLeadingChar,
-    /// In the name of a time zone, a `/` is not followed by a character of a name. This is also the error if the text
-    /// ends there.
+    /// In the name of a time zone, a `/` is followed by another `/`, by a character that a name cannot contain, or by the
+    /// end of the text.
     IanaCharPostSeparator,
     /// The name of a time zone contains a character that a name cannot contain, and that is not the `]` of its bracket.
     /// In `parse_rfc9557`, this is also the error of a name that RFC 9557 does not allow, such as `a/1` or `..`.

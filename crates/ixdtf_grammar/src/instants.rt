@@ -30,6 +30,8 @@ impl<'a, T: EncodingType> IxdtfParseRecord<'a, T> {
     ///   3 March, or as 2 March in a leap year. Hours above 23 and minutes above 59 are counted on in the same way. A
     ///   second above 59 counts as 59.
     ///
+    /// # Examples
+    ///
     /// ```rust
     /// use ixdtf::Instant;
     /// use ixdtf::parsers::IxdtfParser;

@@ -14,9 +14,9 @@
 //! - No row of the fault table fits a text that the grammar derives.
 //! - Under one profile, no text is in the languages of two of the five text readers. The text readers are the readers of
 //!   dates, times and durations.
-//! - If a row of a table line fits a text with a bad code unit, then its error is `NonAsciiCodePoint` at the first bad code
-//!   unit, or the line has a row with the same error for each text with the same code units before the first bad one. A
-//!   bad code unit is a 16-bit code unit outside 1 to 126.
+//! - Suppose that a row of a table line fits a text with a *bad code unit*, a 16-bit code unit outside 1 to 126. There are
+//!   two cases. Either the error of the row is `NonAsciiCodePoint`, at the first bad code unit. Or the line has a row with
+//!   the same error for each text that has the same code units before the first bad one.
 #![tactic(auto)]
 
 pub mod encoding;

@@ -193,7 +193,7 @@ fn parse_critical_pair<'a, T: EncodingType>(
 
 /// Reads the next annotation after a complete bracket. Returns `None` at the end of the input.
 ///
-/// Returns `InvalidEnd` if another code unit than `[` follows the bracket, and `NonAsciiCodePoint` if it is bad.
+/// Returns `NonAsciiCodePoint` if a bad code unit follows the bracket, and `InvalidEnd` at any other code unit except `[`.
 #[inline(always)]
 pub fn next_annotation<'a, T: EncodingType>(
     cursor: &mut Cursor<'a, T>,

@@ -187,8 +187,10 @@ pub fn next_number<'a, T: EncodingType>(
     check_most(number, greatest, stop)
 }
 
-/// Reads a time or an offset, and writes it to `time`. Returns which parts it has. Anything that does not continue it can
-/// follow.
+/// Reads a time or an offset, and writes it to `time`. Returns which parts it has.
+///
+/// Other code units can follow the time or the offset. A bad code unit is an error there. After a minute, a colon or a digit
+/// that does not begin a second is an error too.
 #[inline(always)]
 #[tactic(auto, using(crate::proofs::code::HourDigits::hour_is_number))]
 pub fn parse_clock<'a, T: EncodingType>(
@@ -311,8 +313,8 @@ pub fn parse_after_second<'a, T: EncodingType>(
 
 /// Reads the digits of a fraction after its `.` or `,`.
 ///
-/// Returns `NonAsciiCodePoint` at a bad code unit, also after the digits. Returns `FractionPart` if no digit and no bad
-/// code unit follows the `.` or `,`.
+/// Returns `NonAsciiCodePoint` at a bad code unit, also after the digits. Returns `FractionPart` if the input ends after
+/// the `.` or `,`, or if a code unit follows that is neither a digit nor bad.
 #[inline(always)]
 pub fn parse_fraction<'a, T: EncodingType>(cursor: &mut Cursor<'a, T>) -> Result<Fraction, Stop>
     ensures fraction { Reads T.letter (λ fraction. fraction) cursor.old result cursor.new

@@ -62,7 +62,8 @@ impl<'a, T: EncodingType> Cursor<'a, T> {
     /// Returns a second cursor at the same position. `self` keeps its remaining input.
     ///
     /// A function that must consume nothing on failure works on the second cursor. A function with a loop, or with a call
-    /// that is not inlined, also works on it: a local cursor can stay in registers. At the end, it is stored in `self`.
+    /// that is not inlined, also works on it: a local cursor can stay in registers. At the end, the function stores the
+    /// second cursor in `self`.
     #[inline(always)]
     pub fn fork(&mut self) -> Self {
         Cursor {
@@ -157,7 +158,7 @@ impl<'a, T: EncodingType> Cursor<'a, T> {
     ///
     /// One test finds the end of the input, and one comparison tests both digits. Returns `AbruptDigit` at the end of the
     /// input, `NonAsciiCodePoint` at a bad code unit, and `other` at any other code unit. Then the code unit of the error
-    /// is not consumed, but a digit before it is.
+    /// is not consumed. If a digit is before it, this digit is consumed.
     #[inline(always)]
     pub fn two_digits(&mut self, other: Stop) -> Result<u8, Stop> {
         if self.rest.len() < 2 {

@@ -54,7 +54,7 @@ impl<'a, T: EncodingType> IxdtfParser<'a, T> {
     /// assert!(read.is_ok());
     /// assert_eq!(keys, [b"a", b"c", b"e"]);
     ///
-    /// // The error after the annotations comes after the calls of the handler.
+    /// // The reader calls the handler for both annotations before it reads the wrong text after them.
     /// let mut calls = 0;
     /// let read = IxdtfParser::from_str("2020-01-01[a=b][c=d]junk").parse_with_annotation_handler(|_| {
     ///     calls += 1;
@@ -85,8 +85,8 @@ impl<'a, T: EncodingType> IxdtfParser<'a, T> {
     /// # Errors
     ///
     /// Returns the errors of [`parse`](Self::parse). `CriticalDuplicateCalendar` and `UnrecognizedCritical` are about the
-    /// annotations that the handler returns, and not about those in the text. After the first of these two errors, the
-    /// rest of the text is not read.
+    /// annotations that the handler returns, and not about those in the text. After one of these two errors, the rest of
+    /// the text is not read.
     pub fn parse_with_annotation_handler<F>(
         &mut self,
         handler: F,
