@@ -259,9 +259,10 @@ pub unsafe extern "C" fn ixdtf_parse_time_with_annotations_strict<'a>(
     narrow_annotations::list_into::<Times>(text, Profile::Strict, annotations, count, out)
 }
 
-/// Checks the reply to an annotation. Returns 0 if the reply is accepted, and otherwise the number of the error.
+/// Checks a reply. For a listed annotation, a caller replies with this annotation itself, or with another one.
 ///
-/// If the key of an accepted reply is `u-ca`, and no calendar was kept before, the reply is kept in `calendar`.
+/// Returns 0 if the reply is accepted, and otherwise the number of the error. If the key of an accepted reply is `u-ca`, and no
+/// calendar was kept before, the reply is kept in `calendar`.
 #[unsafe(no_mangle)]
 pub extern "C" fn ixdtf_reply<'a>(calendar: &mut Calendar<'a>, reply: &Annotation<'a>) -> u32 {
     take_reply::<Utf8, _, _>(calendar, reply)
@@ -507,9 +508,10 @@ pub unsafe extern "C" fn ixdtf16_parse_time_with_annotations_strict<'a>(
     wide_annotations::list_into::<Times>(text, Profile::Strict, annotations, count, out)
 }
 
-/// Checks the reply to an annotation. Returns 0 if the reply is accepted, and otherwise the number of the error.
+/// Checks a reply. For a listed annotation, a caller replies with this annotation itself, or with another one.
 ///
-/// If the key of an accepted reply is `u-ca`, and no calendar was kept before, the reply is kept in `calendar`.
+/// Returns 0 if the reply is accepted, and otherwise the number of the error. If the key of an accepted reply is `u-ca`, and no
+/// calendar was kept before, the reply is kept in `calendar`.
 #[unsafe(no_mangle)]
 pub extern "C" fn ixdtf16_reply<'a>(
     calendar: &mut wide::Calendar<'a>,
