@@ -39,8 +39,10 @@
  * record again, even if its slices point into a text that no longer exists, because no reader
  * follows these pointers. But the printers read the slices of the parts that are present. The
  * fields `is_there`, `form` and `has_..` say which parts are present. If a reader returns 0, each
- * `form` has one of the values that are named below. If `fraction_digits` is 0, there is no
- * fraction, and no function uses the value of `fraction`.
+ * `form` has one of the values that are named below. A field that does not belong to the `form`
+ * does not matter: for example, `second` does not matter in an offset whose `form` is
+ * IXDTF_MINUTES. If `fraction_digits` is 0, there is no fraction, and the value of `fraction` does
+ * not matter.
  * An array that a function writes is passed as a pointer and a capacity. The capacity is the number
  * of elements of the array. Its parameter has the name `room`.
  * The memory that a function writes must not overlap anything else that is passed to the function.
@@ -52,9 +54,9 @@
  * and is unchanged. The library keeps no pointer between calls. A location and the text of an error
  * are valid as long as the program runs. If a function writes a slice, its pointer is never NULL,
  * even if its length is 0.
- * The name of a time zone is a slice of the text too. The library does not check whether a zone
- * with this name exists. A name may have the parts "." and "..": for example, ../../etc/passwd is a
- * name. Never join a name to a path without a check.
+ * The library does not check whether there is a time zone with the name in the text. The name may
+ * have the parts "." and "..": for example, ../../etc/passwd is such a name. Never join a name to a
+ * path without a check.
  *
  * THREADS. Any number of threads may call the library at the same time, as long as no thread writes
  * what another thread uses. No function blocks, and each function returns. The time of a call is
@@ -408,8 +410,8 @@ IXDTF_CHECKED_ uint32_t ixdtf_reply(ixdtf_calendar *calendar, const ixdtf_annota
  * function returns one of these:
  * - IXDTF_OK: the function has written the text to the first bytes of `out`, and the length of the
  *   text, in bytes, to `count`. The text is not NUL-terminated. The bytes of `out` after the text
- *   are unchanged. ixdtf_parse reads this text as the same record. So two records whose present
- *   parts differ never have the same canonical text.
+ *   are unchanged. ixdtf_parse reads this text as the same record. So if two records differ in a
+ *   value that matters, they have different canonical texts.
  * - IXDTF_NOT_PRINTABLE: there is no text for which ixdtf_parse writes this record. For example,
  *   the date is 30 February, no date is present, a `form` has a value that is not named above, or
  *   `fraction` has more digits than `fraction_digits` says. `out` and `count` are unchanged.
@@ -425,13 +427,15 @@ IXDTF_CHECKED_ uint32_t ixdtf_print(const ixdtf_record *record, uint8_t *out, si
 
 /* Writes the canonical text of a duration, such as -P1Y2DT3H0.5M, to the array `out`, in ASCII. The
  * arguments and the results have the same meaning as in ixdtf_print. ixdtf_parse_duration reads the
- * text as the same duration. So two durations whose present parts differ never have the same
- * canonical text. The text begins with - if the duration is negative. It has each duration unit
- * that is not 0. If the duration has a date, and all numbers of the date are 0, the text has 0D.
+ * text as the same duration. So if two durations differ in a value that matters, they have
+ * different canonical texts. The text begins with - if the duration is negative. It has each
+ * duration unit that is not 0. If the duration has a date, and all numbers of the date are 0, the
+ * text has 0D.
  * The text always has the last unit of the time, because PT0H and PT0S are different durations. The
- * function returns IXDTF_NOT_PRINTABLE if the duration has neither a date nor a time, if
- * `time_form` has a value that is not named above, or if `fraction` has more digits than
- * `fraction_digits` says, or more than 18 digits.
+ * function returns IXDTF_NOT_PRINTABLE in these cases:
+ * - The duration has neither a date nor a time.
+ * - `time_form` has a value that is not named above.
+ * - `fraction` has more digits than `fraction_digits` says, or more than 18 digits.
  * If ixdtf_parse_duration wrote the duration for a text of n bytes, a capacity of n bytes is always
  * enough. A capacity of 406 bytes is enough for every duration. */
 IXDTF_CHECKED_ uint32_t ixdtf_print_duration(const ixdtf_duration *duration, uint8_t *out,
@@ -602,8 +606,8 @@ IXDTF_CHECKED_ size_t ixdtf_printed_offset_length(const ixdtf_offset *offset);
 IXDTF_CHECKED_ size_t ixdtf_printed_zone_length(const ixdtf_zone *zone);
 
 /* Return the length of the canonical text that ixdtf_print_time, ixdtf_print_year_month and
- * ixdtf_print_month_day write, in bytes. They return 0 if this printer cannot print the record, or
- * if a size_t cannot hold the length. */
+ * ixdtf_print_month_day write, in bytes. They return 0 if the printer of the same name cannot print
+ * the record, or if a size_t cannot hold the length. */
 IXDTF_CHECKED_ size_t ixdtf_printed_time_length(const ixdtf_record *record);
 IXDTF_CHECKED_ size_t ixdtf_printed_year_month_length(const ixdtf_record *record);
 IXDTF_CHECKED_ size_t ixdtf_printed_month_day_length(const ixdtf_record *record);
