@@ -10,8 +10,8 @@
 //!   text under the same profile.
 //! - `lists`: This clause is like `read`, for a reader that drops each annotation. It also says that `count` is the number of
 //!   annotations before the end of the text, or before its error. The first of these annotations are in the array, in order.
-//! - `few`: Five times the number of annotations is at most the length of the text. So the array is long enough if it has a
-//!   fifth of this length.
+//! - `few`: Five times the number of annotations is at most the length of the text. So an array of `length / 5` elements is
+//!   always long enough.
 //! - `unchanged`: After an error, the record is unchanged, also its slices, except for `location` and `place`.
 
 use crate::durations::{Duration, duration_into};
