@@ -153,7 +153,7 @@ enum {
 /* The numbers that printers, ixdtf_instant and ixdtf_duration_fraction return if they fail. No
  * reader returns them. */
 enum {
-    /* the reader that belongs to the printer writes this record or duration for no text */
+    /* there is no text for which the reader that belongs to the printer writes this value */
     IXDTF_NOT_PRINTABLE = 101,
     /* the array is too short; the length of the text is in `count` */
     IXDTF_TOO_SHORT = 102,

@@ -1157,7 +1157,8 @@ static PyMethodDef module_methods[] = {
       "kind says which function reads the text of a Record: parse() for date-time, parse_year_month() for year-month,\n"
       "parse_month_day() for month-day, and parse_time() for time. parse_duration(), parse_offset() and parse_zone() read the texts\n"
       "of the other three types. The function that reads the text returns an equal value, except that the text of a Zone does not\n"
-      "say whether the Zone is critical. Raises ValueError if the function that reads the texts returns this value for no text." },
+      "say whether the Zone is critical. Raises ValueError if there is no text for which the function that reads the texts\n"
+      "returns this value." },
     { "instant", instant, METH_O,
       "instant(record, /)\n--\n\nReturns the Instant of a Record: the seconds since 1970-01-01T00:00:00Z, rounded down, and the nanoseconds after them.\n\n"
       "Raises ValueError if the record has no date, no time or no offset. The time zone does not matter. The second 60 is the same\n"
