@@ -24,7 +24,7 @@ pub struct Checking<'n> {
     /// The array in which a report is made. It is kept between lines, because clearing it for each report would take as long as
     /// filling it.
     pub room: [u8; ROOM],
-    /// The instant of the last line whose text names one, if it was read for its instant.
+    /// The instant of the last line whose text names an instant. It is kept only if the task is `Task::Order`.
     pub last: Option<Instant>,
     /// The counts so far, without the bytes. `check_lines` adds the number of bytes at the end.
     pub tally: Tally,

@@ -10,12 +10,12 @@ pub enum Task {
     Check(Kind),
     /// The text is read as a text of this kind, and its canonical text is written.
     Print(Kind),
-    /// The text is read as a text of this kind. It has to name an instant, and this instant must not be before the instant of the
-    /// last earlier line that names one.
+    /// The text is read as a text of this kind. It has to name an instant. This instant must not be before the previous instant,
+    /// which is that of the nearest line above whose text names an instant.
     Order(InstantKind),
 }
 
-/// The field of a line that is its text.
+/// Says which field of a line is the text that is read.
 #[derive(Clone, Copy, Debug, PartialEq)]
 pub struct Field {
     /// The number of fields before it.
@@ -44,7 +44,7 @@ pub struct Request<'n> {
     pub task: Task,
     /// The profile that the readers use.
     pub profile: Profile,
-    /// The field of a line that is its text. If it is `None`, the complete line is the text.
+    /// Says which field of a line is the text that is read. If this is `None`, the complete line is the text.
     pub field: Option<Field>,
     /// Which lines are skipped. If it is `None`, no line is skipped.
     pub skips: Option<Skips>,

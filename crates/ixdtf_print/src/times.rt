@@ -54,8 +54,8 @@ use std::fmt;
 ///
 /// After an error, the slice is unchanged.
 ///
-/// - [`PrintError::NotPrintable`]: the record has no canonical text. It has a date, or no time, or a field whose value no
-///   text has.
+/// - [`PrintError::NotPrintable`]: the record has no canonical text. It has a date, or no time, or a value
+///   that `parse_time` never returns, such as the hour 24.
 /// - [`PrintError::TooShort`]: the slice is shorter than the canonical text.
 pub fn print_time(parsed: &IxdtfParseRecord<'_, Utf8>, out: &mut [u8]) -> Result<usize, PrintError>
     ensures prints { PrintsOrRefuses (IsPrintableTime (record_of parsed.now)) (lone_time_text (record_of parsed.now)) out.old out.new result }

@@ -13,7 +13,7 @@ use ixdtf::encoding::Utf8;
 use ixdtf::records::{IxdtfParseRecord, MinutePrecisionOffset, TimeZoneAnnotation, TimeZoneRecord};
 use std::fmt;
 
-/// Writes the two brackets.
+/// Writes the zone and the calendar, in their brackets.
 pub fn write_brackets<W: fmt::Write>(
     f: &mut fmt::Formatter<W>,
     parsed: &IxdtfParseRecord<'_, Utf8>,

@@ -47,8 +47,8 @@ use core::fmt;
 ///
 /// After an error, the slice is unchanged.
 ///
-/// - [`PrintError::NotPrintable`]: the record has no canonical text. It has a date, or no time, or a field whose value no
-///   text has.
+/// - [`PrintError::NotPrintable`]: the record has no canonical text. It has a date, or no time, or a value
+///   that `parse_time` never returns, such as the hour 24.
 /// - [`PrintError::TooShort`]: the slice is shorter than the canonical text.
 pub fn print_time(parsed: &IxdtfParseRecord<'_, Utf8>, out: &mut [u8]) -> Result<usize, PrintError> {
     text::print(CanonicalTime { parsed }, out)

@@ -7,7 +7,7 @@ use ixdtf::encoding::Utf8;
 use ixdtf::records::{IxdtfParseRecord, MinutePrecisionOffset, TimeZoneAnnotation, TimeZoneRecord};
 use core::fmt;
 
-/// Writes the two brackets.
+/// Writes the zone and the calendar, in their brackets.
 pub fn write_brackets(
     f: &mut fmt::Formatter<'_>,
     parsed: &IxdtfParseRecord<'_, Utf8>,
