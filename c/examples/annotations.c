@@ -1,5 +1,5 @@
-/* For each argument, prints its annotations and its calendar, or the error. The program knows the key x-note, and accepts it even if it is
- * critical. It keeps every other annotation, so the library decides about it as usual.
+/* For each argument, prints its annotations and its calendar, or the error. The program knows the key x-note: it accepts an annotation with this
+ * key, even if the annotation is critical. It passes every other annotation to the library, which accepts or refuses it as usual.
  *
  *     cc -std=c99 annotations.c $(pkg-config --cflags --libs ixdtf) -o annotations
  *     ./annotations '2024-03-02[Europe/Paris][u-ca=hebrew][!x-note=a-b]'

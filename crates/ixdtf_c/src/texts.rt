@@ -30,7 +30,7 @@ use ixdtf_print::{
 
 /// A value of C that a printer of the library can print.
 pub trait HasText {
-    /// States that the reader returns this value for some text.
+    /// States that the reader of values of this kind returns this value for some text.
     ghost printable: { Self → Type 0 };
 
     /// The canonical text of the value.

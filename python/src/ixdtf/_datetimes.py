@@ -84,7 +84,7 @@ def _agreed(
     local: _datetime.datetime, instant: _datetime.datetime, offset: Offset, zone: _datetime.tzinfo, on_conflict: str
 ) -> _datetime.datetime:
     """Returns the local time in the zone, if the zone has this offset at this time. If the local time occurs twice, sets `fold`, so that the result has
-    this offset. Otherwise `on_conflict` decides what is returned or raised."""
+    this offset. If the zone does not have this offset at this time, `on_conflict` decides what is returned or raised."""
     for fold in (0, 1):
         found = local.replace(tzinfo=zone, fold=fold)
         if _fits(_offset_at(found), offset) and found.astimezone(_datetime.timezone.utc).astimezone(zone).replace(tzinfo=None) == local:

@@ -62,7 +62,7 @@ class Offset(NamedTuple):
 
     @property
     def is_utc(self) -> bool:
-        """False. It is True for Z."""
+        """Whether this value is Z, which says that the time is in UTC. An Offset is never Z, so this property is always False."""
         return False
 
     def to_timedelta(self) -> _datetime.timedelta:
@@ -89,8 +89,8 @@ Z = _Utc()
 
 
 class Zone(NamedTuple):
-    """A time zone. It has a name or an offset, and the other one of the two is None. If it is critical, a program must use this zone, or reject the
-    text."""
+    """A time zone. It has either a name or an offset. The field that it does not have is None. If it is critical, a program must use this zone, or
+    reject the text."""
 
     name: Optional[str] = None
     offset: Optional[Offset] = None
@@ -110,7 +110,8 @@ class Duration(NamedTuple):
 
     sign                           1 or -1
     years, months, weeks, days     numbers, or None for all four if the text has none of them
-    hours, minutes, seconds        numbers up to the last unit of the time that the text has, and None after it. All three are None without a time.
+    hours, minutes, seconds        numbers or None. For "PT5M", they are 0, 5 and None: the units after the last unit in the text are None. If the
+                                   text has no time, all three are None.
     fraction                       the fraction of the last unit of the time, or None if it has none
     """
 

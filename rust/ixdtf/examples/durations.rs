@@ -1,4 +1,5 @@
-//! Prints the sum of the durations that are its arguments, in seconds and nanoseconds. The durations have no years, months, weeks or days.
+//! Adds durations, and prints their sum in seconds and nanoseconds. The arguments are the durations. An argument is left out if it has years,
+//! months, weeks or days.
 //!
 //!     cargo run --example durations -- PT1H30M -PT0.5S PT1.25M
 use ixdtf::parsers::IsoDurationParser;

@@ -18,7 +18,7 @@ fn answer<T: EncodingType>(reader: &str, units: &[T::CodeUnit]) -> String {
     found.map_or_else(|error| format!("error {error}"), |_| String::from("ok"))
 }
 
-/// Returns the answer to a line. Returns `None` if the line does not have this form.
+/// Returns the answer to a line of standard input. Returns `None` if the line is not a word, `8` or `16`, and code units in hexadecimal.
 fn answer_line(line: &str) -> Option<String> {
     let mut parts = line.split_ascii_whitespace();
     let (reader, bits) = (parts.next()?, parts.next()?);
