@@ -1,13 +1,13 @@
 -- The canonical text of a duration that has one is short.
-use Rattle.std.proofs.Common.{ℕ, ◌<◌, ◌≤◌, ◌^◌, length, Option, Some, None, arith}
+use Rattle.std.proofs.Common.{ℕ, ◌+◌, ◌<◌, ◌≤◌, ◌^◌, length, Option, Some, None, arith}
 use Rattle.std.proofs.lemmas.Fmt.{length-decimal-le}
 use Rattle.ixdtf_grammar.specs.declared.records.{DurationParseRecord.DurationParseRecord, DateDurationRecord.DateDurationRecord}
 use Rattle.ixdtf_grammar.specs.declared.records.{Sign.{Sign, TheVariants.{Positive, Negative}}, TimeDurationRecord.{TimeDurationRecord, TheVariants.{Hours, Minutes, Seconds}}}
 use Rattle.ixdtf.specs.language.{Letters.Letter, Fractions.FractionParts}
 use Rattle.ixdtf_print.specs.Durations.{number_text, unit_text, date_part_text, last_text, time_units_text, time_part_text, last_fraction, start_text, duration_text}
-use Rattle.ixdtf_print.specs.{Canonical.fraction_text, Durations.IsPrintableDuration, SpelledDurations.{HasDateUnits, AreTimeUnits, HasTimeUnits}}
+use Rattle.ixdtf_print.specs.{Canonical.fraction_text, Durations.IsPrintableDuration, Spelled.HasDigits, SpelledDurations.{HasDateUnits, AreTimeUnits, HasTimeUnits}}
 use Rattle.ixdtf_print.proofs.{code.PlainNumbers.number_long, parts.DerivedDurations.{unit_most, units_long, part_long, last_long, duration_long}}
-use Rattle.ixdtf_print.proofs.theorems.PrintableDurations.printable_duration
+use Rattle.ixdtf_print.proofs.theorems.{PrintableDurations.printable_duration, ShortCores.fraction_short}
 use Rattle.std.proofs.lemmas.List.{length-append}
 
 number_short : (n : ℕ) → n < 2 ^ 64 → length (number_text n) ≤ 20
@@ -54,3 +54,14 @@ pub duration_short : (duration : DurationParseRecord) → IsPrintableDuration du
 duration_short duration is =
     let parts = (printable_duration duration).0 is in
     omega (arith, duration_long duration, start_short duration.sign, date_short duration.date parts.date, time_part_short duration.time parts.time)
+
+last_digits : (found : Option TimeDurationRecord) → HasTimeUnits found → HasDigits (last_fraction found)
+last_digits None h = tt
+last_digits (Some (Hours h fraction)) at = at.1
+last_digits (Some (Minutes h m fraction)) at = at.2
+last_digits (Some (Seconds h m s fraction)) at = at.3
+
+pub duration_most : (duration : DurationParseRecord) → IsPrintableDuration duration → length (duration_text duration) ≤ 376
+duration_most duration is =
+    let parts = (printable_duration duration).0 is in
+    omega (arith, duration_short duration is, fraction_short (last_fraction duration.time) (last_digits duration.time parts.time))
