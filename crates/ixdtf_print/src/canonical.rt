@@ -18,8 +18,8 @@ use std::fmt;
 ///
 /// The canonical text has these parts, if the record has them: the date; the time, with its seconds; the offset, with
 /// seconds only if the record has them; the zone, with its `!` if it is critical; and the calendar. Some parts of a parsed
-/// text are not in the record, and so not in the canonical text: the `!` of a calendar, and all other annotations. Digits
-/// of a fraction after the first 18 are written as zeros.
+/// text are not in the record, and so not in the canonical text: the `!` of a calendar, and all annotations other than the
+/// zone and the calendar of the record. Digits of a fraction after the first 18 are written as zeros.
 ///
 /// A record of `parse_year_month` has the first day of the month, so this function writes `2020-11-01` for `2020-11`. A
 /// record of `parse_month_day` has the year 0, so this function writes `0000-11-07` for `11-07`. A record of `parse_time`

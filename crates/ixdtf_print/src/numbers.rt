@@ -7,7 +7,9 @@ ghost use Rattle.ixdtf_print.specs.Prints.{HasRoom, Prints};
 use crate::digits::{ones_digit, put_four, tens_digit};
 use crate::put::{put, put_byte};
 
-/// Returns the number of digits of the number, without leading zeros. A number of one digit needs no logarithm.
+/// Returns the number of digits of the number, without leading zeros.
+///
+/// The function computes a logarithm only if the number has more than one digit.
 #[inline(always)]
 pub fn digit_count(number: u64) -> u16
     ensures length { result ≡ length (number_text number) }

@@ -5,7 +5,9 @@
 use crate::digits::{ones_digit, put_four, tens_digit};
 use crate::put::{put, put_byte};
 
-/// Returns the number of digits of the number, without leading zeros. A number of one digit needs no logarithm.
+/// Returns the number of digits of the number, without leading zeros.
+///
+/// The function computes a logarithm only if the number has more than one digit.
 #[inline(always)]
 pub fn digit_count(number: u64) -> u16 {
     if number < 10 {

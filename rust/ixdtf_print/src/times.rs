@@ -16,8 +16,8 @@ use core::fmt;
 ///
 /// The time is a record that [`IxdtfParser::parse_time`](ixdtf::parsers::IxdtfParser::parse_time) returns. The canonical
 /// text has the time with its seconds, and no `T`. If the record has an offset, a zone or a calendar, they follow the time,
-/// as [`print`](crate::print) writes them. `parse_time` accepts the canonical text without a `T`: it cannot begin with a
-/// month and a day, or with a year and a month, because its third byte is a colon.
+/// as [`print`](crate::print) writes them. `parse_time` accepts the canonical text, although this text has no `T`. The third
+/// byte of the text is a colon, so the text cannot begin with a month and a day, or with a year and a month.
 ///
 /// Returns the number of bytes that were written. The canonical text has at most 12 bytes more than the text that was
 /// parsed.
