@@ -47,8 +47,8 @@ def _local(record: Record, truncate: bool) -> _datetime.datetime:
 
 
 def _microsecond(fraction: Optional[Fraction], truncate: bool) -> int:
-    """Returns the microseconds of a fraction of a second. Unless `truncate` is true, raises ValueError if the fraction has digits other than 0 after the
-    sixth, or more than 18 digits."""
+    """Returns the microseconds of a fraction of a second. If `truncate` is true, drops the digits after the sixth. Otherwise raises ValueError if the
+    number of microseconds is not whole, or if the fraction has more than 18 digits."""
     if fraction is None:
         return 0
     known = min(fraction.digits, 18)
