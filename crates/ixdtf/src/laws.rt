@@ -37,7 +37,7 @@ use ixdtf_reading::stop::FromStop;
 /// States that [`IxdtfParser::parse`] accepts every date-time of RFC 3339, section 5.6. Its `T` and `Z` may be
 /// lowercase.
 ///
-/// The law is about texts, and so about sources in every encoding. It states that, without a handler, each of
+/// The law does not name an encoding, so it is about sources in every encoding. It states that, without a handler, each of
 /// these texts gives a record. By the clause `ok` in the contract of `parse`, `parse` then returns this record.
 pub fn every_rfc3339_date_time_is_read()
     ensures { EveryDateTimeIsRead }
@@ -166,7 +166,7 @@ pub fn exact_nanoseconds_are_the_truncated_ones(fraction: &Fraction)
     let _ = fraction.to_nanoseconds();
 }
 
-/// States that `==` is true exactly for two values that contracts do not distinguish.
+/// States that `==` of two values is true exactly if the two values are the same in contracts.
 ///
 /// The law is about slices of code units, records and errors, in every encoding. In a contract, a slice is the list of
 /// the numbers of its code units, and a location is the list of its bytes. So `==` is reflexive, symmetric and
@@ -210,7 +210,9 @@ pub fn defaults_are_zero()
         (record { years = 0; months = 0; weeks = 0; days = 0 }) }
 {}
 
-/// States that `clone` of a record or of an error returns `Ok` with the same value, in every encoding.
+/// States that `clone` of a record or of an error succeeds, and returns the same value, in every encoding.
+///
+/// In Rattle, `clone` returns a `Result`. By this law, the result is `Ok` for these types.
 pub fn clones_are_equal<'a, T: EncodingType>()
 where
     T::CodeUnit: 'a,

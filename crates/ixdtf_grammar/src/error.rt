@@ -123,7 +123,8 @@ pub enum ParseError {
     /// In a bracket that is not the first one, the key begins with a character that cannot begin a key. This is also
     /// the error if the text ends there.
     AnnotationKeyLeadingChar,
-    /// The key of an annotation contains a character that a key cannot contain, and that is not the `=` after it.
+    /// The key of an annotation contains a character that a key cannot contain. This is not the error of the `=` after
+    /// the key.
     AnnotationKeyChar,
     /// In the value of an annotation, no ASCII letter or digit follows a hyphen. This is also the error if the text
     /// ends there.

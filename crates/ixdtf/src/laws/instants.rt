@@ -27,7 +27,8 @@ pub fn instants_are_in_order()
     ensures instants { CountsAreInOrder }
 {}
 
-/// States that two dates and times at two offsets are the same instant exactly if they differ by as much as the offsets.
+/// States that two dates and times, each at its offset, are the same instant exactly if the difference between the dates and
+/// times is equal to the difference between the offsets.
 pub fn offsets_make_up()
     ensures { OffsetsMakeUp }
 {}
