@@ -30,8 +30,8 @@ static MONTHS: Months = Months {
 
 /// Returns the number of days from 1970-01-01 to a date, for every year that an `i32` can have.
 ///
-/// Returns `None` if the month is not from 1 to 12. If the month does not have the day, the days are counted on from the first
-/// day of the month.
+/// Returns `None` if the month is not from 1 to 12. If the month does not have the day, the days are counted from the first day
+/// of the month, past its end.
 #[inline(always)]
 pub fn day_number(year: i32, month: u8, day: u8) -> Option<i64>
     ensures some { IfSome result (λ days. IsMonth month) }
