@@ -64,8 +64,8 @@
  *
  * VERSIONS. Names, numbers, sizes and the offsets of fields do not change within a version of the
  * interface, and none of them is removed. Functions and numbers may be added: this raises the
- * revision. If you compile a program with this header, it runs with each library of the same
- * version, if the revision of the library is not lower than the revision of the header.
+ * revision. A program that was compiled with this header runs with each library of the same version
+ * whose revision is not lower than the revision of the header.
  * This header has version 2. ixdtf_interface_version() returns the version of the library. It must
  * be equal to IXDTF_INTERFACE_VERSION. The file name of the shared library has the version.
  */
@@ -360,8 +360,9 @@ IXDTF_CHECKED_ uint32_t ixdtf_parse_time_strict(const uint8_t *text, size_t leng
 IXDTF_CHECKED_ uint32_t ixdtf_parse_duration_strict(const uint8_t *text, size_t length,
     ixdtf_duration *out);
 
-/* Readers that list annotations. Each of them reads like the reader above whose name has no
- * _with_annotations, with three differences:
+/* Readers that list annotations. If you leave _with_annotations out of the name of such a reader,
+ * you get the name of a reader above. A reader that lists annotations reads like that reader above,
+ * with three differences:
  * - It accepts every annotation that has a key and a value, also a critical one.
  * - It writes no calendar into the record: if it returns 0, has_calendar is false.
  * - It lists the annotations of the text.
@@ -421,8 +422,8 @@ IXDTF_CHECKED_ uint32_t ixdtf_reply(ixdtf_calendar *calendar, const ixdtf_annota
  * If ixdtf_parse wrote the record for a text of n bytes, a capacity of n + 14 bytes is always
  * enough. The printer reads the slices of the record, so the text of the slices must still exist.
  * You can also write the fields of a record yourself. Then set all fields of each part that is
- * present. If a part is not present, only one of its fields matters: is_there, `form` or
- * has_calendar, which says that the part is not present. */
+ * present. If a part is not present, set the field that says so: is_there, `form` or has_calendar.
+ * The other fields of this part do not matter. */
 IXDTF_CHECKED_ uint32_t ixdtf_print(const ixdtf_record *record, uint8_t *out, size_t room,
     size_t *count);
 

@@ -15,12 +15,12 @@ use ixdtf::records::Annotation;
 /// *beginning* of a list is any number of its elements, from the first one on.
 ///
 /// - `gives`, `wide_gives`: The list of annotations has a beginning, and the list of replies has a beginning of the same length.
-///   The text gives the outcome of the caller with these two beginnings. The relation *give* is `GivesResult`. It is
-///   `GivesRecord` for a record, and `GivesFault` for an error. The contracts of the readers with a handler refer to these two
-///   definitions.
-/// - `handling`, `wide_handling`: A reader of the same kind has a handler. Suppose that the handler returned a beginning of the
-///   list of replies. Then the outcome of the reader is the outcome of the caller, and the reader called the handler for a
-///   beginning of the list of annotations.
+///   The text with the annotations and the replies of these two beginnings gives the outcome of the caller. The relation *give*
+///   is `GivesResult`. It is `GivesRecord` for a record, and `GivesFault` for an error. The contracts of the readers with a
+///   handler refer to these two definitions.
+/// - `handling`, `wide_handling`: A reader of the same kind has a handler. Suppose that all replies of the handler, in order, are
+///   a beginning of the list of replies. Then the outcome of the reader is the outcome of the caller, and the reader called the
+///   handler for a beginning of the list of annotations.
 pub fn replying_is_handling<'a, T: EncodingType, F>()
 where
     T::CodeUnit: 'a,

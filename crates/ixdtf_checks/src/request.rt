@@ -10,8 +10,8 @@ pub enum Task {
     Check(Kind),
     /// The text is read as a text of this kind, and its canonical text is written.
     Print(Kind),
-    /// The text is read as a text of this kind. It has to name an instant. This instant must not be before the previous instant,
-    /// which is that of the nearest preceding line whose text names an instant.
+    /// The text is read as a text of this kind. It has to name an instant. This instant must not be before the previous instant.
+    /// The previous instant is that of the nearest preceding line whose text names an instant.
     Order(InstantKind),
 }
 

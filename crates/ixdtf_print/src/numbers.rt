@@ -23,8 +23,8 @@ pub fn digit_count(number: u64) -> u16
 
 /// Writes the number without leading zeros at index `at`. Returns the index after it.
 ///
-/// Most numbers are small, so numbers below 10,000 are tested first. The function is not inlined: a copy of it at each duration
-/// unit would take more instructions.
+/// Most numbers are small, so numbers below 10,000 are tested first. The function is not inlined. With a copy of it for each
+/// duration unit, the printer of durations would take more instructions.
 #[inline(never)]
 pub fn put_number(out: &mut [u8], at: usize, number: u64) -> usize
     requires { HasRoom out.old at (number_text number) }

@@ -1,6 +1,7 @@
 //! Reads texts whose code units are given as numbers. So a text can contain any code unit. Each line of standard input has the name of a
 //! reader, the number of bits of a code unit, and the code units in hexadecimal. For each line, it writes `ok`, or `error` with the text of the
-//! error and its position. `tools/compare_rfc_patterns.py` runs this example.
+//! error and its position. The readers are `rfc3339` and `rfc9557`. For any other name, it writes `no such reader`. For a line of any other
+//! form, it writes `no such line`. `tools/compare_rfc_patterns.py` runs this example.
 //!
 //!     echo 'rfc3339 8 32 30 32 34' | cargo run --example units
 use ixdtf::encoding::{EncodingType, Utf8, Utf16};

@@ -3,8 +3,8 @@
 //! Writes the answers of the readers, with one function for each reader.
 //!
 //! Each of these functions reads the text and writes the answer. None of them is inlined. So each has a stack frame of its own,
-//! and the value that its reader returns is in this frame. For a line, the program does not clear the frames of the functions
-//! that it does not call. A record is passed by reference, so that it is not moved.
+//! and the value that its reader returns is in this frame. For each line, the program clears at most the frames of the functions
+//! that it calls. A record is passed by reference, so that it is not moved.
 
 use crate::canonical::{
     MOST_PRINTED, canonical_duration, canonical_month_day, canonical_offset, canonical_record,
