@@ -17,8 +17,8 @@
 //! - A line of the fault table is about one kind of prefix. Its rows have the errors for what comes after the prefix.
 //!   Suppose that a row of a line fits a text with a *bad code unit*, a 16-bit code unit outside 1 to 126. There are two
 //!   cases. In the first case, the error of the row is `NonAsciiCodePoint`, at the first bad code unit. In the second
-//!   case, take any text that begins with the code units before the first bad one. Then a row of the same line fits that
-//!   text, and this row has the same error.
+//!   case, the first bad code unit and the code units after it do not matter: whatever replaces them, a row of the same
+//!   line fits the new text, and this row has the same error.
 #![tactic(auto)]
 
 pub mod encoding;

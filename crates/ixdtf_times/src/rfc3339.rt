@@ -418,8 +418,8 @@ fn close_record<'a, T: EncodingType>(
 
 /// Reads a date-time of RFC 3339, section 5.6, and expects the end of the input.
 ///
-/// Each of the two ways to read a date-time has its own call of `close_record`. So the compiler can build the record
-/// where its parts are read.
+/// The function reads a date-time in fixed columns, or otherwise number by number. The code for each of these two ways
+/// has its own call of `close_record`. So the compiler can build the record where its parts are read.
 #[inline(always)]
 #[tactic(auto, using(ixdtf_reading::proofs::code::OpenDateTimes::rfc_3339_open))]
 pub fn parse_rfc3339_text<'a, T: EncodingType>(

@@ -69,8 +69,8 @@ impl<'a, T: EncodingType> IxdtfParser<'a, T> {
     /// - `DateSeparator`: no `-` follows the month, or another character than `-` follows the year.
     /// - `TimeSeparator`: no `T` follows the date, or no `:` follows the hour or the minute of the time.
     /// - `FractionPart`: no digit follows the `.`, or a `,` follows the second.
-    /// - `OffsetNeedsSign`: another character than a sign, `Z` or `z` is where the offset has to begin. If a `.` or `,`
-    ///   follows the second directly, this character does not have this error: see `FractionPart`.
+    /// - `OffsetNeedsSign`: another character than a sign, `Z` or `z` is where the offset has to begin. But directly
+    ///   after the second, a `.` begins a fraction, and a `,` has the error `FractionPart`.
     /// - `UtcTimeSeparator`: no `:` follows the hour of the offset.
     /// - `InvalidEnd`: any character follows the offset.
     /// - `NonAsciiCodePoint`: 16-bit text has a code unit outside 1 to 126. 8-bit text never has this error.
