@@ -54,7 +54,7 @@ pub struct Record<'a> {
     pub place: usize,
 }
 
-/// An annotation of a text, such as `[u-ca=hebrew]`, or a reply.
+/// An annotation of a text, such as `[u-ca=hebrew]`, or the reply to an annotation.
 #[derive(Clone, Copy)]
 #[repr(C)]
 pub struct Annotation<'a> {
@@ -181,7 +181,8 @@ impl<'a> CalendarOf<'a, Utf8> for Calendar<'a> {
     }
 }
 
-/// Writes the calendar that was kept to a record. If none was kept, the record then has no calendar.
+/// Writes a calendar into a record. It is the calendar that was kept from the replies. If none was kept, the record then has no
+/// calendar.
 #[unsafe(no_mangle)]
 pub extern "C" fn ixdtf_keep_calendar<'a>(out: &mut Record<'a>, calendar: &Calendar<'a>)
     ensures units { map (λ unit. unit) out.new.calendar.now ≡

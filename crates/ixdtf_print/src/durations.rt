@@ -3,7 +3,7 @@ ghost use Rattle.std.specs.Prelude.{◌≡◌, ◌↔◌, ◌<◌, ◌≤◌, Is
 ghost use Rattle.ixdtf.specs.language.Letters.{byte_letter};
 ghost use Rattle.ixdtf.specs.Widths.{wide_text};
 ghost use Rattle.ixdtf_print.specs.Durations.{unit_text, date_units_text, has_no_unit, date_part_text};
-ghost use Rattle.ixdtf_print.specs.Durations.{last_text, time_units_text, time_part_text, start_text, duration_text};
+ghost use Rattle.ixdtf_print.specs.Durations.{last_fraction, last_text, time_units_text, time_part_text, start_text, duration_text};
 ghost use Rattle.ixdtf_print.specs.Durations.{IsPrintableDuration, IsDurationReadBack};
 ghost use Rattle.ixdtf_print.specs.Printing.{PrintsOrRefuses};
 ghost use Rattle.ixdtf_print.specs.Prints.{HasRoom, Prints};
@@ -19,8 +19,9 @@ use crate::text::{self, CanonicalText, Tail};
 use ixdtf::records::{DateDurationRecord, DurationParseRecord, Fraction, Sign, TimeDurationRecord};
 use std::fmt;
 
-/// An upper bound of the number of bytes of a duration: 2 for its sign and its `P`, 84 for its date, and 320 for its time.
-const MOST_OF_DURATION: usize = 406;
+/// The greatest number of bytes of a duration without a fraction: 2 for its sign and its `P`, 54 for its date, and 64 for its
+/// time. In a date, only the days can have more than ten digits. No number has more than twenty digits.
+const MOST_WITHOUT_FRACTION: usize = 120;
 
 /// Writes the canonical text of a duration to the beginning of the slice, such as `P1Y2M3DT4H5.5M`.
 ///
@@ -184,7 +185,9 @@ impl<'a> CanonicalText for CanonicalDuration<'a> {
     }
 
     fn is_too_short(self, room: usize) -> bool {
-        if room >= MOST_OF_DURATION {
+        let fraction = fraction_length(last_fraction(self.duration.time));
+        // A slice is usually longer than each duration with this fraction. Then the length is not counted.
+        if room >= MOST_WITHOUT_FRACTION + usize::from(fraction) {
             return false;
         }
         room < usize::from(length_of_duration(self.duration))
@@ -250,6 +253,19 @@ fn last_length(number: u64, fraction: Option<Fraction>, letter: u8) -> u16
     ensures small { result ≤ 277 }
 {
     digit_count(number) + fraction_length(fraction) + 1
+}
+
+/// Returns the fraction of the last duration unit of a time, if there is one.
+#[inline(always)]
+fn last_fraction(time: Option<TimeDurationRecord>) -> Option<Fraction>
+    ensures { result ≡ last_fraction time }
+{
+    match time {
+        None => None,
+        Some(TimeDurationRecord::Hours { fraction, .. }) => fraction,
+        Some(TimeDurationRecord::Minutes { fraction, .. }) => fraction,
+        Some(TimeDurationRecord::Seconds { fraction, .. }) => fraction,
+    }
 }
 
 /// Returns the number of bytes of the time, with its `T`.

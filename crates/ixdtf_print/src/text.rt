@@ -85,8 +85,8 @@ pub fn length<T: CanonicalText>(text: T) -> u128
 
 /// Returns the number of bytes of a core and a tail.
 ///
-/// A method of the trait calls this function, because it cannot call `length`: a call of `length` could lead back to the
-/// method.
+/// The method `is_too_short` of the trait calls this function, and not `length`. The reason is that `length` calls other methods
+/// of the trait. In an implementation, these methods could call `is_too_short`.
 #[inline(always)]
 pub fn length_of_parts(core_length: u16, tail: Tail<'_>) -> u128
     ensures { result ≡ core_length + length (tail_text tail.entry) }

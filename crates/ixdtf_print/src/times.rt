@@ -25,8 +25,8 @@ use std::fmt;
 ///
 /// The time is a record that [`IxdtfParser::parse_time`](ixdtf::parsers::IxdtfParser::parse_time) returns. The canonical
 /// text has the time with its seconds, and no `T`. If the record has an offset, a zone or a calendar, they follow the time,
-/// as [`print`](crate::print) writes them. `parse_time` accepts the canonical text without a `T`: it cannot begin with a
-/// month and a day, or with a year and a month, because its third byte is a colon.
+/// as [`print`](crate::print) writes them. `parse_time` accepts the canonical text, although this text has no `T`. The third
+/// byte of the text is a colon, so the text cannot begin with a month and a day, or with a year and a month.
 ///
 /// Returns the number of bytes that were written. The canonical text has at most 12 bytes more than the text that was
 /// parsed.
@@ -56,8 +56,8 @@ use std::fmt;
 ///
 /// After an error, the slice is unchanged.
 ///
-/// - [`PrintError::NotPrintable`]: the record has no canonical text. It has a date, or no time, or a field whose value no
-///   text has.
+/// - [`PrintError::NotPrintable`]: the record has no canonical text. It has a date, or no time, or a value
+///   that `parse_time` never returns, such as the hour 24.
 /// - [`PrintError::TooShort`]: the slice is shorter than the canonical text.
 pub fn print_time(parsed: &IxdtfParseRecord<'_, Utf8>, out: &mut [u8]) -> Result<usize, PrintError>
     ensures prints { PrintsOrRefuses (IsPrintableTime (record_of parsed.now)) (lone_time_text (record_of parsed.now)) out.old out.new result }

@@ -1,6 +1,10 @@
-//! Reading date-times of RFC 3339: at their fixed places, and number by number where these do not fit, which is an error.
+//! Functions that read date-times of RFC 3339, section 5.6.
 //!
-//! What may follow a date-time depends on the reader. So only [`parse_rfc3339_text`] reads the end.
+//! The date and the time are read in fixed columns. If they do not fit these columns, the text has an error. Then it is
+//! read again, number by number, to find the first error.
+//!
+//! The readers of the library allow different things after a date-time. So only [`parse_rfc3339_text`] expects the end
+//! of the input.
 
 #![tactic(auto, unfolding(ixdtf_reading::specs::reading::DateTimes::date_time_line_readings, ixdtf_reading::specs::reading::Looks::number_by))]
 
@@ -72,7 +76,8 @@ impl DateTime {
     }
 }
 
-/// Takes a colon off. The end and any other code unit are this stop.
+/// Consumes a colon. Returns `NonAsciiCodePoint` at a bad code unit, and `stop` at the end of the input and at any other
+/// code unit.
 #[inline(always)]
 fn take_colon<'a, T: EncodingType>(cursor: &mut Cursor<'a, T>, stop: Stop) -> Result<u8, Stop>
     ensures colon { Reads T.letter (λ byte. byte) cursor.old result cursor.new
@@ -88,7 +93,8 @@ fn take_colon<'a, T: EncodingType>(cursor: &mut Cursor<'a, T>, stop: Stop) -> Re
     }
 }
 
-/// Takes the hyphen of a date off. The end is this stop, and any other code unit `DateSeparator`.
+/// Consumes a hyphen of a date. Returns `at_end` at the end of the input, `NonAsciiCodePoint` at a bad code unit, and
+/// `DateSeparator` at any other code unit.
 #[inline(always)]
 fn take_date_hyphen<'a, T: EncodingType>(
     cursor: &mut Cursor<'a, T>,
@@ -108,7 +114,7 @@ fn take_date_hyphen<'a, T: EncodingType>(
     }
 }
 
-/// Takes `T` or `t` off.
+/// Consumes `T` or `t`. Returns `NonAsciiCodePoint` at a bad code unit, and otherwise `TimeSeparator`.
 #[inline(always)]
 fn take_time_letter<'a, T: EncodingType>(cursor: &mut Cursor<'a, T>) -> Result<u8, Stop>
     ensures letter { Reads T.letter (λ byte. byte) cursor.old result cursor.new
@@ -124,7 +130,7 @@ fn take_time_letter<'a, T: EncodingType>(cursor: &mut Cursor<'a, T>) -> Result<u
     }
 }
 
-/// Reads the four digits of a year, and returns their number.
+/// Reads the four digits of a year, and returns their number. Returns `DateYear` at a code unit that is not a digit.
 #[inline(always)]
 fn parse_year<'a, T: EncodingType>(cursor: &mut Cursor<'a, T>) -> Result<u16, Stop>
     ensures number { Reads T.letter (λ number. number) cursor.old result cursor.new
@@ -143,7 +149,7 @@ fn parse_year<'a, T: EncodingType>(cursor: &mut Cursor<'a, T>) -> Result<u16, St
     )
 }
 
-/// Reads a month from 01 to 12.
+/// Reads a month, 01 to 12. Any other number is `InvalidMonthRange`.
 #[inline(always)]
 fn parse_month<'a, T: EncodingType>(cursor: &mut Cursor<'a, T>) -> Result<u8, Stop>
     ensures month { Reads T.letter (λ month. month) cursor.old result cursor.new
@@ -154,7 +160,7 @@ fn parse_month<'a, T: EncodingType>(cursor: &mut Cursor<'a, T>) -> Result<u8, St
     check_month(month)
 }
 
-/// Reads a day that the month of the year has.
+/// Reads a day. If the month of the year does not have the day, returns `InvalidDayRange`.
 #[inline(always)]
 fn parse_day<'a, T: EncodingType>(
     cursor: &mut Cursor<'a, T>,
@@ -172,7 +178,7 @@ fn parse_day<'a, T: EncodingType>(
     Ok(day)
 }
 
-/// Reads a time offset after its first code unit.
+/// Reads a time offset after its first code unit `lead`, and returns the complete date-time.
 #[inline(always)]
 fn parse_time_offset<'a, T: EncodingType>(
     cursor: &mut Cursor<'a, T>,
@@ -195,7 +201,7 @@ fn parse_time_offset<'a, T: EncodingType>(
     parse_offset_by_numbers(cursor, date, time, lead)
 }
 
-/// Takes what a time offset begins with off, after the digits of a fraction.
+/// Consumes the first code unit of a time offset, after the digits of a fraction, and returns it.
 #[inline(always)]
 fn take_lead<'a, T: EncodingType>(cursor: &mut Cursor<'a, T>) -> Result<u8, Stop>
     ensures lead { Reads T.letter (λ byte. byte) cursor.old result cursor.new
@@ -212,7 +218,7 @@ fn take_lead<'a, T: EncodingType>(cursor: &mut Cursor<'a, T>) -> Result<u8, Stop
     }
 }
 
-/// Reads the digits of a fraction after its point.
+/// Reads the digits of a fraction after its `.`.
 #[inline(always)]
 fn parse_secfrac<'a, T: EncodingType>(cursor: &mut Cursor<'a, T>) -> Result<Fraction, Stop>
     ensures fraction { Reads T.letter (λ fraction. fraction) cursor.old result cursor.new
@@ -222,7 +228,7 @@ fn parse_secfrac<'a, T: EncodingType>(cursor: &mut Cursor<'a, T>) -> Result<Frac
     parse_fraction(cursor)
 }
 
-/// Reads a fraction after its point and an offset after it.
+/// Reads the digits of a fraction after its `.`, and the offset after the fraction.
 #[inline(always)]
 fn parse_fractional<'a, T: EncodingType>(
     cursor: &mut Cursor<'a, T>,
@@ -239,7 +245,7 @@ fn parse_fractional<'a, T: EncodingType>(
     parse_time_offset(cursor, date, time, lead)
 }
 
-/// Reads what follows the seconds: a fraction where there is one, and an offset.
+/// Reads what follows the seconds: an optional fraction, and an offset.
 #[inline(always)]
 fn parse_after_seconds<'a, T: EncodingType>(
     cursor: &mut Cursor<'a, T>,
@@ -266,8 +272,8 @@ fn parse_after_seconds<'a, T: EncodingType>(
     }
 }
 
-/// Takes off the date, `T` or `t` and the time that stand at the first nineteen places. It is `None`, with the rest
-/// unchanged, where they do not fit.
+/// Consumes a date, `T` or `t`, and a time in the first nineteen columns. Returns `None`, and consumes nothing, if they
+/// do not fit.
 #[inline(always)]
 fn take_fixed_rfc3339<'a, T: EncodingType>(
     cursor: &mut Cursor<'a, T>,
@@ -285,7 +291,7 @@ fn take_fixed_rfc3339<'a, T: EncodingType>(
 
 // ==== Number by number ====
 
-/// Reads an offset after its sign.
+/// Reads an offset after its sign, and returns the complete date-time.
 #[inline(always)]
 fn parse_offset_by_numbers<'a, T: EncodingType>(
     cursor: &mut Cursor<'a, T>,
@@ -309,7 +315,7 @@ fn parse_offset_by_numbers<'a, T: EncodingType>(
     Ok(DateTime { date, time, offset })
 }
 
-/// Reads the time after a date and its letter.
+/// Reads the time after a date and its `T` or `t`, and what follows the time.
 #[inline(always)]
 fn parse_time_by_numbers<'a, T: EncodingType>(
     cursor: &mut Cursor<'a, T>,
@@ -332,7 +338,7 @@ fn parse_time_by_numbers<'a, T: EncodingType>(
     parse_after_seconds(cursor, date, whole)
 }
 
-/// Reads the day after a month and its hyphen, and what follows.
+/// Reads the day after a month and its hyphen, and what follows the day.
 #[inline(always)]
 fn parse_day_by_numbers<'a, T: EncodingType>(
     cursor: &mut Cursor<'a, T>,
@@ -353,7 +359,7 @@ fn parse_day_by_numbers<'a, T: EncodingType>(
     parse_time_by_numbers(cursor, date)
 }
 
-/// Reads the month after a year and its hyphen, and what follows.
+/// Reads the month after a year and its hyphen, and what follows the month.
 #[inline(always)]
 fn parse_month_by_numbers<'a, T: EncodingType>(
     cursor: &mut Cursor<'a, T>,
@@ -368,7 +374,7 @@ fn parse_month_by_numbers<'a, T: EncodingType>(
     parse_day_by_numbers(cursor, year, month)
 }
 
-/// Reads a date-time number by number. It is not inlined: no text is read so that has no error.
+/// Reads a date-time number by number. The function is not inlined, because it is called only for a text with an error.
 #[inline(never)]
 #[tactic(auto, using(ixdtf_reading::proofs::code::FixedDateTimes::year_then), unfolding(ixdtf_reading::specs::reading::Looks::look_readings))]
 fn parse_by_numbers<'a, T: EncodingType>(cursor: &mut Cursor<'a, T>) -> Result<DateTime, Stop>
@@ -381,7 +387,7 @@ fn parse_by_numbers<'a, T: EncodingType>(cursor: &mut Cursor<'a, T>) -> Result<D
     parse_month_by_numbers(cursor, year)
 }
 
-/// Reads a date-time of RFC 3339.
+/// Reads a date-time of RFC 3339, section 5.6. Anything can follow it.
 #[inline(always)]
 pub fn parse_internet_date_time<'a, T: EncodingType>(
     cursor: &mut Cursor<'a, T>,
@@ -396,7 +402,7 @@ pub fn parse_internet_date_time<'a, T: EncodingType>(
     }
 }
 
-/// Expects the end after a date-time, and returns its record.
+/// Expects the end of the input after a date-time, and returns the record of the date-time.
 #[inline(always)]
 fn close_record<'a, T: EncodingType>(
     cursor: &mut Cursor<'a, T>,
@@ -410,9 +416,10 @@ fn close_record<'a, T: EncodingType>(
     Ok(read.record())
 }
 
-/// Reads a date-time of RFC 3339, and wants the end.
+/// Reads a date-time of RFC 3339, section 5.6, and expects the end of the input.
 ///
-/// Each way to read it has an end of its own. So the record is made where its parts are read.
+/// The function reads a date-time in fixed columns, or otherwise number by number. The code for each of these two ways
+/// has its own call of `close_record`. So the compiler can build the record where its parts are read.
 #[inline(always)]
 #[tactic(auto, using(ixdtf_reading::proofs::code::OpenDateTimes::rfc_3339_open))]
 pub fn parse_rfc3339_text<'a, T: EncodingType>(

@@ -47,8 +47,8 @@ def _local(record: Record, truncate: bool) -> _datetime.datetime:
 
 
 def _microsecond(fraction: Optional[Fraction], truncate: bool) -> int:
-    """Returns the microseconds of a fraction of a second. Unless `truncate` is true, raises ValueError if the fraction has digits other than 0 after the
-    sixth, or more than 18 digits."""
+    """Returns the microseconds of a fraction of a second. If `truncate` is true, drops the digits after the sixth. Otherwise raises ValueError if the
+    number of microseconds is not whole, or if the fraction has more than 18 digits."""
     if fraction is None:
         return 0
     known = min(fraction.digits, 18)
@@ -84,7 +84,7 @@ def _agreed(
     local: _datetime.datetime, instant: _datetime.datetime, offset: Offset, zone: _datetime.tzinfo, on_conflict: str
 ) -> _datetime.datetime:
     """Returns the local time in the zone, if the zone has this offset at this time. If the local time occurs twice, sets `fold`, so that the result has
-    this offset. Otherwise `on_conflict` decides what is returned or raised."""
+    this offset. If the zone does not have this offset at this time, `on_conflict` decides what is returned or raised."""
     for fold in (0, 1):
         found = local.replace(tzinfo=zone, fold=fold)
         if _fits(_offset_at(found), offset) and found.astimezone(_datetime.timezone.utc).astimezone(zone).replace(tzinfo=None) == local:

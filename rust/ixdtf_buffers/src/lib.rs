@@ -1,7 +1,7 @@
 // Made by tools/to_rust.py of crates/ixdtf_buffers/src/lib.rt. Do not edit.
 
-//! Code that both programs over lines share: the loop over lines, the buffers for input and output, the search for a byte,
-//! and short texts with decimal numbers.
+//! Code that the two programs `ixdtf_check` and `ixdtf_lines` share: the loop over lines, the buffers for input and output, the
+//! search for a byte, and short texts with decimal numbers.
 //!
 //! Nothing in this crate allocates, because each buffer is an array of fixed size. The crate uses only the standard library.
 

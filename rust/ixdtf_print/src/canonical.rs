@@ -15,9 +15,9 @@ use core::fmt;
 /// Writes the canonical text of the record to the beginning of the slice, such as `2024-03-02T08:48:00Z[u-ca=hebrew]`.
 ///
 /// The canonical text has these parts, if the record has them: the date; the time, with its seconds; the offset, with
-/// or without seconds as it was written; the zone, with its `!` if it is critical; and the calendar. Some parts of a parsed text are not
-/// in the record, and so not in the canonical text: the `!` of a calendar, and all other annotations. Digits of a
-/// fraction after the first 18 are written as zeros.
+/// seconds only if the record has them; the zone, with its `!` if it is critical; and the calendar. Some parts of a parsed
+/// text are not in the record, and so not in the canonical text: the `!` of a calendar, and all annotations other than the
+/// zone and the calendar of the record. Digits of a fraction after the first 18 are written as zeros.
 ///
 /// A record of `parse_year_month` has the first day of the month, so this function writes `2020-11-01` for `2020-11`. A
 /// record of `parse_month_day` has the year 0, so this function writes `0000-11-07` for `11-07`. A record of `parse_time`
@@ -53,8 +53,8 @@ use core::fmt;
 ///
 /// After an error, the slice is unchanged.
 ///
-/// - [`PrintError::NotPrintable`]: the record has no canonical text. It has no date, or an offset without a time, or a field
-///   whose value no text has.
+/// - [`PrintError::NotPrintable`]: the record has no canonical text. It has no date, or an offset without a time, or a value
+///   that `parse` never returns, such as the month 13 or February 30.
 /// - [`PrintError::TooShort`]: the slice is shorter than the canonical text.
 pub fn print(parsed: &IxdtfParseRecord<'_, Utf8>, out: &mut [u8]) -> Result<usize, PrintError> {
     text::print(Canonical { parsed }, out)

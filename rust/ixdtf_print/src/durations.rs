@@ -11,8 +11,9 @@ use crate::text::{self, CanonicalText, Tail};
 use ixdtf::records::{DateDurationRecord, DurationParseRecord, Fraction, Sign, TimeDurationRecord};
 use core::fmt;
 
-/// An upper bound of the number of bytes of a duration: 2 for its sign and its `P`, 84 for its date, and 320 for its time.
-const MOST_OF_DURATION: usize = 406;
+/// The greatest number of bytes of a duration without a fraction: 2 for its sign and its `P`, 54 for its date, and 64 for its
+/// time. In a date, only the days can have more than ten digits. No number has more than twenty digits.
+const MOST_WITHOUT_FRACTION: usize = 120;
 
 /// Writes the canonical text of a duration to the beginning of the slice, such as `P1Y2M3DT4H5.5M`.
 ///
@@ -150,7 +151,9 @@ impl<'a> CanonicalText for CanonicalDuration<'a> {
     }
 
     fn is_too_short(self, room: usize) -> bool {
-        if room >= MOST_OF_DURATION {
+        let fraction = fraction_length(last_fraction(self.duration.time));
+        // A slice is usually longer than each duration with this fraction. Then the length is not counted.
+        if room >= MOST_WITHOUT_FRACTION + usize::from(fraction) {
             return false;
         }
         room < usize::from(length_of_duration(self.duration))
@@ -197,6 +200,17 @@ fn is_zero(date: DateDurationRecord) -> bool {
 /// Returns the number of bytes of the last unit of a time: its number, its fraction and its letter.
 fn last_length(number: u64, fraction: Option<Fraction>, letter: u8) -> u16 {
     digit_count(number) + fraction_length(fraction) + 1
+}
+
+/// Returns the fraction of the last duration unit of a time, if there is one.
+#[inline(always)]
+fn last_fraction(time: Option<TimeDurationRecord>) -> Option<Fraction> {
+    match time {
+        None => None,
+        Some(TimeDurationRecord::Hours { fraction, .. }) => fraction,
+        Some(TimeDurationRecord::Minutes { fraction, .. }) => fraction,
+        Some(TimeDurationRecord::Seconds { fraction, .. }) => fraction,
+    }
 }
 
 /// Returns the number of bytes of the time, with its `T`.

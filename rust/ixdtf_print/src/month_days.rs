@@ -52,7 +52,7 @@ use core::fmt;
 /// After an error, the slice is unchanged.
 ///
 /// - [`PrintError::NotPrintable`]: the record has no canonical text. It has no date, or another year than 0, or a time, or
-///   an offset, or a field whose value no text has.
+///   an offset, or a value that `parse_month_day` never returns, such as the month 13.
 /// - [`PrintError::TooShort`]: the slice is shorter than the canonical text.
 pub fn print_month_day(
     parsed: &IxdtfParseRecord<'_, Utf8>,

@@ -51,7 +51,7 @@ use core::fmt;
 /// After an error, the slice is unchanged.
 ///
 /// - [`PrintError::NotPrintable`]: the record has no canonical text. It has no date, or another day than 1, or a time, or an
-///   offset, or a field whose value no text has.
+///   offset, or a value that `parse_year_month` never returns, such as the month 13.
 /// - [`PrintError::TooShort`]: the slice is shorter than the canonical text.
 pub fn print_year_month(
     parsed: &IxdtfParseRecord<'_, Utf8>,

@@ -1,4 +1,4 @@
-//! Offsets, zones, times, year-months and month-days printed as their canonical texts, and these read back.
+//! Tests of offsets, zones, times, year-months and month-days: they are printed as canonical texts, and these texts are read back.
 
 ghost use Rattle.std.specs.Prelude.{◌≤◌};
 
@@ -19,24 +19,24 @@ use std::alloc::Global;
 use std::process::Abort;
 use std::test::Fail;
 
-/// Bytes that are not printed to.
+/// Bytes to which nothing was printed.
 const UNTOUCHED: [u8; 64] = [7; 64];
 
-/// Code units that are not printed to.
+/// Code units to which nothing was printed.
 const UNTOUCHED_UNITS: [u16; 64] = [7; 64];
 
 fn is_untouched(bytes: &[u8]) -> bool {
     bytes.iter().all(|byte| *byte == 7)
 }
 
-/// How many bytes are one too few for the text.
+/// Returns a number of bytes that is one too small for the text.
 fn too_few(canonical: &str) -> usize
     ensures { result ≤ 63 }
 {
     canonical.len().min(64).saturating_sub(1)
 }
 
-/// The text was printed and counted so, and what follows it is unchanged.
+/// Asserts that this text was printed and its length counted, and that the bytes after it are unchanged.
 fn check_printed(
     rt: &impl Abort,
     canonical: &str,
@@ -50,7 +50,7 @@ fn check_printed(
     check(rt, canonical, is_counted && is_printed);
 }
 
-/// The text was printed and counted so, as 16-bit code units, and what follows it is unchanged.
+/// Asserts that the text was printed and counted as 16-bit code units, and that what follows it is unchanged.
 fn check_wide(
     rt: &impl Abort,
     canonical: &str,
@@ -65,7 +65,7 @@ fn check_wide(
     check(rt, canonical, is_counted && is_printed);
 }
 
-/// Nothing was printed as 16-bit code units, for this reason.
+/// Asserts that nothing was printed as 16-bit code units, with this error.
 fn check_wide_refused(
     rt: &impl Abort,
     what: &str,
@@ -77,7 +77,7 @@ fn check_wide_refused(
     check(rt, what, printed == Err(why) && is_unchanged);
 }
 
-/// Nothing was printed, for this reason.
+/// Asserts that nothing was printed, with this error.
 fn check_refused(
     rt: &impl Abort,
     what: &str,
@@ -138,7 +138,7 @@ fn check_zone(rt: &impl Abort, alloc: Global, text: &str, canonical: &str) -> Re
     Ok(())
 }
 
-/// The zone of the 16-bit text is printed so, as 16-bit code units, and read back.
+/// Asserts that the zone of the 16-bit text is printed as 16-bit code units, and read back from them.
 fn check_wide_zone(rt: &impl Abort, text: &str, canonical: &str) {
     let text = Wide::new(text);
     let Ok(zone) = TimeZoneParser::from_utf16(text.units()).parse_identifier() else {
@@ -156,7 +156,7 @@ fn check_wide_zone(rt: &impl Abort, text: &str, canonical: &str) {
     check_wide_refused(rt, canonical, printed, PrintError::TooShort, &out);
 }
 
-/// The date-time of the 16-bit text is printed so, as 16-bit code units, and read back.
+/// Asserts that the date-time of the 16-bit text is printed as 16-bit code units, and read back from them.
 fn check_wide_date_time(rt: &impl Abort, text: &str, canonical: &str) {
     let text = Wide::new(text);
     let Ok(record) = IxdtfParser::from_utf16(text.units()).parse() else {
@@ -174,7 +174,7 @@ fn check_wide_date_time(rt: &impl Abort, text: &str, canonical: &str) {
     check_wide_refused(rt, canonical, printed, PrintError::TooShort, &out);
 }
 
-/// The time of the 16-bit text is printed so, as 16-bit code units, and read back.
+/// Asserts that the time of the 16-bit text is printed as 16-bit code units, and read back from them.
 fn check_wide_time(rt: &impl Abort, text: &str, canonical: &str) {
     let text = Wide::new(text);
     let Ok(record) = IxdtfParser::from_utf16(text.units()).parse_time() else {
@@ -192,7 +192,7 @@ fn check_wide_time(rt: &impl Abort, text: &str, canonical: &str) {
     check_wide_refused(rt, canonical, printed, PrintError::TooShort, &out);
 }
 
-/// The year-month of the 16-bit text is printed so, as 16-bit code units, and read back.
+/// Asserts that the year-month of the 16-bit text is printed as 16-bit code units, and read back from them.
 fn check_wide_year_month(rt: &impl Abort, text: &str, canonical: &str) {
     let text = Wide::new(text);
     let Ok(record) = IxdtfParser::from_utf16(text.units()).parse_year_month() else {
@@ -216,7 +216,7 @@ fn check_wide_year_month(rt: &impl Abort, text: &str, canonical: &str) {
     check_wide_refused(rt, canonical, printed, PrintError::TooShort, &out);
 }
 
-/// The month-day of the 16-bit text is printed so, as 16-bit code units, and read back.
+/// Asserts that the month-day of the 16-bit text is printed as 16-bit code units, and read back from them.
 fn check_wide_month_day(rt: &impl Abort, text: &str, canonical: &str) {
     let text = Wide::new(text);
     let Ok(record) = IxdtfParser::from_utf16(text.units()).parse_month_day() else {
@@ -437,7 +437,7 @@ fn prints_no_other_wide_names(rt: HostRuntime) {
     }
 }
 
-/// No printer but `print` prints the record of a date and a time.
+/// Asserts that only `print` prints the record of a date and a time.
 fn check_other_printers(rt: &impl Abort, record: &IxdtfParseRecord<'_, Utf8>) {
     let mut out = UNTOUCHED;
     let printed = print_time(record, &mut out);

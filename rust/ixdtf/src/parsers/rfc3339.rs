@@ -1,8 +1,12 @@
 // Made by tools/to_rust.py of crates/ixdtf_times/src/rfc3339.rt. Do not edit.
 
-//! Reading date-times of RFC 3339: at their fixed places, and number by number where these do not fit, which is an error.
+//! Functions that read date-times of RFC 3339, section 5.6.
 //!
-//! What may follow a date-time depends on the reader. So only [`parse_rfc3339_text`] reads the end.
+//! The date and the time are read in fixed columns. If they do not fit these columns, the text has an error. Then it is
+//! read again, number by number, to find the first error.
+//!
+//! The readers of the library allow different things after a date-time. So only [`parse_rfc3339_text`] expects the end
+//! of the input.
 
 use crate::parsers::date_times::take_fixed_date_time;
 use crate::parsers::dates::{check_month, has_day};
@@ -50,7 +54,8 @@ impl DateTime {
     }
 }
 
-/// Takes a colon off. The end and any other code unit are this stop.
+/// Consumes a colon. Returns `NonAsciiCodePoint` at a bad code unit, and `stop` at the end of the input and at any other
+/// code unit.
 #[inline(always)]
 fn take_colon<'a, T: EncodingType>(cursor: &mut Cursor<'a, T>, stop: Stop) -> Result<u8, Stop> {
     match cursor.look()? {
@@ -62,7 +67,8 @@ fn take_colon<'a, T: EncodingType>(cursor: &mut Cursor<'a, T>, stop: Stop) -> Re
     }
 }
 
-/// Takes the hyphen of a date off. The end is this stop, and any other code unit `DateSeparator`.
+/// Consumes a hyphen of a date. Returns `at_end` at the end of the input, `NonAsciiCodePoint` at a bad code unit, and
+/// `DateSeparator` at any other code unit.
 #[inline(always)]
 fn take_date_hyphen<'a, T: EncodingType>(
     cursor: &mut Cursor<'a, T>,
@@ -78,7 +84,7 @@ fn take_date_hyphen<'a, T: EncodingType>(
     }
 }
 
-/// Takes `T` or `t` off.
+/// Consumes `T` or `t`. Returns `NonAsciiCodePoint` at a bad code unit, and otherwise `TimeSeparator`.
 #[inline(always)]
 fn take_time_letter<'a, T: EncodingType>(cursor: &mut Cursor<'a, T>) -> Result<u8, Stop> {
     match cursor.look()? {
@@ -90,7 +96,7 @@ fn take_time_letter<'a, T: EncodingType>(cursor: &mut Cursor<'a, T>) -> Result<u
     }
 }
 
-/// Reads the four digits of a year, and returns their number.
+/// Reads the four digits of a year, and returns their number. Returns `DateYear` at a code unit that is not a digit.
 #[inline(always)]
 fn parse_year<'a, T: EncodingType>(cursor: &mut Cursor<'a, T>) -> Result<u16, Stop> {
     let thousands = cursor.next_digit(Stop::DateYear)?;
@@ -105,14 +111,14 @@ fn parse_year<'a, T: EncodingType>(cursor: &mut Cursor<'a, T>) -> Result<u16, St
     )
 }
 
-/// Reads a month from 01 to 12.
+/// Reads a month, 01 to 12. Any other number is `InvalidMonthRange`.
 #[inline(always)]
 fn parse_month<'a, T: EncodingType>(cursor: &mut Cursor<'a, T>) -> Result<u8, Stop> {
     let month = cursor.two_digits(Stop::DateMonth)?;
     check_month(month)
 }
 
-/// Reads a day that the month of the year has.
+/// Reads a day. If the month of the year does not have the day, returns `InvalidDayRange`.
 #[inline(always)]
 fn parse_day<'a, T: EncodingType>(
     cursor: &mut Cursor<'a, T>,
@@ -126,7 +132,7 @@ fn parse_day<'a, T: EncodingType>(
     Ok(day)
 }
 
-/// Reads a time offset after its first code unit.
+/// Reads a time offset after its first code unit `lead`, and returns the complete date-time.
 #[inline(always)]
 fn parse_time_offset<'a, T: EncodingType>(
     cursor: &mut Cursor<'a, T>,
@@ -145,7 +151,7 @@ fn parse_time_offset<'a, T: EncodingType>(
     parse_offset_by_numbers(cursor, date, time, lead)
 }
 
-/// Takes what a time offset begins with off, after the digits of a fraction.
+/// Consumes the first code unit of a time offset, after the digits of a fraction, and returns it.
 #[inline(always)]
 fn take_lead<'a, T: EncodingType>(cursor: &mut Cursor<'a, T>) -> Result<u8, Stop> {
     match cursor.look()? {
@@ -158,13 +164,13 @@ fn take_lead<'a, T: EncodingType>(cursor: &mut Cursor<'a, T>) -> Result<u8, Stop
     }
 }
 
-/// Reads the digits of a fraction after its point.
+/// Reads the digits of a fraction after its `.`.
 #[inline(always)]
 fn parse_secfrac<'a, T: EncodingType>(cursor: &mut Cursor<'a, T>) -> Result<Fraction, Stop> {
     parse_fraction(cursor)
 }
 
-/// Reads a fraction after its point and an offset after it.
+/// Reads the digits of a fraction after its `.`, and the offset after the fraction.
 #[inline(always)]
 fn parse_fractional<'a, T: EncodingType>(
     cursor: &mut Cursor<'a, T>,
@@ -177,7 +183,7 @@ fn parse_fractional<'a, T: EncodingType>(
     parse_time_offset(cursor, date, time, lead)
 }
 
-/// Reads what follows the seconds: a fraction where there is one, and an offset.
+/// Reads what follows the seconds: an optional fraction, and an offset.
 #[inline(always)]
 fn parse_after_seconds<'a, T: EncodingType>(
     cursor: &mut Cursor<'a, T>,
@@ -200,8 +206,8 @@ fn parse_after_seconds<'a, T: EncodingType>(
     }
 }
 
-/// Takes off the date, `T` or `t` and the time that stand at the first nineteen places. It is `None`, with the rest
-/// unchanged, where they do not fit.
+/// Consumes a date, `T` or `t`, and a time in the first nineteen columns. Returns `None`, and consumes nothing, if they
+/// do not fit.
 #[inline(always)]
 fn take_fixed_rfc3339<'a, T: EncodingType>(
     cursor: &mut Cursor<'a, T>,
@@ -214,7 +220,7 @@ fn take_fixed_rfc3339<'a, T: EncodingType>(
 
 // ==== Number by number ====
 
-/// Reads an offset after its sign.
+/// Reads an offset after its sign, and returns the complete date-time.
 #[inline(always)]
 fn parse_offset_by_numbers<'a, T: EncodingType>(
     cursor: &mut Cursor<'a, T>,
@@ -234,7 +240,7 @@ fn parse_offset_by_numbers<'a, T: EncodingType>(
     Ok(DateTime { date, time, offset })
 }
 
-/// Reads the time after a date and its letter.
+/// Reads the time after a date and its `T` or `t`, and what follows the time.
 #[inline(always)]
 fn parse_time_by_numbers<'a, T: EncodingType>(
     cursor: &mut Cursor<'a, T>,
@@ -253,7 +259,7 @@ fn parse_time_by_numbers<'a, T: EncodingType>(
     parse_after_seconds(cursor, date, whole)
 }
 
-/// Reads the day after a month and its hyphen, and what follows.
+/// Reads the day after a month and its hyphen, and what follows the day.
 #[inline(always)]
 fn parse_day_by_numbers<'a, T: EncodingType>(
     cursor: &mut Cursor<'a, T>,
@@ -270,7 +276,7 @@ fn parse_day_by_numbers<'a, T: EncodingType>(
     parse_time_by_numbers(cursor, date)
 }
 
-/// Reads the month after a year and its hyphen, and what follows.
+/// Reads the month after a year and its hyphen, and what follows the month.
 #[inline(always)]
 fn parse_month_by_numbers<'a, T: EncodingType>(
     cursor: &mut Cursor<'a, T>,
@@ -281,7 +287,7 @@ fn parse_month_by_numbers<'a, T: EncodingType>(
     parse_day_by_numbers(cursor, year, month)
 }
 
-/// Reads a date-time number by number. It is not inlined: no text is read so that has no error.
+/// Reads a date-time number by number. The function is not inlined, because it is called only for a text with an error.
 #[inline(never)]
 fn parse_by_numbers<'a, T: EncodingType>(cursor: &mut Cursor<'a, T>) -> Result<DateTime, Stop> {
     let year = parse_year(cursor)?;
@@ -289,7 +295,7 @@ fn parse_by_numbers<'a, T: EncodingType>(cursor: &mut Cursor<'a, T>) -> Result<D
     parse_month_by_numbers(cursor, year)
 }
 
-/// Reads a date-time of RFC 3339.
+/// Reads a date-time of RFC 3339, section 5.6. Anything can follow it.
 #[inline(always)]
 pub fn parse_internet_date_time<'a, T: EncodingType>(
     cursor: &mut Cursor<'a, T>,
@@ -300,7 +306,7 @@ pub fn parse_internet_date_time<'a, T: EncodingType>(
     }
 }
 
-/// Expects the end after a date-time, and returns its record.
+/// Expects the end of the input after a date-time, and returns the record of the date-time.
 #[inline(always)]
 fn close_record<'a, T: EncodingType>(
     cursor: &mut Cursor<'a, T>,
@@ -310,9 +316,10 @@ fn close_record<'a, T: EncodingType>(
     Ok(read.record())
 }
 
-/// Reads a date-time of RFC 3339, and wants the end.
+/// Reads a date-time of RFC 3339, section 5.6, and expects the end of the input.
 ///
-/// Each way to read it has an end of its own. So the record is made where its parts are read.
+/// The function reads a date-time in fixed columns, or otherwise number by number. The code for each of these two ways
+/// has its own call of `close_record`. So the compiler can build the record where its parts are read.
 #[inline(always)]
 pub fn parse_rfc3339_text<'a, T: EncodingType>(
     cursor: &mut Cursor<'a, T>,

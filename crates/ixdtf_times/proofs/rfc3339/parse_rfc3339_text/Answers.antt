@@ -5,7 +5,7 @@ use Rattle.ixdtf_grammar.specs.Views.{Unread}
 use Rattle.ixdtf_reading.specs.{declared.stop.Stop.Stop, reading.{Clauses.Reads, Looks.error_of, DateTimes.{open_end, date_time_by, date_time_ends, rfc_3339_at}}}
 use Rattle.ixdtf_reading.proofs.code.OpenDateTimes.{rfc_3339_open}
 
--- a date-time is read, and its end behind it
+-- The date-time was read, and then the end of the input after it.
 closes : {X : Type 0} (letter : ℕ → Letter) (view : X → Parsed) (old here new : Unread) (core : Core) (result : Result X Stop)
     → date_time_by error_of open_end (map letter old.rest) ≡ Ok (core, map letter here.rest)
     → Reads letter view here result new (date_time_ends error_of (of_date_time after_utc) core)
