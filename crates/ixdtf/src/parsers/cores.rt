@@ -98,8 +98,7 @@ impl CoreReader for InternetDateTimes {
         _profile: Profile,
         found: &mut IxdtfParseRecord<'a, T>,
     ) -> Result<AfterCore, Stop> {
-        let read = parse_internet_date_time(cursor)?;
-        read.place(found);
+        parse_internet_date_time(cursor, found)?;
         close_core(cursor)
     }
 

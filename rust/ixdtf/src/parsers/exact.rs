@@ -78,8 +78,9 @@ impl<'a, T: EncodingType> IxdtfParser<'a, T> {
     pub fn parse_rfc3339(&mut self) -> ParserResult<IxdtfParseRecord<'a, T>> {
         let mut here = self.cursor.fork();
         // The error is returned in an arm of its own, as in `parse`.
-        match parse_rfc3339_text(&mut here) {
-            Ok(found) => {
+        let mut found = IxdtfParseRecord::default();
+        match parse_rfc3339_text(&mut here, &mut found) {
+            Ok(()) => {
                 self.cursor = here;
                 Ok(found)
             }
@@ -118,8 +119,9 @@ impl<'a, T: EncodingType> IxdtfParser<'a, T> {
     pub fn parse_rfc3339_located(&mut self) -> Result<IxdtfParseRecord<'a, T>, LocatedError> {
         let mut here = self.cursor.fork();
         // These two arms do what `settle` does. The borrow checker has no rule for a call of `settle` with a record.
-        match parse_rfc3339_text(&mut here) {
-            Ok(found) => {
+        let mut found = IxdtfParseRecord::default();
+        match parse_rfc3339_text(&mut here, &mut found) {
+            Ok(()) => {
                 self.cursor = here;
                 Ok(found)
             }
