@@ -1,4 +1,4 @@
--- The answer to a line with a space.
+-- Proves the answer to a line by whether it has a space.
 use Rattle.std.proofs.{Common.{◌≡◌, ℕ, ◌+◌, ◌-◌, ◌<◌, ◌≤◌, List, length, take, drop, Some, None, position, refl, arith}, lemmas.{Bool.{le-ltb, lt-ltb}, List.{take_all, length-drop}}}
 use Rattle.ixdtf_answers.specs.Answer.{line_limit, is_space, too_long, unknown_reader, IsAnswer, IsReaderAnswer}
 
@@ -9,10 +9,10 @@ IsAnswer-word line answer place short at is =
     let all : take (length line - (place + 1)) text ≡ text = take_all _ text (omega (arith, length-drop (place + 1) line)) in
     rw (le-ltb line_limit (length line) short, ← at) (rw all at is)
 
--- a line that is too long
+-- A line that is too long has this answer.
 pub IsAnswer-long : (line : List ℕ) → line_limit < length line → IsAnswer line too_long
 IsAnswer-long line long = rw (lt-ltb line_limit (length line) long) refl
 
--- a line without a space
+-- A line without a space names no reader.
 pub IsAnswer-none : (line : List ℕ) → length line ≤ line_limit → None ≡ position is_space line → IsAnswer line unknown_reader
 IsAnswer-none line short none = rw (le-ltb line_limit (length line) short, ← none) refl

@@ -1,4 +1,4 @@
--- Each line has an answer.
+-- Proves that each line has an answer.
 use Rattle.std.proofs.Common.{◌≡◌, ◌≢◌, ◌⊎◌, ℕ, ◌+◌, Bool, true, false, List, [], ◌∷◌, ◌++◌, length, take, drop, Option, Some, None, MatchOption, position}
 use Rattle.std.proofs.{Common.{refl, sym, ap, subst, true≢false, ◌∙◌, inl, inr, append_assoc, nat_lt, arith}, lemmas.Slice.Eq.bytes_eq-Decides}
 use Rattle.std.specs.Bool.{MatchBool}
@@ -10,7 +10,7 @@ use Rattle.ixdtf_answers.specs.declared.word.Word.TheVariants.{Parse, YearMonth,
 use Rattle.ixdtf_answers.specs.declared.word.Word.TheVariants.{StrictDuration, Canonical, Rfc3339, ZoneName, Rfc9557, CanonicalOffset, CanonicalZone, CanonicalDuration, Instant, CanonicalTime, CanonicalYearMonth, CanonicalMonthDay}
 use Rattle.ixdtf_buffers.specs.Lines.{newline}
 
--- each text has an outcome
+-- Each text has an outcome: the reader accepts it or returns an error.
 outcome_answer : (word : Word) (text : List ℕ) → (answer : List ℕ) × IsOutcome word text answer
 outcome_answer word text = let outcome = one_unhandled_outcome (reader_of word) (letters text) in go outcome.0 outcome.1
   where
@@ -18,7 +18,7 @@ outcome_answer word text = let outcome = one_unhandled_outcome (reader_of word) 
     go (read_as found) has = (read_answer_of word found, inl (found, has, refl))
     go (faulted fault) has = (error_answer_of fault, inr (fault, has, refl))
 
--- two lists of bytes are equal, or not
+-- Two lists of bytes are equal, or they are not.
 same_bytes : (xs ys : List ℕ) → (xs ≡ ys) ⊎ (xs ≢ ys)
 same_bytes xs ys = by_test _ (bytes_eq-Decides xs ys)
   where
@@ -26,7 +26,7 @@ same_bytes xs ys = by_test _ (bytes_eq-Decides xs ys)
     by_test true p = inl (p.0 refl)
     by_test false p = inr (λ same. true≢false (sym (p.1 same)))
 
--- none of these words has the name
+-- None of these words has the name.
 abbrev NoneOf : List ℕ → List Word → Type 0
 NoneOf name [] = Unit {0}
 NoneOf name (word ∷ words) = (name ≢ name_of word) × NoneOf name words
@@ -62,7 +62,7 @@ each_answer line = go (nat_lt line_limit (length line)) (position is_space line)
     go false None = (unknown_reader, refl)
     go false (Some place) = reader_answer (take place line) (drop (place + 1) line)
 
--- all lines have answers
+-- All lines have answers.
 pub all_answers : (lines : List (List ℕ)) → (bytes : List ℕ) × AreAnswers lines bytes
 all_answers [] = ([], refl)
 all_answers (line ∷ lines) =
@@ -70,7 +70,7 @@ all_answers (line ∷ lines) =
     let others = all_answers lines in
     (answer.0 ++ newline ∷ others.0, (answer.0, others.0, answer.1, refl, others.1))
 
--- the answers to some lines, and then to others
+-- The answers to some lines, and then to others, are the answers to all of these lines.
 pub AreAnswers-append : (lines others : List (List ℕ)) (bytes more : List ℕ) → AreAnswers lines bytes → AreAnswers others more
     → AreAnswers (lines ++ others) (bytes ++ more)
 AreAnswers-append [] others bytes more none rest = subst (λ (t : List ℕ). AreAnswers others (t ++ more)) (sym none) rest

@@ -1,4 +1,4 @@
--- The bytes of a text that was printed.
+-- Proves which bytes a printed text has.
 use Rattle.std.proofs.Common.{◌≡◌, ◌≤◌, ◌<◌, ◌∙◌, ℕ, List, [], ◌∷◌, ◌++◌, length, map, take, codes, Result, Ok, Err, IfOk, refl, sym, ap, arith, append_assoc}
 use Rattle.ixdtf.specs.language.{Digits.padded_digits, Letters.{Text, byte_letter}, Languages.Found}
 use Rattle.ixdtf_buffers.specs.Adding.{Adds}
@@ -7,7 +7,7 @@ use Rattle.ixdtf_print.specs.{Printing.PrintsOrRefuses, Prints.Prints, Shown.cod
 use Rattle.ixdtf_print.proofs.code.PutBytes.{front_of_new}
 use Rattle.ixdtf_answers.specs.{Answer.{Gives, letters, read_answer_of}, Fields.nine_digits_of, Parts.HasPrinted, Word.reader_of, declared.word.Word.Word}
 
--- the bytes of a text that bytes spell
+-- If bytes stand for a text, the bytes of this text are these bytes.
 pub spelled_bytes : (bytes : List ℕ) (text : Text) → map byte_letter bytes ≡ text → map code_point text ≡ bytes
 spelled_bytes bytes text e = ap (λ (t : Text). map code_point t) (sym e) ∙ back bytes
   where
@@ -15,7 +15,7 @@ spelled_bytes bytes text e = ap (λ (t : Text). map code_point t) (sym e) ∙ ba
     back [] = refl
     back (byte ∷ bytes) = ap (λ (t : List ℕ). byte ∷ t) (back bytes)
 
--- what a printer returned that printed a text which is shorter than the array
+-- If the canonical text is shorter than the array, the printer writes it to the beginning of the array and returns its length.
 pub printed_front : {printable : Type 0} {canonical : Text} {old new : List ℕ} {count : ℕ} (result : Result ℕ PrintError)
     → PrintsOrRefuses printable canonical old new result → printable → length canonical < length old → IfOk result (λ n. count ≡ n)
     → (count ≡ length canonical) × (take count new ≡ map code_point canonical)
@@ -24,7 +24,7 @@ printed_front {canonical = canonical} {new = new} (Ok n) prints is fits counted 
 printed_front (Err NotPrintable) prints is fits counted = absurd (prints.not_printable.0 refl is)
 printed_front (Err TooShort) prints is fits counted = absurd (omega (arith, (prints.too_short.0 refl).1, fits))
 
--- what a word's reader read, whose canonical text stands at the front of the array
+-- The reader of the word accepted the text, and the canonical text of its value is at the beginning of the array.
 pub has_printed : (word : Word) (text : List ℕ) (found : Found) (canonical : Text) (room : List ℕ) (count : ℕ) → Gives (reader_of word) (letters text) found
     → codes "ok " ++ map code_point canonical ≡ read_answer_of word found → length canonical < 4352
     → (count ≡ length canonical) × (take count room ≡ map code_point canonical) → HasPrinted word text room count
@@ -35,7 +35,7 @@ has_printed word text found canonical room count gives answer short (counted, fr
   answer = rw front answer;
 }
 
--- nine digits that were printed behind what was added
+-- Nine digits were printed after the added bytes, so they were added too.
 pub adds_digits : {old mid new : List ℕ} {at from to : ℕ} {first : List ℕ} (number : ℕ) → Adds old mid at from first → from ≤ length mid
     → Prints mid new from to (padded_digits 9 number) → Adds old new at to (first ++ nine_digits_of number)
 adds_digits {first = first} number a inside p = record {

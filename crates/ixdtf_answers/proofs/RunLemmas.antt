@@ -1,4 +1,4 @@
--- What a run over lines puts are their answers.
+-- Proves that a run over lines writes the answers to the lines.
 use Rattle.std.proofs.{Common.{ℕ, List, [], ◌∷◌, ◌++◌, Option, Result, Ok, Err, OnOk, refl, append_assoc}}
 use Rattle.ixdtf_buffers.specs.{declared.error.RunError.RunError, Tasks.{Steps, Does, DoesFront}}
 use Rattle.ixdtf_answers.specs.Run.{Answers, AreAnswers, WritesAnswers, WritesFront}
@@ -11,11 +11,11 @@ module _ {T : Type 0} where
       (answer, others, is, rw (whole, ends, append_assoc) refl, answers_of next new lines others rest)
 
 module _ {T : Type 0} {s n : Option (List ℕ)} {old new : T} where
-  -- all that was put was written
+  -- All bytes that were passed to the output were written.
   pub writes : {lines : List (List ℕ)} → Does (λ _ line put _. Answers line put) s n old new lines → WritesAnswers s n lines
   writes {lines = lines} p = (p.bytes, answers_of old new lines p.bytes p.steps, p.appended)
 
-  -- a prefix of what was put of the first lines is one of all answers
+  -- A prefix of the answers to the first lines is also a prefix of the answers to all lines.
   pub writes_front : {lines : List (List ℕ)} → DoesFront (λ _ line put _. Answers line put) s n old new lines → WritesFront s n lines
   writes_front p =
       let (more, answers) = all_answers p.others in
@@ -27,7 +27,7 @@ module _ {T : Type 0} {s n : Option (List ℕ)} {old new : T} where
         appended = p.front.appended;
       }
 
--- what follows after a call that went well
+-- A statement about a successful call follows from another one.
 pub on_ok : (A B : Type 0) (r : Result (Unit {0}) RunError) → (A → B) → OnOk r A → OnOk r B
 on_ok A B (Ok t) follows p = follows p
 on_ok A B (Err e) follows p = tt

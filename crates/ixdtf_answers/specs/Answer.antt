@@ -1,4 +1,4 @@
--- The answer to one line, without its newline.
+-- Defines the answer to one line, without its newline.
 use Rattle.std.specs.{Prelude.{◌≡◌, ℕ, ◌+◌, Bool, ◌==◌, ◌⊎◌, List, ◌++◌, map, length, take, drop, nat_lt, Option, Some, None, MatchOption, position, codes}, Bool.MatchBool}
 use Rattle.ixdtf_grammar.specs.declared.records.{DateRecord.DateRecord, TimeRecord.TimeRecord, UtcOffsetRecordOrZ.UtcOffsetRecordOrZ}
 use Rattle.ixdtf_grammar.specs.Instants.{instant_count}
@@ -9,7 +9,7 @@ use Rattle.ixdtf_answers.specs.{Fields.{fields_of, canonical_field_by, instant_t
 use Rattle.ixdtf_answers.specs.declared.word.Word.TheVariants.{YearMonth, MonthDay, Time, Offset, Zone, Iana, Duration, StrictMonthDay, StrictTime}
 use Rattle.ixdtf_answers.specs.declared.word.Word.TheVariants.{StrictDuration, Canonical, Rfc3339, ZoneName, Rfc9557, CanonicalOffset, CanonicalZone, CanonicalDuration, Instant, CanonicalTime, CanonicalYearMonth, CanonicalMonthDay}
 
--- the longest line that is read
+-- A line with more bytes than this is too long.
 abbrev pub line_limit : ℕ
 line_limit = 4096
 
@@ -25,26 +25,27 @@ no_instant = codes "error no instant"
 abbrev pub is_space : ℕ → Bool
 is_space byte = byte == 32
 
--- what the bytes stand for
+-- These are the characters that the bytes stand for in the definitions.
 abbrev pub letters : List ℕ → Text
 letters bytes = map byte_letter bytes
 
--- the fields of a value of a reader
+-- The answer has the fields of the value that a reader returned.
 abbrev pub fields_answer_of : Found → List ℕ
 fields_answer_of found = codes "ok" ++ fields_of found
 
--- its canonical text, where a record of dates and times has this one
+-- The answer has the canonical text of the value. `text_of` gives the canonical text of a record of dates and times.
 abbrev pub canonical_answer_by : (Parsed → Text) → Found → List ℕ
 canonical_answer_by text_of found = codes "ok" ++ canonical_field_by text_of found
 
--- the instant of a date, a time and an offset or `Z`, where all three are there (`instant_count` of `Instants.antt`)
+-- The answer has the instant of a date, a time, and an offset or `Z`, if all three are present (`instant_count` of
+-- `Instants.antt`).
 abbrev pub instant_answer_of : Option DateRecord → Option TimeRecord → Option UtcOffsetRecordOrZ → List ℕ
 instant_answer_of (Some date) (Some time) (Some offset) = codes "ok" ++ instant_text_of (instant_count date time offset)
 instant_answer_of (Some date) (Some time) None = no_instant
 instant_answer_of (Some date) None offset = no_instant
 instant_answer_of None time offset = no_instant
 
--- the instant of a value of a reader: only a record of dates and times can have one
+-- The answer has the instant of the value that a reader returned. Only a record of dates and times can have one.
 abbrev pub found_instant_of : Found → List ℕ
 found_instant_of (parsed found) = instant_answer_of found.date found.time found.offset
 found_instant_of (dated found) = instant_answer_of found.date found.time found.offset
@@ -53,7 +54,7 @@ found_instant_of (identified zone) = no_instant
 found_instant_of (named name) = no_instant
 found_instant_of (lasting duration) = no_instant
 
--- the answer to a text that is read: the fields of the value, its canonical text, or its instant
+-- The answer to an accepted text has the fields of the value, its canonical text, or its instant.
 abbrev pub read_answer_of : Word → Found → List ℕ
 read_answer_of Parse found = fields_answer_of found
 read_answer_of YearMonth found = fields_answer_of found
@@ -78,33 +79,34 @@ read_answer_of CanonicalTime found = canonical_answer_by lone_time_text found
 read_answer_of CanonicalYearMonth found = canonical_answer_by year_month_text found
 read_answer_of CanonicalMonthDay found = canonical_answer_by month_day_text found
 
--- the answer to a text that is refused
+-- The answer to a refused text has the message of the error.
 abbrev pub error_answer_of : Fault → List ℕ
 error_answer_of fault = codes "error " ++ message_of fault
 
--- the text gives the reader the value: to one with brackets a record, where each pair is its own reply, and to each other
--- what it derives, with no pairs
+-- The reader accepts the text, and returns this value. If the texts of the reader can have brackets, the reply to each annotation
+-- is the annotation itself, as without a handler. For other readers, there are no annotations.
 abbrev pub Gives : Reader → Text → Found → Type 0
 Gives reader text found = HasUnhandledOutcome reader text (read_as found)
 
--- the reader refuses the text with the fault: a reader with brackets with one that the text gives, where each pair is its own
--- reply, and any other reader with one that the text has, with no pairs
+-- The reader refuses the text with this error. If the texts of the reader can have brackets, the reply to each annotation is the
+-- annotation itself, as without a handler. For other readers, there are no annotations.
 abbrev pub Refuses : Reader → Text → Fault → Type 0
 Refuses reader text fault = HasUnhandledOutcome reader text (faulted fault)
 
--- the answer of the word's reader, to which the text gives a value, or which refuses the text
+-- The reader of the word accepts the text, and this is the answer for its value. Or it refuses the text, and this is the answer for
+-- its error.
 abbrev pub IsOutcome : Word → List ℕ → List ℕ → Type 0
 IsOutcome word text answer =
     ((found : Found) × Gives (reader_of word) (letters text) found × (answer ≡ read_answer_of word found))
     ⊎ ((fault : Fault) × Refuses (reader_of word) (letters text) fault × (answer ≡ error_answer_of fault))
 
--- the answer of the reader that the name names, where there is one
+-- This is the answer of the reader that the name names, or the answer that there is no such reader.
 abbrev pub IsReaderAnswer : List ℕ → List ℕ → List ℕ → Type 0
 IsReaderAnswer name text answer =
     ((word : Word) × (name ≡ name_of word) × IsOutcome word text answer)
     ⊎ (IsNoWord name × (answer ≡ unknown_reader))
 
--- the answer to a line
+-- This is the answer to a line.
 abbrev pub IsAnswer : List ℕ → List ℕ → Type 0
 IsAnswer line answer = MatchBool (nat_lt line_limit (length line))
     (answer ≡ too_long)

@@ -1,4 +1,4 @@
--- The words, and the readers that they name.
+-- Defines the names of the words, and the readers that they name.
 use Rattle.std.specs.Prelude.{◌≡◌, ◌≢◌, ℕ, List, Option, Some, None, codes}
 use Rattle.ixdtf_grammar.specs.declared.profile.Profile.TheVariants.{Crate, Strict}
 use Rattle.ixdtf.specs.language.Readers.{Reader, parse, parse_rfc9557, parse_year_month, parse_month_day, parse_time}
@@ -54,11 +54,11 @@ reader_of CanonicalTime = parse_time Crate
 reader_of CanonicalYearMonth = parse_year_month
 reader_of CanonicalMonthDay = parse_month_day Crate
 
--- no word has the name
+-- No word has the name.
 abbrev pub IsNoWord : List ℕ → Type 0
 IsNoWord name = (word : Word) → name ≢ name_of word
 
--- the word that has the name, where there is one
+-- This is the word that has the name. If it is `None`, no word has the name.
 abbrev pub IsNamed : List ℕ → Option Word → Type 0
 IsNamed name None = IsNoWord name
 IsNamed name (Some word) = name ≡ name_of word

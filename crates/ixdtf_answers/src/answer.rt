@@ -1,4 +1,4 @@
-//! The answer to a line.
+//! Writes the answer to a line.
 ghost use Rattle.std.specs.Prelude.{◌≡◌, [], ◌∷◌, ◌++◌, ◌≤◌, length};
 ghost use Rattle.ixdtf_answers.specs.Answer.{too_long, unknown_reader};
 ghost use Rattle.ixdtf_answers.specs.Parts.{PutsAnswer};
@@ -14,18 +14,18 @@ use ixdtf_buffers::output::Output;
 use ixdtf_buffers::place::place_of;
 use ixdtf_buffers::sink::Sink;
 
-/// The longest line that is read, in bytes.
+/// The greatest length of a line that is read, in bytes.
 pub const LINE_LIMIT: usize = 4096;
 
-/// What is kept from one line to the next.
+/// The values that the run keeps from one line to the next.
 #[derive(Drop)]
 pub struct Answering {
-    /// An array for canonical texts. To clear one for each line would take longer than to fill it.
+    /// An array for canonical texts. It is kept between lines, because clearing it for each line would take longer than filling it.
     room: [u8; MOST_PRINTED],
 }
 
 impl Answering {
-    /// No line was answered.
+    /// Creates the state before the first line.
     pub fn new() -> Answering {
         Answering {
             room: [0; MOST_PRINTED],
@@ -38,7 +38,7 @@ impl LineTask<LINE_LIMIT> for Answering {
 
     ghost step = { λ _ line bytes _. Answers line bytes };
 
-    /// Puts the answer to the line, and a newline.
+    /// Writes the answer to the line, and a newline, to the output.
     fn take_line<K: Sink>(
         &mut self,
         output: &mut Output<'_, K>,
@@ -51,7 +51,7 @@ impl LineTask<LINE_LIMIT> for Answering {
     }
 }
 
-/// Puts the answer to a line that is not too long.
+/// Writes the answer to a line that is not too long.
 fn answer_short<K: Sink>(
     output: &mut Output<'_, K>,
     room: &mut [u8; MOST_PRINTED],
@@ -69,14 +69,14 @@ fn answer_short<K: Sink>(
     answer_text(output, room, word, &line[place + 1..])
 }
 
-/// Puts the answer to a line that is too long to be read.
+/// Writes the answer to a line that is longer than `LINE_LIMIT`.
 fn put_too_long<K: Sink>(output: &mut Output<'_, K>) -> Result<(), RunError>
     ensures { Puts K.contents K.failed output.old output.new result (too_long ++ newline ∷ []) }
 {
     output.put(b"error line too long\n")
 }
 
-/// Puts the answer to a line that names no reader.
+/// Writes the answer to a line that does not begin with the word of a reader and a space.
 fn put_no_such_reader<K: Sink>(output: &mut Output<'_, K>) -> Result<(), RunError>
     ensures { Puts K.contents K.failed output.old output.new result (unknown_reader ++ newline ∷ []) }
 {

@@ -1,6 +1,7 @@
-//! The canonical texts of what the readers read: one function for each reader reads a text, and prints it.
+//! Reads texts, and prints their canonical texts. There is one function for each kind of canonical text.
 //!
-//! None is inlined: what a reader finds stays in the frame of its own function, and no other's is cleared for a line.
+//! None of these functions is inlined. So the value that a reader returns is in the stack frame of its own function, and a line
+//! does not clear the frames of the other functions.
 ghost use Rattle.std.specs.Prelude.{◌≡◌, ◌≤◌, length, IfOk};
 ghost use Rattle.ixdtf_answers.specs.Parts.{IsPrinted};
 ghost use Rattle.ixdtf_answers.specs.declared.word.Word.TheVariants.{Canonical, CanonicalTime, CanonicalYearMonth, CanonicalMonthDay};
@@ -14,10 +15,11 @@ use ixdtf_print::{
     print_year_month, print_zone,
 };
 
-/// More bytes than the canonical text of what was read from a line has.
+/// The size of the array in bytes. The canonical text of a value that was read from a line is shorter.
 pub const MOST_PRINTED: usize = 4352;
 
-/// Reads by `parse`, and prints to the front of the array. Returns the number of bytes.
+/// Reads the text by `parse`, and prints the canonical text to the beginning of the array. Returns its number of bytes, or the
+/// error of the reader.
 #[inline(never)]
 pub fn canonical_record(text: &[u8], room: &mut [u8; MOST_PRINTED]) -> ParserResult<usize>
     requires { length text.now ≤ 4096 }
@@ -30,7 +32,8 @@ pub fn canonical_record(text: &[u8], room: &mut [u8; MOST_PRINTED]) -> ParserRes
     }
 }
 
-/// Reads a time, and prints it to the front of the array. Returns the number of bytes.
+/// Reads the text as a time, and prints the canonical text to the beginning of the array. Returns its number of bytes, or the error
+/// of the reader.
 #[inline(never)]
 pub fn canonical_time(text: &[u8], room: &mut [u8; MOST_PRINTED]) -> ParserResult<usize>
     requires { length text.now ≤ 4096 }
@@ -43,7 +46,8 @@ pub fn canonical_time(text: &[u8], room: &mut [u8; MOST_PRINTED]) -> ParserResul
     }
 }
 
-/// Reads a year and a month, and prints them to the front of the array. Returns the number of bytes.
+/// Reads the text as a year and a month, and prints the canonical text to the beginning of the array. Returns its number of bytes,
+/// or the error of the reader.
 #[inline(never)]
 pub fn canonical_year_month(text: &[u8], room: &mut [u8; MOST_PRINTED]) -> ParserResult<usize>
     requires { length text.now ≤ 4096 }
@@ -56,7 +60,8 @@ pub fn canonical_year_month(text: &[u8], room: &mut [u8; MOST_PRINTED]) -> Parse
     }
 }
 
-/// Reads a month and a day, and prints them to the front of the array. Returns the number of bytes.
+/// Reads the text as a month and a day, and prints the canonical text to the beginning of the array. Returns its number of bytes,
+/// or the error of the reader.
 #[inline(never)]
 pub fn canonical_month_day(text: &[u8], room: &mut [u8; MOST_PRINTED]) -> ParserResult<usize>
     requires { length text.now ≤ 4096 }
@@ -69,7 +74,8 @@ pub fn canonical_month_day(text: &[u8], room: &mut [u8; MOST_PRINTED]) -> Parser
     }
 }
 
-/// Reads an offset, and prints it to the front of the array. Returns the number of bytes.
+/// Reads the text as an offset, and prints the canonical text to the beginning of the array. Returns its number of bytes, or the
+/// error of the reader.
 #[inline(never)]
 pub fn canonical_offset(text: &[u8], room: &mut [u8; MOST_PRINTED]) -> ParserResult<usize>
     requires { length text.now ≤ 4096 }
@@ -82,7 +88,8 @@ pub fn canonical_offset(text: &[u8], room: &mut [u8; MOST_PRINTED]) -> ParserRes
     }
 }
 
-/// Reads a zone, and prints it to the front of the array. Returns the number of bytes.
+/// Reads the text as a time zone, and prints the canonical text to the beginning of the array. Returns its number of bytes, or the
+/// error of the reader.
 #[inline(never)]
 pub fn canonical_zone(text: &[u8], room: &mut [u8; MOST_PRINTED]) -> ParserResult<usize>
     requires { length text.now ≤ 4096 }
@@ -95,7 +102,8 @@ pub fn canonical_zone(text: &[u8], room: &mut [u8; MOST_PRINTED]) -> ParserResul
     }
 }
 
-/// Reads a duration, and prints it to the front of the array. Returns the number of bytes.
+/// Reads the text as a duration, and prints the canonical text to the beginning of the array. Returns its number of bytes, or the
+/// error of the reader.
 #[inline(never)]
 pub fn canonical_duration(text: &[u8], room: &mut [u8; MOST_PRINTED]) -> ParserResult<usize>
     requires { length text.now ≤ 4096 }
@@ -108,7 +116,8 @@ pub fn canonical_duration(text: &[u8], room: &mut [u8; MOST_PRINTED]) -> ParserR
     }
 }
 
-/// Returns how many bytes a printer wrote. The records of readers are printable, and the array is long enough.
+/// Returns how many bytes the printer wrote. A print cannot fail here, because the values that readers return are printable, and
+/// the array is long enough.
 fn count_of(printed: Result<usize, PrintError>) -> usize
     ensures { IfOk printed (λ count. result ≡ count) }
 {

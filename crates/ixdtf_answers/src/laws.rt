@@ -1,4 +1,4 @@
-//! Laws of the run.
+//! Laws about the run.
 ghost use Rattle.std.specs.Prelude.{◌≡◌, ℕ, List, [], ◌++◌, length, Some, Err, OnOk, IfErr};
 ghost use Rattle.ixdtf_buffers.specs.Lines.{lines_of};
 ghost use Rattle.ixdtf_answers.specs.Run.{AreAnswers, WritesFront};
@@ -7,8 +7,9 @@ use crate::runner::answer_lines;
 use ixdtf_buffers::error::RunError;
 use ixdtf_buffers::memory::{MemorySink, MemorySource};
 
-/// Answers each line of the bytes in the sink, where no byte was written. Nothing fails but a write, and that only where the sink is
-/// full of the beginning of the answers.
+/// Answers each line of the bytes, and writes the answers to an empty sink in memory.
+///
+/// Only a write can fail. Then the sink is full, and its bytes are a prefix of the answers.
 pub fn run_in_memory<const SIZE: usize>(
     bytes: &[u8],
     sink: &mut MemorySink<SIZE>,

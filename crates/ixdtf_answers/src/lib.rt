@@ -1,6 +1,7 @@
-//! Answers lines, each of a word and a text, with what the reader that the word names found in the text.
+//! Answers lines. A line is a word, a space and a text. The word names a reader, and the answer is what this reader returns for the
+//! text.
 //!
-//! `run` reads lines from a reader, and writes their answers to a writer. The program `ixdtf_lines` calls it with
+//! The function `run` reads lines from a reader, and writes the answers to a writer. The program `ixdtf_lines` does the same with
 //! standard input and standard output.
 #![tactic(auto)]
 

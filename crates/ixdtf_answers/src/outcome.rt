@@ -1,4 +1,4 @@
-//! What is put for what a reader found, or for why it refuses a text.
+//! Writes the answer for a value or an error that a reader returned.
 ghost use Rattle.std.specs.Prelude.{◌≡◌, ◌+◌, ◌≤◌, false, [], ◌∷◌, ◌++◌, codes, length, option_map, take};
 ghost use Rattle.ixdtf.specs.Views.{parsed_of, note_of, zone_of};
 ghost use Rattle.ixdtf.specs.table.ErrorTexts.{message_of};
@@ -27,7 +27,7 @@ use ixdtf_buffers::output::Output;
 use ixdtf_buffers::sink::Sink;
 use ixdtf_print::error_parts;
 
-/// Puts each field that the record has.
+/// Writes `ok`, each field that the record has, and a newline.
 pub fn put_record<K: Sink>(
     output: &mut Output<'_, K>,
     parts: &IxdtfParseRecord<'_, Utf8>,
@@ -47,7 +47,7 @@ pub fn put_record<K: Sink>(
     }
 }
 
-/// Adds the fields of a record up to the name of its zone.
+/// Adds `ok`, and the fields of a record up to the name of its zone. Returns the index after them.
 fn add_record_front(room: &mut [u8; ROOM], parts: &IxdtfParseRecord<'_, Utf8>) -> usize
     ensures place { result ≤ 97 }
     ensures text { Adds room.old room.new 0 result (codes "ok" ++ (date_field_of parts.now.date
@@ -61,7 +61,7 @@ fn add_record_front(room: &mut [u8; ROOM], parts: &IxdtfParseRecord<'_, Utf8>) -
     add_zone_field_front(room, zone, &parts.tz)
 }
 
-/// Puts what was added to the front of an answer, a name that goes behind it, and a newline.
+/// Writes the first `front` bytes of the array, the name, and a newline.
 fn put_front_and_name<K: Sink>(
     output: &mut Output<'_, K>,
     room: &mut [u8; ROOM],
@@ -81,7 +81,7 @@ fn put_front_and_name<K: Sink>(
     output.put(b"\n")
 }
 
-/// Puts a name, where there is one, a calendar behind it, and a newline.
+/// Writes the name, which can be empty, the calendar, and a newline.
 fn put_name_and_calendar<K: Sink>(
     output: &mut Output<'_, K>,
     name: &[u8],
@@ -93,7 +93,7 @@ fn put_name_and_calendar<K: Sink>(
     output.put_all(&[name, b" calendar=".as_slice(), calendar, b"\n".as_slice()])
 }
 
-/// The name of the zone, or no byte where it has none.
+/// Returns the name of the zone, or no bytes if it has no name.
 fn zone_field_name<'a>(note: &Option<TimeZoneAnnotation<'a, Utf8>>) -> &'a [u8]
     ensures { result.now ≡ zone_field_name_of (option_map (note_of (λ byte. byte)) note.now) }
 {
@@ -103,7 +103,7 @@ fn zone_field_name<'a>(note: &Option<TimeZoneAnnotation<'a, Utf8>>) -> &'a [u8]
     }
 }
 
-/// The name of the zone, or no byte where it has none.
+/// Returns the name of the zone, or no bytes if it has no name.
 fn zone_name<'a>(zone: &TimeZoneRecord<'a, Utf8>) -> &'a [u8]
     ensures { result.now ≡ zone_name_of (zone_of (λ byte. byte) zone.now) }
 {
@@ -113,7 +113,7 @@ fn zone_name<'a>(zone: &TimeZoneRecord<'a, Utf8>) -> &'a [u8]
     }
 }
 
-/// Puts an offset.
+/// Writes `ok`, the offset, and a newline.
 pub fn put_offset<K: Sink>(
     output: &mut Output<'_, K>,
     offset: UtcOffsetRecord,
@@ -128,7 +128,7 @@ pub fn put_offset<K: Sink>(
     output.put(&room[..end])
 }
 
-/// Puts a zone, which is not critical.
+/// Writes `ok`, the zone as a zone that is not critical, and a newline.
 pub fn put_zone<K: Sink>(
     output: &mut Output<'_, K>,
     zone: &TimeZoneRecord<'_, Utf8>,
@@ -142,7 +142,7 @@ pub fn put_zone<K: Sink>(
     put_front_and_name(output, &mut room, front, zone_name(zone))
 }
 
-/// Puts a duration.
+/// Writes `ok`, the duration, and a newline.
 pub fn put_duration<K: Sink>(
     output: &mut Output<'_, K>,
     duration: DurationParseRecord,
@@ -157,7 +157,8 @@ pub fn put_duration<K: Sink>(
     output.put(&room[..end])
 }
 
-/// Puts the instant of a record that `parse` returned, or that it has none.
+/// Writes `ok`, the instant of a record that `parse` returned, and a newline. If the record has no instant, writes `error no
+/// instant` and a newline.
 pub fn put_instant<K: Sink>(
     output: &mut Output<'_, K>,
     parts: &IxdtfParseRecord<'_, Utf8>,
@@ -176,9 +177,9 @@ pub fn put_instant<K: Sink>(
     output.put(&room[..end])
 }
 
-/// Puts the answer to a text that is refused, and a newline.
+/// Writes the answer to a refused text, and a newline.
 ///
-/// Each text of an error that a reader returns is short, so that the answer is made in an array and put at once.
+/// The text of each error that a reader returns is short. So the answer is made in an array, and written at once.
 #[inline(never)]
 pub fn put_error<K: Sink>(output: &mut Output<'_, K>, error: ParseError) -> Result<(), RunError>
     requires { length (message_of (fault_of error)) ≤ 69 }

@@ -1,7 +1,8 @@
-//! The answers of the readers, one function for each.
+//! Writes the answers of the readers, with one function for each reader.
 //!
-//! Each reads the text and puts its answer. None is inlined: what a reader finds stays in the frame of its own function, and no
-//! other's is cleared for a line. A record is looked at where its reader returned it, and is not moved.
+//! Each function reads the text and writes the answer. No function for a single reader is inlined. So the value that a reader
+//! returns is in the stack frame of its own function, and a line does not clear the frames of the other functions. A record is
+//! passed by reference, so that it is not moved.
 ghost use Rattle.std.specs.Prelude.{◌≡◌, ◌≤◌, length};
 ghost use Rattle.ixdtf.specs.Views.{parsed_of};
 ghost use Rattle.ixdtf.specs.language.Languages.Found.{parsed};
@@ -25,7 +26,7 @@ use ixdtf_buffers::error::RunError;
 use ixdtf_buffers::output::Output;
 use ixdtf_buffers::sink::Sink;
 
-/// Puts the answer to the text by the reader that the word names.
+/// Writes the answer to the text. The word decides which reader reads the text, and what the answer has.
 pub fn answer_text<K: Sink>(
     output: &mut Output<'_, K>,
     room: &mut [u8; MOST_PRINTED],
@@ -85,7 +86,7 @@ pub fn answer_text<K: Sink>(
     }
 }
 
-/// Puts the fields of the record that the word's reader found in the text, or why it refuses the text.
+/// Writes the fields of the record that the reader returned, or the error that it returned.
 #[inline(always)]
 fn put_found<K: Sink>(
     output: &mut Output<'_, K>,
@@ -104,7 +105,7 @@ fn put_found<K: Sink>(
     }
 }
 
-/// Puts the answer of `parse`.
+/// Writes the answer of `parse`.
 #[inline(never)]
 fn answer_parse<K: Sink>(output: &mut Output<'_, K>, text: &[u8]) -> Result<(), RunError>
     ensures { PutsOutcome K.contents K.failed output.old output.new result Word.Parse text.now }
@@ -113,7 +114,7 @@ fn answer_parse<K: Sink>(output: &mut Output<'_, K>, text: &[u8]) -> Result<(), 
     put_found(output, Word::Parse, text, &outcome)
 }
 
-/// Puts the answer of `year-month`.
+/// Writes the answer of `year-month`.
 #[inline(never)]
 fn answer_year_month<K: Sink>(output: &mut Output<'_, K>, text: &[u8]) -> Result<(), RunError>
     ensures { PutsOutcome K.contents K.failed output.old output.new result Word.YearMonth text.now }
@@ -122,7 +123,7 @@ fn answer_year_month<K: Sink>(output: &mut Output<'_, K>, text: &[u8]) -> Result
     put_found(output, Word::YearMonth, text, &outcome)
 }
 
-/// Puts the answer of `month-day`, or of `strict-month-day`.
+/// Writes the answer of `month-day`, or of `strict-month-day`.
 #[inline(never)]
 fn answer_month_day<K: Sink>(
     output: &mut Output<'_, K>,
@@ -138,7 +139,7 @@ fn answer_month_day<K: Sink>(
     put_found(output, word, text, &outcome)
 }
 
-/// Puts the answer of `time`, or of `strict-time`.
+/// Writes the answer of `time`, or of `strict-time`.
 #[inline(never)]
 fn answer_time<K: Sink>(
     output: &mut Output<'_, K>,
@@ -154,7 +155,7 @@ fn answer_time<K: Sink>(
     put_found(output, word, text, &outcome)
 }
 
-/// Puts the answer of `offset`.
+/// Writes the answer of `offset`.
 #[inline(never)]
 fn answer_offset<K: Sink>(output: &mut Output<'_, K>, text: &[u8]) -> Result<(), RunError>
     ensures { PutsOutcome K.contents K.failed output.old output.new result Word.Offset text.now }
@@ -165,7 +166,7 @@ fn answer_offset<K: Sink>(output: &mut Output<'_, K>, text: &[u8]) -> Result<(),
     }
 }
 
-/// Puts the answer of `zone`.
+/// Writes the answer of `zone`.
 #[inline(never)]
 fn answer_zone<K: Sink>(output: &mut Output<'_, K>, text: &[u8]) -> Result<(), RunError>
     ensures { PutsOutcome K.contents K.failed output.old output.new result Word.Zone text.now }
@@ -177,7 +178,7 @@ fn answer_zone<K: Sink>(output: &mut Output<'_, K>, text: &[u8]) -> Result<(), R
     }
 }
 
-/// Puts the answer of `iana`, or of `zone-name`.
+/// Writes the answer of `iana`, or of `zone-name`.
 #[inline(never)]
 fn answer_zone_name<K: Sink>(
     output: &mut Output<'_, K>,
@@ -194,7 +195,7 @@ fn answer_zone_name<K: Sink>(
     }
 }
 
-/// Puts the answer of `rfc3339`.
+/// Writes the answer of `rfc3339`.
 #[inline(never)]
 fn answer_rfc3339<K: Sink>(output: &mut Output<'_, K>, text: &[u8]) -> Result<(), RunError>
     ensures { PutsOutcome K.contents K.failed output.old output.new result Word.Rfc3339 text.now }
@@ -206,7 +207,7 @@ fn answer_rfc3339<K: Sink>(output: &mut Output<'_, K>, text: &[u8]) -> Result<()
     }
 }
 
-/// Puts the answer of `rfc9557`.
+/// Writes the answer of `rfc9557`.
 #[inline(never)]
 fn answer_rfc9557<K: Sink>(output: &mut Output<'_, K>, text: &[u8]) -> Result<(), RunError>
     ensures { PutsOutcome K.contents K.failed output.old output.new result Word.Rfc9557 text.now }
@@ -215,7 +216,7 @@ fn answer_rfc9557<K: Sink>(output: &mut Output<'_, K>, text: &[u8]) -> Result<()
     put_found(output, Word::Rfc9557, text, &outcome)
 }
 
-/// Puts the answer of `duration`, or of `strict-duration`.
+/// Writes the answer of `duration`, or of `strict-duration`.
 #[inline(never)]
 fn answer_duration<K: Sink>(
     output: &mut Output<'_, K>,
@@ -234,7 +235,7 @@ fn answer_duration<K: Sink>(
     }
 }
 
-/// Puts the answer of `instant`.
+/// Writes the answer of `instant`.
 #[inline(never)]
 fn answer_instant<K: Sink>(output: &mut Output<'_, K>, text: &[u8]) -> Result<(), RunError>
     ensures { PutsOutcome K.contents K.failed output.old output.new result Word.Instant text.now }
@@ -246,7 +247,7 @@ fn answer_instant<K: Sink>(output: &mut Output<'_, K>, text: &[u8]) -> Result<()
     }
 }
 
-/// Puts the canonical text of what the word's reader read, which was printed to the front of the array, or why it refuses the text.
+/// Writes the canonical text that was printed to the beginning of the array, or the error that the reader returned.
 #[inline(always)]
 fn put_canonical<K: Sink>(
     output: &mut Output<'_, K>,
@@ -268,7 +269,7 @@ fn put_canonical<K: Sink>(
     }
 }
 
-/// A parser of the text under the profile.
+/// Creates a parser of the text under the profile.
 fn parser(profile: Profile, text: &[u8]) -> IxdtfParser<'_, Utf8>
     ensures rest { result.rest ≡ text.now }
     ensures profile { result.profile ≡ profile }

@@ -1,4 +1,4 @@
-//! The awkward job: many annotations, long names, long fractions, long lines, units that are repeated.
+//! The job `awkward`: texts with many annotations, long names, long fractions, repeated duration units, and long lines.
 
 use crate::digest::Digest;
 use crate::mix::Mix;
@@ -9,15 +9,16 @@ use ixdtf::encoding::Utf8;
 use ixdtf::parsers::{IsoDurationParser, IxdtfParser, TimeZoneParser};
 use std::alloc::{AllocError, Global};
 
-/// At least as long as the longest text of a reader.
+/// The size of the array for 16-bit text. No text that a reader of this job reads is longer.
 const TEXT_SIZE: usize = 4500;
 
-/// The date and time that the texts begin with, and the digits of it that are moved on.
+/// The date and time at the beginning of the texts. `MASK` says which of its digits change from text to text.
 const FRONT: &[u8] = b"2024-03-02T08:48:00Z";
 
 const MASK: &[u8] = b"dddd-.n-qe.bd:md:md";
 
-/// Reads so many long texts, and checks one long line for ten of them.
+/// Reads `count` long texts with brackets and `count` with long numbers or names. Then checks `count / 10` long lines, and prints
+/// as many. Returns a digest of all results.
 pub fn awkward(alloc: Global, seed: u64, count: u64) -> Result<u64, AllocError> {
     let mut digest = Digest::new();
     read_brackets(&mut digest, alloc, seed, count)?;
@@ -38,7 +39,7 @@ pub fn awkward(alloc: Global, seed: u64, count: u64) -> Result<u64, AllocError> 
     Ok(digest.value())
 }
 
-/// Texts with many brackets, and with long names.
+/// Reads texts with many brackets, and texts with long names.
 fn read_brackets(
     digest: &mut Digest,
     alloc: Global,
@@ -97,7 +98,7 @@ fn read_brackets(
     Ok(())
 }
 
-/// Reads the text by the next of four calls.
+/// Reads the text by one of four calls. `number` decides which one.
 fn read_long(digest: &mut Digest, number: u64, text: &[u8], wide: &mut [u16; TEXT_SIZE]) {
     match number % 4 {
         0 => add_record(digest, &IxdtfParser::from_utf8(text).parse()),
@@ -110,7 +111,7 @@ fn read_long(digest: &mut Digest, number: u64, text: &[u8], wide: &mut [u16; TEX
     }
 }
 
-/// Reads the text with a handler that drops one annotation of two.
+/// Reads the text with a handler that drops every second annotation.
 fn read_handled(digest: &mut Digest, text: &[u8]) {
     let mut calls = 0u64;
     let result = IxdtfParser::from_utf8(text).parse_with_annotation_handler(|annotation| {
@@ -125,7 +126,7 @@ fn read_handled(digest: &mut Digest, text: &[u8]) {
     digest.add(calls);
 }
 
-/// Texts with long numbers, durations with many units, and long names alone.
+/// Reads texts with long numbers, durations with many duration units, and long names of zones.
 fn read_numbers(
     digest: &mut Digest,
     alloc: Global,
@@ -161,7 +162,7 @@ fn read_numbers(
     Ok(())
 }
 
-/// Reads the text as what its shape is.
+/// Reads the text by a reader for its shape: a date and time, a duration, or a zone.
 fn read_number(digest: &mut Digest, number: u64, shape: usize, text: &[u8]) {
     if shape < 2 {
         add_record(digest, &IxdtfParser::from_utf8(text).parse());

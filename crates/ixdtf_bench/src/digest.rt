@@ -4,7 +4,7 @@ ghost use Rattle.std.specs.Prelude.{◌≤◌};
 use std::io;
 use std::io::Write;
 
-/// A digest of numbers in their order: their sum, and the sum of the sums.
+/// A digest of numbers that depends on their order: the sum of the numbers, and the sum of these sums.
 #[derive(Clone, Copy)]
 pub struct Digest {
     sum: u64,
@@ -12,18 +12,18 @@ pub struct Digest {
 }
 
 impl Digest {
-    /// The digest of no number.
+    /// Creates a digest of no numbers.
     pub fn new() -> Digest {
         Digest { sum: 0, sums: 0 }
     }
 
-    /// Takes one more number.
+    /// Adds one more number to the digest.
     pub fn add(&mut self, number: u64) {
         self.sum = self.sum.wrapping_add(number);
         self.sums = self.sums.wrapping_add(self.sum);
     }
 
-    /// Takes the bytes, eight as one number, and how many they are.
+    /// Adds the bytes, and then their count, to the digest. Eight bytes are one number, and each of the last bytes is one number.
     pub fn add_bytes(&mut self, bytes: &[u8]) {
         let mut words = bytes.chunks_exact(8);
         while let Some(word) = words.next() {
@@ -37,16 +37,17 @@ impl Digest {
         self.add(bytes.len() as u64);
     }
 
-    /// The digest as one number.
+    /// Returns the digest as one number.
     pub fn value(&self) -> u64 {
         self.sum ^ self.sums.rotate_left(32)
     }
 }
 
-/// How many bytes wait at most to be digested.
+/// The size of the buffer: the greatest number of bytes that are not in the digest yet.
 const ROOM: usize = 16384;
 
-/// A writer that digests what is written to it, however it is cut.
+/// A writer that makes a digest of the bytes that are written to it. The digest does not depend on how the bytes are divided into
+/// writes.
 #[derive(Drop)]
 pub struct DigestWriter {
     digest: Digest,
@@ -56,7 +57,7 @@ pub struct DigestWriter {
 }
 
 impl DigestWriter {
-    /// Nothing was written.
+    /// Creates a writer to which nothing was written.
     pub fn new() -> DigestWriter {
         DigestWriter {
             digest: Digest::new(),
@@ -65,7 +66,7 @@ impl DigestWriter {
         }
     }
 
-    /// The digest of all that was written.
+    /// Returns the digest of all bytes that were written.
     pub fn finish(&mut self) -> u64 {
         self.fold();
         self.digest.value()

@@ -1,9 +1,9 @@
-//! Texts that are kept and moved on, as an odometer is.
+//! Texts that change from turn to turn, like an odometer.
 
 use crate::random::Random;
 use std::alloc::{AllocError, Global};
 
-/// A byte of a text that is moved on, from `first` to `last`.
+/// A byte of a text that changes at a turn, from `first` to `last`.
 #[derive(Clone, Copy)]
 struct Wheel {
     at: usize,
@@ -11,7 +11,8 @@ struct Wheel {
     last: u8,
 }
 
-/// A text of which some bytes are moved on: the last of them at each turn, and the one before it where that begins again.
+/// A text in which some bytes change. The last of them changes at each turn. If it begins again at its first value, the one before
+/// it changes too, and so on.
 #[derive(Drop)]
 pub struct Kept {
     bytes: Vec<u8>,
@@ -19,11 +20,12 @@ pub struct Kept {
 }
 
 impl Kept {
-    /// The text, of which those bytes are moved on that the mask marks:
+    /// Creates a text. The letters of the mask say which bytes of the text change, and between which values:
     ///
-    /// `d` a digit, `n` a digit from 1, `e` one from 1 to 8, `m` to 5, `q` to 2, `b` to 1; `l` a lowercase letter.
+    /// `d` is a digit, `n` a digit from 1 to 9, `e` from 1 to 8, `m` from 0 to 5, `q` from 0 to 2, `b` from 0 to 1, and `l` is a
+    /// lowercase letter. Under any other byte of the mask, the byte of the text does not change.
     ///
-    /// The first text has them at random.
+    /// In the first text, these bytes have random values.
     pub fn new(
         alloc: Global,
         text: &[u8],
@@ -42,12 +44,12 @@ impl Kept {
         Ok(kept)
     }
 
-    /// Puts the bytes behind the text.
+    /// Appends the bytes to the text. They do not change.
     pub fn push(&mut self, bytes: &[u8]) -> Result<(), AllocError> {
         self.bytes.extend_from_slice(bytes)
     }
 
-    /// One more byte that is moved on.
+    /// Adds one more byte that changes, and gives it a random value.
     fn add_wheel(&mut self, wheel: Wheel, random: &mut Random) -> Result<(), AllocError> {
         if let Some(byte) = self.bytes.get_mut(wheel.at) {
             *byte = random.byte_within(wheel.first, wheel.last);
@@ -56,7 +58,7 @@ impl Kept {
         Ok(())
     }
 
-    /// Moves the text on.
+    /// Changes the text to the next one.
     pub fn turn(&mut self) {
         for wheel in self.wheels.as_slice() {
             if let Some(byte) = self.bytes.get_mut(wheel.at) {
@@ -69,13 +71,13 @@ impl Kept {
         }
     }
 
-    /// The text.
+    /// Returns the present text.
     pub fn as_slice(&self) -> &[u8] {
         self.bytes.as_slice()
     }
 }
 
-/// The bytes that a letter of a mask stands for.
+/// Returns the first and the last byte that a letter of a mask stands for. Returns `None` for any other byte.
 fn range_of(letter: u8) -> Option<(u8, u8)> {
     match letter {
         b'd' => Some((b'0', b'9')),

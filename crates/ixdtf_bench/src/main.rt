@@ -1,7 +1,7 @@
-//! The benchmark: jobs that users of the library and of the programs wait for.
+//! The benchmark. It runs jobs for which users of the library and of the programs wait.
 //!
-//! The words are the name of a job, a seed, and, where it is not the whole job that is run, by how many its size is
-//! divided. It prints the name and a digest of all results.
+//! The arguments are the name of a job or `all`, a seed, and optionally a divisor. The divisor makes the job smaller. For each job,
+//! the program prints the name of the job and a digest of all results.
 #![tactic(auto)]
 
 mod awkward;
@@ -17,7 +17,8 @@ use std::alloc::{AllocError, Global};
 use std::env;
 use std::process::ExitCode;
 
-/// A job, and of how many lines or texts it is.
+/// The jobs, each with its `count` if there is no divisor. The comment of the function for a job says what the job does `count`
+/// times.
 const JOBS: [(&str, u64); 6] = [
     ("log", 8_000_000),
     ("refused", 4_000_000),
@@ -34,7 +35,8 @@ fn main(rt: HostRuntime) -> ExitCode {
     }
 }
 
-/// Runs what the words say; `None` where they say nothing, or where memory or the output failed.
+/// Runs the jobs that the arguments name. Returns `None` if an argument is missing or is not a number, if the divisor is 0, or if
+/// memory or the output failed.
 fn run(rt: &HostRuntime) -> Option<ExitCode> {
     let mut words = env::args(rt).ok()?.skip(1);
     let job = words.next()?;
@@ -55,7 +57,7 @@ fn run(rt: &HostRuntime) -> Option<ExitCode> {
     Some(ExitCode::SUCCESS)
 }
 
-/// Runs the job of this name, and returns a digest of its results.
+/// Runs the job with this name, and returns a digest of its results.
 fn run_job(alloc: Global, name: &str, seed: u64, count: u64) -> Result<u64, AllocError> {
     match name {
         "log" => programs::log(alloc, seed, count),

@@ -1,4 +1,4 @@
-//! Texts of many shapes, mixed.
+//! A mix of texts of many shapes.
 ghost use Rattle.std.specs.Prelude.{◌≤◌, length};
 
 use crate::kept::Kept;
@@ -7,22 +7,22 @@ use std::alloc::{AllocError, Global};
 use std::io;
 use std::io::Read;
 
-/// Of how many parts a mix is made.
+/// The number of parts of a mix.
 const PARTS: usize = 1024;
 
-/// Texts of several shapes, each of them kept and moved on when it comes again.
+/// Texts of several shapes. A text of a shape is kept, and changes when its shape is chosen again.
 #[derive(Drop)]
 pub struct Mix {
     alloc: Global,
     shapes: Vec<Kept>,
-    /// The shape of each part.
+    /// The number of the shape for each part.
     parts: Vec<usize>,
     random: Random,
     chosen: usize,
 }
 
 impl Mix {
-    /// No text, by this seed.
+    /// Creates a mix without texts. Its random numbers begin with this seed.
     pub fn new(alloc: Global, seed: u64) -> Mix {
         Mix {
             alloc,
@@ -33,13 +33,14 @@ impl Mix {
         }
     }
 
-    /// Adds a text that comes in so many of 1,024 parts, and whose bytes move as the mask says.
+    /// Adds a text to `parts` of the 1,024 parts of the mix. The mask says which of its bytes change (`Kept::new`).
     pub fn add(&mut self, parts: usize, text: &[u8], mask: &[u8]) -> Result<(), AllocError> {
         let kept = Kept::new(self.alloc, text, mask, &mut self.random)?;
         self.add_kept(parts, kept)
     }
 
-    /// Adds a text that is made of a front, whose bytes move as the mask says, so many pieces, and an end.
+    /// Adds a text that has a beginning, a repeated piece, and an end. The mask says which bytes of the beginning change. `pieces`
+    /// is the number of repetitions, and the piece.
     pub fn add_long(
         &mut self,
         parts: usize,
@@ -65,7 +66,7 @@ impl Mix {
         Ok(())
     }
 
-    /// Moves one of the texts on, and returns the number of its shape.
+    /// Chooses a shape at random, changes its text to the next one, and returns the number of the shape.
     pub fn choose(&mut self) -> usize {
         let number = (self.random.next() >> 20) as usize % PARTS;
         if let Some(shape) = self.parts.get(number) {
@@ -77,7 +78,7 @@ impl Mix {
         self.chosen
     }
 
-    /// The text that was moved on last.
+    /// Returns the text that was chosen last.
     pub fn text(&self) -> &[u8] {
         match self.shapes.get(self.chosen) {
             Some(kept) => kept.as_slice(),
@@ -86,17 +87,17 @@ impl Mix {
     }
 }
 
-/// A reader of so many texts of a mix.
+/// A reader that returns the bytes of a number of texts of a mix.
 #[derive(Drop)]
 pub struct Feed<'m> {
     mix: &'m mut Mix,
     left: u64,
-    /// How much of the text was read.
+    /// The number of bytes of the present text that were read.
     at: usize,
 }
 
 impl<'m> Feed<'m> {
-    /// A reader of this many texts.
+    /// Creates a reader of `count` texts.
     pub fn new(mix: &'m mut Mix, count: u64) -> Feed<'m> {
         Feed {
             mix,
@@ -105,7 +106,8 @@ impl<'m> Feed<'m> {
         }
     }
 
-    /// Moves bytes of one text into the room, and returns how many. It is 0 at the end, or where there is no room.
+    /// Copies bytes of one text to `room`, and returns how many. The result is 0 at the end of the last text, or if `room` is
+    /// empty.
     fn move_some(&mut self, room: &mut [u8]) -> usize
         ensures { result ≤ length room.old }
     {

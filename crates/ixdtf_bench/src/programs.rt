@@ -1,4 +1,4 @@
-//! The jobs of the programs: lines that are checked, printed or answered.
+//! The jobs of the programs. In these jobs, lines are checked, printed or answered.
 
 use crate::digest::DigestWriter;
 use crate::mix::{Feed, Mix};
@@ -9,7 +9,7 @@ use ixdtf_checks::kind::Kind;
 use ixdtf_checks::request::{Field, Request, Task};
 use std::alloc::{AllocError, Global};
 
-/// A check of whole lines as date-times.
+/// A request that checks complete lines as date-times.
 pub const DATE_TIMES: Request<'static> = Request {
     name: "times.txt",
     task: Task::Check(Kind::DateTime),
@@ -20,7 +20,7 @@ pub const DATE_TIMES: Request<'static> = Request {
     is_quiet: false,
 };
 
-/// Lines are printed as their canonical texts.
+/// A request that prints the canonical texts of lines.
 pub const PRINTED: Request<'static> = Request {
     name: "times.txt",
     task: Task::Print(Kind::DateTime),
@@ -31,7 +31,7 @@ pub const PRINTED: Request<'static> = Request {
     is_quiet: false,
 };
 
-/// The third field of a line is checked.
+/// A request that checks the third field of each line.
 const THIRD_FIELD: Request<'static> = Request {
     name: "table.csv",
     task: Task::Check(Kind::DateTime),
@@ -45,7 +45,7 @@ const THIRD_FIELD: Request<'static> = Request {
     is_quiet: false,
 };
 
-/// Checks so many lines, and returns a digest of the counts and the reports.
+/// Checks `count` lines of the mix, and returns a digest of the counts and the reports.
 pub fn checked(mix: &mut Mix, count: u64, request: &Request<'_>) -> u64 {
     let mut writer = DigestWriter::new();
     let checked = check(&mut Feed::new(mix, count), &mut writer, request);
@@ -61,7 +61,8 @@ pub fn checked(mix: &mut Mix, count: u64, request: &Request<'_>) -> u64 {
         .wrapping_add(u64::from(checked.end.is_err()))
 }
 
-/// The times of a log, and one column of a table: one in a thousand is refused.
+/// Runs the job `log`: checks `count` lines of a log, and one column of `count / 2` rows of a table. About one text in a thousand
+/// is refused. Returns a digest of the results.
 pub fn log(alloc: Global, seed: u64, count: u64) -> Result<u64, AllocError> {
     let mut lines = Mix::new(alloc, seed);
     add_log_lines(&mut lines)?;
@@ -113,7 +114,8 @@ fn add_table_rows(rows: &mut Mix) -> Result<(), AllocError> {
     )
 }
 
-/// An import that goes wrong: four of five lines are refused, and reported.
+/// Runs the job `refused`: checks `count` lines of an import that goes wrong. About four of five lines are refused and reported.
+/// Returns a digest of the results.
 pub fn refused(alloc: Global, seed: u64, count: u64) -> Result<u64, AllocError> {
     let mut lines = Mix::new(alloc, seed);
     lines.add(150, b"02/03/2024\n", b"n./q./dddd")?;
@@ -138,7 +140,7 @@ pub fn refused(alloc: Global, seed: u64, count: u64) -> Result<u64, AllocError> 
     Ok(checked(&mut lines, count, &DATE_TIMES))
 }
 
-/// A file that is brought to one spelling.
+/// Runs the job `canonical`: prints the canonical texts of `count` lines. Returns a digest of the results.
 pub fn canonical(alloc: Global, seed: u64, count: u64) -> Result<u64, AllocError> {
     let mut lines = Mix::new(alloc, seed);
     lines.add(200, b"2024-03-02\n", b"dddd-.n-qe")?;
@@ -169,7 +171,7 @@ pub fn canonical(alloc: Global, seed: u64, count: u64) -> Result<u64, AllocError
     Ok(checked(&mut lines, count, &PRINTED))
 }
 
-/// Another program that asks line by line, by all words.
+/// Runs the job `lines`: answers `count` lines of another program. Returns a digest of the answers.
 pub fn answers(alloc: Global, seed: u64, count: u64) -> Result<u64, AllocError> {
     let mut lines = Mix::new(alloc, seed);
     add_asked_dates(&mut lines)?;

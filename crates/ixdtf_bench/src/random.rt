@@ -1,13 +1,14 @@
 //! Numbers that look random.
 
-/// Numbers that look random, the same for one seed: George Marsaglia's xorshift generator of 64 bits.
+/// A generator of numbers that look random: the xorshift generator of 64 bits by George Marsaglia. The same seed gives the same
+/// numbers.
 #[derive(Drop)]
 pub struct Random {
     state: u64,
 }
 
 impl Random {
-    /// The numbers of this seed.
+    /// Creates a generator with this seed.
     pub fn new(seed: u64) -> Random {
         let mut random = Random {
             state: seed.wrapping_mul(0x9e37_79b9_7f4a_7c15) ^ 0x2545_f491_4f6c_dd1d,
@@ -18,7 +19,7 @@ impl Random {
         random
     }
 
-    /// The next number.
+    /// Returns the next number.
     pub fn next(&mut self) -> u64 {
         let mut state = self.state | 1 << 63;
         state ^= state << 13;
@@ -28,7 +29,7 @@ impl Random {
         state
     }
 
-    /// One of the bytes from `first` to `last`.
+    /// Returns a byte from `first` to `last`, which the next number decides.
     pub fn byte_within(&mut self, first: u8, last: u8) -> u8 {
         let choices = u64::from(last.saturating_sub(first)) + 1;
         first.saturating_add((self.next() >> 32 & 0xff) as u8 % choices.min(128) as u8)

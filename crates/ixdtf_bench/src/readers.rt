@@ -1,4 +1,5 @@
-//! The job of the readers: texts of all kinds are read, in both widths, with and without a handler, located and not.
+//! The job `readers`. Texts of all kinds are read as 8-bit and 16-bit text, with and without a handler, and by `*_located` and
+//! other variants.
 
 use crate::digest::Digest;
 use crate::mix::Mix;
@@ -10,7 +11,7 @@ use ixdtf::encoding::Utf8;
 use ixdtf::parsers::{IsoDurationParser, IxdtfParser, TimeZoneParser};
 use std::alloc::{AllocError, Global};
 
-/// At least as long as the longest text.
+/// The size of the array for 16-bit text. No text of this job is longer.
 const TEXT_SIZE: usize = 96;
 
 /// The calls of the readers.
@@ -31,7 +32,7 @@ enum Call {
     Duration,
 }
 
-/// Texts, and how each of them is read.
+/// Texts, and the call that reads each of them.
 #[derive(Drop)]
 struct Texts {
     mix: Mix,
@@ -59,7 +60,7 @@ impl Texts {
     }
 }
 
-/// Reads so many texts, and returns a digest of the records and errors.
+/// Reads `count` texts, and returns a digest of the records and errors.
 pub fn readers(alloc: Global, seed: u64, count: u64) -> Result<u64, AllocError> {
     let mut texts = Texts {
         mix: Mix::new(alloc, seed),
@@ -79,8 +80,8 @@ pub fn readers(alloc: Global, seed: u64, count: u64) -> Result<u64, AllocError> 
     Ok(digest.value())
 }
 
-/// Reads the text by the call. Each call stands in a function of its own that is not inlined, as in a caller's program: the
-/// records of all calls in one frame would be cleared at each call.
+/// Reads the text by the call. Each call has a function of its own that is not inlined, as in a caller's program. If all records
+/// were in one stack frame, they would all be cleared at each call.
 fn call_reader(digest: &mut Digest, call: Call, text: &[u8], wide: &mut [u16; TEXT_SIZE]) {
     match call {
         Call::Parse => parse(digest, text),
@@ -182,7 +183,8 @@ fn parse_duration(digest: &mut Digest, text: &[u8]) {
     add_duration(digest, &IsoDurationParser::<Utf8>::from_utf8(text).parse());
 }
 
-/// The text in 16-bit units, in the room.
+/// Copies the text to `room` as 16-bit code units, and returns them. If the text is longer than `room`, returns its first N code
+/// units.
 pub fn widened<'w, const N: usize>(text: &[u8], room: &'w mut [u16; N]) -> &'w [u16] {
     let count = text.len().min(N);
     for at in 0..count {

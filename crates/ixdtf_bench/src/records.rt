@@ -1,4 +1,4 @@
-//! Digests of what the readers return.
+//! Adds the results of readers to a digest.
 ghost use Rattle.std.specs.Prelude.{◌≤◌};
 
 use crate::digest::Digest;
@@ -9,12 +9,12 @@ use ixdtf::records::{
 };
 use ixdtf::{LocatedError, ParseError, ParserResult};
 
-/// Takes an error: the length of its text, and its place where there is one.
+/// Adds an error to the digest: the length of its text, and its position. The position is 0 if the error has none.
 pub fn add_error(digest: &mut Digest, error: ParseError, at: usize) {
     digest.add(error.to_static_string().len() as u64 + (at as u64 & 0xffff_ffff) * 256);
 }
 
-/// Takes whether a text is read, and else its error.
+/// Adds 1 to the digest if the text is accepted, and otherwise the error.
 pub fn add_verdict(digest: &mut Digest, outcome: &ParserResult<IxdtfParseRecord<'_, Utf8>>) {
     match outcome {
         Ok(_) => digest.add(1),
@@ -22,7 +22,7 @@ pub fn add_verdict(digest: &mut Digest, outcome: &ParserResult<IxdtfParseRecord<
     }
 }
 
-/// Takes whether a text is read, and else its error with its place.
+/// Adds 1 to the digest if the text is accepted, and otherwise the error with its position.
 pub fn add_located_verdict(
     digest: &mut Digest,
     outcome: &Result<IxdtfParseRecord<'_, Utf8>, LocatedError>,
@@ -33,7 +33,7 @@ pub fn add_located_verdict(
     }
 }
 
-/// Takes a record of 8-bit units.
+/// Adds a record of 8-bit text, or the error, to the digest.
 pub fn add_record(digest: &mut Digest, outcome: &ParserResult<IxdtfParseRecord<'_, Utf8>>) {
     match outcome {
         Ok(record) => add_found(digest, record),
@@ -41,7 +41,7 @@ pub fn add_record(digest: &mut Digest, outcome: &ParserResult<IxdtfParseRecord<'
     }
 }
 
-/// Takes a record that was found.
+/// Adds a record of 8-bit text to the digest.
 pub fn add_found(digest: &mut Digest, record: &IxdtfParseRecord<'_, Utf8>) {
     add_parts(digest, record);
     if let Some(name) = record.calendar {
@@ -52,7 +52,7 @@ pub fn add_found(digest: &mut Digest, record: &IxdtfParseRecord<'_, Utf8>) {
     }
 }
 
-/// The same of 16-bit units.
+/// Adds a record of 16-bit text, or the error, to the digest.
 pub fn add_wide_record(digest: &mut Digest, outcome: &ParserResult<IxdtfParseRecord<'_, Utf16>>) {
     match outcome {
         Ok(record) => {
@@ -71,7 +71,7 @@ pub fn add_wide_record(digest: &mut Digest, outcome: &ParserResult<IxdtfParseRec
     }
 }
 
-/// Takes a zone.
+/// Adds a zone to the digest.
 pub fn add_zone(digest: &mut Digest, zone: &TimeZoneRecord<'_, Utf8>) {
     match zone {
         TimeZoneRecord::Name(name) => add_units(digest, name),
@@ -79,7 +79,7 @@ pub fn add_zone(digest: &mut Digest, zone: &TimeZoneRecord<'_, Utf8>) {
     }
 }
 
-/// Takes a name: its length, and its first and last unit.
+/// Adds a name to the digest: its length, and its first and last code units.
 pub fn add_units(digest: &mut Digest, units: &[u8]) {
     digest.add(units.len() as u64);
     if let (Some(first), Some(last)) = (units.first(), units.last()) {
@@ -128,7 +128,7 @@ fn add_fraction(digest: &mut Digest, fraction: Fraction) {
     digest.add(fraction.leading_value());
 }
 
-/// Takes an offset.
+/// Adds an offset to the digest.
 pub fn add_offset(digest: &mut Digest, offset: UtcOffsetRecord) {
     match offset {
         UtcOffsetRecord::MinutePrecision(minutes) => add_minutes(digest, minutes),
@@ -157,7 +157,7 @@ fn sign_number(sign: Sign) -> u64
     }
 }
 
-/// Takes a duration.
+/// Adds a duration, or the error, to the digest.
 pub fn add_duration(digest: &mut Digest, outcome: &ParserResult<DurationParseRecord>) {
     match outcome {
         Ok(duration) => {

@@ -1,5 +1,5 @@
-//! Callers of `ixdtf`, from a crate above it: the calls that the README and `docs/CALLING.md` show, and every public item by
-//! its name.
+//! Calls `ixdtf` from a crate above it. The crate has the calls that the README and `docs/CALLING.md` show, and names every public
+//! item.
 #![tactic(auto)]
 
 #[cfg(test)]

@@ -1,21 +1,22 @@
-//! A reader whose first line was read ahead.
+//! A reader that can read its first line ahead.
 ghost use Rattle.std.specs.Prelude.{◌≤◌};
 
 use ixdtf_buffers::place::place_of;
 use std::io;
 use std::io::Read;
 
-/// The most bytes that are read ahead. A longer first line is refused.
+/// The greatest number of bytes that are read ahead. A longer line is not accepted in any case.
 const ROOM: usize = 65536;
 
-/// A reader that can read the first line of another reader ahead. It then returns all bytes of the other reader.
+/// A reader that can read the first line of another reader ahead. Its function `read` then returns all bytes of the other reader,
+/// and begins with the first line.
 #[derive(Drop)]
 pub struct Front<'r, R> {
     inner: &'r mut R,
     bytes: [u8; ROOM],
-    /// How many of the bytes were returned.
+    /// The number of bytes in `bytes` that `read` has returned.
     start: usize,
-    /// How many bytes were read ahead.
+    /// The number of bytes in `bytes` that were read ahead.
     end: usize,
     ghost order: { start ≤ end },
     ghost within: { end ≤ 65536 },
@@ -32,7 +33,8 @@ impl<'r, R: Read> Front<'r, R> {
         }
     }
 
-    /// Returns the first line without its newline, or its first bytes if it is too long.
+    /// Reads the first line ahead, and returns it without its newline. If it has more than `ROOM` bytes, returns its first `ROOM`
+    /// bytes.
     pub fn first_line(&mut self) -> io::Result<&[u8]> {
         for _ in 0..ROOM {
             if self.end == ROOM || place_of(b'\n', &self.bytes[..self.end]).is_some() {

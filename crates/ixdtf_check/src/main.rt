@@ -1,4 +1,4 @@
-//! Checks the lines of files: which are wrong, where, and why.
+//! Checks the lines of files: which lines are wrong, at which column, and why.
 #![tactic(auto)]
 
 mod front;
@@ -66,18 +66,18 @@ const VERSION: &str = "ixdtf_check 0.6.7+rattle";
 struct Outcome {
     total: Tally,
     has_failed: bool,
-    /// The most reports of all files together.
+    /// The greatest number of reports about all files together, as the last request had it.
     most_reports: u64,
-    /// Whether lines that are refused are reported.
+    /// Whether refused lines are reported.
     shows_refusals: bool,
     /// Whether standard output accepts no more bytes.
     is_closed: bool,
-    /// Whether standard output is a pipe that nobody reads. The program then writes nothing more, also to standard error.
+    /// Whether standard output is a pipe that nobody reads. Then the program also writes nothing more to standard error.
     is_quiet: bool,
 }
 
 impl Outcome {
-    /// Allows the next file only the reports that the files before it have left.
+    /// Reduces the greatest number of reports about the next file by the number of lines refused in the files before it.
     fn limit_reports(&mut self, request: &mut Request<'_>) {
         self.most_reports = request.most_reports;
         self.shows_refusals = !request.is_quiet;
@@ -140,7 +140,7 @@ fn main(rt: HostRuntime) -> ExitCode {
     ExitCode::from(status_of(outcome.has_failed, refused))
 }
 
-/// Shows a text that was asked for.
+/// Writes a text that an option asks for, such as the usage, to standard output.
 fn show(rt: &HostRuntime, text: &str) -> ExitCode {
     match println!(rt; "{text}") {
         Ok(()) => ExitCode::SUCCESS,
@@ -148,7 +148,7 @@ fn show(rt: &HostRuntime, text: &str) -> ExitCode {
     }
 }
 
-/// Says what is wrong with a word, and which word was probably meant.
+/// Writes to standard error what is wrong with a word, and which word the user probably meant.
 fn refuse_word(rt: &impl Eprint, word: &str, wrong: Wrong) -> ExitCode {
     let _ = eprintln!(rt; "ixdtf_check: {word}: {}", wrong.message());
     if let Some(meant) = meant_by(word, wrong) {
@@ -157,13 +157,13 @@ fn refuse_word(rt: &impl Eprint, word: &str, wrong: Wrong) -> ExitCode {
     point_to_help(rt)
 }
 
-/// Says what is wrong with the arguments together.
+/// Writes to standard error what is wrong with the combination of arguments.
 fn refuse(rt: &impl Eprint, message: &str) -> ExitCode {
     let _ = eprintln!(rt; "ixdtf_check: {message}");
     point_to_help(rt)
 }
 
-/// Says how to see the usage.
+/// Writes to standard error how to see the usage, and returns exit status 2.
 fn point_to_help(rt: &impl Eprint) -> ExitCode {
     let _ = eprintln!(rt; "ixdtf_check --help shows the options.");
     ExitCode::from(2)
@@ -183,7 +183,7 @@ fn check_files(rt: &HostRuntime, options: &Options, outcome: &mut Outcome) {
     }
 }
 
-/// Checks the file of this name; `-` is standard input.
+/// Checks the file with this name. The name `-` means standard input.
 fn check_file(rt: &HostRuntime, options: &Options, name: &str, outcome: &mut Outcome) {
     if name == "-" {
         return check_reader(rt, &mut rt.stdin(), options, name, outcome);
@@ -194,7 +194,7 @@ fn check_file(rt: &HostRuntime, options: &Options, name: &str, outcome: &mut Out
     }
 }
 
-/// Checks what the reader returns, under this name.
+/// Checks the bytes of the reader. Reports use this name for the file.
 fn check_reader<R: Read>(
     rt: &HostRuntime,
     reader: &mut R,
@@ -221,7 +221,7 @@ fn check_reader<R: Read>(
     }
 }
 
-/// Returns how many fields stand before the one that has the name, in the first line of a file.
+/// Returns the number of fields before the field that has the name in the first line of a file.
 fn column_of(
     rt: &HostRuntime,
     options: &Options,
@@ -240,7 +240,7 @@ fn column_of(
     Err(ColumnError::Missing)
 }
 
-/// Checks what the reader returns, as the request says.
+/// Checks the bytes of the reader as the request says, and adds the result to `outcome`.
 fn check_request<R: Read>(
     rt: &HostRuntime,
     reader: &mut R,
@@ -272,7 +272,7 @@ fn check_request<R: Read>(
     }
 }
 
-/// Says what failed, and why.
+/// Writes to standard error what failed, and why.
 fn complain<D: fmt::Display + Drop>(rt: &impl Eprint, name: &str, why: D, outcome: &mut Outcome) {
     outcome.has_failed = true;
     let _ = eprintln!(rt; "ixdtf_check: {name}: {why}");

@@ -3,7 +3,7 @@
 use std::io;
 use std::io::{ErrorKind, Read, Write};
 
-/// A reader or a writer that keeps the error of a call that failed.
+/// A reader or a writer that keeps the error of its last call that failed.
 #[derive(Drop)]
 pub struct Watched<'r, R> {
     inner: &'r mut R,
@@ -11,17 +11,18 @@ pub struct Watched<'r, R> {
 }
 
 impl<'r, R> Watched<'r, R> {
-    /// Creates a value of which no call has failed.
+    /// Creates a value without an error: no call has failed yet.
     pub fn new(inner: &'r mut R) -> Watched<'r, R> {
         Watched { inner, error: None }
     }
 
-    /// Returns the error of the last call that failed, if one did.
+    /// Returns the error of the last call that failed. Returns `None` if no call has failed.
     pub fn error(&self) -> Option<io::Error> {
         self.error
     }
 
-    /// Returns whether the last call that failed wrote to a pipe that nobody reads, as after `head` has ended.
+    /// Returns whether the last error is that of a write to a pipe that nobody reads. This happens, for example, when `head` has
+    /// ended.
     pub fn is_closed_pipe(&self) -> bool {
         match self.error {
             Some(error) => error.kind() == ErrorKind::BrokenPipe,

@@ -1,4 +1,4 @@
--- How many characters begin in the bytes of a text.
+-- Proves how many characters begin in the bytes of a text.
 use Rattle.std.proofs.Common.{◌≡◌, ℕ, suc, zero, ◌+◌, ◌-◌, ◌/◌, ◌%◌, ◌<◌, ◌≤◌, ⊎_elim, Bool, false, true, List, [], ◌∷◌, ◌++◌, length, take, drop, get_or, sym, refl, ap, ◌∙◌, arith, length-append}
 use Rattle.std.proofs.Math.Seq.{take-append-add}
 use Rattle.std.proofs.lemmas.{Bool.{cases_lt, lt-ltb, le-ltb}, Bool.Decides.nat_tests, List.{take-append-le, take_more, drop_more}}
@@ -30,7 +30,7 @@ begun_inside : (b : ℕ) → 128 ≤ b → b < 192 → begun b ≡ 0
 unfolding begun
 begun_inside b big small = grind (arith, nat_tests)
 
--- a character begins with the byte, where that is known of it
+-- A character begins with the byte, if the byte is below 128, or is 192 or above.
 pub begun_at : (b : ℕ) → (128 ≤ b → 192 ≤ b) → begun b ≡ 1
 begun_at b lead = ⊎_elim (λ small. begun_ascii b small) (λ big. begun_lead b (lead big)) (cases_lt b 128)
 
@@ -38,12 +38,12 @@ pub begun_most : (b : ℕ) → begun b ≤ 1
 unfolding begun
 begun_most b = grind (arith, nat_tests)
 
--- no more characters begin than there are bytes
+-- The number of characters that begin is at most the number of bytes.
 pub starts_few : (xs : List ℕ) → starts xs ≤ length xs
 starts_few [] = omega arith
 starts_few (x ∷ xs) = omega (arith, begun_most x, starts_few xs)
 
--- where as many begin as there are bytes, one begins with the first
+-- If a character begins with each byte, a character begins with the first byte.
 pub begun_full : (xs : List ℕ) → length xs ≤ starts xs → 0 < length xs → begun (get_or xs 0 0) ≡ 1
 begun_full [] all some = absurd (omega (arith, some))
 begun_full (x ∷ xs) all some = omega (arith, all, begun_most x, starts_few xs)
@@ -60,7 +60,7 @@ begun_true : (b : ℕ) → begins_character b ≡ true → begun b ≡ 1
 unfolding begun
 begun_true b is = rw is refl
 
--- as the code counts it
+-- The code adds this number for the byte.
 pub begun_counted : (b n : ℕ) (test : Bool) → test ≡ begins_character b → n ≡ bool_byte test → n ≡ begun b
 begun_counted b n true is counted = counted ∙ sym (begun_true b (sym is))
 begun_counted b n false is counted = counted ∙ sym (begun_false b (sym is))
@@ -68,7 +68,7 @@ begun_counted b n false is counted = counted ∙ sym (begun_false b (sym is))
 pub lead_true : (b : ℕ) → begins_character b ≡ true → 128 ≤ b → 192 ≤ b
 lead_true b is big = grind (arith, nat_tests)
 
--- the bytes of a character: one begins it, and the others stand inside
+-- These are the bytes of one character. The first byte begins the character, and the others do not begin one.
 record Spelled (bytes : List ℕ) : Type 0 where
   lead : ℕ
   inside : List ℕ
@@ -124,7 +124,7 @@ spelled c = ⊎_elim
 spelled_starts : (bytes : List ℕ) → Spelled bytes → starts bytes ≡ 1
 spelled_starts bytes p = ap starts p.are ∙ omega (arith, p.begins, p.none)
 
--- of the first bytes of a character, at least one, one begins it
+-- Exactly one character begins in the first bytes of a character, if they are at least one byte.
 spelled_front : (bytes : List ℕ) (at : ℕ) → Spelled bytes → starts (take (at + 1) bytes) ≡ 1
 spelled_front bytes at p =
     let next : at + 1 ≡ suc at = omega arith in
@@ -141,7 +141,7 @@ starts_behind bytes more at p behind =
     ∙ ap starts (take-append-add bytes more (at - length bytes + 1))
     ∙ omega (arith, starts-append bytes (take (at - length bytes + 1) more), spelled_starts bytes p)
 
--- as many characters begin in a text as it has
+-- The number of characters that begin in a text is the number of its characters.
 starts_all : (cs : List ℕ) → starts (encode_utf8_all cs) ≡ length cs
 starts_all [] = refl
 starts_all (c ∷ cs) = omega (arith, starts-append (encode c) (encode_utf8_all cs), spelled_starts (encode c) (spelled c), starts_all cs)
@@ -164,7 +164,7 @@ behind c cs at within others more =
     let whole = starts_behind (encode c) (encode_utf8_all cs) at (spelled c) (omega (arith, more, length-encode c)) in
     rw (le-ltb at (len_utf8 c) more) (omega (arith, next, shifted, whole))
 
--- the column of a byte, and one more, is how many characters begin up to it
+-- The column of a byte, plus 1, is the number of characters that begin up to and including this byte.
 column_all : (cs : List ℕ) (at : ℕ) → at < length (encode_utf8_all cs) → column_of cs at + 1 ≡ starts (take (at + 1) (encode_utf8_all cs))
 column_all [] at within = absurd (omega (arith, within))
 column_all (c ∷ cs) at within = ⊎_elim (inside c cs at) (behind c cs at within (column_all cs (at - len_utf8 c))) (cases_lt at (len_utf8 c))
@@ -184,22 +184,22 @@ column_within bs at good within =
 pub column_beyond : (bs : List ℕ) (at : ℕ) → IsUtf8 bs → length bs ≤ at → column_of (chars bs) at ≡ length (chars bs)
 column_beyond bs at good beyond = column_past (chars bs) at (omega (arith, beyond, ap length (encodes-chars bs good)))
 
--- one more byte
+-- One more byte adds 1 if a character begins with it.
 pub starts_more : (bs : List ℕ) (n : ℕ) → n < length bs → starts (take (n + 1) bs) ≡ starts (take n bs) + begun (get_or bs n 0)
 starts_more bs n within = ap starts (take_more bs n 0 within) ∙ omega (arith, starts-append (take n bs) (get_or bs n 0 ∷ []))
 
 pub starts_before : (bs : List ℕ) (n : ℕ) → n < length bs → starts (drop n bs) ≡ begun (get_or bs n 0) + starts (drop (n + 1) bs)
 starts_before bs n within = ap starts (drop_more bs n 0 within)
 
--- a character begins at the front of a text
+-- A character begins with the first byte of a text.
 pub begun_first : (bs : List ℕ) → IsUtf8 bs → 0 < length bs → begun (get_or bs 0 0) ≡ 1
 begun_first bs good some = begun_at (get_or bs 0 0) (λ big. (IsCharBoundary-start bs good).1 some big)
 
--- where a character begins the text may be cut
+-- A text can be cut before the first byte of a character.
 pub boundary_at : (bs : List ℕ) (n : ℕ) → n ≤ length bs → (n < length bs → 128 ≤ get_or bs n 0 → 192 ≤ get_or bs n 0) → IsCharBoundary bs n
 boundary_at bs n within lead = (within, lead)
 
--- the column of a byte, by where its character begins
+-- The column of a byte is the number of characters before the first byte of its character.
 pub column_at : (bs : List ℕ) (at start : ℕ) → IsUtf8 bs → at < length bs → start ≤ at → starts (take (start + 1) bs) ≡ starts (take (at + 1) bs)
     → (128 ≤ get_or bs start 0 → 192 ≤ get_or bs start 0) → column_of (chars bs) at ≡ length (chars (take start bs))
 column_at bs at start good within before same lead =

@@ -1,16 +1,16 @@
--- The field that has a name.
+-- Proves which field has a name.
 use Rattle.std.proofs.Common.{◌≡◌, ◌≢◌, ◌⊎◌, inl, inr, ℕ, zero, suc, ◌+◌, ◌-◌, ◌<◌, Bool, true, false, if◌then◌else◌, List, take, drop, Option, Some, None, option_map, position, refl, sym, ap, ◌∙◌, subst, arith}
 use Rattle.std.proofs.lemmas.{Bool.cases_order, List.drop-drop, Option.{none-some, same_Some}}
 use Rattle.ixdtf_buffers.specs.Lines.{is_byte}
 use Rattle.ixdtf_checks.specs.{Columns.{IsNamed, IsColumn, HasNoColumn}, Parts.{field_start, front_field}, declared.column.ColumnError.TheVariants.{Missing, Twice}}
 
--- of the first fields, so many, this is the only one that has the name, or none has it
+-- Of the first `count` fields, this is the only one that has the name. If it is `None`, none of them has the name.
 abbrev pub Seen : ℕ → List ℕ → List ℕ → ℕ → Option ℕ → Type 0
 Seen separator name line count None = (other : ℕ) → other < count → ¬ (IsNamed separator name line other)
 Seen separator name line count (Some column) =
     (column < count) × IsNamed separator name line column × ((other : ℕ) → other < count → IsNamed separator name line other → other ≡ column)
 
--- a number below the next one
+-- A number below `count` + 1 is below `count` or is `count`.
 below_next : (other count : ℕ) → other < suc count → (other < count) ⊎ (other ≡ count)
 below_next other count below = elim (cases_order other count) [
   | inl e ↦ inr e
@@ -21,7 +21,7 @@ module _ (separator : ℕ) (name line : List ℕ) (count : ℕ) where
   abbrev Named : ℕ → Type 0
   Named other = IsNamed separator name line other
 
-  -- one more field, which does not have the name
+  -- One more field does not have the name.
   seen_other : (found : Option ℕ) → Seen separator name line count found → ¬ (Named count) → Seen separator name line (suc count) found
   seen_other None seen otherwise = λ other below named. elim (below_next other count below) [
     | inl less ↦ seen other less named
@@ -33,7 +33,7 @@ module _ (separator : ℕ) (name line : List ℕ) (count : ℕ) where
     λ other below is. elim (below_next other count below) [ inl l ↦ only other l is | inr e ↦ absurd (otherwise (subst Named e is)) ],
   )
 
-  -- one more field, which is the first that has the name
+  -- One more field is the first that has the name.
   seen_named : Seen separator name line count None → Named count → Seen separator name line (suc count) (Some count)
   seen_named seen named = (
     omega arith,
@@ -47,12 +47,12 @@ module _ (separator : ℕ) (name line : List ℕ) (count : ℕ) where
   seen_more false found kept seen here otherwise is none = rw is (seen_other found seen (otherwise refl))
   seen_more true found kept seen here otherwise is none = rw is (seen_named (rw (none refl) at seen) (here refl))
 
-  -- two fields have the name
+  -- Two fields have the name.
   pub seen_twice : (found : Option ℕ) → found ≢ None → Seen separator name line count found → Named count → HasNoColumn Twice separator name line
   seen_twice None some seen named = absurd (some refl)
   seen_twice (Some column) some (less, first, only) named = (column, count, less, first, named)
 
--- what holds of the fields of a line that begins behind its first separator
+-- `Next` says where the next field begins, from the index of the next separator.
 abbrev Next : ℕ → ℕ → Option ℕ → (ℕ → Option ℕ) → Type 0
 Next separator before at then_start = (start : ℕ) (line : List ℕ) → field_start separator before line ≡ Some start
     → position (is_byte separator) (drop start line) ≡ at → field_start separator (suc before) line ≡ then_start start
@@ -74,7 +74,7 @@ next_step separator before at then_start moved next start line is found = go (po
             let there : position (is_byte separator) (drop s (drop (q + 1) line)) ≡ at = ap (position (is_byte separator)) same ∙ found in
             rw here (ap (option_map (λ more. q + 1 + more)) (next s (drop (q + 1) line) behind there) ∙ moved q s ∙ ap then_start begins)
 
--- where the next field begins, behind one with a separator
+-- The next field begins after the separator.
 pub next_start : (separator before place : ℕ) → Next separator before (Some place) (λ start. Some (start + (place + 1)))
 next_start separator zero place start line is found =
     let first : 0 ≡ start = same_Some 0 start is in
@@ -84,7 +84,7 @@ next_start separator zero place start line is found =
 next_start separator (suc before) place start line is found =
     next_step separator before (Some place) (λ begin. Some (begin + (place + 1))) (λ q s. ap Some (omega arith)) (next_start separator before place) start line is found
 
--- no field begins behind the last one
+-- No field begins after the last one.
 one_behind : (separator before : ℕ) → Next separator before None (λ start. None)
 one_behind separator zero start line is none =
     let first : 0 ≡ start = same_Some 0 start is in
@@ -93,7 +93,7 @@ one_behind separator zero start line is none =
 one_behind separator (suc before) start line is none =
     next_step separator before None (λ begin. None) (λ q s. refl) (one_behind separator before) start line is none
 
--- where a field does not begin, the next one does not either
+-- If there is no such field, there is no next field either.
 none_behind : (separator before : ℕ) (line : List ℕ) → field_start separator before line ≡ None → field_start separator (suc before) line ≡ None
 none_behind separator zero line none = absurd (none-some 0 (sym none))
 none_behind separator (suc before) line none = go (position (is_byte separator) line) refl (λ q gone. none_behind separator before (drop (q + 1) line) gone)
@@ -117,7 +117,7 @@ no_start separator before (suc more) start line is none =
     let next : suc more + before ≡ suc (more + before) = omega arith in
     rw next (none_behind separator (suc (more + before)) line (no_start separator before more start line is none))
 
--- a field with a name is none behind the last one
+-- A field that has a name is at most the last one.
 pub named_before : (separator before start : ℕ) (name line : List ℕ) (other : ℕ) → field_start separator before line ≡ Some start
     → position (is_byte separator) (drop start line) ≡ None → IsNamed separator name line other → other < suc before
 named_before separator before start name line other is none named = elim (cases_order other (suc before)) [
@@ -128,7 +128,7 @@ named_before separator before start name line other is none named = elim (cases_
     go : (more : ℕ) → suc (more + before) ≡ other → ⊥
     go more sum = none-some name (rw (← sum, no_start separator before more start line is none) at named)
 
--- the name is that of the field that begins here
+-- The field that begins here has the name.
 pub named_here : (separator before start : ℕ) (name line field : List ℕ) → field_start separator before line ≡ Some start
     → front_field separator (drop start line) ≡ field → field ≡ name → IsNamed separator name line before
 named_here separator before start name line field is has same = rw is (ap Some (has ∙ same))
@@ -137,7 +137,7 @@ pub named_here_only : (separator before start : ℕ) (name line field : List ℕ
     → front_field separator (drop start line) ≡ field → IsNamed separator name line before → field ≡ name
 named_here_only separator before start name line field is has named = sym has ∙ same_Some (front_field separator (drop start line)) name (rw is at named)
 
--- the field at the front, by where the next separator stands
+-- The first field has the bytes before the next separator.
 pub front_before : (separator place : ℕ) (line : List ℕ) → position (is_byte separator) line ≡ Some place → front_field separator line ≡ take place line
 front_before separator place line at = rw at refl
 

@@ -1,4 +1,4 @@
--- The instant of what was read is that of the record in the code.
+-- Proves that the instant of a read text is that of the record in the code.
 use Rattle.std.proofs.Common.{ℕ, Option, Some, None, IfSome, IfNone, MatchOption}
 use Rattle.ixdtf_instants.specs.declared.instant.Instant.{Instant}
 use Rattle.ixdtf_grammar.specs.declared.records.IxdtfParseRecord.{IxdtfParseRecord}

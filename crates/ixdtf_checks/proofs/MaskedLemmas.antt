@@ -1,4 +1,4 @@
--- What a text is shown as.
+-- Proves how a text is shown.
 use Rattle.std.proofs.Common.{◌≡◌, ℕ, suc, ◌+◌, ◌/◌, ◌%◌, ◌<◌, ◌≤◌, ◌==◌, ⊎_elim, false, List, [], ◌∷◌, ◌++◌, map, length, take, drop, get_or, refl, sym, ap, ◌∙◌, arith}
 use Rattle.std.proofs.lemmas.{Bool.{cases_lt, lt-ltb, le-ltb, and_left}, Bool.Decides.nat_tests, List.{append-nil, drop_all, drop_more, get_or-take, length-take-le, take-append-drop}}
 use Rattle.std.proofs.lemmas.Str.{encode_ascii, encodes-chars}
@@ -14,7 +14,7 @@ control_shown c low high = grind (arith, nat_tests)
 other_shown : (c : ℕ) → 160 ≤ c → shown c ≡ c
 other_shown c low = grind (arith, nat_tests)
 
--- a byte that is no 0xC2 is shown by itself
+-- A byte that is not 0xC2 is shown on its own.
 masked_one : (b : ℕ) (bs : List ℕ) → (b == 194) ≡ false → masked (b ∷ bs) ≡ mask b ∷ masked bs
 unfolding masked
 masked_one b [] other = refl
@@ -95,7 +95,7 @@ unfolding masked
 all_characters [] = refl
 all_characters (c ∷ cs) = one_character c (encode_utf8_all cs) ∙ ap (λ t. encode (shown c) ++ t) (all_characters cs)
 
--- a text is shown so
+-- A text is shown with each of its characters as `shown` says.
 pub masked_shown : (bs : List ℕ) → IsUtf8 bs → masked bs ≡ encode_utf8_all (map shown (chars bs))
 masked_shown bs good = sym (ap masked (encodes-chars bs good)) ∙ all_characters (chars bs)
 
@@ -103,13 +103,13 @@ masked_none : masked [] ≡ []
 unfolding masked
 masked_none = refl
 
--- bytes among which no 0xC2 stands, and what follows them
+-- Bytes without 0xC2 are shown byte by byte, whatever follows them.
 pub masked_run : (xs ys : List ℕ) → ((k : ℕ) → k < length xs → (get_or xs k 0 == 194) ≡ false) → masked (xs ++ ys) ≡ map mask xs ++ masked ys
 masked_run [] ys none = refl
 masked_run (x ∷ xs) ys none =
     masked_one x (xs ++ ys) (none 0 (omega arith)) ∙ ap (λ t. mask x ∷ t) (masked_run xs ys (λ k below. none (suc k) (omega (arith, below))))
 
--- where none stands at all
+-- A text without 0xC2 is shown byte by byte.
 pub masked_all : (xs : List ℕ) → ((k : ℕ) → k < length xs → (get_or xs k 0 == 194) ≡ false) → masked xs ≡ map mask xs
 masked_all xs none = ap masked (sym (append-nil xs)) ∙ masked_run xs [] none ∙ ap (λ t. map mask xs ++ t) masked_none ∙ append-nil (map mask xs)
 
@@ -119,7 +119,7 @@ ascii_other b small = grind (arith, nat_tests)
 pub masked_ascii : (xs : List ℕ) → IsAscii xs → masked xs ≡ map mask xs
 masked_ascii xs ascii = masked_all xs (λ k below. ascii_other (get_or xs k 0) (ascii k))
 
--- the first 0xC2 stands there: what is shown up to it, and from it on
+-- The first 0xC2 is at `place`. This module proves what is shown before it, and from it on.
 module _ (bs : List ℕ) (place : ℕ) (within : place < length bs) (here : get_or bs place 0 ≡ 194)
     (none : (k : ℕ) → k < place → (get_or bs k 0 == 194) ≡ false) where
   front_shown : (ys : List ℕ) → masked (take place bs ++ ys) ≡ map mask (take place bs) ++ masked ys

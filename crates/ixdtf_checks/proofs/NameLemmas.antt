@@ -1,4 +1,4 @@
--- A name of a time zone is a time zone.
+-- Proves that the name of a time zone is a time zone.
 use Rattle.std.proofs.Common.{ℕ, List, refl, inl}
 use Rattle.ixdtf_grammar.specs.language.{Letters.Text, Languages.{Derives.{as_named, as_identified}}, ZoneNames.Zone.Name}
 use Rattle.ixdtf_print.specs.Zones.{IsIdentifier}

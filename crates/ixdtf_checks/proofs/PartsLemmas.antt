@@ -1,17 +1,17 @@
--- Where fields begin.
+-- Proves where the fields of a line begin.
 use Rattle.std.proofs.Common.{◌≡◌, ℕ, zero, suc, ◌+◌, ◌-◌, ◌<◌, ◌≤◌, Bool, true, false, not, cond, ltb, List, [], ◌∷◌, length, take, drop, Option, Some, None, option_map, position, refl, sym, ap, ◌∙◌, arith, ⊎_elim}
 use Rattle.std.proofs.lemmas.{Bool.{cases_lt, lt-ltb, le-ltb}, List.Sums.sum_by-cons}
 use Rattle.std.specs.List.{count_by, position_or_len}
 use Rattle.ixdtf_buffers.specs.Lines.{is_byte}
 use Rattle.ixdtf_checks.specs.Parts.{field_start}
 
--- no further field begins where no separator stands
+-- If there is no separator, no further field begins.
 pub field_start-none : (separator left : ℕ) (line : List ℕ) → 0 < left → None ≡ position (is_byte separator) line
     → field_start separator left line ≡ None
 field_start-none separator zero line some none = absurd (omega (arith, some))
 field_start-none separator (suc left) line some none = rw (← none) refl
 
--- the next field begins behind the separator
+-- The next field begins after the separator.
 pub field_start-some : (separator left place : ℕ) (line : List ℕ) → 0 < left → Some place ≡ position (is_byte separator) line
     → field_start separator left line ≡ option_map (λ start. place + 1 + start) (field_start separator (left - 1) (drop (place + 1) line))
 field_start-some separator zero place line some is = absurd (omega (arith, some))
@@ -23,7 +23,7 @@ pub option_map-more : (a b c : ℕ) (o : Option ℕ) → c ≡ a + b → option_
 option_map-more a b c None is = refl
 option_map-more a b c (Some n) is = ap Some (omega (arith, is))
 
--- the first place of a byte behind another
+-- This is the index of the first such byte, if one more byte comes before the others.
 abbrev first_of : Bool → Option ℕ → Option ℕ
 first_of here behind = cond here (Some 0) (option_map (λ place. 1 + place) behind)
 
@@ -39,7 +39,7 @@ position-cons test x xs = go (test x)
         (λ none. rw (le-ltb (position_or_len test xs) (length xs) none, le-ltb (1 + position_or_len test xs) (length (x ∷ xs)) (omega (arith, none))) refl)
         (cases_lt (position_or_len test xs) (length xs))
 
--- where the field begins behind the first byte of a line
+-- If the first byte is a separator, the field begins after it like one of the rest of the line.
 behind_separator : (separator left x : ℕ) (xs : List ℕ) → is_byte separator x ≡ true
     → field_start separator (suc left) (x ∷ xs) ≡ option_map (λ more. 1 + more) (field_start separator left xs)
 behind_separator separator left x xs is =
@@ -67,7 +67,7 @@ map_none : (o : Option ℕ) → o ≡ option_map (λ more. 0 + more) o
 map_none None = refl
 map_none (Some n) = ap Some (omega arith)
 
--- where the field begins behind bytes with some of the separators before it
+-- If the first bytes of the line have some of the separators, the field begins after them like one of the rest of the line.
 field_start-behind : (separator left place : ℕ) (line : List ℕ) → 0 < left → place ≤ length line
     → field_start separator (left + count_by (is_byte separator) (take place line)) line
     ≡ option_map (λ more. place + more) (field_start separator left (drop place line))

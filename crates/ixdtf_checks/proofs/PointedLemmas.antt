@@ -1,4 +1,4 @@
--- What the lines under a message are made of.
+-- Proves which bytes the lines under a message have.
 use Rattle.std.proofs.Common.{◌≡◌, ℕ, ◌+◌, ◌-◌, ◌*◌, ◌<◌, ◌≤◌, ⊎_elim, Bool, false, true, if◌then◌else◌, List, [], ◌∷◌, ◌++◌, map, length, take, drop, get_or, replicate, sym, refl, ap, subst, ◌∙◌, arith, append_assoc, length-append, length-drop}
 use Rattle.std.proofs.Math.Seq.{take-append-add, drop-append_seam, take-append_seam}
 use Rattle.std.proofs.lemmas.{Bool.{cases_lt, lt-ltb, le-ltb}, List.{append-nil, length-take-le, take-append-drop, drop-drop, drop-take, take-take, take_all, get_or-take, get_or-drop}}
@@ -16,7 +16,7 @@ ascii_cut : (is_cut : Bool) → IsAscii (cut_mark is_cut)
 ascii_cut true = IsAscii-cons 46 (46 ∷ []) (omega arith) (IsAscii-cons 46 [] (omega arith) IsAscii-nil)
 ascii_cut false = IsAscii-nil
 
--- what is written of a cut
+-- The mark of a cut has the same bytes in UTF-8.
 cut_text : (is_cut : Bool) → encode_utf8_all (cut_mark is_cut) ≡ cut_mark is_cut
 cut_text is_cut = encodes-IsAscii (cut_mark is_cut) (ascii_cut is_cut)
 
@@ -26,7 +26,7 @@ regroup l m a b c s = simp append_assoc refl
 encoded : (x y : Bool) (m : List ℕ) → encode_utf8_all (cut_mark x ++ (m ++ cut_mark y)) ≡ cut_mark x ++ (encode_utf8_all m ++ cut_mark y)
 encoded x y m = rw (encodes-append (cut_mark x) (m ++ cut_mark y), encodes-append m (cut_mark y), cut_text x, cut_text y) refl
 
--- the lines of a window
+-- The lines under a message are those of the window that is shown.
 pub window_shown : (bs : List ℕ) (at : ℕ) (w : Window) → IsWindow bs at w
     → pointed_text bs at ++ newline ∷ [] ≡ window_lines bs w (encode_utf8_all (map shown (chars (bytes_in w bs))))
 window_shown bs at w p =
@@ -78,7 +78,8 @@ part_shown x y z w col is few cut fewer ends =
 slice_is : (a b c d : List ℕ) → drop (length a) (take (length (a ++ b) + length c) ((a ++ b) ++ (c ++ d))) ≡ b ++ c
 slice_is a b c d = rw (take-append-add (a ++ b) (c ++ d) (length c), take-append_seam c d, append_assoc a b c) (drop-append_seam a (b ++ c))
 
--- a text in four parts: the second has the last characters before the place, and the third the first from it on
+-- A text has four parts. The second has the last characters before the position, and the third has the first characters from the
+-- position on.
 pub record InFour (bs : List ℕ) (at : ℕ) (w : Window) (a b c d : List ℕ) : Type 0 where
   pub whole : bs ≡ (a ++ b) ++ (c ++ d)
   pub good_a : IsUtf8 a
@@ -163,11 +164,11 @@ module _ (bs : List ℕ) (at : ℕ) (w : Window) (a b c d : List ℕ) (p : InFou
     characters = characters_same;
   }
 
--- the same text was added
+-- If two texts are equal and one of them was added, the other one was added.
 pub adds_same : {a b : List ℕ} {i j : ℕ} {xs ys : List ℕ} → xs ≡ ys → Adds a b i j xs → Adds a b i j ys
 adds_same {a = a} {i = i} e p = record { is = p.is ∙ ap (λ t. take i a ++ t) e }
 
--- a slice of the code is the bytes from one place up to another
+-- A slice in the code has the bytes from one index up to another.
 pub part_same : (bs : List ℕ) (s e : ℕ) → s ≤ e → take (e - s) (drop s bs) ≡ drop s (take e bs)
 part_same bs s e order =
     let whole : s + (e - s) ≡ e = omega (arith, order) in
@@ -181,7 +182,7 @@ encodes_few (c ∷ cs) =
 pub bytes_few : (bs : List ℕ) → IsUtf8 bs → length bs ≤ 4 * length (chars bs)
 bytes_few bs good = omega (arith, encodes_few (chars bs), ap length (encodes-chars bs good))
 
--- a window from s up to n bytes behind the mark at m, where these are the characters that are shown
+-- The window begins at s, and ends n bytes after the mark at m. It has the characters that are shown.
 module _ (bs : List ℕ) (at : ℕ) (w : Window) (m s n : ℕ) (marked : m ≤ length bs) (before : s ≤ m) (behind : m + n ≤ length bs) where
   pub window_from : IsUtf8 (take s (take m bs)) → IsUtf8 (drop s (take m bs)) → IsUtf8 (take n (drop m bs)) → IsUtf8 (drop n (drop m bs))
       → column_of (chars bs) at ≡ length (chars (take m bs)) → length (chars (drop s (take m bs))) ≤ 48
@@ -214,7 +215,7 @@ module _ (bs : List ℕ) (at : ℕ) (w : Window) (m s n : ℕ) (marked : m ≤ l
         indent_whole = λ none. whole (omega (arith, none, start));
       })
 
--- a window that is the whole text is of ASCII
+-- If a window is the complete text and is ASCII, the text is UTF-8.
 pub whole_text : (bs : List ℕ) (s e : ℕ) → IsAscii (drop s (take e bs)) → s ≡ 0 → length bs ≤ e → IsUtf8 bs
 whole_text bs s e ascii first last =
     let all : drop s (take e bs) ≡ bs = ap (λ n. drop n (take e bs)) first ∙ take_all e bs last in
@@ -227,7 +228,7 @@ byte_ascii bs s e k ascii after before =
     get_or-drop s (take e bs) (k - s) 0 ∙ ap (λ n. get_or (take e bs) n 0) there ∙ get_or-take e bs k 0 before in
     omega (arith, ascii (k - s), same)
 
--- the bytes near the place are what is shown, where they are of ASCII
+-- If the bytes near the position are ASCII, they are the bytes that are shown.
 module _ (bs : List ℕ) (at : ℕ) (w : Window) (good : IsUtf8 bs) (fits : Fits bs w) (near : IsNear bs at w) (ascii : IsAscii (bytes_in w bs)) where
   abbrev mark : ℕ
   mark = mark_of bs at
@@ -321,16 +322,16 @@ module _ (bs : List ℕ) (at : ℕ) (w : Window) (good : IsUtf8 bs) (fits : Fits
       (λ more. omega (arith, length_back, whole_count, near.end, more)) refl (sym whole_count) indent_cut_near
       (λ none. omega (arith, indent_whole_near none, length_front, none))
 
--- the lines of bytes that are a text
+-- If the bytes are UTF-8, these are the lines under the message.
 lines_shown : (bs : List ℕ) (at : ℕ) → IsUtf8 bs → lines_at at bs ≡ pointed_text bs at ++ newline ∷ []
 lines_shown bs at good = rw (is_utf8-from_IsUtf8 bs good) refl
 
--- of any text
+-- The lines of a window with masked bytes are the lines under the message.
 pub lines_masked : (bs : List ℕ) (at : ℕ) (w : Window) → IsUtf8 bs → IsWindow bs at w → window_lines bs w (masked (bytes_in w bs)) ≡ lines_at at bs
 lines_masked bs at w good p =
     sym (lines_shown bs at good ∙ window_shown bs at w p ∙ ap (λ t. window_lines bs w t) (sym (masked_shown (bytes_in w bs) p.valid)))
 
--- there are none where the bytes are no text
+-- There are no lines if the bytes are not UTF-8.
 pub lines_hidden : (bs : List ℕ) (at : ℕ) → ¬ (IsUtf8 bs) → lines_at at bs ≡ []
 lines_hidden bs at bad = go (is_utf8 bs) refl
   where
@@ -338,6 +339,6 @@ lines_hidden bs at bad = go (is_utf8 bs) refl
     go true is = absurd (bad (IsUtf8-from_is_utf8 bs is))
     go false is = refl
 
--- no text was added
+-- No bytes were added.
 pub adds_none : (a : List ℕ) (i : ℕ) → Adds a a i i []
 adds_none a i = record { is = sym (append-nil (take i a)) }

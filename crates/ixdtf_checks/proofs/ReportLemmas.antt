@@ -1,4 +1,4 @@
--- What a run over lines puts are their reports.
+-- Proves that a run over lines writes the reports of the lines.
 use Rattle.std.proofs.Common.{◌≡◌, ℕ, ◌+◌, ◌≤◌, ◌<◌, ◌^◌, List, [], ◌∷◌, ◌++◌, length, Option, None, Result, Ok, Err, OnOk, ap, subst, ◌∙◌, arith}
 use Rattle.std.specs.Io.KnownBytes.{Appends}
 use Rattle.std.proofs.Common.{length-append}
@@ -11,7 +11,7 @@ use Rattle.ixdtf_instants.specs.declared.instant.Instant.{Instant}
 use Rattle.ixdtf_checks.specs.{Order.latest, Reports.{AreVerdicts, instant_in, last_instant, report_of, reports_of, refusal_count, refusals_of}}
 use Rattle.ixdtf_checks.specs.Verdicts.{Verdict, IsVerdict, Verdict.{accepted, printed, skipped, refused}}
 
--- at most this line is refused
+-- A line counts as at most one refused line.
 one_most : (verdict : Verdict) → refusal_count verdict ≤ 1
 one_most = elim [
   | accepted instant ↦ omega arith
@@ -20,16 +20,17 @@ one_most = elim [
   | refused instant column message lines ↦ omega arith
 ]
 
--- a step of a check
+-- This is one step of a check: one line is reported and counted.
 abbrev Checks : Checking → List ℕ → List ℕ → Checking → Type 0
 Checks old line bytes new = (new.request ≡ old.request) × ReportsLine old.request old.tally new.tally old.last new.last line bytes
 
--- these verdicts are on the lines before, and the code counted them and kept their last instant
+-- `earlier` has the verdicts on the lines so far. The code has counted these lines, and `last` is the instant of the last one that
+-- has one.
 record After (tally : Tally) (last : Option Instant) (earlier : List Verdict) : Type 0 where
   lines : tally.lines ≡ length earlier
   instant : last ≡ last_instant earlier
 
--- the bytes are the reports of the lines behind these, and so many more were counted
+-- The bytes are the reports of the next lines, and the code counted these lines.
 record AllReported (request : Request) (earlier : List Verdict) (old new : Tally) (lines : List (List ℕ)) (bytes : List ℕ) : Type 0 where
   verdicts : List Verdict
   are : AreVerdicts request earlier lines verdicts
@@ -37,11 +38,11 @@ record AllReported (request : Request) (earlier : List Verdict) (old new : Tally
   count : new.lines ≡ old.lines + length verdicts
   refusals : new.refused ≡ old.refused + refusals_of verdicts
 
--- so many more lines can be counted
+-- `count` more lines can be counted without overflow.
 abbrev HasRoom : Tally → ℕ → Type 0
 HasRoom tally count = (tally.lines + count < 2 ^ 64) × (tally.refused + count < 2 ^ 64)
 
--- one more line before the others
+-- If the reports of the other lines are right, those of one more line before them are right too.
 one_more : {request asked : Request} {earlier : List Verdict} {old next new : Tally} {last kept : Option Instant} {line put : List ℕ} {lines : List (List ℕ)}
     {others bytes : List ℕ} → bytes ≡ put ++ others → asked ≡ request → After old last earlier → (one : ReportsLine request old next last kept line put)
     → next.lines ≡ old.lines + 1 → next.refused ≡ old.refused + refusal_count one.verdict
@@ -80,7 +81,7 @@ all_reported earlier old new (line ∷ lines) bytes room stands (put, others, ne
 module _ (old new : Checking) (request : Request) (tally : Tally) (lines : List (List ℕ)) (asked : old.request ≡ request)
     (none : old.tally.lines ≡ 0) (zero : old.tally.refused ≡ 0) (unseen : old.last ≡ None) (few : length lines < 2 ^ 64) (count : tally.lines ≡ new.tally.lines)
     (refusals : tally.refused ≡ new.tally.refused) where
-  -- all that was put of some of the lines
+  -- These are the reports of the first lines.
   some_reported : (first : List (List ℕ)) (bytes : List ℕ) → length first ≤ length lines → Steps Checks old first bytes new
       → (verdicts : List Verdict) × AreVerdicts request [] first verdicts × (bytes ≡ reports_of request 1 0 verdicts) × Counts tally verdicts
   some_reported first bytes fewer steps =
@@ -94,13 +95,13 @@ module _ (old new : Checking) (request : Request) (tally : Tally) (lines : List 
         record { lines = omega (arith, count, all.count, none); refused = omega (arith, refusals, all.refusals, zero) },
       )
 
-  -- all that was put was written
+  -- All bytes that were passed to the output were written.
   pub reports : {s n : Option (List ℕ)} → Does Checks s n old new lines → Reports s n request tally lines
   reports {s = s} {n = n} p =
       let (verdicts, are, is, counts) = some_reported lines p.bytes (omega arith) p.steps in
       record { verdicts = verdicts; are = are; appended = subst (λ t. Appends s n t) is p.appended; counts = counts }
 
-  -- a prefix of what was put of the first lines was written
+  -- A prefix of the reports of the first lines was written.
   pub reports_front : {s n : Option (List ℕ)} → DoesFront Checks s n old new lines → ReportsFront s n request tally lines
   reports_front {s = s} {n = n} p =
       let fewer : length p.first ≤ length lines = omega (arith, ap length p.whole, length-append p.first p.others) in
@@ -115,11 +116,11 @@ module _ (old new : Checking) (request : Request) (tally : Tally) (lines : List 
         counts = counts;
       }
 
--- there are no more ended lines than bytes
+-- The number of lines that end with a newline is at most the number of bytes.
 pub ended_most : (bytes : List ℕ) → length (ended_lines_of bytes) ≤ length bytes
 ended_most bytes = omega (arith, lines_most bytes, length-append (ended_lines_of bytes) (last_line_of (unended_of bytes)))
 
--- what follows after a call that went well
+-- A statement about a successful call follows from another one.
 pub on_ok : (A B : Type 0) (r : Result (Unit {0}) RunError) → (A → B) → OnOk r A → OnOk r B
 on_ok A B (Ok t) follows p = follows p
 on_ok A B (Err e) follows p = tt

@@ -1,4 +1,4 @@
--- What a reader returns for the text of a line.
+-- Proves which verdict follows from the result of a reader.
 use Rattle.std.proofs.Common.{◌≡◌, ℕ, ◌≤◌, Bool, true, false, if◌then◌else◌, List, [], ◌∷◌, ◌++◌, length, Option, Some, None, inl, inr, refl, sym, ap, ◌∙◌, true≢false, arith, length-append}
 use Rattle.std.proofs.lemmas.{List.{length-map}, Str.{IsUtf8-from_is_utf8, is_utf8-from_IsUtf8}}
 use Rattle.std.specs.Str.{is_utf8}
@@ -15,7 +15,7 @@ use Rattle.ixdtf_checks.specs.{Seen.lines_at, Kinds.{has_offset, reader_of}, Par
 use Rattle.ixdtf_checks.specs.{Verdicts.{Verdict, ShowsPlace, IsOrderVerdict, IsTextVerdict, Verdict.{accepted, printed, skipped, refused}}, declared.kind.Kind.Kind}
 use Rattle.ixdtf_checks.specs.declared.request.Task.TheVariants.{Check, Print}
 
--- no fault stands past the end of the text
+-- The position of an error is at most the length of the text.
 at_most : (reader : Reader) (text : Text) (fault : Fault) (at : ℕ) → HasUnhandledFaultAt reader text fault at → at ≤ length text
 at_most (bracketed kind) text fault at (pairs, given) = elim given [
   | inl p ↦ (let ((front, rest, whole, is, read, derived), last) = p in omega (arith, is, ap length whole, length-append front rest))
@@ -32,7 +32,7 @@ at_within reader bytes fault at has =
     let spell : ℕ → Letter = λ n. byte_letter n in
     omega (arith, at_most reader (byte_text bytes) fault at has, length-map bytes spell)
 
--- what is written of a fault that a text has at a place is short
+-- The message of an error that a text has at some position is short.
 fault_short : (reader : Reader) (text : Text) (fault : Fault) (at : ℕ) → HasUnhandledFaultAt reader text fault at → length (message_of fault) ≤ 69
 fault_short (bracketed kind) text fault at (pairs, given) = message_short (bracketed kind) text fault (
   pairs,
@@ -51,7 +51,7 @@ pub text_short : (reader : Reader) (bytes : List ℕ) (fault : Fault) (at : ℕ)
     → length (message_of fault) ≤ 69
 text_short reader bytes fault at has = fault_short reader (byte_text bytes) fault at has
 
--- the lines under a message
+-- These are the lines under the message.
 pub shows_place : (bytes : List ℕ) (at : ℕ) → ShowsPlace bytes at (lines_at at bytes)
 shows_place bytes at = go (is_utf8 bytes) refl
   where
@@ -59,7 +59,7 @@ shows_place bytes at = go (is_utf8 bytes) refl
     go true is = inl (IsUtf8-from_is_utf8 bytes is, refl)
     go false is = inr ((λ good. true≢false (sym (is_utf8-from_IsUtf8 bytes good) ∙ is)), refl)
 
--- a text that is refused has this verdict
+-- If the reader refuses the text, this is the verdict of a check.
 pub check_refused : (kind : Kind) (profile : Profile) (last : Option Instant) (text : Part) (verdict : Verdict)
     → IsRefusal (has_offset kind) (reader_of kind profile) text verdict → IsTextVerdict (Check kind) profile last text verdict
 check_refused kind profile last text (accepted instant) none = absurd none

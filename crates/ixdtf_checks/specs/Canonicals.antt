@@ -1,4 +1,4 @@
--- The canonical texts of each kind.
+-- Defines the canonical texts of each kind.
 use Rattle.std.specs.Prelude.{◌≡◌, ℕ, List, [], map, Result, OnOk, IfErr}
 use Rattle.ixdtf_grammar.specs.{declared.{profile.Profile.Profile, located.LocatedError.LocatedError}, Handlers.UnhandledRecord, Places.HasUnhandledFaultAt, Widths.byte_text}
 use Rattle.ixdtf_grammar.specs.language.{Letters.{Text, byte_letter}, Languages.{Parsed, Derives, Found.{dated, named}}, ZoneNames.Zone.Name}
@@ -7,23 +7,23 @@ use Rattle.ixdtf_print.specs.{Canonical.{canonical_text, zone_text}, Durations.{
 use Rattle.ixdtf_print.specs.{Offsets.{IsOffsetText, utc_offset_text}, Times.{IsTimeText, lone_time_text}, YearMonths.{IsYearMonthText, year_month_text}, Zones.IsIdentifier}
 use Rattle.ixdtf_checks.specs.declared.kind.Kind.{Kind, TheVariants.{DateTime, YearMonth, MonthDay, Time, Offset, Zone, ZoneName, Duration, Rfc3339, Iana, Rfc9557}}
 
--- `parse_rfc3339` reads the record from the text
+-- `parse_rfc3339` accepts the text, and returns this record.
 abbrev pub IsDatedText : Text → Parsed → Type 0
 IsDatedText text found = Derives parse_rfc3339 text (dated found) []
 
--- `parse_iana_identifier` reads the name from the text
+-- `parse_iana_identifier` accepts the text, and returns this name.
 abbrev pub IsNameText : Text → List ℕ → Type 0
 IsNameText text name = Derives parse_iana_identifier text (named name) []
 
--- the canonical text of a name is that of the zone with this name
+-- The canonical text of a name is that of the zone with this name.
 abbrev pub name_text : List ℕ → Text
 name_text name = zone_text (Name name)
 
--- the first bytes stand for a value, and the second bytes are the canonical text of this value
+-- The first bytes stand for a value, and the second bytes are the canonical text of this value.
 abbrev pub HasCanonical : {R : Type 0} → (Text → R → Type 0) → (R → Text) → List ℕ → List ℕ → Type 0
 HasCanonical {R} stands text_of bytes canonical = (found : R) × stands (byte_text bytes) found × (map byte_letter canonical ≡ text_of found)
 
--- the second bytes are the canonical text of what the reader of the kind reads in the first
+-- The reader of the kind accepts the first bytes. The second bytes are the canonical text of the value that it returns.
 abbrev pub IsCanonical : Kind → Profile → List ℕ → List ℕ → Type 0
 IsCanonical DateTime profile bytes canonical = HasCanonical (UnhandledRecord parse) canonical_text bytes canonical
 IsCanonical YearMonth profile bytes canonical = HasCanonical IsYearMonthText year_month_text bytes canonical
@@ -37,7 +37,7 @@ IsCanonical Rfc3339 profile bytes canonical = HasCanonical IsDatedText canonical
 IsCanonical Iana profile bytes canonical = HasCanonical IsNameText name_text bytes canonical
 IsCanonical Rfc9557 profile bytes canonical = HasCanonical (UnhandledRecord parse_rfc9557) canonical_text bytes canonical
 
--- What a function does that reads a text and prints its canonical text. No clause of `check` cites it.
+-- This is the contract of a function that reads a text and prints its canonical text. No clause of `check` cites it.
 pub record PrintsCanonical {R : Type 0} (reader : Reader) (stands : Text → R → Type 0) (text_of : R → Text) (bytes : List ℕ)
     (result : Result (Unit {0}) LocatedError) (canonical : List ℕ) : Type 0 where
   pub ok : OnOk result (HasCanonical stands text_of bytes canonical)

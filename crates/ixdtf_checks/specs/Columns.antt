@@ -1,21 +1,21 @@
--- The field that has a name in the first line of a file.
+-- Defines which field has a name in the first line of a file.
 use Rattle.std.specs.Prelude.{◌≡◌, ℕ, ◌<◌, List, drop, Option, Some, option_map}
 use Rattle.ixdtf_checks.specs.{Parts.{field_start, front_field}, declared.column.ColumnError.{ColumnError, TheVariants.{Missing, Twice}}}
 
--- the field after so many others
+-- This is the field after `before` other fields.
 abbrev pub field_in : ℕ → ℕ → List ℕ → Option (List ℕ)
 field_in separator before line = option_map (λ start. front_field separator (drop start line)) (field_start separator before line)
 
--- the field after so many others has the name
+-- The field after `before` other fields has the name.
 abbrev pub IsNamed : ℕ → List ℕ → List ℕ → ℕ → Type 0
 IsNamed separator name line before = field_in separator before line ≡ Some name
 
--- the field after so many others is the only one that has the name
+-- The field after `before` other fields is the only one that has the name.
 pub record IsColumn (separator : ℕ) (name line : List ℕ) (before : ℕ) : Type 0 where
   pub named : IsNamed separator name line before
   pub only : (other : ℕ) → IsNamed separator name line other → other ≡ before
 
--- no field has the name, or two have it
+-- No field has the name, or at least two fields have it.
 abbrev pub HasNoColumn : ColumnError → ℕ → List ℕ → List ℕ → Type 0
 HasNoColumn Missing separator name line = (before : ℕ) → ¬ (IsNamed separator name line before)
 HasNoColumn Twice separator name line =

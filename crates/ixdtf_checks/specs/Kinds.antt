@@ -1,4 +1,4 @@
--- The names of the kinds, and the readers of what is asked for.
+-- Defines the names of the kinds, and the reader of each kind.
 use Rattle.std.specs.Prelude.{◌≡◌, ◌≢◌, ℕ, Bool, true, false, List, Option, Some, None, codes}
 use Rattle.ixdtf_grammar.specs.{declared.profile.Profile.Profile, language.Readers.{Reader, parse, parse_rfc9557, parse_year_month, parse_month_day, parse_time}}
 use Rattle.ixdtf_grammar.specs.language.Readers.Reader.{parse_rfc3339, parse_offset, parse_identifier, parse_iana_identifier, parse_duration}
@@ -19,12 +19,12 @@ name_of Rfc3339 = codes "rfc3339"
 name_of Iana = codes "iana"
 name_of Rfc9557 = codes "rfc9557"
 
--- the kind that has the name, where there is one
+-- This is the kind that has the name. If it is `None`, no kind has the name.
 abbrev pub IsNamed : List ℕ → Option Kind → Type 0
 IsNamed name None = (kind : Kind) → name ≢ name_of kind
 IsNamed name (Some kind) = name ≡ name_of kind
 
--- the reader of a kind; of some it has the profile
+-- This is the reader of the kind. Three of the readers use the profile.
 abbrev pub reader_of : Kind → Profile → Reader
 reader_of DateTime profile = parse
 reader_of YearMonth profile = parse_year_month
@@ -38,7 +38,7 @@ reader_of Rfc3339 profile = parse_rfc3339
 reader_of Iana profile = parse_iana_identifier
 reader_of Rfc9557 profile = parse_rfc9557
 
--- the kind, if its texts can name an instant
+-- This is the same kind as an `InstantKind`, if its texts can name an instant.
 abbrev pub instant_kind : Kind → Option InstantKind
 instant_kind DateTime = Some instants.DateTime
 instant_kind YearMonth = None
@@ -52,13 +52,13 @@ instant_kind Rfc3339 = Some instants.Rfc3339
 instant_kind Iana = None
 instant_kind Rfc9557 = Some instants.Rfc9557
 
--- the reader of such a kind
+-- This is the reader of a kind whose texts can name an instant.
 abbrev pub instant_reader_of : InstantKind → Reader
 instant_reader_of instants.DateTime = parse
 instant_reader_of instants.Rfc3339 = parse_rfc3339
 instant_reader_of instants.Rfc9557 = parse_rfc9557
 
--- an offset may follow the time of a text
+-- An offset may follow the time in a text of this kind.
 abbrev pub has_offset : Kind → Bool
 has_offset DateTime = true
 has_offset YearMonth = false

@@ -1,47 +1,47 @@
--- The part of a line that is its text.
+-- Defines the part of a line that is its text.
 use Rattle.std.specs.Prelude.{ℕ, Bool, zero, suc, ◌+◌, ◌-◌, ◌==◌, ◌&&◌, if◌then◌else◌, List, length, take, drop, Option, Some, None, position, option_map, slice_index_or}
 use Rattle.std.specs.Option.{option_and_then, unwrap_or}
 use Rattle.ixdtf_buffers.specs.Lines.{is_byte}
 use Rattle.ixdtf_checks.specs.declared.{request.Field.Field, part.Part.Part}
 
--- the line without the carriage return at its end
+-- This is the line without the carriage return at its end, if there is one.
 abbrev pub without_return : List ℕ → List ℕ
 without_return line = if slice_index_or line (length line - 1) 0 == 13 then take (length line - 1) line else line
 
--- whether the bytes begin with a byte order mark: U+FEFF in UTF-8 (RFC 3629, section 6)
+-- The bytes begin with a byte order mark: U+FEFF in UTF-8 (RFC 3629, section 6).
 abbrev pub has_mark : List ℕ → Bool
 has_mark bytes = (slice_index_or bytes 0 0 == 239) && ((slice_index_or bytes 1 0 == 187) && (slice_index_or bytes 2 0 == 191))
 
 abbrev pub without_mark : List ℕ → List ℕ
 without_mark bytes = if has_mark bytes then drop 3 bytes else bytes
 
--- a line without the bytes that do not belong to it: a byte order mark at the front of the first line of a file, and a carriage
--- return at the end of each line
+-- This is a line without the bytes that do not belong to it: a byte order mark at the beginning of the first line of a file, and a
+-- carriage return at the end of any line.
 abbrev pub line_in : Bool → List ℕ → List ℕ
 line_in is_first bytes = without_return (if is_first then without_mark bytes else bytes)
 
--- a part of a line, behind so many bytes
+-- This is a part of a line. `start` is the number of bytes before it.
 pub record Text : Type 0 where
   pub start : ℕ
   pub bytes : List ℕ
 
--- where the field begins that stands behind so many others, each with its separator
+-- This is the index at which the field begins after `before` other fields, each with its separator.
 abbrev pub field_start : ℕ → ℕ → List ℕ → Option ℕ
 field_start separator zero line = Some 0
 field_start separator (suc before) line =
     option_and_then (λ place. option_map (λ start. place + 1 + start) (field_start separator before (drop (place + 1) line)))
     (position (is_byte separator) line)
 
--- the field at the front: what stands before the first separator
+-- The first field has the bytes before the first separator, or all bytes.
 abbrev pub front_field : ℕ → List ℕ → List ℕ
 front_field separator line = unwrap_or (option_map (λ place. take place line) (position (is_byte separator) line)) line
 
--- the part that is asked for: the whole line, or a field of it, where it has so many
+-- This is the requested part: the complete line, or a field of it, if it has enough fields.
 abbrev pub part_of : Option Field → List ℕ → Option Text
 part_of None line = Some (record { start = 0; bytes = line })
 part_of (Some field) line =
     option_map (λ start. record { start = start; bytes = front_field field.separator (drop start line) }) (field_start field.separator field.before line)
 
--- a part in the code
+-- This is the part of the definitions for a part in the code.
 abbrev pub seen_part : Part → Text
 seen_part part = record { start = part.start; bytes = part.text.now }

@@ -1,4 +1,4 @@
--- A verdict that refuses a text. No clause of `check` cites this module.
+-- Defines the verdicts that refuse a text because of an error of a reader. No clause of `check` cites this module.
 use Rattle.std.specs.Prelude.{Bool, Some, None}
 use Rattle.ixdtf_grammar.specs.language.Readers.{Reader}
 use Rattle.ixdtf_checks.specs.{Parts.Text, Verdicts.{Verdict, IsRefused, Verdict.{accepted, printed, skipped, refused}}}

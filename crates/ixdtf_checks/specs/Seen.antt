@@ -1,4 +1,4 @@
--- A verdict of the code as the definitions speak of it. No clause of `check` cites this module.
+-- Translates a verdict of the code to the verdict of the definitions. No clause of `check` cites this module.
 use Rattle.std.specs.{Prelude.{ℕ, if◌then◌else◌, List, [], ◌∷◌, ◌++◌, codes, Option, Some, None}, Str.is_utf8}
 use Rattle.ixdtf_instants.specs.declared.instant.Instant.{Instant}
 use Rattle.ixdtf_grammar.specs.{LocatedTexts.pointed_text, table.{ErrorTexts.message_of, Faults.fault_of_located}}
@@ -14,7 +14,7 @@ message_in (Spaced unread) = codes "a space stands before the offset"
 message_in (NoInstant text) = codes "no instant"
 message_in (Early early) = codes "earlier than the line before"
 
--- the lines that show the place in a text, where the bytes are one
+-- These lines show the position in a text. There are no lines if the bytes are not UTF-8.
 abbrev pub lines_at : ℕ → List ℕ → List ℕ
 lines_at at bytes = if is_utf8 bytes then pointed_text bytes at ++ newline ∷ [] else []
 
@@ -26,7 +26,7 @@ lines_in (Spaced unread) = lines_at unread.error.at unread.text.now
 lines_in (NoInstant text) = lines_at 0 text.now
 lines_in (Early early) = lines_at 0 early.text.now
 
--- the instant of a text that is read for it, and refused
+-- This is the instant of a refused text that was read for its instant, if it names one.
 abbrev pub instant_of : Reason → Option Instant
 instant_of TooLong = None
 instant_of NoField = None
@@ -35,7 +35,7 @@ instant_of (Spaced unread) = None
 instant_of (NoInstant text) = None
 instant_of (Early early) = Some early.instant
 
--- a verdict, where this is the canonical text that was printed last
+-- This is the verdict of the definitions. `canonical` is the canonical text that was printed last.
 abbrev pub seen : List ℕ → VerdictInCode → Verdict
 seen canonical Accepted = accepted None
 seen canonical (Timed instant) = accepted (Some instant)

@@ -1,4 +1,4 @@
--- The verdict on a line.
+-- Defines the verdict on a line.
 use Rattle.std.specs.{Prelude.{◌≡◌, ◌⊎◌, ℕ, Bool, true, ◌+◌, List, [], ◌∷◌, ◌++◌, length, nat_lt, codes, IsUtf8, Option, Some, None, MatchOption}, Bool.MatchBool}
 use Rattle.ixdtf_grammar.specs.{declared.profile.Profile.Profile, LocatedTexts.pointed_text, Places.HasUnhandledFaultAt}
 use Rattle.ixdtf_grammar.specs.{Widths.{HasUnhandledOutcome, byte_text, UnhandledOutcome.read_as}, language.{Languages.{Found}}}
@@ -8,39 +8,41 @@ use Rattle.ixdtf_checks.specs.{declared.request.{Request.Request, Task.{Task, Th
 use Rattle.ixdtf_instants.specs.declared.instant.Instant.{Instant}
 use Rattle.ixdtf_checks.specs.{Canonicals.IsCanonical, Order.{IsTimed, IsUntimed, IsTooEarly}, Parts.{Text, part_of, line_in}, Skipped.is_skipped, Spaced.message_at}
 
--- its text is read, with its instant if it was read for one; or it is read, and this is its canonical text; or the line is skipped; or
--- it is refused at this column, counted by bytes from 1, with this message and these lines under it, and with its instant if it was
--- read for one
+-- `accepted`: the text of the line is accepted, and has this instant if it was read for its instant.
+-- `printed`: the text is accepted, and this is its canonical text.
+-- `skipped`: the line is skipped.
+-- `refused`: the line is refused at this column, counted in bytes from 1, with this message and these lines under it. It has an
+-- instant if its text is accepted, but is too early.
 pub data Verdict : Type 0 where
   accepted : Option Instant → Verdict
   printed : List ℕ → Verdict
   skipped : Verdict
   refused : Option Instant → ℕ → List ℕ → List ℕ → Verdict
 
--- the longest line that is read
+-- A line with more bytes than this is refused, and no reader reads its text.
 abbrev pub line_limit : ℕ
 line_limit = 65536
 
--- the reader reads the text
+-- The reader accepts the text, without a handler.
 abbrev pub IsRead : Reader → List ℕ → Type 0
 IsRead reader bytes = (found : Found) × HasUnhandledOutcome reader (byte_text bytes) (read_as found)
 
--- the lines that show a place: the text with a mark under it, where the text is UTF-8
+-- These lines show a position: the text, and a mark under the position. There are no lines if the text is not UTF-8.
 abbrev pub ShowsPlace : List ℕ → ℕ → List ℕ → Type 0
 ShowsPlace bytes at lines = (IsUtf8 bytes × (lines ≡ pointed_text bytes at ++ newline ∷ [])) ⊎ (¬ (IsUtf8 bytes) × (lines ≡ []))
 
--- the reader refuses the text, and this is the column in the line, the message and the lines under it
+-- The reader refuses the text. This is the column in the line, the message, and the lines under it.
 abbrev pub IsRefused : Bool → Reader → Text → ℕ → List ℕ → List ℕ → Type 0
 IsRefused has_offset reader text column message lines =
     (fault : Fault) × (at : ℕ) × HasUnhandledFaultAt reader (byte_text text.bytes) fault at
     × (column ≡ text.start + at + 1) × (message ≡ message_at has_offset text.bytes fault at) × ShowsPlace text.bytes at lines
 
--- the text is refused as a whole, with this message: the column in the line is that of its first byte
+-- The complete text is refused with this message. The column is that of the first byte of the text in the line.
 abbrev pub IsMarked : Text → List ℕ → ℕ → List ℕ → List ℕ → Type 0
 IsMarked text why column message lines = (column ≡ text.start + 1) × (message ≡ why) × ShowsPlace text.bytes 0 lines
 
--- The verdict on a text that has to name an instant: it is accepted if the reader reads it, and it names an instant that is not before
--- that of the line before.
+-- This is the verdict on a text that has to name an instant. The text is accepted if the reader accepts it, and if it names an
+-- instant that is not before `last`.
 abbrev pub IsOrderVerdict : Reader → Option Instant → Text → Verdict → Type 0
 IsOrderVerdict reader last text (accepted None) = ⊥
 IsOrderVerdict reader last text (accepted (Some instant)) = IsTimed reader text.bytes instant × ¬ (IsTooEarly instant last)
@@ -51,7 +53,7 @@ IsOrderVerdict reader last text (refused None column message lines) =
 IsOrderVerdict reader last text (refused (Some instant) column message lines) =
     IsTimed reader text.bytes instant × IsTooEarly instant last × IsMarked text (codes "earlier than the line before") column message lines
 
--- the verdict on the text of a line, where this is the instant of the line before
+-- This is the verdict on the text of a line. `last` is the instant of the last earlier line that has one.
 abbrev pub IsTextVerdict : Task → Profile → Option Instant → Text → Verdict → Type 0
 IsTextVerdict (Check kind) profile last text (accepted None) = IsRead (reader_of kind profile) text.bytes
 IsTextVerdict (Check kind) profile last text (accepted (Some instant)) = ⊥
@@ -66,7 +68,7 @@ IsTextVerdict (Print kind) profile last text (refused None column message lines)
 IsTextVerdict (Print kind) profile last text (refused (Some instant) column message lines) = ⊥
 IsTextVerdict (Order kind) profile last text verdict = IsOrderVerdict (instant_reader_of kind) last text verdict
 
--- the verdict on a line that is not too long, without the bytes that do not belong to it
+-- This is the verdict on a line that is neither too long nor skipped, without the bytes that do not belong to it.
 abbrev pub IsLineVerdict : Request → Option Instant → List ℕ → Verdict → Type 0
 IsLineVerdict request last line verdict = MatchOption (part_of request.field line)
     (verdict ≡ refused None (length line + 1) (codes "no such field") [])
@@ -76,7 +78,7 @@ abbrev pub IsShortVerdict : Request → Bool → Option Instant → List ℕ →
 IsShortVerdict request is_first last line verdict =
     MatchBool (is_skipped request.skips is_first line) (verdict ≡ skipped) (IsLineVerdict request last line verdict)
 
--- the verdict on a line, which may be the first one of a file, where this is the instant of the line before
+-- This is the verdict on any line. `last` is the instant of the last earlier line that has one.
 abbrev pub IsVerdict : Request → Bool → Option Instant → List ℕ → Verdict → Type 0
 IsVerdict request is_first last line verdict = MatchBool (nat_lt line_limit (length line))
     (verdict ≡ refused None (line_limit + 1) (codes "line too long") [])

@@ -1,4 +1,4 @@
-//! What a check does with a line.
+//! The work of a check for one line.
 ghost use Rattle.std.specs.Prelude.{◌≡◌, None};
 
 use crate::judge::judge;
@@ -14,23 +14,24 @@ use ixdtf_buffers::error::RunError;
 use ixdtf_buffers::output::Output;
 use ixdtf_buffers::sink::Sink;
 
-/// What is asked of a check, and what it keeps from one line to the next.
+/// The options of a check, and the values that the check keeps from one line to the next.
 #[derive(Drop)]
 pub struct Checking<'n> {
-    /// What is asked of it.
+    /// The options of the check.
     pub request: Request<'n>,
-    /// The canonical text that was printed last.
+    /// The canonical text that the check printed last.
     pub printed: PrintedText,
-    /// The room in which a report is made. It stands here, since to clear it for each report takes as long as to fill it.
+    /// The array in which a report is made. It is kept between lines, because clearing it for each report would take as long as
+    /// filling it.
     pub room: [u8; ROOM],
     /// The instant of the last line whose text names one, if it was read for its instant.
     pub last: Option<Instant>,
-    /// What was counted. Its bytes are counted elsewhere.
+    /// The counts so far, without the bytes. `check_lines` adds the number of bytes at the end.
     pub tally: Tally,
 }
 
 impl<'n> Checking<'n> {
-    /// No line was checked.
+    /// Creates the state before the first line.
     pub fn new(request: Request<'n>) -> Checking<'n>
         ensures request { result.request ≡ request.entry }
         ensures lines { result.tally.lines ≡ 0 }
@@ -54,7 +55,7 @@ impl LineTask<LINE_LIMIT> for Checking<'_> {
     ghost step = { λ old line bytes new. (new.request ≡ old.request)
         × ReportsLine old.request old.tally new.tally old.last new.last line bytes };
 
-    /// Puts the report of the line and counts it.
+    /// Writes the report of the line to the output, and counts the line.
     #[inline(always)]
     fn take_line<K: Sink>(
         &mut self,

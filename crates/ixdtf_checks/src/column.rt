@@ -1,4 +1,4 @@
-//! The field that has a name in the first line of a file.
+//! Finds the field that has a given name in the first line of a file.
 ghost use Rattle.std.specs.Prelude.{◌≡◌, ◌≢◌, true, false, Some, None, if◌then◌else◌, IfOk, IfErr};
 ghost use Rattle.ixdtf_checks.specs.Columns.{HasNoColumn, IsColumn};
 ghost use Rattle.ixdtf_checks.specs.Parts.{line_in};
@@ -6,7 +6,7 @@ ghost use Rattle.ixdtf_checks.specs.Parts.{line_in};
 use crate::part::{front_field, line_in};
 use ixdtf_buffers::place::place_of;
 
-/// Why no field of a first line is the one with a name.
+/// Why `column_named` finds no field, or no single field, with the name.
 #[derive(Clone, Copy, Debug, PartialEq)]
 pub enum ColumnError {
     /// No field has the name.
@@ -16,7 +16,7 @@ pub enum ColumnError {
 }
 
 impl ColumnError {
-    /// Returns what was expected, and what was found.
+    /// Returns the message for the user: what was expected, and what was found.
     pub fn message(self) -> &'static str {
         match self {
             ColumnError::Missing => {
@@ -29,7 +29,7 @@ impl ColumnError {
     }
 }
 
-/// Returns how many fields stand before the one that has this name in the first line of a file.
+/// Returns the number of fields before the field that has this name in the first line of a file.
 ///
 /// # Errors
 ///
@@ -74,7 +74,8 @@ fn is_named(field: &[u8], name: &[u8]) -> bool
     field == name
 }
 
-/// Returns the one field that has the name, up to the field after so many others, or an error if this is a second one.
+/// Returns the index of the only field so far that has the name, if there is one. `found` is the result for the `before` fields
+/// before this one. Returns `Twice` if this field is the second one with the name.
 fn one_named(
     found: Option<usize>,
     before: usize,

@@ -1,4 +1,4 @@
-//! Reading the instant of a text.
+//! Reads the instant that a text names.
 ghost use Rattle.std.specs.Prelude.{IfErr, IfOk};
 ghost use Rattle.ixdtf_grammar.specs.Places.{HasUnhandledFaultAt};
 ghost use Rattle.ixdtf_grammar.specs.Widths.{byte_text};
@@ -10,8 +10,8 @@ use crate::kind::InstantKind;
 use ixdtf::parsers::IxdtfParser;
 use ixdtf::{Instant, LocatedError};
 
-/// Reads the text as one of the kind, and returns the instant that it names, or the error with its position. The instant is `None`
-/// if the text has no date, no time, or no offset.
+/// Reads the text as a text of the kind, and returns the instant that the text names. The instant is `None` if the text has no
+/// date, no time, or no offset. Returns the error with its position, if the text is refused.
 pub fn read_instant(kind: InstantKind, text: &[u8]) -> Result<Option<Instant>, LocatedError>
     ensures ok { IfOk result (λ instant. HasInstant (instant_reader_of kind) text.now instant) }
     ensures err { IfErr result (λ error. HasUnhandledFaultAt (instant_reader_of kind)

@@ -1,4 +1,4 @@
-//! Which verdict a line gets.
+//! Decides the verdict on a line.
 ghost use Rattle.std.specs.Prelude.{◌≡◌, ◌≤◌, ◌+◌, ℕ, List, length, IfSome, Some, None};
 ghost use Rattle.ixdtf_grammar.specs.Places.{HasUnhandledFaultAt};
 ghost use Rattle.ixdtf_grammar.specs.Widths.{byte_text};
@@ -26,10 +26,10 @@ use crate::skipped::kept_line;
 use crate::verdict::{Early, LINE_LIMIT, Reason, Refusal, Unread, Verdict};
 use ixdtf::{Instant, LocatedError};
 
-/// Writes the verdict on the line, which is `None` where it is too long, and may be the first one of a file. `last` is the instant
-/// of the line before. It becomes that of this line, if this line has one.
+/// Writes the verdict on the line to `verdict`. The line is `None` if it is too long. `last` is the instant of the last earlier
+/// line that names one. If the text of this line names an instant and was read for it, `last` becomes this instant.
 ///
-/// A verdict is written in its place, and not returned: most lines are accepted, and of these one byte is written.
+/// The verdict is written through a reference, and not returned. Most lines are accepted, and their verdict needs only one byte.
 pub fn judge<'a>(
     request: &Request<'_>,
     is_first: bool,
@@ -54,7 +54,7 @@ pub fn judge<'a>(
     }
 }
 
-/// Writes the verdict on the bytes of a line that is not too long.
+/// Writes the verdict on a line that is not too long. `bytes` are the complete bytes of the line.
 fn judge_short<'a>(
     request: &Request<'_>,
     is_first: bool,
@@ -122,7 +122,8 @@ fn judge_text<'a>(
     }
 }
 
-/// Writes the verdict on a text that has to name an instant, which must not be before the last one. Keeps this instant.
+/// Writes the verdict on a text that has to name an instant. This instant must not be before `last`. `last` becomes this instant,
+/// also if it is before the old one.
 #[inline(never)]
 fn judge_order<'a>(
     kind: InstantKind,
@@ -139,7 +140,7 @@ fn judge_order<'a>(
     verdict.keep_instant(last);
 }
 
-/// Writes the verdict on a text that has to name an instant, which must not be before the last one.
+/// Writes the verdict on a text that has to name an instant. This instant must not be before `last`.
 fn judge_instant<'a>(
     kind: InstantKind,
     last: Option<Instant>,
@@ -162,7 +163,7 @@ fn judge_instant<'a>(
     }
 }
 
-/// Returns the verdict on a text that names this instant.
+/// Returns the verdict on a text that names this instant: `Timed`, or `Refused` if the instant is before `last`.
 fn order(instant: Instant, last: Option<Instant>, part: Part<'_>) -> Verdict<'_>
     requires { part.start + length part.text.now ≤ 65536 }
     ensures { (reader : Reader) → IsTimed reader part.entry.text.now instant
@@ -180,7 +181,8 @@ fn order(instant: Instant, last: Option<Instant>, part: Part<'_>) -> Verdict<'_>
     }
 }
 
-/// Writes the verdict on a line whose text a reader refuses. `has_offset` says whether an offset may follow the time of a text.
+/// Writes the verdict on a line whose text a reader refuses. `has_offset` says whether texts of this kind can have an offset after
+/// their time.
 fn refuse<'a>(verdict: &mut Verdict<'a>, has_offset: bool, error: LocatedError, part: Part<'a>)
     requires line { part.start + length part.text.now ≤ 65536 }
     requires within { error.at ≤ length part.text.now }
@@ -202,7 +204,7 @@ fn refuse<'a>(verdict: &mut Verdict<'a>, has_offset: bool, error: LocatedError, 
     });
 }
 
-/// Returns why a text is refused that a reader does not read.
+/// Returns the reason why a text is refused for which a reader returned an error.
 fn reason_of(has_offset: bool, unread: Unread<'_>) -> Reason<'_>
     requires { unread.error.at ≤ length unread.text.now }
     ensures message { message_in result
@@ -217,7 +219,7 @@ fn reason_of(has_offset: bool, unread: Unread<'_>) -> Reason<'_>
     }
 }
 
-/// Returns whether a space and an offset are at the beginning of the bytes.
+/// Returns whether the bytes begin with a space and the beginning of an offset: `Z`, `z`, or a sign and a digit.
 fn is_spaced(bytes: &[u8]) -> bool
     ensures { result ≡ is_spaced bytes.now }
 {

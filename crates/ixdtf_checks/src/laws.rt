@@ -1,4 +1,4 @@
-//! Laws of the check.
+//! Laws about the check.
 ghost use Rattle.std.specs.Prelude.{◌≡◌, ℕ, List, [], ◌++◌, length, Some, Err, OnOk, IfErr};
 ghost use Rattle.ixdtf_buffers.specs.Lines.{lines_of};
 ghost use Rattle.ixdtf_checks.specs.Checks.{ReportsFront, ReportsWhole};
@@ -8,8 +8,9 @@ use crate::request::Request;
 use ixdtf_buffers::error::RunError;
 use ixdtf_buffers::memory::{MemorySink, MemorySource};
 
-/// Checks each line of the bytes, and writes its report into the sink, where no byte was written. Nothing fails but a write, and
-/// that only where the sink is full of the beginning of the reports.
+/// Checks each line of the bytes, and writes the reports to an empty sink in memory.
+///
+/// Only a write can fail. Then the sink is full, and its bytes are a prefix of the reports.
 pub fn check_in_memory<const SIZE: usize>(
     bytes: &[u8],
     sink: &mut MemorySink<SIZE>,

@@ -1,7 +1,7 @@
-//! Checks lines: which are wrong, where, and why.
+//! Checks lines of text: which lines are wrong, at which column, and why.
 //!
-//! `check` reads lines from a reader, and writes their reports to a writer. The program `ixdtf_check` calls it with
-//! files.
+//! The function `check` reads lines from a reader, and writes the reports about them to a writer. The program `ixdtf_check` does
+//! the same with files.
 #![tactic(auto)]
 
 pub mod arguments;

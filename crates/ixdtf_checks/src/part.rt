@@ -1,24 +1,24 @@
-//! The part of a line that is its text.
+//! Finds the part of a line that is its text.
 ghost use Rattle.std.specs.Prelude.{◌≡◌, ◌+◌, ◌≤◌, length, Some, option_map, IfSome};
 ghost use Rattle.ixdtf_checks.specs.Parts.{line_in, without_mark, without_return, field_start, front_field, part_of, seen_part};
 
 use crate::request::Field;
 use ixdtf_buffers::place::{pass_many, place_of};
 
-/// From how many fields on the separators before one are counted.
+/// If at least this many fields come before a field, separators are counted in steps of sixteen bytes.
 const MANY_FIELDS: usize = 4;
 
 /// A part of a line.
 #[derive(Clone, Copy)]
 pub struct Part<'a> {
-    /// How many bytes of the line stand before it.
+    /// The number of bytes of the line before the part.
     pub start: usize,
-    /// Its bytes.
+    /// The bytes of the part.
     pub text: &'a [u8],
 }
 
-/// The bytes of a line without those that do not belong to it: in the first line of a file a byte order mark at the front, and in
-/// each line a carriage return at the end.
+/// Returns the line without the bytes that do not belong to it. These are a byte order mark at the beginning of the first line of a
+/// file, and a carriage return at the end of any line.
 pub fn line_in(is_first: bool, bytes: &[u8]) -> &[u8]
     ensures text { result.now ≡ line_in is_first bytes.now }
     ensures shorter { length result.now ≤ length bytes.now }
@@ -26,7 +26,7 @@ pub fn line_in(is_first: bool, bytes: &[u8]) -> &[u8]
     without_return(if is_first { without_mark(bytes) } else { bytes })
 }
 
-/// The bytes without the byte order mark at their front, if they have one.
+/// Returns the bytes without the byte order mark at the beginning, if there is one.
 fn without_mark(bytes: &[u8]) -> &[u8]
     ensures text { result.now ≡ without_mark bytes.now }
     ensures shorter { length result.now ≤ length bytes.now }
@@ -38,7 +38,7 @@ fn without_mark(bytes: &[u8]) -> &[u8]
     }
 }
 
-/// The line without the carriage return at its end, where it has one.
+/// Returns the line without the carriage return at its end, if there is one.
 pub fn without_return(line: &[u8]) -> &[u8]
     ensures text { result.now ≡ without_return line.now }
     ensures shorter { length result.now ≤ length line.now }
@@ -49,7 +49,7 @@ pub fn without_return(line: &[u8]) -> &[u8]
     }
 }
 
-/// The part that is asked for, where the line has it.
+/// Returns the given field of the line, or the complete line if `field` is `None`. Returns `None` if the line has too few fields.
 #[inline(always)]
 pub fn part_of(field: Option<Field>, line: &[u8]) -> Option<Part<'_>>
     ensures part { option_map seen_part result ≡ part_of field line.now }
@@ -64,7 +64,7 @@ pub fn part_of(field: Option<Field>, line: &[u8]) -> Option<Part<'_>>
     }
 }
 
-/// The field, where the line has it.
+/// Returns the given field of the line. Returns `None` if the line has too few fields.
 #[inline(never)]
 fn field_of(field: Field, line: &[u8]) -> Option<Part<'_>>
     ensures part { option_map seen_part result ≡ part_of (Some field) line.now }
@@ -79,9 +79,10 @@ fn field_of(field: Field, line: &[u8]) -> Option<Part<'_>>
     }
 }
 
-/// Where the field after `before` others begins.
+/// Returns the index at which the field after `before` other fields begins.
 ///
-/// Behind many others it is looked for by counts of separators, sixteen bytes at once: short fields are not worth a search each.
+/// If many fields come before it, the function counts the separators in sixteen bytes at once. If the fields are short, this is
+/// faster than one search for each field.
 fn field_start(separator: u8, before: usize, line: &[u8]) -> Option<usize>
     ensures start { result ≡ field_start separator before line.now }
     ensures within { IfSome result (λ start. start ≤ length line.now) }
@@ -96,7 +97,7 @@ fn field_start(separator: u8, before: usize, line: &[u8]) -> Option<usize>
     }
 }
 
-/// The same, by a search for each separator.
+/// Returns the same index as `field_start`. It searches for each separator on its own.
 fn near_field_start(separator: u8, before: usize, line: &[u8]) -> Option<usize>
     ensures start { result ≡ field_start separator before line.now }
     ensures within { IfSome result (λ start. start ≤ length line.now) }
@@ -113,7 +114,7 @@ fn near_field_start(separator: u8, before: usize, line: &[u8]) -> Option<usize>
     Some(start)
 }
 
-/// The field at the front.
+/// Returns the first field: the bytes before the first separator, or all bytes.
 pub fn front_field(separator: u8, line: &[u8]) -> &[u8]
     ensures text { result.now ≡ front_field separator line.now }
     ensures shorter { length result.now ≤ length line.now }

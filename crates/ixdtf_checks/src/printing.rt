@@ -1,4 +1,4 @@
-//! Reading a text, and printing its canonical text.
+//! Reads a text, and prints its canonical text.
 ghost use Rattle.std.specs.Prelude.{◌≤◌, length, IfErr, OnOk};
 ghost use Rattle.ixdtf_grammar.specs.Handlers.{UnhandledRecord};
 ghost use Rattle.ixdtf_grammar.specs.Places.{HasUnhandledFaultAt};
@@ -23,9 +23,10 @@ use ixdtf::LocatedError;
 use ixdtf::parsers::{IxdtfParser, Profile, TimeZoneParser};
 use ixdtf::records::TimeZoneRecord;
 
-/// Reads the text as one of the kind and prints its canonical text, or returns the error with its position.
+/// Reads the text as a text of the kind, and prints its canonical text to `printed`. Returns the error with its position, if the
+/// text is refused.
 ///
-/// Only the reading of date-times is inlined, since most canonical texts are theirs.
+/// Only the function for date-times is inlined, because most canonical texts are those of date-times.
 #[inline(always)]
 pub fn read_to_print(
     kind: Kind,
@@ -53,7 +54,7 @@ pub fn read_to_print(
     }
 }
 
-/// Does the same for any kind.
+/// Reads the text as a text of the kind, which can be any kind, and prints its canonical text.
 #[inline(never)]
 fn read_other_to_print(
     kind: Kind,
@@ -81,7 +82,7 @@ fn read_other_to_print(
     }
 }
 
-/// Does the same for a date-time.
+/// Reads the text by `parse`, and prints its canonical text.
 #[inline(always)]
 fn print_date_time(text: &[u8], printed: &mut PrintedText) -> Result<(), LocatedError>
     requires { length text.now ≤ 65536 }
@@ -96,7 +97,7 @@ fn print_date_time(text: &[u8], printed: &mut PrintedText) -> Result<(), Located
     }
 }
 
-/// Does the same for a date-time of RFC 3339.
+/// Reads the text as a date-time of RFC 3339, and prints its canonical text.
 #[inline(never)]
 fn print_rfc3339(text: &[u8], printed: &mut PrintedText) -> Result<(), LocatedError>
     requires { length text.now ≤ 65536 }
@@ -111,7 +112,7 @@ fn print_rfc3339(text: &[u8], printed: &mut PrintedText) -> Result<(), LocatedEr
     }
 }
 
-/// Does the same for a date-time of RFC 9557.
+/// Reads the text as a date-time of RFC 9557, and prints its canonical text.
 #[inline(never)]
 fn print_rfc9557(text: &[u8], printed: &mut PrintedText) -> Result<(), LocatedError>
     requires { length text.now ≤ 65536 }
@@ -126,7 +127,7 @@ fn print_rfc9557(text: &[u8], printed: &mut PrintedText) -> Result<(), LocatedEr
     }
 }
 
-/// Does the same for a year and a month.
+/// Reads the text as a year and a month, and prints its canonical text.
 #[inline(never)]
 fn print_year_month(text: &[u8], printed: &mut PrintedText) -> Result<(), LocatedError>
     requires { length text.now ≤ 65536 }
@@ -141,7 +142,7 @@ fn print_year_month(text: &[u8], printed: &mut PrintedText) -> Result<(), Locate
     }
 }
 
-/// Does the same for a month and a day.
+/// Reads the text as a month and a day, and prints its canonical text.
 #[inline(never)]
 fn print_month_day(
     profile: Profile,
@@ -160,7 +161,7 @@ fn print_month_day(
     }
 }
 
-/// Does the same for a time.
+/// Reads the text as a time, and prints its canonical text.
 #[inline(never)]
 fn print_time(profile: Profile, text: &[u8], printed: &mut PrintedText) -> Result<(), LocatedError>
     requires { length text.now ≤ 65536 }
@@ -175,7 +176,7 @@ fn print_time(profile: Profile, text: &[u8], printed: &mut PrintedText) -> Resul
     }
 }
 
-/// Does the same for an offset.
+/// Reads the text as an offset, and prints its canonical text.
 #[inline(never)]
 fn print_offset(text: &[u8], printed: &mut PrintedText) -> Result<(), LocatedError>
     requires { length text.now ≤ 65536 }
@@ -190,7 +191,7 @@ fn print_offset(text: &[u8], printed: &mut PrintedText) -> Result<(), LocatedErr
     }
 }
 
-/// Does the same for a zone.
+/// Reads the text as a time zone, and prints its canonical text.
 #[inline(never)]
 fn print_zone(text: &[u8], printed: &mut PrintedText) -> Result<(), LocatedError>
     requires { length text.now ≤ 65536 }
@@ -205,7 +206,7 @@ fn print_zone(text: &[u8], printed: &mut PrintedText) -> Result<(), LocatedError
     }
 }
 
-/// Does the same for the name of a zone.
+/// Reads the text as the name of a time zone, and prints its canonical text.
 #[inline(never)]
 fn print_zone_name(text: &[u8], printed: &mut PrintedText) -> Result<(), LocatedError>
     requires { length text.now ≤ 65536 }
@@ -220,7 +221,7 @@ fn print_zone_name(text: &[u8], printed: &mut PrintedText) -> Result<(), Located
     }
 }
 
-/// Does the same for a duration.
+/// Reads the text as a duration, and prints its canonical text.
 #[inline(never)]
 fn print_duration(
     profile: Profile,

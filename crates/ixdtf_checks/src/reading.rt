@@ -1,4 +1,4 @@
-//! Reading a text.
+//! Reads a text, and returns only whether it is accepted.
 ghost use Rattle.std.specs.Prelude.{◌≡◌, IfErr, OnOk};
 ghost use Rattle.ixdtf_grammar.specs.Places.{HasUnhandledFaultAt};
 ghost use Rattle.ixdtf_grammar.specs.Widths.{byte_text};
@@ -12,9 +12,9 @@ use ixdtf::LocatedError;
 use ixdtf::encoding::Utf8;
 use ixdtf::parsers::{IsoDurationParser, IxdtfParser, Profile, TimeZoneParser};
 
-/// Reads the text as one of the kind, or returns the error with its place.
+/// Reads the text as a text of the kind. Returns the error with its position, if the text is refused.
 ///
-/// It is inlined into its one caller, which most lines pass.
+/// The function is inlined into its only caller, because the check of most lines calls it.
 #[inline(always)]
 pub fn read(kind: Kind, profile: Profile, text: &[u8]) -> Result<(), LocatedError>
     ensures ok { OnOk result (IsRead (reader_of kind profile) text.now) }
@@ -63,7 +63,7 @@ pub fn read(kind: Kind, profile: Profile, text: &[u8]) -> Result<(), LocatedErro
     }
 }
 
-/// Reads the text as the name of a time zone, or returns the error with its position.
+/// Reads the text as the name of a time zone. Returns the error with its position, if the text is refused.
 fn read_zone_name(text: &[u8]) -> Result<(), LocatedError>
     ensures ok { OnOk result (IsRead parse_iana_identifier text.now) }
     ensures err { IfErr result (λ error. HasUnhandledFaultAt parse_iana_identifier
@@ -75,7 +75,7 @@ fn read_zone_name(text: &[u8]) -> Result<(), LocatedError>
     }
 }
 
-/// A parser of the text under the profile.
+/// Creates a parser of the text under the profile.
 pub fn parser(profile: Profile, text: &[u8]) -> IxdtfParser<'_, Utf8>
     ensures rest { result.rest ≡ text.now }
     ensures profile { result.profile ≡ profile }
@@ -83,7 +83,7 @@ pub fn parser(profile: Profile, text: &[u8]) -> IxdtfParser<'_, Utf8>
     IxdtfParser::from_utf8(text).with_profile(profile)
 }
 
-/// The same of a duration.
+/// Creates a parser of the text as a duration, under the profile.
 pub fn duration_parser(profile: Profile, text: &[u8]) -> IsoDurationParser<'_, Utf8>
     ensures rest { result.rest ≡ text.now }
     ensures profile { result.profile ≡ profile }

@@ -1,8 +1,8 @@
-//! The status with which the program ends.
+//! The exit status of the program.
 ghost use Rattle.std.specs.Prelude.{◌≡◌};
 ghost use Rattle.ixdtf_checks.specs.Statuses.{status_of};
 
-/// The status, by whether something failed and by how many lines were refused.
+/// Returns the exit status: 2 if something failed, otherwise 1 if at least one line was refused, otherwise 0.
 pub fn status_of(has_failed: bool, refused: u64) -> u8
     ensures { result ≡ status_of has_failed refused }
 {

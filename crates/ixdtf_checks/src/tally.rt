@@ -1,19 +1,19 @@
-//! How many lines there were.
+//! The counts of a check.
 ghost use Rattle.std.specs.Prelude.{◌≡◌, ◌+◌, ◌-◌, ◌^◌, min, if◌then◌else◌};
 
-/// How many lines there were, how many of them were refused, and how many bytes were read.
+/// The number of lines, the number of refused lines, and the number of bytes that were read.
 #[derive(Clone, Copy, Debug, PartialEq)]
 pub struct Tally {
-    /// The lines.
+    /// The number of lines.
     pub lines: u64,
-    /// The lines that were refused.
+    /// The number of refused lines.
     pub refused: u64,
-    /// The bytes.
+    /// The number of bytes that were read.
     pub bytes: u64,
 }
 
 impl Tally {
-    /// No line and no byte.
+    /// Returns counts of zero.
     pub fn new() -> Tally
         ensures lines { result.lines ≡ 0 }
         ensures refused { result.refused ≡ 0 }
@@ -26,7 +26,7 @@ impl Tally {
         }
     }
 
-    /// Counts one more line. A number that overflows stays the greatest.
+    /// Counts one more line. A count that would overflow stays at `u64::MAX`.
     pub fn add_line(&mut self, is_refused: bool)
         ensures lines { self.new.lines ≡ min (self.old.lines + 1) (2 ^ 64 - 1) }
         ensures refused { self.new.refused
@@ -37,7 +37,7 @@ impl Tally {
         self.refused = self.refused.saturating_add(u64::from(is_refused));
     }
 
-    /// Adds the counts of another file. A number that overflows stays the greatest.
+    /// Adds the counts of another file. A count that would overflow becomes `u64::MAX`.
     pub fn add(&mut self, other: Tally)
         ensures lines { self.new.lines ≡ min (self.old.lines + other.lines) (2 ^ 64 - 1) }
         ensures refused { self.new.refused ≡ min (self.old.refused + other.refused) (2 ^ 64 - 1) }

@@ -1,4 +1,4 @@
-//! What no clause says: worked lines, failing readers and writers, and what the arguments ask for.
+//! Tests for `ixdtf_check` of what no contract states: examples of lines, failing readers and writers, and the arguments.
 
 mod arguments;
 mod columns;
@@ -15,7 +15,7 @@ use std::alloc::Global;
 use std::process::Abort;
 use std::test::Fail;
 
-/// A check of date-times.
+/// A request that checks date-times.
 const DATE_TIMES: Request<'static> = Request {
     name: "f",
     task: Task::Check(Kind::DateTime),
@@ -26,7 +26,8 @@ const DATE_TIMES: Request<'static> = Request {
     is_quiet: false,
 };
 
-/// A check of the input writes the bytes, and counts so many lines and so many that were refused.
+/// Asserts that a check of the input writes the bytes, and counts all its bytes. `counts` has the number of lines, and the number
+/// of refused lines.
 fn check_written(
     rt: &impl Abort,
     alloc: Global,

@@ -1,7 +1,7 @@
-//! The tests of the programs `ixdtf_lines` and `ixdtf_check`, from a crate above those that the programs use.
+//! Tests of the crates that the programs `ixdtf_lines` and `ixdtf_check` use.
 //!
-//! They are a crate of their own, so that the check of a test uses the contracts of those crates, and does not prove
-//! them again.
+//! The tests are in a crate of their own. So `rt check` uses the contracts of those crates for the tests, and does not prove these
+//! contracts again.
 #![tactic(auto)]
 
 #[cfg(test)]

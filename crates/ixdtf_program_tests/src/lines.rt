@@ -1,4 +1,4 @@
-//! What no clause says: worked lines, failing readers and writers, and the numbers of the statuses.
+//! Tests of what no contract states about `ixdtf_lines`: examples of lines, and failing readers and writers.
 
 mod faults;
 mod words;
@@ -11,7 +11,7 @@ use std::alloc::{AllocError, Global};
 use std::process::Abort;
 use std::test::Fail;
 
-/// Lines of several words and of none, each with its answer.
+/// Lines that begin with several words or with none, each with its answer.
 #[rattlefmt::skip]
 const LINES: [(&str, &str); 9] = [
     ("parse 20201108", "ok date=2020,11,8"),
@@ -25,7 +25,7 @@ const LINES: [(&str, &str); 9] = [
     ("canonical 20200101T00+00[+00]", "ok 2020-01-01T00:00:00+00:00[+00:00]"),
 ];
 
-/// The lines of the stored run, each with its answer.
+/// The lines of a run that was stored, each with its answer.
 #[rattlefmt::skip]
 const STORED: [(&str, &str); 6] = [
     ("parse 2021-01-29 02:12:48+01:00:00[u][u-ca=iso8601]", "ok date=2021,1,29 time=2,12,48 offset=+1,0,0 tz=u calendar=iso8601"),
@@ -42,7 +42,7 @@ const TWO_ANSWERS: &[u8] = b"ok date=2020,1,1\nok date=2020,1,2\n";
 
 const FIRST_ANSWER: &[u8] = b"ok date=2020,1,1\n";
 
-/// A run on the input writes the bytes.
+/// Asserts that a run on the input writes the bytes.
 fn check_run(rt: &impl Abort, alloc: Global, input: &[u8], bytes: &[u8]) -> Result<(), Fail> {
     let mut reader = input;
     let mut written = Vec::new(alloc);
@@ -51,7 +51,7 @@ fn check_run(rt: &impl Abort, alloc: Global, input: &[u8], bytes: &[u8]) -> Resu
     Ok(())
 }
 
-/// Lines and their answers, each of which ends with a newline.
+/// Lines and their answers. Each of them ends with a newline.
 #[derive(Drop)]
 struct Session {
     lines: Vec<u8>,
@@ -72,7 +72,7 @@ impl Session {
     }
 }
 
-/// A run answers each line with what stands beside it.
+/// Asserts that a run answers each line with the answer in the same row.
 fn check_answers(rt: &impl Abort, alloc: Global, rows: &[(&str, &str)]) -> Result<(), Fail> {
     let session = Session::new(alloc, rows)?;
     check_run(

@@ -1,4 +1,4 @@
--- Date-times of RFC 3339 and their lines, computed.
+-- Computes the outcomes of date-times of RFC 3339, and the rows of their table lines.
 use Rattle.std.proofs.Common.{ℕ, List, [], ◌∷◌, ◌++◌, map, codes, pos, Some, None, refl}
 use Rattle.ixdtf_grammar.specs.declared.records.Sign.TheVariants.{Negative}
 use Rattle.ixdtf_grammar.specs.declared.records.UtcOffsetRecord.TheVariants.{MinutePrecision}
@@ -29,7 +29,7 @@ use Rattle.ixdtf_reading.specs.reading.Times.{time_of}
 use Rattle.ixdtf_reading.specs.reading.DateTimes.{num_offset, date_time_line_readings}
 use Rattle.ixdtf_tests.proofs.Helpers.{all_readings, Example, Compute, gives, goes_off, stands, one, two, three, ShowEachRow}
 
--- the lines of a number: its digits, its range, and what follows it
+-- These are the table lines of a number: its digits, its range, and what follows it.
 abbrev number_lines : Field → List LineName
 number_lines field = map of_date_time (field_digits field ∷ field_range field ∷ after_field field ∷ [])
 
@@ -46,7 +46,7 @@ date_time_lines =
     ++ number_lines offset_minute_field
     ++ map of_date_time (after_utc ∷ [])
 
--- the rows up to those of what may follow a date-time
+-- These are the rows before those of what may follow a date-time.
 abbrev rows_up_to_the_end : List Example
 rows_up_to_the_end =
     three (of_date_time four_digits) (codes "202") abrupt_digit (codes "-06") DateYear
@@ -80,7 +80,7 @@ date_time_rows =
     ++ two (of_date_time (after_field offset_minute_field)) (codes "2024-03-02T08:48:00-05:00") (codes ":30.5") InvalidEnd
     ++ two (of_date_time after_utc) (codes "2024-03-02T08:48:00Z") (codes "[UTC]") InvalidEnd
 
--- the same where brackets may follow
+-- These are the rows of `parse_rfc9557`. Brackets may follow its date-times.
 abbrev extended_rows : List Example
 extended_rows =
     rows_up_to_the_end
@@ -95,7 +95,7 @@ each_row_of_extended_date_times : ShowEachRow parse_rfc9557 date_time_lines exte
 unfolding all_readings date_time_line_readings
 each_row_of_extended_date_times = (refl, refl)
 
--- zones that are not exactly as RFC 9557 has them
+-- These zones are not exactly those of RFC 9557.
 inexact_zones : Compute parse_rfc9557 (
     stands (of_bracket first_name_form) IanaChar (codes "2024-03-02T08:48:00Z[a/1]|")
     ∷ stands (of_bracket first_name_form) IanaChar (codes "2024-03-02T08:48:00Z[a/1/...]|")
@@ -108,7 +108,7 @@ inexact_zones : Compute parse_rfc9557 (
 unfolding all_readings date_time_line_readings
 inexact_zones = refl
 
--- 2 March 2024 at 8:48, with an offset
+-- The outcome is 2 March 2024 at 8:48, with an offset.
 abbrev at_offset : UtcOffsetRecordOrZ → Outcome
 at_offset offset = derived (dated (parsed_with (core_of (Some (date_of (pos 2024) 3 2)) (Some (time_of 8 48 0 None)) (Some offset)) None)) []
 

@@ -1,4 +1,4 @@
--- Dates and the lines of dates, computed.
+-- Computes the outcomes of dates, and the rows of the table lines of dates.
 use Rattle.std.proofs.Common.{List, [], ◌∷◌, ◌++◌, map, codes, pos, neg_ℤ, refl}
 use Rattle.ixdtf.specs.language.Readers.{parse}
 use Rattle.ixdtf.specs.table.Faults.Fault.{NonAsciiCodePoint, InvalidEnd, InvalidMonthRange, InvalidDayRange, DateYear, DateExtendedYear, DateMonth, DateDay}
@@ -14,7 +14,7 @@ use Rattle.ixdtf_tests.proofs.Helpers.{text_of}
 
 -- ---- each row of the lines of dates, in `parse`
 
--- the lines of years, and their rows
+-- These are the table lines of years.
 abbrev pub year_lines : List LineName
 year_lines = map of_date (year_start ∷ year_digits ∷ extended_year_digits ∷ minus_zero_year ∷ [])
 
@@ -25,7 +25,7 @@ year_rows =
     ++ three (of_date extended_year_digits) (codes "+00202") abrupt_digit (codes "x") DateExtendedYear
     ++ one (of_date minus_zero_year) (codes "-000000") DateExtendedYear
 
--- the rows of months
+-- These are the rows of months.
 abbrev pub month_rows : List Example
 month_rows =
     three (of_date month_digits) (codes "2020-") abrupt_digit (codes "x") DateMonth
@@ -64,33 +64,33 @@ dates : Compute parse (
     ∷ gives (codes "-000400-02-29") (date (neg_ℤ (pos 400)) 2 29)
     ∷ gives (codes "+999999-12-31") (date (pos 999999) 12 31)
     ∷ gives (codes "-999999-01-01") (date (neg_ℤ (pos 999999)) 1 1)
-    -- no dates: in a year
+    -- These texts are not dates. The error is in the year.
     ∷ map (ends (of_date year_digits) abrupt_digit) (codes "2" ∷ codes "20" ∷ [])
     ++ (goes_off (of_date year_digits) DateYear (codes "20|-06-05") ∷ [])
     ++ map (ends (of_date extended_year_digits) abrupt_digit) (codes "+" ∷ codes "-00000" ∷ [])
     ++ (goes_off (of_date extended_year_digits) DateExtendedYear (codes "-|P12Y") ∷ [])
     ++ stands (of_date minus_zero_year) DateExtendedYear (codes "-000000|-11-08") ∷ []
-    -- in a month
+    -- The error is in the month.
     ++ map (goes_off (of_date month_digits) DateMonth) (codes "02020|-01-01" ∷ codes "2020-|W01-1" ∷ codes "-1000000|-11-08" ∷ [])
     ++ cut_off (of_date month_digits) abrupt_digit (codes "2020-0" ∷ codes "20200" ∷ [])
     ++ map (stands (of_date month_range) InvalidMonthRange) (codes "2020-00|1" ∷ codes "202000|" ∷ codes "2020-13|-01" ∷ codes "2020-13|x" ∷ [])
-    -- in a day, and after it
+    -- The error is in the hyphens around the month, in the day, or after the date.
     ++ (goes_off (of_date after_hyphened_month) DateSeparator (codes "2020-01|01") ∷ [])
     ++ (goes_off (of_date after_basic_month) DateSeparator (codes "202206|-05") ∷ [])
     ++ cut_off (of_date day_digits) abrupt_digit (codes "2020010" ∷ codes "2020-01-0" ∷ [])
     ++ map (goes_off (of_date day_digits) DateDay) (codes "2020010|x" ∷ codes "2020-01-0|x" ∷ [])
     ++ map (stands (of_date day_range) InvalidDayRange) (codes "2020-01-00|1" ∷ codes "20200132|" ∷ codes "2020-04-31|" ∷ codes "2021-02-29|" ∷ codes "-000100-02-29|" ∷ [])
     ++ map (goes_off (of_date after_date) InvalidEnd) (codes "+1000000110|8" ∷ codes "2020-01-01|+05:00" ∷ codes "2020-01-01|Z" ∷ [])
-    -- bad code units
+    -- These texts have a bad code unit.
     ++ ((Bad ∷ text_of (codes "020-01-01"), stops (of_date year_start) (bad ((Bad ∷ []) ++ text_of (codes "020-01-01"))) NonAsciiCodePoint) ∷ [])
     ++ (stands_before_bad (of_date month_range) InvalidMonthRange (codes "2020-13|-01") ∷ [])
     ++ (stands_before_bad (of_date day_range) InvalidDayRange (codes "2020-02-30|") ∷ [])
     ++ stands_before_bad (of_date minus_zero_year) DateExtendedYear (codes "-000000|") ∷ []
-    -- the mask of a bad code unit, which has 128 in its place
+    -- These texts have 128, which is not ASCII. The definition `mask` replaces a bad code unit by 128.
     ++ (goes_off (of_date year_start) DateYear (codes "|" ++ (128 ∷ []) ++ codes "020-01-01") ∷ [])
     ++ (stands (of_date month_range) InvalidMonthRange (codes "2020-13|-01" ++ (128 ∷ [])) ∷ [])
     ++ (goes_off (of_date after_date) InvalidEnd (codes "2020-01-01|" ++ 128 ∷ []) ∷ [])
-    -- `é` in UTF-8
+    -- This text has `é` in UTF-8.
     ++ goes_off (of_date after_date) InvalidEnd (codes "2020-01-01|" ++ 195 ∷ 169 ∷ []) ∷ [])
 unfolding all_readings
 dates = refl

@@ -1,4 +1,4 @@
--- Durations and their lines, computed.
+-- Computes the outcomes of durations, and the rows of their table lines.
 use Rattle.std.proofs.Common.{ℕ, List, [], ◌∷◌, ◌++◌, map, codes, Option, Some, None, refl}
 use Rattle.ixdtf_grammar.specs.declared.profile.Profile.{Profile}
 use Rattle.ixdtf_grammar.specs.declared.profile.Profile.TheVariants.{Crate, Strict}
@@ -85,7 +85,7 @@ unfolding all_readings
 durations Crate = refl
 durations Strict = refl
 
--- a repeated unit: its last number counts
+-- If a duration unit is repeated, its last number counts.
 repeated_units : Compute (parse_duration Crate) (
     (gives (codes "P1Y2Y") (lasts Positive (dated 2 0 0 0) None)
     ∷ gives (codes "P1M2M0m3W") (lasts Positive (dated 0 0 3 0) None)
@@ -95,14 +95,14 @@ repeated_units : Compute (parse_duration Crate) (
 unfolding all_readings
 repeated_units = refl
 
--- under the strict profile no unit may be repeated; the order comes before the range
+-- Under the strict profile, no duration unit may be repeated. The error of the order comes before the error of the range.
 no_repeated_unit : Compute (parse_duration Strict) (
     map (stands (of_duration Strict (unit_order date)) DateDurationPartOrder) (codes "P1Y2Y|" ∷ codes "P1M2M|0m3W" ∷ codes "P1Y4294967296Y|" ∷ [])
     ++ map (stands (of_duration Strict (unit_order time)) TimeDurationPartOrder) (codes "PT1S2S|" ∷ codes "PT1H2H|" ∷ codes "PT1M0.50M|" ∷ []))
 unfolding all_readings
 no_repeated_unit = refl
 
--- ---- texts that are no duration
+-- ---- texts that are not durations
 
 no_duration : (profile : Profile) → Compute (parse_duration profile) (
     (goes_off (of_duration profile after_duration_sign) DurationDisgnator (codes "-|-P1Y") ∷ [])
@@ -113,16 +113,16 @@ no_duration : (profile : Profile) → Compute (parse_duration profile) (
     ++ map (goes_off (of_duration profile after_fraction_group) InvalidEnd) (codes "PT0.5H|1M" ∷ codes "PT0.5M|1H" ∷ codes "PT0.5H|1H" ∷ codes "P1Y1M1W1DT1H0.5M|0.5S" ∷ [])
     ++ (meets_bad (of_duration profile (group_digits date)) (codes "P1Y1") ∷ [])
     ++ meets_bad (of_duration profile (group_digits time)) (codes "PT1H1") ∷ []
-    -- what is wrong with a number, or with the code unit after it
+    -- The error is in a number, or at the code unit after it.
     ++ map (goes_off (of_duration profile (group_digits date)) abrupt_date_designator) (codes "P1Y1M1W0|,5D" ∷ codes "P4294967296|X" ∷ codes "P1|H" ∷ [])
     ++ map (stands (of_duration profile (group_value_range date)) DurationValueExceededRange) (codes "P18446744073709551616|D" ∷ codes "P99999999999999999999|X" ∷ [])
     ++ map (stands (of_duration profile (group_value_range time)) DurationValueExceededRange) (codes "PT18446744073709551616|S" ∷ codes "P1YT100000000000000000000|0000000000000000000H" ∷ [])
     ++ (stands_before_bad (of_duration profile (group_value_range date)) DurationValueExceededRange (codes "P18446744073709551616|") ∷ [])
     ++ (stands (of_duration profile date_unit_range) DurationValueExceededRange (codes "P4294967296W|") ∷ [])
     ++ stands_before_bad (of_duration profile date_unit_range) DurationValueExceededRange (codes "P4294967296m|") ∷ []
-    -- a group behind one of a shorter unit
+    -- A group comes after a group with a shorter duration unit.
     ++ map (stands (of_duration profile (unit_order date)) DateDurationPartOrder) (codes "P1Y1M1Y|" ∷ codes "P1D1Y|1" ∷ [])
-    -- the order comes before the range
+    -- The error of the order comes before the error of the range.
     ++ (stands (of_duration profile (unit_order date)) DateDurationPartOrder (codes "P1D4294967296Y|") ∷ [])
     ++ (stands_before_bad (of_duration profile (unit_order date)) DateDurationPartOrder (codes "P1W1M|") ∷ [])
     ++ map (stands (of_duration profile (unit_order time)) TimeDurationPartOrder) (codes "PT1S1M|" ∷ codes "PT1M1H|" ∷ []))

@@ -1,4 +1,4 @@
--- The first bracket of a text and the lines of brackets, computed.
+-- Computes the outcomes of texts with a first bracket, and the rows of the table lines of brackets.
 use Rattle.ixdtf.specs.language.Letters.Letter.{Bad}
 use Rattle.ixdtf.specs.table.Rows.{other}
 use Rattle.std.proofs.Common.{true, false, List, [], ◌∷◌, ◌++◌, map, codes, Some, None, refl}
@@ -20,7 +20,7 @@ use Rattle.ixdtf_tests.proofs.Helpers.{meets_bad, stops, stops_after, two, three
 
 -- ---- each row of the lines of brackets
 
--- `first_bracket_scan` goes on with any code unit, so it has no row for another one.
+-- After the prefix of `first_bracket_scan`, every code unit may follow. So this line has no row for another code unit.
 abbrev bracket_rows : List Example
 bracket_rows =
     three (of_bracket first_bracket_start) (codes "2020-01-01[") abrupt_bracket (codes "]") TzLeadingChar
@@ -47,19 +47,19 @@ brackets : Compute parse (
 unfolding all_readings
 brackets = refl
 
--- ---- texts with another bracket, and whether a first bracket is a zone or a pair
+-- ---- texts in which a bracket has an error, and whether a first bracket is a zone or an annotation
 
 no_bracket : Compute parse (
     map (goes_off (of_bracket first_critical_start) TzLeadingChar) (codes "2020-01-01[!|]" ∷ codes "2020-01-01[!|!UTC]" ∷ [])
     ++ map (goes_off (of_bracket first_bracket_start) TzLeadingChar) (codes "2020-01-01[|1]" ∷ codes "2020-01-01[|=a]" ∷ [])
     ++ (goes_off (of_clock MinuteOffset hour_start) TimeHour (codes "2020-01-01[+|]") ∷ [])
     ++ goes_off (of_bracket after_bracket) InvalidEnd (codes "2020-01-01T00:00:00+00:00[UTC]|junk") ∷ []
-    -- what begins as a key may, with no `=` and no `]` before the end, or before a bad code unit
+    -- These brackets begin like a key. No `=` and no `]` comes before the end, or before a bad code unit.
     ++ map (ends (of_bracket first_bracket_scan) abrupt_bracket) (codes "2020-01-01[!cet" ∷ codes "2020-01-01[a!" ∷ [])
     ++ map (meets_bad (of_bracket first_bracket_scan)) (codes "2020-01-01[a!" ∷ codes "2020-01-01[!a" ∷ [])
     ++ (and_bad (codes "2020-01-01[cet!") ++ text_of (codes "]"), stops (of_bracket first_bracket_scan) (bad ((Bad ∷ []) ++ text_of (codes "]"))) NonAsciiCodePoint)
     ∷ (and_bad (codes "2020-01-01[a") ++ text_of (codes "=b]"), stops (of_bracket first_bracket_scan) (bad ((Bad ∷ []) ++ text_of (codes "=b]"))) NonAsciiCodePoint) ∷ []
-    -- with a `]` first it is a name, and with a `=` first a key
+    -- If a `]` comes first, the bracket is a name. If a `=` comes first, it is a key.
     ++ (goes_off (of_zone in_zone_name) IanaChar (codes "2020-01-01[a|!]=") ∷ [])
     ++ (goes_off (of_pair in_key) AnnotationKeyChar (codes "2020-01-01[a|!=]") ∷ [])
     ++ map (goes_off_before_bad (of_zone in_zone_name) IanaChar) (codes "2020-01-01[a|!]" ∷ codes "2020-01-01[A|!" ∷ [])
@@ -67,7 +67,7 @@ no_bracket : Compute parse (
 unfolding all_readings
 no_bracket = refl
 
--- after a bracket with a pair
+-- The error is after a bracket with an annotation.
 after_a_pair : Compute parse (
     (text_of (codes "2020-01-01[a=b]junk"), stops_after (tagged false (codes "a") (codes "b") ∷ []) (of_bracket after_bracket) (other (text_of (codes "junk"))) InvalidEnd)
     ∷ (and_bad (codes "2020-01-01[a=b]"), stops_after (tagged false (codes "a") (codes "b") ∷ []) (of_bracket after_bracket) (bad (Bad ∷ [])) NonAsciiCodePoint)

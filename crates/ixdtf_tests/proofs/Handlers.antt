@@ -1,4 +1,4 @@
--- Texts with pairs, and what they and the replies to the pairs give.
+-- Computes the results of texts with annotations, for different replies to these annotations.
 use Rattle.std.proofs.Common.{◌≡◌, ℕ, Bool, true, false, List, [], ◌∷◌, codes, Some, None, pos, refl, inl, inr}
 use Rattle.ixdtf_grammar.specs.declared.records.Sign.TheVariants.{Positive, Negative}
 use Rattle.ixdtf_grammar.specs.declared.records.UtcOffsetRecord.TheVariants.{MinutePrecision, FullPrecisionOffset}
@@ -20,25 +20,25 @@ use Rattle.ixdtf_reading.specs.reading.Times.{time_of}
 use Rattle.ixdtf_tests.proofs.Helpers.{all_readings, text_of, new_years_day, tagged, zone_named}
 use Rattle.ixdtf_tests.proofs.Replies.{all_accepted, last_refused, gives, stops_with, refuses, unhandled_record, differ}
 
--- a calendar
+-- This is the annotation of a calendar.
 abbrev calendar : Bool → List ℕ → Pair
 calendar critical value = tagged critical calendar_key value
 
--- a pair that is no calendar
+-- This is an annotation that is not a calendar, and is not critical.
 abbrev elective : List ℕ → List ℕ → Pair
 elective key value = tagged false key value
 
 abbrev critical : List ℕ → List ℕ → Pair
 critical key value = tagged true key value
 
--- 1 January 2020, as it is derived, and with a calendar
+-- This is the record of 1 January 2020. `new_year_in` adds a calendar.
 abbrev new_year : Parsed
 new_year = parsed_with (core_of (Some new_years_day) None None) None
 
 abbrev new_year_in : List ℕ → Parsed
 new_year_in value = with_calendar new_year (Some value)
 
--- 2 March 2024 at 8:48, five hours behind
+-- This is the record of 2 March 2024 at 8:48, with the offset -05:00.
 abbrev morning : Parsed
 morning = parsed_with (core_of (Some (date_of (pos 2024) 3 2)) (Some (time_of 8 48 0 None))
     (Some (Offset (MinutePrecision (record { sign = Negative; hour = 5; minute = 0 }))))) None
@@ -62,24 +62,24 @@ critical_calendar_after_another =
     last_refused (own_replies (calendar false (codes "a") ∷ [])) (Some (calendar true (codes "b"))) CriticalDuplicateCalendar refl
     (refl, differ _ _ refl, inr refl)
 
--- the first of the two is critical
+-- The first of the two calendars is critical.
 calendar_after_a_critical_one : LastRefused (own_replies (calendar true (codes "a") ∷ calendar false (codes "b") ∷ [])) CriticalDuplicateCalendar
 calendar_after_a_critical_one =
     last_refused (own_replies (calendar true (codes "a") ∷ [])) (Some (calendar false (codes "b"))) CriticalDuplicateCalendar refl
     (refl, differ _ _ refl, inl refl)
 
--- A calendar is compared with the first one: `b` again is refused after `a` and `b`.
+-- A calendar is compared with the first one. So a critical `b` is refused after `a` and `b`.
 compared_with_the_first : LastRefused (own_replies (calendar false (codes "a") ∷ calendar false (codes "b") ∷ calendar true (codes "b") ∷ []))
     CriticalDuplicateCalendar
 compared_with_the_first =
     last_refused (own_replies (calendar false (codes "a") ∷ calendar false (codes "b") ∷ [])) (Some (calendar true (codes "b"))) CriticalDuplicateCalendar
     refl (refl, differ _ _ refl, inr refl)
 
--- No reply is refused for what the handler drops.
+-- No reply is refused because of an annotation that the handler dropped.
 none_is_never_refused : NoneRefused (Some (calendar false (codes "a")) ∷ None ∷ None ∷ Some (calendar true (codes "a")) ∷ [])
 none_is_never_refused = all_accepted _ refl
 
--- ---- texts whose pairs reply for themselves
+-- ---- texts that are accepted without a handler
 
 first_of_three_calendars : UnhandledRecord parse (text_of (codes "2020-01-01[u-ca=a][u-ca=b][!u-ca=a]")) (new_year_in (codes "a"))
 unfolding all_readings
@@ -91,7 +91,7 @@ calendar_of_runs : UnhandledRecord parse (text_of (codes "2020-01-01[u-ca=a-bc-d
 unfolding all_readings
 calendar_of_runs = unhandled_record (codes "2020-01-01[u-ca=a-bc-d]") new_year (calendar false (codes "a-bc-d") ∷ []) refl refl
 
--- a critical calendar is a calendar, and a pair with another key is passed over
+-- A critical calendar is the calendar of the record. An annotation with another key does not change the record.
 critical_calendar : UnhandledRecord parse (text_of (codes "+0020201108[!u-ca=iso8601][f-1a2b=a0sa-2l4s]"))
     (with_calendar (parsed_with (core_of (Some (date_of (pos 2020) 11 8)) None None) None) (Some (codes "iso8601")))
 unfolding all_readings
@@ -99,7 +99,7 @@ critical_calendar =
     unhandled_record (codes "+0020201108[!u-ca=iso8601][f-1a2b=a0sa-2l4s]") (parsed_with (core_of (Some (date_of (pos 2020) 11 8)) None None) None)
     (calendar true (codes "iso8601") ∷ elective (codes "f-1a2b") (codes "a0sa-2l4s") ∷ []) refl refl
 
--- 29 January 2021 with an offset that has seconds, and a zone
+-- This is the record of 29 January 2021 with an offset that has seconds, and a zone.
 abbrev night : Parsed
 night = parsed_with (core_of (Some (date_of (pos 2021) 1 29)) (Some (time_of 2 12 48 None))
     (Some (Offset (FullPrecisionOffset (record { minute_precision_offset = record { sign = Positive; hour = 1; minute = 0 }; second = 0; fraction = None })))))
@@ -109,7 +109,7 @@ zone_and_calendar : UnhandledRecord parse (text_of (codes "2021-01-29 02:12:48+0
 unfolding all_readings
 zone_and_calendar = unhandled_record (codes "2021-01-29 02:12:48+01:00:00[u][u-ca=iso8601]") night (calendar false (codes "iso8601") ∷ []) refl refl
 
--- the text gives the morning in the first of its calendars
+-- The text gives the record `morning` with the first of its calendars.
 abbrev MorningInIso : List ℕ → Type 0
 MorningInIso units = UnhandledRecord parse (text_of units) (with_calendar morning (Some (codes "iso8601")))
 
@@ -119,14 +119,14 @@ two_calendars =
     unhandled_record (codes "2024-03-02T08:48:00-05:00[u-ca=iso8601][u-ca=japanese]") morning
     (calendar false (codes "iso8601") ∷ calendar false (codes "japanese") ∷ []) refl refl
 
--- a critical calendar with the value of the first one
+-- A critical calendar is accepted if it has the value of the first one.
 same_calendar_twice : MorningInIso (codes "2024-03-02T08:48:00-05:00[u-ca=iso8601][!u-ca=iso8601]")
 unfolding all_readings
 same_calendar_twice =
     unhandled_record (codes "2024-03-02T08:48:00-05:00[u-ca=iso8601][!u-ca=iso8601]") morning
     (calendar false (codes "iso8601") ∷ calendar true (codes "iso8601") ∷ []) refl refl
 
--- ---- texts whose pairs reply for themselves, and that are refused
+-- ---- texts that are refused without a handler
 
 second_calendar_is_critical : UnhandledFault parse (text_of (codes "2020-01-01[u-ca=a][!u-ca=b]")) CriticalDuplicateCalendar
 unfolding all_readings
@@ -171,21 +171,21 @@ refused_before_the_end = (
 
 -- ---- texts and a handler
 
--- a handler that replies each pair itself: the second reply is refused, and `[e=f]` is not looked at
+-- A handler returns each annotation. The second reply is refused, and `[e=f]` is not read.
 handed_back : GivesFault parse (text_of (codes "2020-01-01[a=b][!c=d][e=f]")) (elective (codes "a") (codes "b") ∷ critical (codes "c") (codes "d") ∷ [])
     (Some (elective (codes "a") (codes "b")) ∷ Some (critical (codes "c") (codes "d")) ∷ []) UnrecognizedCritical
 unfolding all_readings
 handed_back = refuses (codes "2020-01-01[a=b][!c=d]") (codes "[e=f]") new_year (elective (codes "a") (codes "b") ∷ critical (codes "c") (codes "d") ∷ [])
     (Some (elective (codes "a") (codes "b")) ∷ []) (Some (critical (codes "c") (codes "d"))) UnrecognizedCritical refl refl (refl, differ _ _ refl)
 
--- a handler that replies `None` to each of the three
+-- A handler returns `None` for each of the three annotations.
 all_passed_over : GivesRecord parse (text_of (codes "2020-01-01[a=b][!c=d][e=f]"))
     (elective (codes "a") (codes "b") ∷ critical (codes "c") (codes "d") ∷ elective (codes "e") (codes "f") ∷ []) (None ∷ None ∷ None ∷ []) new_year
 unfolding all_readings
 all_passed_over = gives (codes "2020-01-01[a=b][!c=d][e=f]") new_year
     (elective (codes "a") (codes "b") ∷ critical (codes "c") (codes "d") ∷ elective (codes "e") (codes "f") ∷ []) (None ∷ None ∷ None ∷ []) refl refl
 
--- two calls, and then the error of the text
+-- The handler is called twice, and then the text has an error.
 two_calls_and_an_error : GivesFault parse (text_of (codes "2020-01-01[a=b][c=d]junk"))
     (elective (codes "a") (codes "b") ∷ elective (codes "c") (codes "d") ∷ [])
     (Some (elective (codes "a") (codes "b")) ∷ Some (elective (codes "c") (codes "d")) ∷ []) InvalidEnd
@@ -194,18 +194,18 @@ two_calls_and_an_error = stops_with (codes "2020-01-01[a=b][c=d]junk") (row_of (
     (elective (codes "a") (codes "b") ∷ elective (codes "c") (codes "d") ∷ [])
     (Some (elective (codes "a") (codes "b")) ∷ Some (elective (codes "c") (codes "d")) ∷ []) refl refl
 
--- the reply is judged, and not the pair: the same annotation made critical
+-- The reply is checked, and not the annotation of the text. The reply is the same annotation, made critical.
 made_critical : GivesFault parse (text_of (codes "2020-01-01[x=y]")) (elective (codes "x") (codes "y") ∷ []) (Some (critical (codes "x") (codes "y")) ∷ [])
     UnrecognizedCritical
 unfolding all_readings
 made_critical = refuses (codes "2020-01-01[x=y]") [] new_year (elective (codes "x") (codes "y") ∷ []) []
     (Some (critical (codes "x") (codes "y"))) UnrecognizedCritical refl refl (refl, differ _ _ refl)
 
--- the pairs of a calendar, and of a critical annotation that the handler knows
+-- These are a calendar, and a critical annotation that the handler knows.
 abbrev known : List Pair
 known = calendar false (codes "iso8601") ∷ critical (codes "answer-to-universe") (codes "fortytwo") ∷ []
 
--- none is the reply to the second
+-- The reply to the second annotation is `None`.
 handled_by_none : GivesRecord parse (text_of (codes "2024-03-02T08:48:00-05:00[u-ca=iso8601][!answer-to-universe=fortytwo]")) known
     (Some (calendar false (codes "iso8601")) ∷ None ∷ []) (with_calendar morning (Some (codes "iso8601")))
 unfolding all_readings

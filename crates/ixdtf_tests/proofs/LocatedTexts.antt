@@ -1,11 +1,11 @@
--- The texts of errors with their places, computed.
+-- Computes the texts of errors with their positions.
 use Rattle.std.proofs.Common.{◌≡◌, ℕ, List, [], ◌∷◌, ◌++◌, replicate, codes, refl}
 use Rattle.std.specs.Str.{chars}
 use Rattle.std.specs.Fmt.{digits}
 use Rattle.ixdtf_grammar.specs.table.Faults.Fault.{InvalidMonthRange, AbruptEnd}
 use Rattle.ixdtf_grammar.specs.LocatedTexts.{located_text, pointed_text}
 
--- ---- the error and its place
+-- ---- the error and its position
 
 month_at_five : located_text InvalidMonthRange 5 ≡ codes "Parsed month value not in a valid range. at 5"
 unfolding digits
@@ -15,7 +15,7 @@ end_at_ten : located_text (AbruptEnd (codes "digit")) 10 ≡ codes "Parsing ende
 unfolding digits
 end_at_ten = refl
 
--- ---- the text with a mark under the place
+-- ---- the text with a mark under the position
 
 short : pointed_text (codes "2020-x1") 5 ≡ codes "2020-x1\n     ^"
 unfolding lib.Utf8.encode chars
@@ -25,12 +25,13 @@ empty : pointed_text [] 0 ≡ codes "\n^"
 unfolding lib.Utf8.encode chars
 empty = refl
 
--- a place past the end counts as the end
+-- A position after the end counts as the end.
 past_the_end : pointed_text (codes "2020-") 9 ≡ codes "2020-\n     ^"
 unfolding lib.Utf8.encode chars
 past_the_end = refl
 
--- U+00E9 has two bytes and U+1F600 four, and each takes one column; a place inside counts as its character
+-- U+00E9 has two bytes and U+1F600 has four, and each of them has one column. A position inside a character counts as the position
+-- of the character.
 wide : List ℕ
 wide = 195 ∷ 169 ∷ 240 ∷ 159 ∷ 152 ∷ 128 ∷ codes "x"
 
@@ -42,12 +43,12 @@ inside_wide : pointed_text wide 5 ≡ wide ++ codes "\n ^"
 unfolding lib.Utf8.encode chars wide
 inside_wide = refl
 
--- a newline and U+0085 are shown as `.`
+-- A newline and U+0085 are shown as `.`.
 controls : pointed_text (codes "2020\n-" ++ (194 ∷ 133 ∷ codes "x")) 8 ≡ codes "2020.-.x\n       ^"
 unfolding lib.Utf8.encode chars
 controls = refl
 
--- one character too many on each side, and just as many as there may be
+-- The first text has one character too many on each side. The second has exactly the greatest number.
 cut : pointed_text (replicate 49 49 ++ (codes "x" ++ replicate 24 50)) 49 ≡ codes ".." ++ (replicate 48 49 ++ (codes "x" ++ (replicate 23 50 ++ (codes "..\n" ++ (replicate 50 32 ++ codes "^")))))
 unfolding lib.Utf8.encode chars
 cut = refl

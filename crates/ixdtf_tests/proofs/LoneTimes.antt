@@ -1,4 +1,4 @@
--- Times that stand alone, and their lines, computed.
+-- Computes the outcomes of times without a date, and the rows of their table lines.
 use Rattle.std.proofs.Common.{ℕ, List, [], ◌∷◌, ◌++◌, map, codes, Option, Some, None, false, refl}
 use Rattle.ixdtf_grammar.specs.declared.profile.Profile.{Profile}
 use Rattle.ixdtf_grammar.specs.declared.profile.Profile.TheVariants.{Crate, Strict}
@@ -34,7 +34,7 @@ use Rattle.ixdtf_tests.proofs.Offsets.{full_lines, full_rows}
 
 -- ---- each row in `parse_time`
 
--- the rows of its own lines
+-- These are the rows of the lines that only `parse_time` has.
 abbrev alone_rows : Profile → List Example
 alone_rows profile =
     three (of_time time_start) [] abrupt_digit (codes "x") TimeHour
@@ -84,7 +84,7 @@ times_alone : (profile : Profile) → Compute (parse_time profile) (
     ∷ gives (codes "T1214Z") (alone 12 14 0 None (Some Z) None)
     ∷ gives (codes "T1200[UTC]") (alone 12 0 0 None None (zone_named false (codes "UTC")))
     ∷ gives (codes "15:23:30.1234567890") (alone 15 23 30 (Some (record { count = 10; value = 1234567890 })) None None)
-    -- 37 digits, of which the value keeps 18
+    -- The fraction has 37 digits. The value has the first 18 of them.
     ∷ gives (codes "15:23:30.1234567898765432101234567890987654321")
     (alone 15 23 30 (Some (record { count = 37; value = 123456789876543210 })) None None)
     ∷ [])
@@ -92,16 +92,16 @@ unfolding all_readings
 times_alone Crate = refl
 times_alone Strict = refl
 
--- ---- texts that are no time, or read as something else
+-- ---- texts that are not times, or that begin like a date
 
 no_time_alone : (profile : Profile) → Compute (parse_time profile) (
-    -- what reads as something else
+    -- These texts begin like a month-day or a year-month.
     map (stands (of_time (time_reads_as_month_day profile)) AmbiguousTimeMonthDay) (codes "0229|" ∷ codes "1208|-10" ∷ codes "1214|30" ∷ codes "1214|Z" ∷ codes "12-14|[-14:00]" ∷ [])
     ++ (stands (of_time time_reads_as_year_month) AmbiguousTimeYearMonth (codes "202112|[UTC]") ∷ [])
-    -- nothing inside a bracket is looked at
+    -- No code unit inside a bracket is read.
     ++ (stands (of_time (time_reads_as_month_day profile)) AmbiguousTimeMonthDay (codes "1214|[") ∷ [])
     ++ ends (of_bracket first_bracket_start) abrupt_bracket (codes "T1214[") ∷ []
-    -- what is no time
+    -- These texts are not times.
     ++ (stands (of_clock_time hour_range) TimeHour (codes "24|-12-08") ∷ [])
     ++ (goes_off (of_clock_time after_second) InvalidEnd (codes "202408|01") ∷ [])
     ++ (goes_off (of_clock_time after_colon_minute) TimeSeparator (codes "T19:12|0-08") ∷ [])
@@ -110,7 +110,7 @@ no_time_alone : (profile : Profile) → Compute (parse_time profile) (
     ++ (goes_off (of_time time_start) TimeHour (codes "|:12") ∷ [])
     ++ (goes_off (of_clock_time hour_start) TimeHour (codes "T|T12") ∷ [])
     ++ (goes_off (of_clock_time hour_digit) TimeHour (codes "1|:00") ∷ [])
-    -- a bad code unit comes before the test of the front
+    -- The error of a bad code unit comes before the test whether the text begins like a date.
     ++ (meets_bad (of_clock_time after_basic_minute) (codes "1200") ∷ [])
     ++ (Bad ∷ [], stops (of_time time_start) (bad (Bad ∷ [])) NonAsciiCodePoint) ∷ [])
 unfolding all_readings
@@ -119,13 +119,13 @@ no_time_alone Strict = refl
 
 -- ---- what the profile changes
 
--- day 0 makes a month-day of a front
+-- With day 00, a text begins like a month-day.
 fronts_with_day_zero : Compute (parse_time Crate) (
     map (stands (of_time (time_reads_as_month_day Crate)) AmbiguousTimeMonthDay) (codes "1200|" ∷ codes "11-00|" ∷ codes "1100|10" ∷ codes "1100|13" ∷ codes "1200|[a=b]" ∷ []))
 unfolding all_readings
 fronts_with_day_zero = refl
 
--- and under the strict profile it makes none
+-- Under the strict profile, a text with day 00 does not begin like a month-day.
 times_with_minute_zero : Compute (parse_time Strict) (
     (gives (codes "1200") (time 12 0 0)
     ∷ gives (codes "11-00") (alone 11 0 0 None (shifted_by Negative 0 0) None) ∷ [])

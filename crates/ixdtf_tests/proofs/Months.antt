@@ -1,4 +1,4 @@
--- Year-months and month-days, and their lines, computed.
+-- Computes the outcomes of year-months and month-days, and the rows of their table lines.
 use Rattle.std.proofs.Common.{ℕ, List, [], ◌∷◌, ◌++◌, map, codes, ℤ, pos, neg_ℤ, Some, None, false, refl}
 use Rattle.ixdtf_grammar.specs.declared.profile.Profile.{Profile}
 use Rattle.ixdtf_grammar.specs.declared.profile.Profile.TheVariants.{Crate, Strict}

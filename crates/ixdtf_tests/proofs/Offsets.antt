@@ -1,4 +1,4 @@
--- Offsets, with seconds and without, and the lines of offsets, computed.
+-- Computes the outcomes of offsets with and without seconds, and the rows of the table lines of offsets.
 use Rattle.std.proofs.Common.{ℕ, Bool, true, false, List, [], ◌∷◌, ◌++◌, map, codes, Option, Some, None, refl}
 use Rattle.ixdtf_grammar.specs.declared.records.Sign.{Sign}
 use Rattle.ixdtf_grammar.specs.declared.records.Sign.TheVariants.{Positive, Negative}
@@ -27,14 +27,14 @@ use Rattle.ixdtf_tests.proofs.Times.{minute_lines, clock_lines}
 use Rattle.ixdtf_tests.proofs.Helpers.{all_readings, morning, new_years_day, with, Example, Compute, gives, ends, goes_off, stands, stands_before_bad, cut_off}
 use Rattle.ixdtf_tests.proofs.Helpers.{one, two, three, ShowEachRow}
 
--- the lines of an offset, and of one without seconds
+-- `of_full` is a table line of an offset that may have seconds. `of_short` is one of an offset without seconds.
 abbrev of_full : ClockLine → LineName
 of_full line = of_clock OffsetClock line
 
 abbrev of_short : ClockLine → LineName
 of_short line = of_clock MinuteOffset line
 
--- an offset after a time, after the sign
+-- This text is a date, a time and the sign of an offset, and then these code units.
 abbrev at : List ℕ → List ℕ
 at units = codes "2020-01-01T00:00+" ++ units
 
@@ -43,8 +43,8 @@ at units = codes "2020-01-01T00:00+" ++ units
 abbrev pub full_lines : List LineName
 full_lines = map of_full clock_lines
 
--- The rows of hours and minutes, after what stands before an offset: with a sign and a zero, and a code unit that ends the
--- offset.
+-- These are the rows of hours and minutes. `before` is the text before an offset, `zero` is a sign and a zero, and `letter` is a
+-- code unit that ends the offset.
 abbrev minute_rows : (ClockLine → LineName) → List ℕ → List ℕ → List ℕ → List Example
 minute_rows of_line before zero letter =
     three (of_line hour_start) (before ++ codes "+") abrupt_digit (codes "x") TimeHour
@@ -56,7 +56,7 @@ minute_rows of_line before zero letter =
     ++ two (of_line after_basic_minute) (before ++ codes "+0530") letter InvalidEnd
     ++ two (of_line after_colon_minute) (before ++ codes "+05:30") letter InvalidEnd
 
--- with the rows of seconds
+-- These are the same rows with the rows of seconds.
 abbrev second_rows : List ℕ → List ℕ → List ℕ → List Example
 second_rows before zero letter =
     minute_rows of_full before zero letter
@@ -66,7 +66,7 @@ second_rows before zero letter =
     ++ three (of_full fraction_start) (before ++ codes "+05:30:00.") FractionPart (codes "x") FractionPart
     ++ two (of_full after_fraction) (before ++ codes "+05:30:00.5") letter InvalidEnd
 
--- after what stands before an offset
+-- These are the rows of an offset after this text.
 abbrev pub full_rows : List ℕ → List Example
 full_rows before = second_rows before (codes "+0") (codes "x") ++ two (of_offset after_zulu) (before ++ codes "Z") (codes "x") InvalidEnd
 
@@ -74,7 +74,7 @@ each_row_after_times : ShowEachRow parse (full_lines ++ (of_offset after_zulu �
 unfolding all_readings
 each_row_after_times = (refl, refl)
 
--- ---- each row in `parse_offset`, where no bracket may follow
+-- ---- each row in `parse_offset`, after which no bracket may follow
 
 abbrev rows_alone : List Example
 rows_alone =
@@ -87,12 +87,12 @@ each_row_alone = (refl, refl)
 
 -- ---- each row of the lines of offsets without seconds, in a bracket and in `parse_identifier`
 
--- No text comes to `second_digits`, `second_range`, `after_second`, `fraction_start` or `after_fraction` of such an offset:
--- their rows fit no text.
+-- An offset without seconds has no text for `second_digits`, `second_range`, `after_second`, `fraction_start` and `after_fraction`.
+-- So the rows of these lines fit no text.
 abbrev short_lines : List LineName
 short_lines = map of_short minute_lines
 
--- an offset in a bracket, after the sign
+-- This text is a date, a bracket and the sign of an offset, and then these code units.
 abbrev inside : List ℕ → List ℕ
 inside units = codes "2020-01-01[+" ++ units
 
@@ -127,7 +127,7 @@ abbrev long : Sign → ℕ → ℕ → ℕ → Option FractionParts → UtcOffse
 long sign hour minute second fraction =
     FullPrecisionOffset (record { minute_precision_offset = record { sign = sign; hour = hour; minute = minute }; second = second; fraction = fraction })
 
--- an offset that is read alone
+-- The outcome is an offset on its own.
 abbrev alone : UtcOffsetRecord → Outcome
 alone offset = derived (shifted offset) []
 
@@ -141,7 +141,7 @@ offsets : Compute parse_offset (
     ∷ gives (codes "-050030,25") (alone (long Negative 5 0 30 (Some (record { count = 2; value = 25 }))))
     ∷ gives (codes "-05:00:30.5") (alone (long Negative 5 0 30 (Some (record { count = 1; value = 5 }))))
     ∷ gives (codes "-05:00:30.123456789") (alone (long Negative 5 0 30 (Some (record { count = 9; value = 123456789 }))))
-    -- no offsets
+    -- These texts are not offsets.
     ∷ map (goes_off (of_offset offset_start) OffsetNeedsSign) (codes "|00:00" ∷ codes "|Z" ∷ [])
     ++ (goes_off (of_full after_hour) InvalidEnd (codes "+05|.5") ∷ [])
     ++ map (ends (of_full minute_digits) abrupt_digit) (codes "+08:0" ∷ codes "+080" ∷ [])
@@ -157,7 +157,7 @@ offsets : Compute parse_offset (
 unfolding all_readings
 offsets = refl
 
--- a zone that is an offset
+-- The outcome is a zone that is an offset.
 abbrev zone : Sign → ℕ → ℕ → Outcome
 zone sign hour minute = derived (identified (zone_offset (record { sign = sign; hour = hour; minute = minute }))) []
 
@@ -165,7 +165,7 @@ zones : Compute parse_identifier (
     gives (codes "+05:30") (zone Positive 5 30)
     ∷ gives (codes "-0530") (zone Negative 5 30)
     ∷ gives (codes "+08") (zone Positive 8 0)
-    -- with seconds or a fraction, or out of range
+    -- These offsets have seconds or a fraction, or are out of range.
     ∷ map (goes_off (of_short after_colon_minute) InvalidMinutePrecisionOffset) (codes "+00:00|:00" ∷ codes "+00:00|0" ∷ [])
     ++ map (goes_off (of_short after_basic_minute) InvalidMinutePrecisionOffset) (codes "+0000|00" ∷ codes "+0000|:00" ∷ [])
     ++ (goes_off (of_short after_colon_minute) InvalidEnd (codes "+00:00|.1") ∷ [])
@@ -188,14 +188,14 @@ offsets_beside_dates : Compute parse (
     ∷ gives (codes "2020-01-01[!+0530]") (with new_years_day None None (zone_at true Positive 5 30))
     ∷ gives (codes "2020-01-01[+08]") (with new_years_day None None (zone_at false Positive 8 0))
     ∷ gives (codes "2024-03-02T08:48:00-05:00[-05:00]") (morning (Some (Offset (short Negative 5 0))) (zone_at false Negative 5 0))
-    -- no offsets: after a time
+    -- These texts after a time are not offsets.
     ∷ (goes_off (of_full after_colon_minute) InvalidEnd (codes "2020-01-01T00:00:00+01:00|Z") ∷ [])
     ++ map (stands (of_full second_range) TimeMinuteSecond) (codes "2024-08-24T14:00:00-05:00:60|" ∷ codes "2024-08-24T14:00:00-050060|" ∷ [])
     ++ (goes_off (of_full after_colon_minute) UtcTimeSeparator (codes "2024-08-24T14:00:00-05:00|60") ∷ [])
     ++ (goes_off (of_full after_basic_minute) UtcTimeSeparator (codes "2024-08-24T14:00:00-0500|:60") ∷ [])
     ++ (goes_off (of_full hour_digit) TimeHour (codes "2024-08-24T14:00:00-5|:00") ∷ [])
     ++ goes_off (of_offset after_zulu) InvalidEnd (codes "2024-08-24T14:00:00Z|+") ∷ []
-    -- without seconds, in a bracket
+    -- In a bracket, an offset has no seconds.
     ++ map (goes_off (of_short after_colon_minute) InvalidMinutePrecisionOffset) (codes "2020-01-01[-05:00|:60]" ∷ codes "2020-01-01[-05:00|0]" ∷ [])
     ++ map (goes_off (of_short after_basic_minute) InvalidMinutePrecisionOffset) (codes "2020-01-01[-0500|00]" ∷ codes "2020-01-01[!-0500|:]" ∷ [])
     ++ (goes_off (of_short after_colon_minute) AnnotationClose (codes "2024-08-24T14:00:00-05:00[-05:00|.1]") ∷ [])

@@ -1,4 +1,4 @@
--- Pairs and the lines of pairs, computed.
+-- Computes the outcomes of texts with annotations, and the rows of the table lines of annotations.
 use Rattle.std.proofs.Common.{true, false, List, [], ◌∷◌, ◌++◌, map, codes, None, refl}
 use Rattle.ixdtf.specs.language.Brackets.{Pair}
 use Rattle.ixdtf.specs.language.Readers.{parse}
@@ -28,7 +28,7 @@ each_row_after_a_zone : ShowEachRow parse pair_lines rows_after_a_zone
 unfolding all_readings
 each_row_after_a_zone = (refl, refl)
 
--- ---- each row in a bracket after a pair, which stands whole before it
+-- ---- each row in a bracket after an annotation, which is complete before it
 
 abbrev one_pair : List Pair
 one_pair = tagged false (codes "a") (codes "b") ∷ []
@@ -48,8 +48,8 @@ each_row_after_a_pair = (refl, refl)
 
 -- ---- each row in a first bracket
 
--- The first bracket begins with the lines of brackets. What begins as a key may is a key where an `=` comes before any `]`, the
--- end and any bad code unit. So the rows of `in_key` for the end and for a bad code unit fit no text.
+-- The first bracket begins with the lines of brackets. If it begins like a key, it is a key only if a `=` comes before any `]`, the
+-- end, and any bad code unit. So the rows of `in_key` for the end and for a bad code unit fit no text.
 abbrev rows_in_a_first_bracket : List Example
 rows_in_a_first_bracket =
     three (of_pair value_start) (codes "2020-01-01[a=") AnnotationValueChar (codes "]") AnnotationValueChar
@@ -60,7 +60,7 @@ each_row_in_a_first_bracket : ShowEachRow parse (map of_pair (value_start ∷ in
 unfolding all_readings
 each_row_in_a_first_bracket = (refl, refl)
 
--- ---- pairs
+-- ---- annotations
 
 pairs : Compute parse (
     gives (codes "2020-01-01[a=b][!u-ca=a-1]") (annotated None (tagged false (codes "a") (codes "b") ∷ tagged true (codes "u-ca") (codes "a-1") ∷ []))
@@ -73,7 +73,7 @@ pairs : Compute parse (
 unfolding all_readings
 pairs = refl
 
--- ---- texts with another pair
+-- ---- texts in which an annotation has an error
 
 no_pair : Compute parse (
     (goes_off (of_pair in_value) AnnotationValueChar (codes "2020-01-01[u-ca=iso8601|)") ∷ [])
@@ -83,7 +83,7 @@ no_pair : Compute parse (
     ++ (goes_off (of_pair critical_key_start) AnnotationKeyLeadingChar (codes "2020-01-01[u][!|]") ∷ [])
     ++ (ends (of_pair in_key) AnnotationKeyValueSeparator (codes "2020-01-01[u][a-1") ∷ [])
     ++ cut_off (of_pair in_value) AnnotationClose (codes "2020-01-01[a=b-c" ∷ [])
-    -- in a first bracket
+    -- The error is in a first bracket.
     ++ map (goes_off (of_pair in_key) AnnotationKeyChar) (codes "2020-01-01[u-c|A=iso8601]" ∷ codes "2020-01-01[_|!=]" ∷ codes "2020-01-01[!a|/b=c]" ∷ []))
 unfolding all_readings
 no_pair = refl

@@ -1,4 +1,4 @@
--- From the outcome of a text and a test of replies to what the text and the replies give.
+-- Proves which result a text and replies give, from the outcome of the text and a test of the replies.
 use Rattle.std.proofs.Common.{◌≡◌, ◌≢◌, ◌⊎◌, ℕ, nat_eq, Bool, true, false, not, ◌&&◌, ◌||◌, IsTrue, List, [], ◌∷◌, ◌++◌, Option, Some, None, refl, sym, ◌∙◌, ap}
 use Rattle.std.proofs.Common.{subst, inl, inr, append_assoc, append-nil, Ok, Err}
 use Rattle.std.specs.Cmp.Lexicographic.{pointwise, same_text}
@@ -26,11 +26,11 @@ use Rattle.ixdtf_tests.proofs.Helpers.{text_of, parsing}
 is_key : (pair : Pair) → pair.key ≡ calendar_key → is_calendar pair ≡ true
 is_key pair e = ap (λ key. pointwise nat_eq pair.key key) (sym e) ∙ nat_list_eq_equiv.refl pair.key
 
--- lists that a test tells apart
+-- Two lists differ if the test of their equality is false.
 pub differ : (xs ys : List ℕ) → pointwise nat_eq xs ys ≡ false → xs ≢ ys
 differ xs ys test e = let same : pointwise nat_eq xs ys ≡ true = ap (pointwise nat_eq xs) (sym e) ∙ nat_list_eq_equiv.refl xs in absurd cc
 
--- a calendar with another value than the first one's, where one of the two is critical
+-- The annotation is a calendar with another value than the first one, and one of the two is critical.
 abbrev pub is_double : Option Pair → Pair → Bool
 is_double None pair = false
 is_double (Some first) pair = is_calendar pair && (not (pointwise nat_eq pair.value first.value) && (first.critical || pair.critical))
@@ -64,7 +64,7 @@ not_refused : (first : Option Pair) (reply : Reply) → accepts first reply ≡ 
 not_refused first None e fault h = h
 not_refused first (Some pair) e fault h = neither_refused first (Some pair) (not_unknown first pair e) (not_double first pair e) fault h
 
--- the later ones of these replies are accepted, one after the other
+-- The later replies are accepted, one after the other.
 abbrev pub accepted : List Reply → List Reply → Bool
 accepted earlier [] = true
 accepted earlier (reply ∷ later) = accepts (first_calendar earlier) reply && accepted (earlier ++ reply ∷ []) later
@@ -76,11 +76,11 @@ none_refused earlier (reply ∷ later) none e =
     let more = NoneRefused-more earlier reply none (not_refused (first_calendar earlier) reply parts.0) in
     subst NoneRefused (append_assoc earlier (reply ∷ []) later) (none_refused (earlier ++ reply ∷ []) later more parts.1)
 
--- no reply is refused, where the test says so
+-- If the test accepts all replies, no reply is refused.
 pub all_accepted : (replies : List Reply) → accepted [] replies ≡ true → NoneRefused replies
 all_accepted replies e = none_refused [] replies NoneRefused-nothing e
 
--- The last of replies is refused, where the test accepts those before it.
+-- If the test accepts the replies before the last one, only the last one is refused.
 pub last_refused : (earlier : List Reply) (reply : Reply) (fault : Fault) → accepted [] earlier ≡ true → RefusedBeside (first_calendar earlier) reply fault
     → LastRefused (earlier ++ reply ∷ []) fault
 last_refused earlier reply fault none is_refused =
@@ -95,19 +95,21 @@ holds reader text x e = subst (Holds reader text) e (go (read_at row_behind read
     go (Ok x) h = h.1
     go (Err stop) h = rw h.2 h.3
 
--- A text that is derived with these pairs, and replies that are accepted, give the record with the first calendar.
+-- If a text derives a record with these annotations, and all replies are accepted, the result is the record with the first
+-- calendar.
 pub gives : (units : List ℕ) (read : Parsed) (pairs : List Pair) (replies : List Reply) → parsing units ≡ derived (parsed read) pairs
     → accepted [] replies ≡ true
     → GivesRecord parse (text_of units) pairs replies (with_calendar read (calendar_value (first_calendar replies)))
 gives units read pairs replies is none =
     record { read = read; whole = holds parse (text_of units) (derived (parsed read) pairs) is; accepted = all_accepted replies none; has = refl }
 
--- A text with a row, these pairs before it, and replies that are accepted, give the error of the row.
+-- If a row fits a text, with these annotations before it, and all replies are accepted, the result is the error of the row.
 pub stops_with : (units : List ℕ) (row : Row) (pairs : List Pair) (replies : List Reply) → parsing units ≡ refused row pairs → accepted [] replies ≡ true
     → GivesFault parse (text_of units) pairs replies row.error
 stops_with units row pairs replies is none = inr ((row, holds parse (text_of units) (refused row pairs) is, refl), all_accepted replies none)
 
--- A front of a text that is derived with these pairs, and replies of which the last is refused, give the error of that reply.
+-- If a prefix of a text derives a record with these annotations, and the last reply is refused, the result is the error of this
+-- reply.
 pub refuses : (front rest : List ℕ) (read : Parsed) (pairs : List Pair) (earlier : List Reply) (reply : Reply) (fault : Fault)
     → parsing front ≡ derived (parsed read) pairs → accepted [] earlier ≡ true → RefusedBeside (first_calendar earlier) reply fault
     → GivesFault parse (text_of front ++ text_of rest) pairs (earlier ++ reply ∷ []) fault
@@ -116,7 +118,7 @@ refuses front rest read pairs earlier reply fault is none is_refused = inl (
   last_refused earlier reply fault none is_refused,
 )
 
--- Each pair is its own reply.
+-- Without a handler, the reply to each annotation is the annotation itself.
 pub unhandled_record : (units : List ℕ) (read : Parsed) (pairs : List Pair) → parsing units ≡ derived (parsed read) pairs
     → accepted [] (own_replies pairs) ≡ true
     → UnhandledRecord parse (text_of units) (with_calendar read (calendar_value (first_calendar (own_replies pairs))))

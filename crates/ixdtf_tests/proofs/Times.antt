@@ -1,4 +1,4 @@
--- Times after a date and a separator, and the lines of times, computed.
+-- Computes the outcomes of times after a date and a separator, and the rows of the table lines of times.
 use Rattle.std.proofs.Common.{ℕ, List, [], ◌∷◌, ◌++◌, map, codes, Some, None, pos, refl}
 use Rattle.ixdtf.specs.language.Times.Clock.{Time}
 use Rattle.ixdtf.specs.language.Readers.{parse}
@@ -16,7 +16,7 @@ use Rattle.ixdtf_tests.proofs.Helpers.{three, ShowEachRow}
 abbrev pub of_clock_time : ClockLine → LineName
 of_clock_time line = of_clock Time line
 
--- the lines of hours and minutes, and all lines of a clock
+-- `minute_lines` are the table lines of hours and minutes, and `clock_lines` are all lines of a clock.
 abbrev pub minute_lines : List ClockLine
 minute_lines =
     hour_start ∷ hour_digit ∷ hour_range ∷ after_hour ∷ minute_digits ∷ minute_range ∷ after_basic_minute ∷ after_colon_minute ∷ []
@@ -24,7 +24,7 @@ minute_lines =
 abbrev pub clock_lines : List ClockLine
 clock_lines = minute_lines ++ second_digits ∷ second_range ∷ after_second ∷ fraction_start ∷ after_fraction ∷ []
 
--- a time on 1 January 2020
+-- This text is 1 January 2020, a `T`, and then these code units.
 abbrev at : List ℕ → List ℕ
 at units = codes "2020-01-01T" ++ units
 
@@ -33,7 +33,7 @@ at units = codes "2020-01-01T" ++ units
 abbrev pub time_lines : List LineName
 time_lines = map of_clock_time clock_lines
 
--- after what stands before a time
+-- These are the rows of a time after this text.
 abbrev pub time_rows : List ℕ → List Example
 time_rows before =
     three (of_clock_time hour_start) before abrupt_digit (codes "x") TimeHour
@@ -71,16 +71,16 @@ fractions : Compute parse (
     ∷ gives (codes "2022-06-05 043422.000") (with (date_of (pos 2022) 6 5) (Some (time_of 4 34 22 (Some (record { count = 3; value = 0 })))) None None)
     ∷ gives (codes "2024-03-02T08:48:00.25") (with (date_of (pos 2024) 3 2) (Some (time_of 8 48 0 (Some (record { count = 2; value = 25 })))) None None)
     ∷ gives (codes "2024-03-02T08:48:00,25") (with (date_of (pos 2024) 3 2) (Some (time_of 8 48 0 (Some (record { count = 2; value = 25 })))) None None)
-    -- 37 digits, of which the value keeps 18
+    -- The fraction has 37 digits. The value has the first 18 of them.
     ∷ gives (at (codes "15:23:30.1234567898765432101234567890987654321")) (new_year 15 23 30 (Some (record { count = 37; value = 123456789876543210 })))
     ∷ [])
 unfolding all_readings
 fractions = refl
 
--- ---- texts that are no time
+-- ---- texts that are not times
 
 no_time : Compute parse (
-    -- in an hour or a minute
+    -- The error is in the hour or in the minute.
     (ends (of_clock_time hour_digit) abrupt_digit (at (codes "1")) ∷ [])
     ++ (goes_off (of_clock_time hour_digit) TimeHour (at (codes "1|x")) ∷ [])
     ++ (stands (of_clock_time hour_range) TimeHour (at (codes "24|:00")) ∷ [])
@@ -88,10 +88,10 @@ no_time : Compute parse (
     ++ map (goes_off (of_clock_time minute_digits) TimeMinuteSecond) (at (codes "12:3|x") ∷ at (codes "123|x") ∷ [])
     ++ map (meets_bad (of_clock_time minute_digits)) (at (codes "12:3") ∷ at (codes "123") ∷ [])
     ++ map (stands (of_clock_time minute_range) TimeMinuteSecond) (at (codes "01:60|:61") ∷ at (codes "0160|") ∷ [])
-    -- a colon or a digit that does not go on
+    -- The error is at a colon or a digit that cannot follow here.
     ++ (goes_off (of_clock_time after_basic_minute) TimeSeparator (codes "2022-06-05 0434|:22.000") ∷ [])
     ++ map (goes_off (of_clock_time after_colon_minute) TimeSeparator) (at (codes "01:00|1") ∷ at (codes "01:00|00") ∷ [])
-    -- in a second, and after it
+    -- The error is in the second, or after it.
     ++ map (goes_off (of_clock_time second_digits) TimeSecond) (codes "2022-06-05 03422|.000" ∷ at (codes "12:30:0|x") ∷ [])
     ++ cut_off (of_clock_time second_digits) abrupt_digit (at (codes "12300") ∷ at (codes "12:30:0") ∷ [])
     ++ (stands (of_clock_time second_range) TimeSecond (at (codes "000061|")) ∷ [])
@@ -101,7 +101,7 @@ no_time : Compute parse (
     ++ (goes_off (of_clock_time after_hour) InvalidEnd (at (codes "12|.5")) ∷ [])
     ++ (goes_off (of_clock_time after_colon_minute) InvalidEnd (at (codes "12:30|.5")) ∷ [])
     ++ goes_off (of_clock_time after_fraction) InvalidEnd (at (codes "00:00:00.5|.5")) ∷ []
-    -- a bad code unit, after what is refused whatever follows
+    -- A bad code unit comes after a prefix that is refused, whatever follows.
     ++ (stands_before_bad (of_clock_time hour_range) TimeHour (at (codes "24|")) ∷ [])
     ++ (stands_before_bad (of_clock_time minute_range) TimeMinuteSecond (at (codes "12:60|")) ∷ [])
     ++ stands_before_bad (of_clock_time second_range) TimeSecond (at (codes "00:00:61|")) ∷ [])

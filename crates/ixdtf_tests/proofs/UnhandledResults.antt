@@ -1,4 +1,4 @@
--- What `parse` returned is the outcome of the text without a handler.
+-- Proves that the result of `parse` is the outcome of the text without a handler.
 use Rattle.std.proofs.Common.{◌≡◌, ◌↔◌, Result, Ok, Err, IfErr, refl, ap}
 use Rattle.ixdtf_grammar.specs.declared.error.ParseError.{ParseError}
 use Rattle.ixdtf.specs.Handlers.{UnhandledRecord, UnhandledFault}
@@ -11,12 +11,12 @@ use Rattle.ixdtf.specs.language.Letters.{Text}
 use Rattle.ixdtf.specs.language.Readers.{parse}
 use Rattle.ixdtf.specs.table.Faults.{Fault, fault_of}
 
--- a result, as an outcome
+-- This is the outcome of a result.
 abbrev pub outcome_of : Result Parsed Fault → UnhandledOutcome
 outcome_of (Ok found) = read_as (parsed found)
 outcome_of (Err fault) = faulted fault
 
--- what holds of the text that was read
+-- The text that was read has this outcome.
 pub has_result : {X : Type 0} (view : X → Parsed) (text wanted : Text) (result : Result X ParseError) → text ≡ wanted
     → ((p : Parsed) → (returned view result ≡ Ok p) ↔ UnhandledRecord parse text p) → IfErr result (λ e. UnhandledFault parse text (fault_of e))
     → HasUnhandledOutcome parse wanted (outcome_of (returned view result))

@@ -1,4 +1,4 @@
--- Texts in 16-bit and in 8-bit code units, computed: what their code units stand for, and their outcomes.
+-- Computes for 16-bit and 8-bit texts which characters their code units stand for, and the outcomes of these texts.
 use Rattle.std.proofs.Common.{◌≡◌, ℕ, List, [], ◌∷◌, ◌++◌, map, codes, false, None, pos, refl}
 use Rattle.ixdtf_grammar.specs.declared.profile.Profile.{Profile}
 use Rattle.ixdtf_grammar.specs.declared.profile.Profile.TheVariants.{Crate, Strict}
@@ -25,7 +25,7 @@ wide units = map wide_letter units
 abbrev narrow : List ℕ → Text
 narrow units = map byte_letter units
 
--- a 16-bit code unit is plain from 1 to 126 alone
+-- A 16-bit code unit is `Plain` only if it is from 1 to 126.
 wide_units : wide (0 ∷ 1 ∷ 50 ∷ 126 ∷ 127 ∷ 128 ∷ 306 ∷ 65535 ∷ []) ≡ Bad ∷ Plain 1 ∷ Plain 50 ∷ Plain 126 ∷ Bad ∷ Bad ∷ Bad ∷ Bad ∷ []
 wide_units = refl
 
@@ -42,7 +42,7 @@ wide_texts : Compute parse (
 unfolding all_readings
 wide_texts = refl
 
--- an 8-bit code unit that is not ASCII is in no class
+-- An 8-bit code unit that is not ASCII is in no character class.
 narrow_texts : Compute parse (
     (narrow (codes "2020-01-01[cet!" ++ 128 ∷ codes "]"), stops (of_zone in_zone_name) (other (text_of (codes "!" ++ (128 ∷ []) ++ codes "]"))) IanaChar)
     ∷ (narrow (codes "2020-01-01" ++ 195 ∷ 169 ∷ []), stops (of_date after_date) (other (text_of (195 ∷ 169 ∷ []))) InvalidEnd)

@@ -1,4 +1,4 @@
--- Names of time zones and their lines, computed.
+-- Computes the outcomes of names of time zones, and the rows of their table lines.
 use Rattle.std.proofs.Common.{ℕ, true, false, List, [], ◌∷◌, ◌++◌, map, codes, None, refl}
 use Rattle.ixdtf.specs.language.ZoneNames.Zone.{Name}
 use Rattle.ixdtf.specs.language.Readers.{parse}
@@ -16,7 +16,8 @@ use Rattle.ixdtf_tests.proofs.Helpers.{ShowEachRow}
 
 -- ---- each row in `parse_identifier` and in `parse_iana_identifier`
 
--- the rows of a name: where it begins, by the fault of the end and another code unit; in it; and after a slash
+-- These are the rows of a name: at its beginning, in it, and after a slash. The error at its beginning, for the end of the text and
+-- for another code unit, is given.
 abbrev name_rows : ZoneLine → Fault → List ℕ → List ℕ → List Example
 name_rows start at_end letter slash =
     three (of_zone start) [] at_end letter TzLeadingChar
@@ -34,7 +35,7 @@ each_row_of_names : ShowEachRow parse_iana_identifier (name_lines zone_name_star
 unfolding all_readings
 each_row_of_names = (refl, refl)
 
--- ---- each row in a bracket, of a name that begins as no key may
+-- ---- each row in a bracket, for a name that cannot begin a key
 
 each_row_in_brackets : ShowEachRow parse (of_zone in_zone_name ∷ of_zone after_zone_slash ∷ []) (
     three (of_zone in_zone_name) (codes "2020-04-08[Amer") AnnotationClose (codes "!") IanaChar
@@ -51,9 +52,9 @@ names : Compute parse_iana_identifier (
     ∷ gives (codes ".") (derived (named (codes ".")) [])
     ∷ gives (codes "Etc/GMT+5") (derived (named (codes "Etc/GMT+5")) [])
     ∷ gives (codes "a/-1") (derived (named (codes "a/-1")) [])
-    -- no names
+    -- These texts are not names.
     ∷ map (goes_off (of_zone zone_name_start) TzLeadingChar) (codes "|+05:00" ∷ codes "|1UTC" ∷ [])
-    -- `é` in UTF-8
+    -- This text has `é` in UTF-8.
     ++ (goes_off (of_zone zone_name_start) TzLeadingChar (codes "|" ++ 195 ∷ 169 ∷ []) ∷ [])
     ++ (goes_off (of_zone in_zone_name) InvalidEnd (codes "UTC|]") ∷ [])
     ++ (goes_off (of_zone in_zone_name) IanaChar (codes "UTC|=x") ∷ [])
@@ -64,7 +65,7 @@ names = refl
 identifiers : Compute parse_identifier (
     gives (codes "u") (derived (identified (Name (codes "u"))) [])
     ∷ gives (codes "America/Argentina/Buenos_Aires") (derived (identified (Name (codes "America/Argentina/Buenos_Aires"))) [])
-    -- no names
+    -- These texts are not names.
     ∷ (goes_off (of_zone identifier_start) TzLeadingChar (codes "|1UTC") ∷ [])
     ++ map (goes_off (of_zone in_zone_name) InvalidEnd) (codes "UTC|]" ∷ codes "a/b|]" ∷ [])
     ++ (goes_off (of_zone in_zone_name) IanaChar (codes "UTC|=x") ∷ [])
@@ -78,15 +79,16 @@ names_in_brackets : Compute parse (
     ∷ gives (codes "2020-01-01[asia/kolkata]") (with new_years_day None None (zone_named false (codes "asia/kolkata")))
     ∷ gives (codes "2020-01-01[!cet]") (with new_years_day None None (zone_named true (codes "cet")))
     ∷ gives (codes "2020-01-01[.x]") (with new_years_day None None (zone_named false (codes ".x")))
-    -- no names
+    -- These texts are not names.
     ∷ map (goes_off (of_zone in_zone_name) IanaChar) (codes "2020-04-08[America/Chicago|)" ∷ codes "2020-01-01[UTC|=x]" ∷ codes "2020-01-01[A|=b]" ∷ [])
     ++ (goes_off (of_zone in_zone_name) IanaChar (codes "2020-01-01[A|!" ++ 128 ∷ []) ∷ [])
     ++ map (goes_off (of_zone after_zone_slash) IanaCharPostSeparator) (codes "2020-04-08[America/| Chicago)" ∷ codes "2020-01-01[America/|/Chicago]" ∷ [])
     ++ cut_off (of_zone in_zone_name) AnnotationClose (codes "2020-01-01[!UTC" ∷ [])
-    -- a name that begins as a key may: a `]` comes before any `=`, the end and any bad code unit, so the rows for these fit no text
+    -- This name begins like a key. A `]` comes before any `=`, the end, and any bad code unit. So the rows for the last two fit no
+    -- text.
     ++ (goes_off (of_zone in_zone_name) IanaChar (codes "2020-01-01[cet|!]") ∷ [])
     ++ map (goes_off (of_zone after_zone_slash) IanaCharPostSeparator) (codes "2020-01-01[_x/|]" ∷ codes "2020-01-01[a/|/b]" ∷ [])
-    -- the mask of a bad code unit
+    -- This text has 128, which is not ASCII. The definition `mask` replaces a bad code unit by 128.
     ++ goes_off (of_zone in_zone_name) IanaChar (codes "2020-01-01[cet|!" ++ (128 ∷ []) ++ codes "]") ∷ [])
 unfolding all_readings
 names_in_brackets = refl

@@ -1,8 +1,8 @@
-//! The tests of `ixdtf`, from a crate above it, as a caller sees it; and, in `proofs`, the examples that compute with
-//! its definitions.
+//! Tests of `ixdtf` from a crate above it, which calls it like any other caller. The folder `proofs` has examples, in which the
+//! prover computes with the definitions of `ixdtf`.
 //!
-//! They are a crate of their own, so that the check of a test uses the contracts of `ixdtf`, and does not prove them
-//! again.
+//! The tests are in a crate of their own. So `rt check` uses the contracts of `ixdtf` for the tests, and does not prove these
+//! contracts again.
 #![tactic(auto)]
 
 #[cfg(test)]

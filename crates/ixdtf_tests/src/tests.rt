@@ -1,4 +1,4 @@
-//! Texts of the readers, with the records and errors that they return.
+//! Tests of the readers: texts, with the records and errors that the readers return for them.
 
 mod brackets;
 mod dates;
@@ -84,7 +84,7 @@ const AT_TIME_DESIGNATOR: ParseError = AbruptEnd { location: "TimeDurationDesign
 
 type Record = IxdtfParseRecord<'static, Utf8>;
 
-/// The parts of a text, with a zone by its `!` and its name.
+/// Returns the record with these parts. The zone is given by whether it has a `!`, and by its name.
 fn parts(
     date: Option<(i32, u8, u8)>,
     time: Option<TimeRecord>,
@@ -120,12 +120,12 @@ fn dated(year: i32, month: u8, day: u8, time: Option<TimeRecord>) -> Record {
     parts(Some((year, month, day)), time, None, None, None)
 }
 
-// A time without a date.
+// Returns a record with a time and without a date.
 fn alone(time: Option<TimeRecord>, offset: Option<UtcOffsetRecordOrZ>) -> Record {
     parts(None, time, offset, None, None)
 }
 
-// 2 March 2024 at 8:48.
+// Returns a record of 2 March 2024 at 8:48.
 fn morning(
     offset: Option<UtcOffsetRecordOrZ>,
     zone: Option<(bool, &'static str)>,
@@ -140,7 +140,7 @@ fn morning(
     )
 }
 
-/// The parts of a text whose zone is an offset.
+/// Returns the record with these parts. Its zone is an offset.
 fn shifted(
     date: (i32, u8, u8),
     time: Option<TimeRecord>,
@@ -178,7 +178,7 @@ fn long(
     })
 }
 
-/// The offset, in full where it has a second.
+/// Returns the offset. It is a `FullPrecisionOffset` if it has a second.
 fn offset_by(sign: Sign, (hour, minute): (u8, u8), second: Option<u8>) -> UtcOffsetRecord {
     match second {
         Some(second) => long(minutes(sign, hour, minute), second, None),
@@ -195,7 +195,7 @@ fn timed(hour: u8, minute: u8, second: u8, fraction: Option<Fraction>) -> Option
     })
 }
 
-/// The fraction of the second of an offset, such as `+00:00:00.25`, for the calls of a fraction.
+/// Returns the fraction of the second of an offset such as `+00:00:00.25`.
 fn fraction_of(text: &str) -> Option<Fraction> {
     match TimeZoneParser::from_str(text).parse_offset() {
         Ok(offset) => offset.fraction(),
@@ -206,9 +206,9 @@ fn fraction_of(text: &str) -> Option<Fraction> {
 /// The nanoseconds of a fraction.
 #[derive(Clone, Copy)]
 enum Nanoseconds {
-    /// These, and no digit after them.
+    /// The fraction has exactly these nanoseconds.
     Exact(u32),
-    /// Those of its first nine digits, and digits after them.
+    /// The first nine digits of the fraction are these nanoseconds, and more digits follow.
     Cut(u32),
 }
 
@@ -225,7 +225,7 @@ fn has_nanoseconds(fraction: &Option<Fraction>, nanoseconds: Nanoseconds) -> boo
     }
 }
 
-/// The fraction of a text that was read has these nanoseconds.
+/// Asserts that the fraction of an accepted text has these nanoseconds.
 fn check_fraction(
     rt: &impl Abort,
     text: &str,
@@ -260,15 +260,15 @@ enum Reader {
     Duration,
 }
 
-/// What a reader found in a text.
+/// The value that a reader returned for a text.
 #[derive(Drop)]
 #[derive_where(Debug, PartialEq)]
 enum Found<'a, T: EncodingType> {
-    /// The parts of a text with brackets.
+    /// The record of a text that can have brackets.
     Parts(IxdtfParseRecord<'a, T>),
     /// An offset from UTC.
     Offset(UtcOffsetRecord),
-    /// A time zone, by name or by offset.
+    /// A time zone, which is a name or an offset.
     Zone(TimeZoneRecord<'a, T>),
     /// The code units of a time zone's name.
     Name(&'a [T::CodeUnit]),
@@ -276,7 +276,7 @@ enum Found<'a, T: EncodingType> {
     Duration(DurationParseRecord),
 }
 
-/// The parsers of one text.
+/// The three parsers of one text.
 #[derive(Drop)]
 struct Parsers<'a, T: EncodingType> {
     dates: IxdtfParser<'a, T>,
@@ -360,7 +360,7 @@ impl<'a, T: EncodingType> Parsers<'a, T> {
         }
     }
 
-    // The error of a reader, where it refuses.
+    // Returns the error of the reader, or `None` if it accepts the text.
     fn refusal(&mut self, reader: Reader) -> Option<ParseError> {
         match self.read(reader) {
             Ok(_found) => None,
@@ -368,7 +368,7 @@ impl<'a, T: EncodingType> Parsers<'a, T> {
         }
     }
 
-    // The error of a reader's located form with its place, where it refuses.
+    // Returns the error of the `*_located` variant with its position, or `None` if it accepts the text.
     fn located_refusal(&mut self, reader: Reader) -> Option<LocatedError> {
         let parts = match reader {
             Reader::Parse => self.dates.parse_located(),
@@ -408,14 +408,14 @@ impl<'a, T: EncodingType> Parsers<'a, T> {
         }
     }
 
-    // Whether a reader refuses with this error, and its located form, which is called next, with the error at this place.
+    // Returns whether the reader returns this error, and then its `*_located` variant returns this error at this position.
     fn refuses_at(&mut self, reader: Reader, error: ParseError, at: usize) -> bool {
         self.refusal(reader) == Some(error)
             && self.located_refusal(reader) == Some(LocatedError { error, at })
     }
 }
 
-/// The fraction that a reader finds in a text: of its time, of its offset, or of the last number of a duration.
+/// Returns the fraction of the value that a reader returns: that of the time, of the offset, or of the last number of a duration.
 fn fraction_in(reader: Reader, text: &'static str) -> Option<Fraction> {
     match Parsers::from_str(text).read(reader) {
         Ok(Found::Parts(parts)) => parts.time?.fraction,
@@ -429,17 +429,17 @@ fn fraction_in(reader: Reader, text: &'static str) -> Option<Fraction> {
     }
 }
 
-/// Asserts what a test asks of a text.
+/// Asserts a condition about a text.
 fn check(rt: &impl Abort, text: &str, is_so: bool) {
     assert!(rt; is_so, "at {text}");
 }
 
-/// Asserts what a test asks of a reader of a text.
+/// Asserts a condition about a reader and a text.
 fn check_reader(rt: &impl Abort, reader: Reader, text: &str, is_so: bool) {
     assert!(rt; is_so, "{reader:?} at {text}");
 }
 
-/// The value is displayed so, whatever the width and the fill.
+/// Asserts that `Display` writes this text for the value, with and without a width and a fill character.
 fn check_displayed(
     rt: &impl Abort,
     alloc: Global,
@@ -453,7 +453,7 @@ fn check_displayed(
     Ok(())
 }
 
-/// One reader after the other refuses with the error beside it, with the same parsers.
+/// Asserts that one reader after the other, with the same parsers, returns the error in the same row.
 fn check_refusals(
     rt: &impl Abort,
     text: &'static str,
@@ -466,8 +466,8 @@ fn check_refusals(
     }
 }
 
-/// The readers refuse the text in turn, then this reader returns this, and others refuse the remaining input, with the
-/// same parsers.
+/// Asserts that the readers of `before` refuse the text, one after the other. Then `reader` returns `wanted`, and the readers of
+/// `after` refuse the remaining input. All of them use the same parsers.
 fn check_once_read(
     rt: &impl Abort,
     text: &'static str,
@@ -483,13 +483,13 @@ fn check_once_read(
     check_refusals(rt, text, &mut parsers, after);
 }
 
-/// The reader refuses the text with this error, and once more in the same way.
+/// Asserts that the reader returns this error for the text, and the same error at the next call.
 fn check_kept(rt: &impl Abort, reader: Reader, text: &'static str, error: ParseError) {
     let mut parsers = Parsers::from_str(text);
     check_refusals(rt, text, &mut parsers, &[(reader, error), (reader, error)]);
 }
 
-/// The reader returns this for the text.
+/// Asserts that the reader returns `wanted` for the text.
 fn check_found(
     rt: &impl Abort,
     reader: Reader,
@@ -500,7 +500,8 @@ fn check_found(
     check_reader(rt, reader, text, is_found);
 }
 
-/// `IxdtfParser::parse` returns this for the text, and what it reads is printed and read back.
+/// Asserts that `IxdtfParser::parse` returns `wanted` for the text. If it returns a record, the record is also printed and read
+/// back.
 fn check_parsed(rt: &impl Abort, text: &'static str, wanted: &ParserResult<Record>) {
     let found = IxdtfParser::from_str(text).parse();
     check(rt, text, found == *wanted);
@@ -509,11 +510,11 @@ fn check_parsed(rt: &impl Abort, text: &'static str, wanted: &ParserResult<Recor
     }
 }
 
-/// A text that a reader refuses, the error, and its place.
+/// A text that a reader refuses, the error, and its position.
 type Refused = (&'static str, ParseError, usize);
 
-/// The reader refuses the text with the first error, and with the second where each character is one 16-bit code unit, each
-/// at its place.
+/// Asserts that the reader returns the first error at its position for the 8-bit text, and the second error at its position for the
+/// 16-bit text. In 16-bit text, each character is one code unit.
 fn check_refused_at(
     rt: &impl Abort,
     reader: Reader,
@@ -527,14 +528,15 @@ fn check_refused_at(
     assert!(rt; is_refused, "{reader:?} at {text} in 16-bit units");
 }
 
-/// The reader refuses each text with its error at its place, in both widths.
+/// Asserts that the reader returns the error at the position of each row, for 8-bit and 16-bit text.
 fn check_refused(rt: &impl Abort, reader: Reader, rows: &[Refused]) {
     for (text, error, at) in rows {
         check_refused_at(rt, reader, text, (*error, *at), (*error, *at));
     }
 }
 
-/// The reader refuses each text at the place of a bad 16-bit code unit: for that unit, and as 8-bit code units with the error.
+/// Asserts that the reader refuses each text at a bad 16-bit code unit. For 16-bit text, the error is `NonAsciiCodePoint`. For
+/// 8-bit text, it is the error of the row, at the same position.
 fn check_no_letter(rt: &impl Abort, reader: Reader, rows: &[Refused]) {
     for (text, error, at) in rows {
         let for_the_unit = (NonAsciiCodePoint, *at);

@@ -1,6 +1,6 @@
 // Made by tools/to_rust.py of crates/ixdtf_callers/src/callers.rt. Do not edit.
 
-//! Code that calls the readers, as another repository has it.
+//! Calls the readers in the way in which code of another repository calls them.
 
 #[allow(unused_imports)]
 use crate::runtime::{HostRuntime, TryClone};
@@ -10,7 +10,7 @@ mod surface;
 
 use crate::runtime::Abort;
 
-/// Asserts what a test asks.
+/// Asserts the condition of a test. `what` is shown if it is false.
 fn check(rt: &impl Abort, what: &str, is_so: bool) {
     assert!(rt; is_so, "{what}");
 }

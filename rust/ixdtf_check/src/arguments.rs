@@ -1,47 +1,47 @@
 // Made by tools/to_rust.py of crates/ixdtf_checks/src/arguments.rt. Do not edit.
 
-//! The words after the program's name.
+//! The arguments of the program: the words after its name.
 
 use crate::kind::{InstantKind, Kind};
 use crate::nearest::{KINDS, OPTIONS, nearest_of};
 use crate::request::{Field, Request, Skips, Task};
 use ixdtf::parsers::Profile;
 
-/// The separator of fields if no other one is given.
+/// The separator of fields, if no option gives another one.
 const TAB: u8 = b'\t';
 
-/// The lines that are skipped if no option names any.
+/// The value of `Skips` if no option asks to skip lines: no line is skipped.
 const NOTHING_SKIPPED: Skips = Skips {
     header: false,
     blank: false,
     comment: None,
 };
 
-/// What a word is.
+/// The role of a word among the arguments.
 #[derive(Clone, Copy, Debug, PartialEq)]
 pub enum Word {
-    /// An option, or the value of one.
+    /// The word is an option, or the value of an option.
     Option,
-    /// The name of a file.
+    /// The word is the name of a file, or `-`.
     File,
-    /// A request for the usage.
+    /// The word asks for the usage: `--help` or `-h`.
     Help,
-    /// A request for the version.
+    /// The word asks for the version: `--version` or `-V`.
     Version,
-    /// A word that the program refuses.
+    /// The program refuses the word, for this reason.
     Wrong(Wrong),
 }
 
-/// Why the program refuses a word, or all words together.
+/// The reason why the program refuses a word, or a combination of words.
 #[derive(Clone, Copy, Debug, PartialEq)]
 pub enum Wrong {
     /// There is no such option.
     UnknownOption,
-    /// The option has no value, but the word gives it one, such as `--quiet=yes`.
+    /// The option does not take a value, but the word gives it one, such as `--quiet=yes`.
     UnexpectedValue,
     /// The last word is an option that needs a value.
     MissingValue,
-    /// There is no kind of this name.
+    /// There is no kind with this name.
     UnknownKind,
     /// The value of `--field` is 0 or empty.
     InvalidField,
@@ -53,16 +53,16 @@ pub enum Wrong {
     InvalidComment,
     /// The value of `--max-reports` is not a number.
     InvalidCount,
-    /// There is a separator, but no field.
+    /// There is `--separator`, but no `--field`.
     SeparatorWithoutField,
-    /// There is `--ordered`, and a kind whose texts name no instants.
+    /// There is `--ordered`, and the texts of the kind do not name instants.
     OrderedKind,
-    /// There are `--ordered` and `--canonical`.
+    /// There is `--ordered` together with `--canonical`.
     OrderedCanonical,
 }
 
 impl Wrong {
-    /// Returns what is wrong, and what was expected.
+    /// Returns the message for the user: what is wrong, and what was expected.
     pub fn message(self) -> &'static str {
         match self {
             Wrong::UnknownOption => "there is no such option",
@@ -88,7 +88,7 @@ impl Wrong {
     }
 }
 
-/// Returns the option or the kind that was probably meant by a word that is refused.
+/// Returns the option or the name of a kind that the user probably meant with a refused word.
 pub fn meant_by(word: &str, wrong: Wrong) -> Option<&'static str> {
     let (option, value) = match word.split_once('=') {
         None => (word, word),
@@ -110,7 +110,7 @@ pub fn meant_by(word: &str, wrong: Wrong) -> Option<&'static str> {
     }
 }
 
-/// What the next word means.
+/// What the program expects as the next word.
 #[derive(Clone, Copy, Debug, PartialEq)]
 enum Awaited {
     Anything,
@@ -122,37 +122,37 @@ enum Awaited {
     File,
 }
 
-/// Where the arguments have the name of a field.
+/// Where the name of a field is among the arguments.
 #[derive(Clone, Copy, Debug, PartialEq)]
 pub struct FieldName {
-    /// How many words stand before the one that has the name.
+    /// The number of words before the word that contains the name.
     pub word: usize,
-    /// How many bytes of this word stand before the name.
+    /// The number of bytes of this word before the name.
     pub start: usize,
 }
 
 impl FieldName {
-    /// Returns the name in the word.
+    /// Returns the bytes of the name. `word` is the word that contains it.
     pub fn in_word(self, word: &str) -> &[u8] {
         let bytes = word.as_bytes();
         &bytes[self.start.min(bytes.len())..]
     }
 }
 
-/// Which field of a line is its text.
+/// The field of a line that is its text.
 #[derive(Clone, Copy, Debug, PartialEq)]
 enum Column {
-    /// The one after so many others.
+    /// The field after this number of other fields.
     After(usize),
-    /// The one that has a name in the first line of a file.
+    /// The field that has a given name in the first line of a file.
     Named(FieldName),
 }
 
-/// What the words so far ask for.
+/// The options that the words so far set.
 #[derive(Clone, Copy, Debug, PartialEq)]
 pub struct Options {
     awaited: Awaited,
-    /// How many words there were before this one.
+    /// The number of words before the present one.
     words: usize,
     kind: Option<Kind>,
     is_strict: bool,
@@ -166,7 +166,7 @@ pub struct Options {
 }
 
 impl Options {
-    /// Creates options that ask for nothing.
+    /// Creates options before the first word: none is set.
     pub fn new() -> Options {
         Options {
             awaited: Awaited::Anything,
@@ -183,7 +183,7 @@ impl Options {
         }
     }
 
-    /// Takes one more word, and returns what it is.
+    /// Applies the next word to the options, and returns the role of the word.
     pub fn take(&mut self, word: &str) -> Word {
         let taken = match self.awaited {
             Awaited::Anything => self.take_any(word),
@@ -198,7 +198,7 @@ impl Options {
         taken
     }
 
-    /// Takes the value of the option that awaits one. So many bytes of the word stand before the value.
+    /// Applies the value of the option that awaits one. `start` is the number of bytes of the word before the value.
     fn take_value(&mut self, value: &str, start: usize) -> Word {
         match self.awaited {
             Awaited::Kind => self.take_kind(value),
@@ -210,7 +210,7 @@ impl Options {
         }
     }
 
-    /// Takes a word that is not the value of the word before it.
+    /// Applies a word that is not the value of the word before it.
     fn take_any(&mut self, word: &str) -> Word {
         if word == "-" || !word.starts_with('-') {
             return Word::File;
@@ -221,7 +221,7 @@ impl Options {
         }
     }
 
-    /// Takes an option whose value, if it has one, is the next word.
+    /// Applies an option that has no `=`. If the option needs a value, the next word is the value.
     fn take_option(&mut self, option: &str) -> Word {
         if option == "--help" || option == "-h" {
             return Word::Help;
@@ -249,7 +249,7 @@ impl Options {
         Word::Option
     }
 
-    /// Begins an option that needs a value. Returns false if the option is not one of these.
+    /// Makes the options await the value of the option. Returns `false` if no option of this name needs a value.
     fn awaits_value_of(&mut self, option: &str) -> bool {
         if option == "--kind" {
             self.awaited = Awaited::Kind;
@@ -267,7 +267,7 @@ impl Options {
         true
     }
 
-    /// Takes an option and its value, which were one word with a `=` between them.
+    /// Applies an option and its value, which were one word with a `=` between them.
     fn take_with_value(&mut self, option: &str, value: &str) -> Word {
         if self.awaits_value_of(option) {
             return self.take_value(value, option.len().saturating_add(1));
@@ -278,7 +278,7 @@ impl Options {
         Word::Wrong(Wrong::UnexpectedValue)
     }
 
-    /// Takes the name of a kind.
+    /// Applies the value of `--kind`, the name of a kind.
     fn take_kind(&mut self, word: &str) -> Word {
         self.awaited = Awaited::Anything;
         self.kind = Kind::named(word.as_bytes());
@@ -289,7 +289,7 @@ impl Options {
         }
     }
 
-    /// Takes the number or the name of a field. So many bytes of the word stand before it.
+    /// Applies the value of `--field`, a number or a name. `start` is the number of bytes of the word before the value.
     fn take_field(&mut self, value: &str, start: usize) -> Word {
         self.awaited = Awaited::Anything;
         let column = match value.parse::<usize>() {
@@ -304,7 +304,7 @@ impl Options {
         Word::Option
     }
 
-    /// Takes a separator.
+    /// Applies the value of `--separator`, one byte.
     fn take_separator(&mut self, word: &str) -> Word {
         self.awaited = Awaited::Anything;
         match word.as_bytes() {
@@ -316,7 +316,7 @@ impl Options {
         }
     }
 
-    /// Takes the byte with which comments begin.
+    /// Applies the value of `--comment`, the byte with which comments begin.
     fn take_comment(&mut self, word: &str) -> Word {
         self.awaited = Awaited::Anything;
         match word.as_bytes() {
@@ -328,7 +328,7 @@ impl Options {
         }
     }
 
-    /// Takes the number of reports.
+    /// Applies the value of `--max-reports`, the greatest number of reports.
     fn take_count(&mut self, word: &str) -> Word {
         self.awaited = Awaited::Anything;
         match word.parse::<u64>() {
@@ -340,7 +340,7 @@ impl Options {
         }
     }
 
-    /// Returns why the words do not go together. Returns `None` if they do.
+    /// Returns the reason why the words do not fit together. Returns `None` if they do.
     pub fn wrong(&self) -> Option<Wrong> {
         let kind = self.kind.unwrap_or(Kind::DateTime);
         match self.awaited {
@@ -365,7 +365,7 @@ impl Options {
         }
     }
 
-    /// Returns where the words have the name of the field that is read. Returns `None` if they have no name of a field.
+    /// Returns where the words name the field that is read. Returns `None` if the words do not name a field.
     pub fn field_name(&self) -> Option<FieldName> {
         match self.column {
             Some(Column::Named(field_name)) => Some(field_name),
@@ -373,7 +373,7 @@ impl Options {
         }
     }
 
-    /// Returns the field after so many others.
+    /// Returns the field after `before` other fields. The separator is that of `--separator`, or a tab.
     pub fn field_after(&self, before: usize) -> Field {
         Field {
             before,
@@ -381,8 +381,8 @@ impl Options {
         }
     }
 
-    /// Returns what is to be done with a file of this name. Returns `None` if the words do not go together. If they have the name of
-    /// a field, the caller has to find this field in the first line of the file, and to set it.
+    /// Returns the request for a file with this name. Returns `None` if the words do not fit together. If the words name a field,
+    /// the caller has to find this field in the first line of the file, and to set `field` of the request.
     pub fn request<'n>(&self, name: &'n str) -> Option<Request<'n>> {
         if self.wrong().is_some() {
             return None;
@@ -402,7 +402,7 @@ impl Options {
         })
     }
 
-    /// Returns the field whose number the words have, if they have one.
+    /// Returns the field, if `--field` has a number.
     fn numbered_field(&self) -> Option<Field> {
         match self.column {
             Some(Column::After(before)) => Some(self.field_after(before)),
@@ -410,7 +410,7 @@ impl Options {
         }
     }
 
-    /// Returns which lines are skipped, if any are.
+    /// Returns which lines are skipped. Returns `None` if no line is skipped.
     fn skips(&self) -> Option<Skips> {
         if self.skips == NOTHING_SKIPPED {
             None
@@ -419,7 +419,7 @@ impl Options {
         }
     }
 
-    /// Returns what is to be done with each text.
+    /// Returns the task for each text.
     fn task(&self) -> Task {
         let kind = self.kind.unwrap_or(Kind::DateTime);
         if self.is_canonical {

@@ -1,6 +1,6 @@
 // Made by tools/to_rust.py of crates/ixdtf_checks/src/checker.rt. Do not edit.
 
-//! The check of all lines.
+//! Checks all lines of an input.
 
 use crate::checking::Checking;
 use crate::request::Request;
@@ -12,21 +12,21 @@ use ixdtf_buffers::sink::Sink;
 use ixdtf_buffers::source::Source;
 use std::io::{Read, Write};
 
-/// What a check counted, and how it ended.
+/// The result of a check: the counts, and how it ended.
 #[derive(Clone, Copy, Debug, PartialEq)]
 pub struct Checked {
-    /// The lines and the bytes.
+    /// The number of lines, of refused lines, and of bytes.
     pub tally: Tally,
-    /// Whether all was read and written.
+    /// `Ok` if the complete input was read and all reports were written. Otherwise the error that ended the check.
     pub end: Result<(), RunError>,
 }
 
-/// Checks each line of the reader, and writes its report.
+/// Checks each line of the reader, and writes the reports to the writer.
 pub fn check<R: Read, W: Write>(reader: &mut R, writer: &mut W, request: &Request<'_>) -> Checked {
     check_lines(reader, writer, request)
 }
 
-/// Checks each line of the source, and writes its report into the sink.
+/// Checks each line of the source, and writes the reports to the sink.
 pub fn check_lines<S: Source, K: Sink>(
     source: &mut S,
     sink: &mut K,

@@ -1,13 +1,13 @@
 // Made by tools/to_rust.py of crates/ixdtf_checks/src/instants.rt. Do not edit.
 
-//! Reading the instant of a text.
+//! Reads the instant that a text names.
 
 use crate::kind::InstantKind;
 use ixdtf::parsers::IxdtfParser;
 use ixdtf::{Instant, LocatedError};
 
-/// Reads the text as one of the kind, and returns the instant that it names, or the error with its position. The instant is `None`
-/// if the text has no date, no time, or no offset.
+/// Reads the text as a text of the kind, and returns the instant that the text names. The instant is `None` if the text has no
+/// date, no time, or no offset. Returns the error with its position, if the text is refused.
 pub fn read_instant(kind: InstantKind, text: &[u8]) -> Result<Option<Instant>, LocatedError> {
     match kind {
         InstantKind::DateTime => match IxdtfParser::from_utf8(text).parse_located() {

@@ -1,6 +1,6 @@
 // Made by tools/to_rust.py of crates/ixdtf_checks/src/judge.rt. Do not edit.
 
-//! Which verdict a line gets.
+//! Decides the verdict on a line.
 
 use crate::instants::read_instant;
 use crate::kind::InstantKind;
@@ -13,10 +13,10 @@ use crate::skipped::kept_line;
 use crate::verdict::{Early, LINE_LIMIT, Reason, Refusal, Unread, Verdict};
 use ixdtf::{Instant, LocatedError};
 
-/// Writes the verdict on the line, which is `None` where it is too long, and may be the first one of a file. `last` is the instant
-/// of the line before. It becomes that of this line, if this line has one.
+/// Writes the verdict on the line to `verdict`. The line is `None` if it is too long. `last` is the instant of the last earlier
+/// line that names one. If the text of this line names an instant and was read for it, `last` becomes this instant.
 ///
-/// A verdict is written in its place, and not returned: most lines are accepted, and of these one byte is written.
+/// The verdict is written through a reference, and not returned. Most lines are accepted, and their verdict needs only one byte.
 pub fn judge<'a>(
     request: &Request<'_>,
     is_first: bool,
@@ -36,7 +36,7 @@ pub fn judge<'a>(
     }
 }
 
-/// Writes the verdict on the bytes of a line that is not too long.
+/// Writes the verdict on a line that is not too long. `bytes` are the complete bytes of the line.
 fn judge_short<'a>(
     request: &Request<'_>,
     is_first: bool,
@@ -91,7 +91,8 @@ fn judge_text<'a>(
     }
 }
 
-/// Writes the verdict on a text that has to name an instant, which must not be before the last one. Keeps this instant.
+/// Writes the verdict on a text that has to name an instant. This instant must not be before `last`. `last` becomes this instant,
+/// also if it is before the old one.
 #[inline(never)]
 fn judge_order<'a>(
     kind: InstantKind,
@@ -103,7 +104,7 @@ fn judge_order<'a>(
     verdict.keep_instant(last);
 }
 
-/// Writes the verdict on a text that has to name an instant, which must not be before the last one.
+/// Writes the verdict on a text that has to name an instant. This instant must not be before `last`.
 fn judge_instant<'a>(
     kind: InstantKind,
     last: Option<Instant>,
@@ -122,7 +123,7 @@ fn judge_instant<'a>(
     }
 }
 
-/// Returns the verdict on a text that names this instant.
+/// Returns the verdict on a text that names this instant: `Timed`, or `Refused` if the instant is before `last`.
 fn order(instant: Instant, last: Option<Instant>, part: Part<'_>) -> Verdict<'_> {
     match last {
         Some(last) if instant < last => Verdict::Refused(Refusal {
@@ -136,7 +137,8 @@ fn order(instant: Instant, last: Option<Instant>, part: Part<'_>) -> Verdict<'_>
     }
 }
 
-/// Writes the verdict on a line whose text a reader refuses. `has_offset` says whether an offset may follow the time of a text.
+/// Writes the verdict on a line whose text a reader refuses. `has_offset` says whether texts of this kind can have an offset after
+/// their time.
 fn refuse<'a>(verdict: &mut Verdict<'a>, has_offset: bool, error: LocatedError, part: Part<'a>) {
     *verdict = Verdict::Refused(Refusal {
         column: part.start + error.at + 1,
@@ -150,7 +152,7 @@ fn refuse<'a>(verdict: &mut Verdict<'a>, has_offset: bool, error: LocatedError, 
     });
 }
 
-/// Returns why a text is refused that a reader does not read.
+/// Returns the reason why a text is refused for which a reader returned an error.
 fn reason_of(has_offset: bool, unread: Unread<'_>) -> Reason<'_> {
     if has_offset && is_spaced(&unread.text[unread.error.at..]) {
         Reason::Spaced(unread)
@@ -159,7 +161,7 @@ fn reason_of(has_offset: bool, unread: Unread<'_>) -> Reason<'_> {
     }
 }
 
-/// Returns whether a space and an offset are at the beginning of the bytes.
+/// Returns whether the bytes begin with a space and the beginning of an offset: `Z`, `z`, or a sign and a digit.
 fn is_spaced(bytes: &[u8]) -> bool {
     match bytes {
         [b' ', b'Z' | b'z', ..] => true,

@@ -2,35 +2,35 @@
 
 //! The kinds of texts.
 
-/// What a text is read as.
+/// The kind of a text. It decides which reader reads the text.
 #[derive(Clone, Copy, Debug, PartialEq)]
 pub enum Kind {
-    /// `date-time`: a date, or a date and a time, with an offset, a zone and a calendar.
+    /// `date-time`: a date, or a date and a time. An offset may follow the time, and there may be a zone and a calendar.
     DateTime,
-    /// `year-month`: a year and a month, with a zone and a calendar.
+    /// `year-month`: a year and a month. There may be a zone and a calendar.
     YearMonth,
-    /// `month-day`: a month and a day, with a zone and a calendar.
+    /// `month-day`: a month and a day. There may be a zone and a calendar.
     MonthDay,
-    /// `time`: a time, with an offset, a zone and a calendar.
+    /// `time`: a time. There may be an offset, a zone and a calendar.
     Time,
     /// `offset`: an offset from UTC.
     Offset,
-    /// `zone`: a time zone, by name or by offset.
+    /// `zone`: a time zone, which is a name or an offset.
     Zone,
-    /// `zone-name`: a time zone by name.
+    /// `zone-name`: the name of a time zone.
     ZoneName,
     /// `duration`: a duration.
     Duration,
     /// `rfc3339`: a date-time of RFC 3339, section 5.6.
     Rfc3339,
-    /// `iana`: as `zone-name`.
+    /// `iana`: the same as `zone-name`.
     Iana,
-    /// `rfc9557`: a date-time of RFC 9557, section 4.1, with a zone and a calendar.
+    /// `rfc9557`: a date-time of RFC 9557, section 4.1. There may be a zone and a calendar.
     Rfc9557,
 }
 
 impl Kind {
-    /// The kind of this name.
+    /// Returns the kind with this name. Returns `None` if there is no such kind.
     pub fn named(name: &[u8]) -> Option<Kind> {
         if name == b"date-time".as_slice() {
             Some(Kind::DateTime)
@@ -59,7 +59,7 @@ impl Kind {
         }
     }
 
-    /// Returns whether an offset may follow the time of a text.
+    /// Returns whether a text of the kind can have a time, and an offset after it.
     pub fn has_offset(self) -> bool {
         match self {
             Kind::DateTime | Kind::Time | Kind::Rfc3339 | Kind::Rfc9557 => true,
@@ -74,7 +74,7 @@ impl Kind {
     }
 }
 
-/// The kinds whose texts can name an instant.
+/// A kind whose texts can name an instant.
 #[derive(Clone, Copy, Debug, PartialEq)]
 pub enum InstantKind {
     /// `date-time`: see `Kind::DateTime`.
@@ -86,7 +86,7 @@ pub enum InstantKind {
 }
 
 impl InstantKind {
-    /// Returns the kind as one whose texts can name an instant. Returns `None` if none of its texts can.
+    /// Returns the same kind as an `InstantKind`. Returns `None` if no text of the kind can name an instant.
     pub fn of(kind: Kind) -> Option<InstantKind> {
         match kind {
             Kind::DateTime => Some(InstantKind::DateTime),

@@ -1,29 +1,29 @@
 // Made by tools/to_rust.py of crates/ixdtf_checks/src/part.rt. Do not edit.
 
-//! The part of a line that is its text.
+//! Finds the part of a line that is its text.
 
 use crate::request::Field;
 use ixdtf_buffers::place::{pass_many, place_of};
 
-/// From how many fields on the separators before one are counted.
+/// If at least this many fields come before a field, separators are counted in steps of sixteen bytes.
 const MANY_FIELDS: usize = 4;
 
 /// A part of a line.
 #[derive(Clone, Copy)]
 pub struct Part<'a> {
-    /// How many bytes of the line stand before it.
+    /// The number of bytes of the line before the part.
     pub start: usize,
-    /// Its bytes.
+    /// The bytes of the part.
     pub text: &'a [u8],
 }
 
-/// The bytes of a line without those that do not belong to it: in the first line of a file a byte order mark at the front, and in
-/// each line a carriage return at the end.
+/// Returns the line without the bytes that do not belong to it. These are a byte order mark at the beginning of the first line of a
+/// file, and a carriage return at the end of any line.
 pub fn line_in(is_first: bool, bytes: &[u8]) -> &[u8] {
     without_return(if is_first { without_mark(bytes) } else { bytes })
 }
 
-/// The bytes without the byte order mark at their front, if they have one.
+/// Returns the bytes without the byte order mark at the beginning, if there is one.
 fn without_mark(bytes: &[u8]) -> &[u8] {
     if bytes.len() >= 3 && bytes[0] == 0xEF && bytes[1] == 0xBB && bytes[2] == 0xBF {
         &bytes[3..]
@@ -32,7 +32,7 @@ fn without_mark(bytes: &[u8]) -> &[u8] {
     }
 }
 
-/// The line without the carriage return at its end, where it has one.
+/// Returns the line without the carriage return at its end, if there is one.
 pub fn without_return(line: &[u8]) -> &[u8] {
     match line.last() {
         Some(b'\r') => &line[..line.len() - 1],
@@ -40,7 +40,7 @@ pub fn without_return(line: &[u8]) -> &[u8] {
     }
 }
 
-/// The part that is asked for, where the line has it.
+/// Returns the given field of the line, or the complete line if `field` is `None`. Returns `None` if the line has too few fields.
 #[inline(always)]
 pub fn part_of(field: Option<Field>, line: &[u8]) -> Option<Part<'_>> {
     match field {
@@ -52,7 +52,7 @@ pub fn part_of(field: Option<Field>, line: &[u8]) -> Option<Part<'_>> {
     }
 }
 
-/// The field, where the line has it.
+/// Returns the given field of the line. Returns `None` if the line has too few fields.
 #[inline(never)]
 fn field_of(field: Field, line: &[u8]) -> Option<Part<'_>> {
     match field_start(field.separator, field.before, line) {
@@ -64,9 +64,10 @@ fn field_of(field: Field, line: &[u8]) -> Option<Part<'_>> {
     }
 }
 
-/// Where the field after `before` others begins.
+/// Returns the index at which the field after `before` other fields begins.
 ///
-/// Behind many others it is looked for by counts of separators, sixteen bytes at once: short fields are not worth a search each.
+/// If many fields come before it, the function counts the separators in sixteen bytes at once. If the fields are short, this is
+/// faster than one search for each field.
 fn field_start(separator: u8, before: usize, line: &[u8]) -> Option<usize> {
     if before < MANY_FIELDS {
         return near_field_start(separator, before, line);
@@ -78,7 +79,7 @@ fn field_start(separator: u8, before: usize, line: &[u8]) -> Option<usize> {
     }
 }
 
-/// The same, by a search for each separator.
+/// Returns the same index as `field_start`. It searches for each separator on its own.
 fn near_field_start(separator: u8, before: usize, line: &[u8]) -> Option<usize> {
     let mut start = 0;
     let mut left = before;
@@ -92,7 +93,7 @@ fn near_field_start(separator: u8, before: usize, line: &[u8]) -> Option<usize> 
     Some(start)
 }
 
-/// The field at the front.
+/// Returns the first field: the bytes before the first separator, or all bytes.
 pub fn front_field(separator: u8, line: &[u8]) -> &[u8] {
     match place_of(separator, line) {
         None => line,

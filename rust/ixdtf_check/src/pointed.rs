@@ -1,43 +1,46 @@
 // Made by tools/to_rust.py of crates/ixdtf_checks/src/pointed.rt. Do not edit.
 
-//! The lines under a message: a text with a mark under the place of the error.
+//! Makes the lines under a message: a text, and a mark under the position of the error.
 //!
-//! The text is tested for UTF-8 as a whole, and else only what is shown is looked at: at most 48 characters before the place and 24
-//! from it on, each of at most four bytes.
+//! The complete text is tested for UTF-8. Apart from this test, only the part that is shown is read: at most 48 characters before
+//! the position, and at most 24 from it on. Each character has at most four bytes.
 
 use ixdtf_buffers::adding::{add_byte, add_bytes};
 use ixdtf_buffers::place::place_of;
 
-/// The most characters that are shown before the place of an error.
+/// The greatest number of characters that are shown before the position of an error.
 const BEFORE_PLACE: usize = 48;
 
-/// The most characters that are shown from the place on.
+/// The greatest number of characters that are shown from the position on.
 const FROM_PLACE: usize = 24;
 
-/// How many bytes a report has at most behind the name of the file: 44 of the numbers, 70 of a message, and 345 of the lines under
-/// it. These are 72 characters of four bytes, a mark of two bytes at each end, a newline, 50 spaces, `^` and a newline.
+/// The greatest number of bytes of a report after the name of the file.
+///
+/// The line and the column have at most 44 bytes, a message has at most 70 bytes, and the lines under it have at most 345 bytes.
+/// The lines have 72 characters of four bytes, a mark of two bytes at each end, a newline, 50 spaces, `^` and a newline.
 pub const ROOM: usize = 459;
 
-/// A newline, and as many spaces as stand before a mark at most.
+/// A newline, and the greatest number of spaces before a mark.
 const SPACES: &[u8; 51] = b"\n                                                  ";
 
 /// The part of a text that is shown.
 #[derive(Clone, Copy)]
 pub struct Window {
-    /// Where it begins.
+    /// The index at which the part begins.
     pub start: usize,
-    /// Where it ends.
+    /// The index at which the part ends.
     pub end: usize,
-    /// How many columns stand before the mark.
+    /// The number of columns before the mark.
     pub indent: usize,
 }
 
-/// The first byte of a control character of two bytes, 0xC2 and one from 0x80 to 0x9F, and of some others.
+/// The first byte of the control characters of two bytes, and of some other characters. The second byte of such a control character
+/// is 0x80 to 0x9F.
 const LEAD: u8 = 0xC2;
 
-/// Adds the lines under a message, where the bytes are a text.
+/// Adds the lines under a message, if the bytes are UTF-8. Returns the index after the added bytes.
 ///
-/// Where the bytes near the place are all of ASCII, they are what is shown.
+/// If all bytes near the position are ASCII, they are the part that is shown.
 pub fn add_lines(room: &mut [u8; ROOM], at: usize, bytes: &[u8], place: usize) -> usize {
     let near = near_window(bytes, place);
     if !bytes[near.start..near.end].is_ascii() {
@@ -49,7 +52,7 @@ pub fn add_lines(room: &mut [u8; ROOM], at: usize, bytes: &[u8], place: usize) -
     }
 }
 
-/// The bytes near the place.
+/// Returns the window of the bytes near the position: at most 48 before it, and at most 24 from it on.
 fn near_window(bytes: &[u8], place: usize) -> Window {
     let mark = place.min(bytes.len());
     let start = mark.saturating_sub(BEFORE_PLACE);
@@ -60,12 +63,13 @@ fn near_window(bytes: &[u8], place: usize) -> Window {
     }
 }
 
-/// How many columns stand before the mark, where so many characters are shown before it, from there on.
+/// Returns the number of columns before the mark. `count` characters are shown before it, and the first of them begins at `start`.
+/// If characters before `start` are left out, `..` is shown before the others, so there are always 50 columns.
 fn indent_behind(start: usize, count: usize) -> usize {
     if start > 0 { BEFORE_PLACE + 2 } else { count }
 }
 
-/// Whether bytes are a text of which the part that is shown is of ASCII. Where that is all, no more is looked at.
+/// Returns whether the bytes are UTF-8. The bytes in the window are known to be ASCII, so nothing is tested if they are all bytes.
 fn is_text(bytes: &[u8], window: Window) -> bool {
     if window.start == 0 && window.end >= bytes.len() {
         return true;
@@ -73,7 +77,7 @@ fn is_text(bytes: &[u8], window: Window) -> bool {
     std::str::from_utf8(bytes).is_ok()
 }
 
-/// Adds any text with a mark under the place.
+/// Adds the lines for bytes that can contain non-ASCII bytes near the position. Adds nothing if the bytes are not UTF-8.
 fn add_any(room: &mut [u8; ROOM], at: usize, bytes: &[u8], place: usize) -> usize {
     match std::str::from_utf8(bytes) {
         Ok(_) => add_shown(room, at, bytes, window_of(bytes, place), false),
@@ -81,7 +85,8 @@ fn add_any(room: &mut [u8; ROOM], at: usize, bytes: &[u8], place: usize) -> usiz
     }
 }
 
-/// Adds a text with a mark under the place. Where the part that is shown is of ASCII, it is one run.
+/// Adds the part of a text that is shown, and the mark under it. `is_ascii` says that this part is ASCII. Then it is copied in one
+/// run.
 fn add_shown(
     room: &mut [u8; ROOM],
     at: usize,
@@ -99,14 +104,14 @@ fn add_shown(
     add_behind(room, second, bytes, window)
 }
 
-/// Adds what stands behind the part of a text that is shown.
+/// Adds what follows the shown part of a text: `..` if the text continues, and the line with the mark.
 fn add_behind(room: &mut [u8; ROOM], at: usize, bytes: &[u8], window: Window) -> usize {
     let third = add_cut_mark(room, at, window.end < bytes.len());
     let mark = add_spaces(room, third, window.indent);
     add_bytes(room, mark, b"^\n")
 }
 
-/// The part of a text that is shown: at most 48 characters before the place, and at most 24 from it on.
+/// Returns the part of a text that is shown: at most 48 characters before the position, and at most 24 from it on.
 fn window_of(bytes: &[u8], place: usize) -> Window {
     let mark = character_at(bytes, place);
     let before = last_characters(&bytes[..mark]);
@@ -121,13 +126,14 @@ fn window_of(bytes: &[u8], place: usize) -> Window {
 /// The last characters of a text, at most 48.
 #[derive(Clone, Copy)]
 struct LastCharacters {
-    /// Where they begin.
+    /// The index at which they begin.
     start: usize,
-    /// How many there are.
+    /// The number of these characters.
     count: usize,
 }
 
-/// Where the character begins that has the byte at the place, or the end of the text where the place is not in it.
+/// Returns the index at which the character begins that contains the byte at `place`. Returns the length of the text if `place` is
+/// not in the text.
 fn character_at(bytes: &[u8], place: usize) -> usize {
     if place >= bytes.len() {
         return bytes.len();
@@ -139,7 +145,7 @@ fn character_at(bytes: &[u8], place: usize) -> usize {
     start
 }
 
-/// The last characters of a text.
+/// Returns the last characters of a text, at most 48.
 fn last_characters(bytes: &[u8]) -> LastCharacters {
     let mut start = bytes.len().saturating_sub(BEFORE_PLACE);
     let mut count = characters_in(&bytes[start..]);
@@ -150,7 +156,7 @@ fn last_characters(bytes: &[u8]) -> LastCharacters {
     LastCharacters { start, count }
 }
 
-/// Where the first characters of a text end, at most 24.
+/// Returns the index at which the first 24 characters of a text end. Returns the length of the text if it has fewer.
 fn first_characters(bytes: &[u8]) -> usize {
     let mut end = bytes.len().min(FROM_PLACE);
     let mut count = characters_in(&bytes[..end]);
@@ -164,7 +170,8 @@ fn first_characters(bytes: &[u8]) -> usize {
     end
 }
 
-/// How many characters begin in the bytes, of which there are few. The count is a byte, so that many bytes are looked at at once.
+/// Returns how many characters begin in the bytes, of which there are at most 48. The count is a byte, so that the compiled code
+/// can test many bytes at once.
 fn characters_in(bytes: &[u8]) -> usize {
     let mut count = 0u8;
     for byte in bytes {
@@ -173,12 +180,12 @@ fn characters_in(bytes: &[u8]) -> usize {
     usize::from(count)
 }
 
-/// Whether a character begins with the byte.
+/// Returns whether the byte is the first byte of a character in UTF-8.
 fn begins_character(byte: u8) -> bool {
     byte < 0x80 || byte >= 0xC0
 }
 
-/// Adds `..` where something is cut.
+/// Adds `..` if a part of the text is left out.
 fn add_cut_mark(room: &mut [u8; ROOM], at: usize, is_cut: bool) -> usize {
     if is_cut {
         add_bytes(room, at, b"..")
@@ -187,7 +194,8 @@ fn add_cut_mark(room: &mut [u8; ROOM], at: usize, is_cut: bool) -> usize {
     }
 }
 
-/// Adds the bytes of a text, and `.` for each control character: U+0000 to U+001F, U+007F, and U+0080 to U+009F, which are two bytes.
+/// Adds the bytes of a text, with `.` instead of each control character. Control characters are U+0000 to U+001F and U+007F, which
+/// are one byte, and U+0080 to U+009F, which are two bytes.
 fn add_masked(room: &mut [u8; ROOM], at: usize, bytes: &[u8]) -> usize {
     let mut end = at;
     let mut rest = bytes;
@@ -204,7 +212,7 @@ fn add_masked(room: &mut [u8; ROOM], at: usize, bytes: &[u8]) -> usize {
     add_run(room, end, rest)
 }
 
-/// Adds each byte as it is shown.
+/// Adds the bytes, with `.` instead of each control character of one byte.
 fn add_run(room: &mut [u8; ROOM], at: usize, bytes: &[u8]) -> usize {
     let end = at + bytes.len();
     let whole = &mut room[..];
@@ -212,7 +220,8 @@ fn add_run(room: &mut [u8; ROOM], at: usize, bytes: &[u8]) -> usize {
     end
 }
 
-/// Writes each byte as it is shown. Both slices are cut to one length, so that many bytes are written at once.
+/// Writes each byte of `bytes` as `shown` returns it. Both slices are cut to the same length, so that the compiled code can write
+/// many bytes at once.
 fn show(room: &mut [u8], bytes: &[u8]) {
     let bytes = &bytes[..room.len()];
     for index in 0..room.len() {
@@ -220,7 +229,7 @@ fn show(room: &mut [u8], bytes: &[u8]) {
     }
 }
 
-/// The byte as it is shown: `.` for a control character.
+/// Returns `.` for a control character of one byte, and any other byte unchanged.
 fn shown(byte: u8) -> u8 {
     if byte < b' ' || byte == 0x7F {
         b'.'
@@ -229,14 +238,15 @@ fn shown(byte: u8) -> u8 {
     }
 }
 
-/// Whether a control character of two bytes begins with the `LEAD` at the place.
+/// Returns whether the `LEAD` at `place` begins a control character of two bytes.
 fn begins_control(bytes: &[u8], place: usize) -> bool {
     place + 1 < bytes.len() && bytes[place + 1] < 0xA0
 }
 
 /// Adds a newline and the spaces before the mark.
 ///
-/// As many spaces as there may be are written, since so many need no call, and what follows is written over those behind the mark.
+/// The greatest number of spaces is always written, because a fixed number of bytes needs no call. The next bytes overwrite the
+/// spaces after the position of the mark.
 fn add_spaces(room: &mut [u8; ROOM], at: usize, indent: usize) -> usize {
     let _end = add_bytes(room, at, SPACES);
     at + indent + 1

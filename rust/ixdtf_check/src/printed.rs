@@ -1,9 +1,9 @@
 // Made by tools/to_rust.py of crates/ixdtf_checks/src/printed.rt. Do not edit.
 
-//! The canonical text that was printed last.
+//! The buffer for the canonical text of a line.
 
-/// More bytes than the canonical text of a record that was read from a line has.
+/// The size of the buffer in bytes. The canonical text of a record that was read from a line is shorter.
 pub const MOST_PRINTED: usize = 65792;
 
-/// A canonical text, and a newline.
+/// A buffer for one canonical text and the newline after it.
 pub type PrintedText = ixdtf_print::PrintedText<MOST_PRINTED>;

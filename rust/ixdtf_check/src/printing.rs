@@ -1,6 +1,6 @@
 // Made by tools/to_rust.py of crates/ixdtf_checks/src/printing.rt. Do not edit.
 
-//! Reading a text, and printing its canonical text.
+//! Reads a text, and prints its canonical text.
 
 use crate::kind::Kind;
 use crate::printed::PrintedText;
@@ -9,9 +9,10 @@ use ixdtf::LocatedError;
 use ixdtf::parsers::{IxdtfParser, Profile, TimeZoneParser};
 use ixdtf::records::TimeZoneRecord;
 
-/// Reads the text as one of the kind and prints its canonical text, or returns the error with its position.
+/// Reads the text as a text of the kind, and prints its canonical text to `printed`. Returns the error with its position, if the
+/// text is refused.
 ///
-/// Only the reading of date-times is inlined, since most canonical texts are theirs.
+/// Only the function for date-times is inlined, because most canonical texts are those of date-times.
 #[inline(always)]
 pub fn read_to_print(
     kind: Kind,
@@ -34,7 +35,7 @@ pub fn read_to_print(
     }
 }
 
-/// Does the same for any kind.
+/// Reads the text as a text of the kind, which can be any kind, and prints its canonical text.
 #[inline(never)]
 fn read_other_to_print(
     kind: Kind,
@@ -57,7 +58,7 @@ fn read_other_to_print(
     }
 }
 
-/// Does the same for a date-time.
+/// Reads the text by `parse`, and prints its canonical text.
 #[inline(always)]
 fn print_date_time(text: &[u8], printed: &mut PrintedText) -> Result<(), LocatedError> {
     match IxdtfParser::from_utf8(text).parse_located() {
@@ -69,7 +70,7 @@ fn print_date_time(text: &[u8], printed: &mut PrintedText) -> Result<(), Located
     }
 }
 
-/// Does the same for a date-time of RFC 3339.
+/// Reads the text as a date-time of RFC 3339, and prints its canonical text.
 #[inline(never)]
 fn print_rfc3339(text: &[u8], printed: &mut PrintedText) -> Result<(), LocatedError> {
     match IxdtfParser::from_utf8(text).parse_rfc3339_located() {
@@ -81,7 +82,7 @@ fn print_rfc3339(text: &[u8], printed: &mut PrintedText) -> Result<(), LocatedEr
     }
 }
 
-/// Does the same for a date-time of RFC 9557.
+/// Reads the text as a date-time of RFC 9557, and prints its canonical text.
 #[inline(never)]
 fn print_rfc9557(text: &[u8], printed: &mut PrintedText) -> Result<(), LocatedError> {
     match IxdtfParser::from_utf8(text).parse_rfc9557_located() {
@@ -93,7 +94,7 @@ fn print_rfc9557(text: &[u8], printed: &mut PrintedText) -> Result<(), LocatedEr
     }
 }
 
-/// Does the same for a year and a month.
+/// Reads the text as a year and a month, and prints its canonical text.
 #[inline(never)]
 fn print_year_month(text: &[u8], printed: &mut PrintedText) -> Result<(), LocatedError> {
     match IxdtfParser::from_utf8(text).parse_year_month_located() {
@@ -105,7 +106,7 @@ fn print_year_month(text: &[u8], printed: &mut PrintedText) -> Result<(), Locate
     }
 }
 
-/// Does the same for a month and a day.
+/// Reads the text as a month and a day, and prints its canonical text.
 #[inline(never)]
 fn print_month_day(
     profile: Profile,
@@ -121,7 +122,7 @@ fn print_month_day(
     }
 }
 
-/// Does the same for a time.
+/// Reads the text as a time, and prints its canonical text.
 #[inline(never)]
 fn print_time(profile: Profile, text: &[u8], printed: &mut PrintedText) -> Result<(), LocatedError> {
     match parser(profile, text).parse_time_located() {
@@ -133,7 +134,7 @@ fn print_time(profile: Profile, text: &[u8], printed: &mut PrintedText) -> Resul
     }
 }
 
-/// Does the same for an offset.
+/// Reads the text as an offset, and prints its canonical text.
 #[inline(never)]
 fn print_offset(text: &[u8], printed: &mut PrintedText) -> Result<(), LocatedError> {
     match TimeZoneParser::from_utf8(text).parse_offset_located() {
@@ -145,7 +146,7 @@ fn print_offset(text: &[u8], printed: &mut PrintedText) -> Result<(), LocatedErr
     }
 }
 
-/// Does the same for a zone.
+/// Reads the text as a time zone, and prints its canonical text.
 #[inline(never)]
 fn print_zone(text: &[u8], printed: &mut PrintedText) -> Result<(), LocatedError> {
     match TimeZoneParser::from_utf8(text).parse_identifier_located() {
@@ -157,7 +158,7 @@ fn print_zone(text: &[u8], printed: &mut PrintedText) -> Result<(), LocatedError
     }
 }
 
-/// Does the same for the name of a zone.
+/// Reads the text as the name of a time zone, and prints its canonical text.
 #[inline(never)]
 fn print_zone_name(text: &[u8], printed: &mut PrintedText) -> Result<(), LocatedError> {
     match TimeZoneParser::from_utf8(text).parse_iana_identifier_located() {
@@ -169,7 +170,7 @@ fn print_zone_name(text: &[u8], printed: &mut PrintedText) -> Result<(), Located
     }
 }
 
-/// Does the same for a duration.
+/// Reads the text as a duration, and prints its canonical text.
 #[inline(never)]
 fn print_duration(
     profile: Profile,

@@ -1,6 +1,6 @@
 // Made by tools/to_rust.py of crates/ixdtf_checks/src/report.rt. Do not edit.
 
-//! The report of a line.
+//! Writes the report of a line.
 
 use crate::pointed::{ROOM, add_lines};
 use crate::printed::PrintedText;
@@ -12,13 +12,13 @@ use ixdtf_buffers::output::Output;
 use ixdtf_buffers::sink::Sink;
 use ixdtf_print::error_parts;
 
-/// The most bytes of a line that are put at once.
+/// The greatest length in bytes of a canonical text with its newline that is written to the output as one slice.
 const MOST_AT_ONCE: usize = 4096;
 
-/// Puts the report of the line with this number, where this is the canonical text that was printed last, and so many lines up to it
-/// are refused.
+/// Writes the report of the line to the output. `number` is the number of the line, from 1. `refusals` is the number of refused
+/// lines up to this one. `printed` is the canonical text of the line, if the line was printed.
 ///
-/// It is inlined, since most lines are read and have none.
+/// The function is inlined, because most lines are accepted and have no report.
 #[inline(always)]
 pub fn put_report<K: Sink>(
     output: &mut Output<'_, K>,
@@ -41,8 +41,8 @@ pub fn put_report<K: Sink>(
     }
 }
 
-/// Puts a canonical text and its newline at once. Of a text that is written by itself, since it is longer than what waits, the
-/// newline waits.
+/// Writes a canonical text and its newline to the output. If both together are longer than the buffer of the output, they are two
+/// slices. So the newline stays in the buffer, and is not written on its own.
 fn put_printed<K: Sink>(output: &mut Output<'_, K>, line: &[u8]) -> Result<(), RunError> {
     if line.len() <= MOST_AT_ONCE {
         return output.put(line);
@@ -51,9 +51,10 @@ fn put_printed<K: Sink>(output: &mut Output<'_, K>, line: &[u8]) -> Result<(), R
     output.put_all(&[text, newline])
 }
 
-/// Puts the report of a line that is refused: the name by itself, which may be long, and the rest at once.
+/// Writes the report of a refused line to the output. The name of the file can be long, so it is a slice of its own. The other
+/// bytes are one slice.
 ///
-/// It stands out of line, since most lines are read.
+/// The function is not inlined, because most lines are accepted.
 #[inline(never)]
 fn put_refusal<K: Sink>(
     output: &mut Output<'_, K>,
@@ -68,7 +69,7 @@ fn put_refusal<K: Sink>(
     output.put(&room[..end])
 }
 
-/// Adds the number of a line that is refused, and its column.
+/// Adds the number of a refused line, and the column of the error. Returns the index after the added bytes.
 fn add_place(room: &mut [u8; ROOM], number: u64, column: usize) -> usize {
     let line = add_byte(room, 0, b':');
     let second_colon = add_number(room, line, number);
@@ -77,7 +78,8 @@ fn add_place(room: &mut [u8; ROOM], number: u64, column: usize) -> usize {
     add_bytes(room, third_colon, b": ")
 }
 
-/// Adds why a line is refused, and of a text the lines that show where.
+/// Adds the message why a line is refused. If a text is refused, also adds the lines that show the position of the error. Returns
+/// the index after the added bytes.
 fn add_reason(room: &mut [u8; ROOM], at: usize, reason: &Reason<'_>) -> usize {
     match reason {
         Reason::TooLong => add_message(room, at, "line too long", ""),
@@ -102,7 +104,7 @@ fn add_reason(room: &mut [u8; ROOM], at: usize, reason: &Reason<'_>) -> usize {
     }
 }
 
-/// Adds the two parts of a message, and a newline.
+/// Adds the two parts of a message, and a newline. Returns the index after the added bytes.
 fn add_message(room: &mut [u8; ROOM], at: usize, text: &str, location: &str) -> usize {
     let middle = add_bytes(room, at, text.as_bytes());
     let newline = add_bytes(room, middle, location.as_bytes());

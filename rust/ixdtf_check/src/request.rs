@@ -1,56 +1,57 @@
 // Made by tools/to_rust.py of crates/ixdtf_checks/src/request.rt. Do not edit.
 
-//! What is asked of a check.
+//! The options of the check of one file.
 
 use crate::kind::{InstantKind, Kind};
 use ixdtf::parsers::Profile;
 
-/// What is done with each text.
+/// What the check does with each text.
 #[derive(Clone, Copy, Debug, PartialEq)]
 pub enum Task {
-    /// It is read as one of this kind.
+    /// The text is read as a text of this kind.
     Check(Kind),
-    /// It is read as one of this kind, and its canonical text is written.
+    /// The text is read as a text of this kind, and its canonical text is written.
     Print(Kind),
-    /// It is read as one of this kind. It has to name an instant, and this instant must not be before that of the line before.
+    /// The text is read as a text of this kind. It has to name an instant, and this instant must not be before the instant of the
+    /// last earlier line that names one.
     Order(InstantKind),
 }
 
-/// Which field of a line is its text.
+/// The field of a line that is its text.
 #[derive(Clone, Copy, Debug, PartialEq)]
 pub struct Field {
-    /// How many fields stand before it.
+    /// The number of fields before it.
     pub before: usize,
-    /// The byte that stands between two fields.
+    /// The byte between two fields.
     pub separator: u8,
 }
 
-/// Which lines have no text. They are skipped: nothing is written about them.
+/// Which lines have no text. These lines are skipped: nothing is written about them.
 #[derive(Clone, Copy, Debug, PartialEq)]
 pub struct Skips {
     /// Whether the first line is skipped, because it has the names of the fields.
     pub header: bool,
-    /// Whether the lines are skipped that have only spaces and tabs, or no byte.
+    /// Whether blank lines are skipped. A blank line is empty, or has only spaces and tabs.
     pub blank: bool,
-    /// The byte with which the lines begin that are comments; `None` if there are no comments.
+    /// The first byte of each line that is a comment. It is `None` if there are no comments.
     pub comment: Option<u8>,
 }
 
-/// What is asked of the check of one file.
+/// The options of the check of one file.
 #[derive(Clone, Copy)]
 pub struct Request<'n> {
-    /// The name of the file, as reports have it.
+    /// The name of the file, as it is written in reports.
     pub name: &'n str,
-    /// What is done with each text.
+    /// What the check does with each text.
     pub task: Task,
-    /// The profile of the readers.
+    /// The profile that the readers use.
     pub profile: Profile,
-    /// Which field of a line is its text; `None` for the whole line.
+    /// The field of a line that is its text. If it is `None`, the complete line is the text.
     pub field: Option<Field>,
-    /// Which lines are skipped; `None` if no line is.
+    /// Which lines are skipped. If it is `None`, no line is skipped.
     pub skips: Option<Skips>,
-    /// How many of the lines that are refused have a report: the first ones.
+    /// The greatest number of reports about refused lines. Only the first refused lines have a report.
     pub most_reports: u64,
-    /// Whether nothing is written of a line that is refused.
+    /// Whether no report is written about a refused line.
     pub is_quiet: bool,
 }

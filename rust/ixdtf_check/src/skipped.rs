@@ -5,9 +5,10 @@
 use crate::part::{line_in, without_return};
 use crate::request::Skips;
 
-/// The line without the bytes that do not belong to it, if it is not skipped.
+/// Returns the line without the bytes that do not belong to it. Returns `None` if the line is skipped.
 ///
-/// Most lines are not the first one, and no line is to be skipped. For them, this is a test and no call.
+/// The usual case is a later line of a file, when no option asks to skip lines. In this case, the inlined function only makes a
+/// test and removes a carriage return.
 #[inline(always)]
 pub fn kept_line<'a>(skips: &Option<Skips>, is_first: bool, bytes: &'a [u8]) -> Option<&'a [u8]> {
     if is_first || skips.is_some() {
@@ -17,7 +18,7 @@ pub fn kept_line<'a>(skips: &Option<Skips>, is_first: bool, bytes: &'a [u8]) -> 
     }
 }
 
-/// The same for any line.
+/// Does the work of `kept_line` for all lines. The function is not inlined, because most lines do not need it.
 #[inline(never)]
 fn kept_with_care<'a>(skips: &Option<Skips>, is_first: bool, bytes: &'a [u8]) -> Option<&'a [u8]> {
     let line = line_in(is_first, bytes);
@@ -28,7 +29,7 @@ fn kept_with_care<'a>(skips: &Option<Skips>, is_first: bool, bytes: &'a [u8]) ->
     }
 }
 
-/// Whether the line is skipped.
+/// Returns whether the line is skipped.
 fn is_skipped(skips: &Option<Skips>, is_first: bool, line: &[u8]) -> bool {
     match skips {
         None => false,
@@ -36,12 +37,12 @@ fn is_skipped(skips: &Option<Skips>, is_first: bool, line: &[u8]) -> bool {
     }
 }
 
-/// Whether the line has the names of the fields, or is blank, or is a comment.
+/// Returns whether the line is skipped: it has the names of the fields, or is blank, or is a comment.
 fn is_skipped_by(skips: &Skips, is_first: bool, line: &[u8]) -> bool {
     (skips.header && is_first) || (skips.blank && is_blank(line)) || is_comment(skips.comment, line)
 }
 
-/// Whether the line has only spaces and tabs, or no byte.
+/// Returns whether the line is empty, or has only spaces and tabs.
 fn is_blank(line: &[u8]) -> bool {
     for byte in line {
         if *byte != b' ' && *byte != b'\t' {
@@ -51,7 +52,7 @@ fn is_blank(line: &[u8]) -> bool {
     true
 }
 
-/// Whether the line begins with the byte of comments.
+/// Returns whether the line begins with the byte of comments. Returns `false` if there is no such byte.
 fn is_comment(comment: Option<u8>, line: &[u8]) -> bool {
     match (comment, line) {
         (Some(byte), [first, ..]) => *first == byte,

@@ -1,8 +1,8 @@
 // Made by tools/to_rust.py of crates/ixdtf_checks/src/status.rt. Do not edit.
 
-//! The status with which the program ends.
+//! The exit status of the program.
 
-/// The status, by whether something failed and by how many lines were refused.
+/// Returns the exit status: 2 if something failed, otherwise 1 if at least one line was refused, otherwise 0.
 pub fn status_of(has_failed: bool, refused: u64) -> u8 {
     if has_failed {
         2

@@ -1,20 +1,20 @@
 // Made by tools/to_rust.py of crates/ixdtf_checks/src/tally.rt. Do not edit.
 
-//! How many lines there were.
+//! The counts of a check.
 
-/// How many lines there were, how many of them were refused, and how many bytes were read.
+/// The number of lines, the number of refused lines, and the number of bytes that were read.
 #[derive(Clone, Copy, Debug, PartialEq)]
 pub struct Tally {
-    /// The lines.
+    /// The number of lines.
     pub lines: u64,
-    /// The lines that were refused.
+    /// The number of refused lines.
     pub refused: u64,
-    /// The bytes.
+    /// The number of bytes that were read.
     pub bytes: u64,
 }
 
 impl Tally {
-    /// No line and no byte.
+    /// Returns counts of zero.
     pub fn new() -> Tally {
         Tally {
             lines: 0,
@@ -23,13 +23,13 @@ impl Tally {
         }
     }
 
-    /// Counts one more line. A number that overflows stays the greatest.
+    /// Counts one more line. A count that would overflow stays at `u64::MAX`.
     pub fn add_line(&mut self, is_refused: bool) {
         self.lines = self.lines.saturating_add(1);
         self.refused = self.refused.saturating_add(u64::from(is_refused));
     }
 
-    /// Adds the counts of another file. A number that overflows stays the greatest.
+    /// Adds the counts of another file. A count that would overflow becomes `u64::MAX`.
     pub fn add(&mut self, other: Tally) {
         self.lines = self.lines.saturating_add(other.lines);
         self.refused = self.refused.saturating_add(other.refused);

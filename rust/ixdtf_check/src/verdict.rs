@@ -4,75 +4,76 @@
 
 use ixdtf::{Instant, LocatedError};
 
-/// The longest line that is read, in bytes.
+/// The greatest length of a line that is read, in bytes.
 pub const LINE_LIMIT: usize = 65536;
 
 /// The verdict on a line.
 #[derive(Clone, Copy)]
 pub enum Verdict<'a> {
-    /// Its text is read.
+    /// The text of the line is accepted.
     Accepted,
-    /// Its text is read, and names this instant, which is not before that of the line before.
+    /// The text of the line is accepted, and names this instant. The instant is not before that of the last earlier line that names
+    /// one.
     Timed(Instant),
-    /// Its text is read, and its canonical text is printed.
+    /// The text of the line is accepted, and its canonical text is printed.
     Printed,
-    /// It has no text, and is skipped.
+    /// The line has no text, and is skipped.
     Skipped,
-    /// It is refused.
+    /// The line is refused.
     Refused(Refusal<'a>),
 }
 
-/// Where and why a line is refused.
+/// The column at which a line is refused, and the reason.
 #[derive(Clone, Copy)]
 pub struct Refusal<'a> {
-    /// At which byte of the line, from 1.
+    /// The number of the byte in the line, counted from 1.
     pub column: usize,
-    /// Why.
+    /// The reason why the line is refused.
     pub reason: Reason<'a>,
 }
 
-/// Why a line is refused.
+/// The reason why a line is refused.
 #[derive(Clone, Copy)]
 pub enum Reason<'a> {
-    /// It is too long.
+    /// The line is longer than `LINE_LIMIT`.
     TooLong,
-    /// It has too few fields.
+    /// The line has too few fields.
     NoField,
-    /// Its text is not read.
+    /// A reader refuses the text of the line.
     Unread(Unread<'a>),
-    /// Its text is not read, because a space stands before an offset.
+    /// A reader refuses the text of the line, at a space before an offset.
     Spaced(Unread<'a>),
-    /// This text is read, but does not name an instant.
+    /// This text of the line is accepted, but does not name an instant.
     NoInstant(&'a [u8]),
-    /// Its text names an instant before that of the line before.
+    /// The text of the line names an instant before that of the last earlier line that names one.
     Early(Early<'a>),
 }
 
-/// A text that is not read.
+/// A text that a reader refuses.
 #[derive(Clone, Copy)]
 pub struct Unread<'a> {
-    /// The error, with its place in the text.
+    /// The error, with its position in the text.
     pub error: LocatedError,
-    /// The text, which may not be UTF-8.
+    /// The text. It can be invalid UTF-8.
     pub text: &'a [u8],
 }
 
-/// A text that names an instant before that of the line before.
+/// A text that names an instant before that of the last earlier line that names one.
 #[derive(Clone, Copy)]
 pub struct Early<'a> {
-    /// The instant.
+    /// The instant that the text names.
     pub instant: Instant,
     /// The text.
     pub text: &'a [u8],
 }
 
 impl Verdict<'_> {
-    /// Whether the line is refused.
+    /// Returns whether the line is refused.
     pub fn is_refused(&self) -> bool {
         matches!(self, Verdict::Refused(_))
     }
 
-    /// Keeps the instant of the text, if the text was read for it.
+    /// Writes the instant of the text to `last`, if the text was read for its instant and names one.
     pub fn keep_instant(&self, last: &mut Option<Instant>) {
         match self {
             Verdict::Timed(instant) => *last = Some(*instant),
@@ -83,7 +84,7 @@ impl Verdict<'_> {
 }
 
 impl Reason<'_> {
-    /// Keeps the instant of the text, if the text was read for it.
+    /// Writes the instant of the text to `last`, if the text was read for its instant and names one.
     fn keep_instant(&self, last: &mut Option<Instant>) {
         match self {
             Reason::Early(early) => *last = Some(early.instant),

@@ -1,8 +1,8 @@
 // Made by tools/to_rust.py of crates/ixdtf_answers/src/arguments.rt. Do not edit.
 
-//! The words after the program's name.
+//! The arguments of the program: the words after its name.
 
-/// Whether the program takes this many words after its name.
+/// Returns whether the program accepts this number of words after its name. It accepts only 0.
 pub fn arguments_allowed(count: usize) -> bool {
     count == 0
 }

@@ -1,6 +1,8 @@
 // Made by tools/to_rust.py of crates/ixdtf_answers/src/fields.rt. Do not edit.
 
-//! The fields of what a reader found, added to the text of an answer.
+//! Adds the fields of a value that a reader returned to the text of an answer.
+//!
+//! Each function that adds bytes writes them to the array at the index `at`, and returns the index after them.
 
 use ixdtf::Instant;
 use ixdtf::encoding::Utf8;
@@ -24,7 +26,7 @@ fn add_number_behind_comma(room: &mut [u8; ROOM], at: usize, number: u64) -> usi
     add_number(room, digits, number)
 }
 
-/// Adds the year, month and day, where there is a date.
+/// Adds the year, month and day, if there is a date.
 pub fn add_date_field(room: &mut [u8; ROOM], at: usize, date: Option<DateRecord>) -> usize {
     let Some(date) = date else {
         return at;
@@ -35,7 +37,7 @@ pub fn add_date_field(room: &mut [u8; ROOM], at: usize, date: Option<DateRecord>
     add_small_behind_comma(room, day, date.day)
 }
 
-/// Adds the time and its fraction, where there is a time.
+/// Adds the time and its fraction, if there is a time.
 pub fn add_time_field(room: &mut [u8; ROOM], at: usize, time: Option<TimeRecord>) -> usize {
     let Some(time) = time else {
         return at;
@@ -53,7 +55,7 @@ fn add_clock(room: &mut [u8; ROOM], at: usize, time: TimeRecord) -> usize {
     add_small_behind_comma(room, second, time.second)
 }
 
-/// Adds the fraction, where there is one, after the last number.
+/// Adds a point and the nanoseconds of the fraction in nine digits, if there is a fraction.
 fn add_fraction(room: &mut [u8; ROOM], at: usize, fraction: Option<Fraction>) -> usize {
     match fraction {
         None => at,
@@ -65,7 +67,7 @@ fn add_fraction(room: &mut [u8; ROOM], at: usize, fraction: Option<Fraction>) ->
     }
 }
 
-/// Adds the offset, or `Z`, where there is one.
+/// Adds the offset, which is `Z` or has numbers, if there is one.
 pub fn add_offset_field(
     room: &mut [u8; ROOM],
     at: usize,
@@ -78,7 +80,7 @@ pub fn add_offset_field(
     }
 }
 
-/// Adds the field of an offset in numbers.
+/// Adds the field of an offset that has numbers.
 pub fn add_offset(room: &mut [u8; ROOM], at: usize, offset: UtcOffsetRecord) -> usize {
     let sign = add_bytes(room, at, b" offset=");
     match offset {
@@ -104,7 +106,7 @@ fn add_full_offset(room: &mut [u8; ROOM], at: usize, offset: FullPrecisionOffset
     add_fraction(room, point, fraction)
 }
 
-/// Adds what stands before the name of the zone, where there is one: all of a zone without a name.
+/// Adds the field of the zone up to its name, if there is a zone. If the zone is an offset, adds the complete field.
 pub fn add_zone_field_front(
     room: &mut [u8; ROOM],
     at: usize,
@@ -116,7 +118,7 @@ pub fn add_zone_field_front(
     }
 }
 
-/// Adds what stands before the name of a zone, which may be critical.
+/// Adds the field of a zone up to its name. If the zone is an offset, adds the complete field.
 pub fn add_zone_front(
     room: &mut [u8; ROOM],
     at: usize,
@@ -131,7 +133,7 @@ pub fn add_zone_front(
     }
 }
 
-/// Adds what stands before any zone.
+/// Adds the label of the field of a zone, with `!` if the zone is critical.
 fn add_zone_label(room: &mut [u8; ROOM], at: usize, critical: bool) -> usize {
     if critical {
         add_bytes(room, at, b" tz=!")
@@ -148,7 +150,7 @@ pub fn add_instant(room: &mut [u8; ROOM], at: usize, instant: Instant) -> usize 
     add_number(room, nanoseconds, u64::from(instant.nanoseconds))
 }
 
-/// Adds a number of seconds, with a sign where it is below zero.
+/// Adds a number of seconds, with a `-` if it is below zero.
 fn add_seconds(room: &mut [u8; ROOM], at: usize, seconds: i64) -> usize {
     let number = seconds.unsigned_abs();
     if seconds < 0 {
@@ -159,7 +161,7 @@ fn add_seconds(room: &mut [u8; ROOM], at: usize, seconds: i64) -> usize {
     }
 }
 
-/// Adds the sign of a duration, and its date and its time, where it has them.
+/// Adds the sign of a duration, its date if it has one, and its time if it has one.
 pub fn add_duration(room: &mut [u8; ROOM], at: usize, duration: DurationParseRecord) -> usize {
     let date = duration.date;
     let time = duration.time;
@@ -174,7 +176,7 @@ fn add_sign_field(room: &mut [u8; ROOM], at: usize, sign: Sign) -> usize {
     add_byte(room, mark, mark_of(sign))
 }
 
-/// Adds the years, months, weeks and days of a duration, where it has a date.
+/// Adds the years, months, weeks and days of a duration, if it has a date.
 fn add_date_duration_field(
     room: &mut [u8; ROOM],
     at: usize,
@@ -190,7 +192,7 @@ fn add_date_duration_field(
     add_number_behind_comma(room, days, date.days)
 }
 
-/// Adds the time of a duration, where it has one.
+/// Adds the time of a duration, if it has one.
 fn add_time_duration_field(
     room: &mut [u8; ROOM],
     at: usize,
@@ -226,7 +228,7 @@ fn add_time_numbers(room: &mut [u8; ROOM], at: usize, time: &TimeDurationRecord)
     }
 }
 
-/// The fraction of the last number of a duration's time.
+/// Returns the fraction of the last number of a duration's time, if it has a fraction.
 fn last_fraction(time: &TimeDurationRecord) -> Option<Fraction> {
     match time {
         TimeDurationRecord::Hours { fraction, .. } => *fraction,
@@ -235,7 +237,7 @@ fn last_fraction(time: &TimeDurationRecord) -> Option<Fraction> {
     }
 }
 
-/// The sign as it is written.
+/// Returns the byte `-` or `+` of the sign.
 fn mark_of(sign: Sign) -> u8 {
     match sign {
         Sign::Negative => b'-',

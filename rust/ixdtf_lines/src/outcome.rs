@@ -1,6 +1,6 @@
 // Made by tools/to_rust.py of crates/ixdtf_answers/src/outcome.rt. Do not edit.
 
-//! What is put for what a reader found, or for why it refuses a text.
+//! Writes the answer for a value or an error that a reader returned.
 
 use crate::fields::{
     add_date_field, add_duration, add_instant, add_offset, add_offset_field, add_time_field,
@@ -17,7 +17,7 @@ use ixdtf_buffers::output::Output;
 use ixdtf_buffers::sink::Sink;
 use ixdtf_print::error_parts;
 
-/// Puts each field that the record has.
+/// Writes `ok`, each field that the record has, and a newline.
 pub fn put_record<K: Sink>(
     output: &mut Output<'_, K>,
     parts: &IxdtfParseRecord<'_, Utf8>,
@@ -34,7 +34,7 @@ pub fn put_record<K: Sink>(
     }
 }
 
-/// Adds the fields of a record up to the name of its zone.
+/// Adds `ok`, and the fields of a record up to the name of its zone. Returns the index after them.
 fn add_record_front(room: &mut [u8; ROOM], parts: &IxdtfParseRecord<'_, Utf8>) -> usize {
     let date = add_bytes(room, 0, b"ok");
     let time = add_date_field(room, date, parts.date);
@@ -43,7 +43,7 @@ fn add_record_front(room: &mut [u8; ROOM], parts: &IxdtfParseRecord<'_, Utf8>) -
     add_zone_field_front(room, zone, &parts.tz)
 }
 
-/// Puts what was added to the front of an answer, a name that goes behind it, and a newline.
+/// Writes the first `front` bytes of the array, the name, and a newline.
 fn put_front_and_name<K: Sink>(
     output: &mut Output<'_, K>,
     room: &mut [u8; ROOM],
@@ -59,7 +59,7 @@ fn put_front_and_name<K: Sink>(
     output.put(b"\n")
 }
 
-/// Puts a name, where there is one, a calendar behind it, and a newline.
+/// Writes the name, which can be empty, the calendar, and a newline.
 fn put_name_and_calendar<K: Sink>(
     output: &mut Output<'_, K>,
     name: &[u8],
@@ -68,7 +68,7 @@ fn put_name_and_calendar<K: Sink>(
     output.put_all(&[name, b" calendar=".as_slice(), calendar, b"\n".as_slice()])
 }
 
-/// The name of the zone, or no byte where it has none.
+/// Returns the name of the zone, or no bytes if it has no name.
 fn zone_field_name<'a>(note: &Option<TimeZoneAnnotation<'a, Utf8>>) -> &'a [u8] {
     match note {
         None => b"".as_slice(),
@@ -76,7 +76,7 @@ fn zone_field_name<'a>(note: &Option<TimeZoneAnnotation<'a, Utf8>>) -> &'a [u8] 
     }
 }
 
-/// The name of the zone, or no byte where it has none.
+/// Returns the name of the zone, or no bytes if it has no name.
 fn zone_name<'a>(zone: &TimeZoneRecord<'a, Utf8>) -> &'a [u8] {
     match zone {
         TimeZoneRecord::Name(name) => name,
@@ -85,7 +85,7 @@ fn zone_name<'a>(zone: &TimeZoneRecord<'a, Utf8>) -> &'a [u8] {
     }
 }
 
-/// Puts an offset.
+/// Writes `ok`, the offset, and a newline.
 pub fn put_offset<K: Sink>(
     output: &mut Output<'_, K>,
     offset: UtcOffsetRecord,
@@ -97,7 +97,7 @@ pub fn put_offset<K: Sink>(
     output.put(&room[..end])
 }
 
-/// Puts a zone, which is not critical.
+/// Writes `ok`, the zone as a zone that is not critical, and a newline.
 pub fn put_zone<K: Sink>(
     output: &mut Output<'_, K>,
     zone: &TimeZoneRecord<'_, Utf8>,
@@ -108,7 +108,7 @@ pub fn put_zone<K: Sink>(
     put_front_and_name(output, &mut room, front, zone_name(zone))
 }
 
-/// Puts a duration.
+/// Writes `ok`, the duration, and a newline.
 pub fn put_duration<K: Sink>(
     output: &mut Output<'_, K>,
     duration: DurationParseRecord,
@@ -120,7 +120,8 @@ pub fn put_duration<K: Sink>(
     output.put(&room[..end])
 }
 
-/// Puts the instant of a record that `parse` returned, or that it has none.
+/// Writes `ok`, the instant of a record that `parse` returned, and a newline. If the record has no instant, writes `error no
+/// instant` and a newline.
 pub fn put_instant<K: Sink>(
     output: &mut Output<'_, K>,
     parts: &IxdtfParseRecord<'_, Utf8>,
@@ -135,9 +136,9 @@ pub fn put_instant<K: Sink>(
     output.put(&room[..end])
 }
 
-/// Puts the answer to a text that is refused, and a newline.
+/// Writes the answer to a refused text, and a newline.
 ///
-/// Each text of an error that a reader returns is short, so that the answer is made in an array and put at once.
+/// The text of each error that a reader returns is short. So the answer is made in an array, and written at once.
 #[inline(never)]
 pub fn put_error<K: Sink>(output: &mut Output<'_, K>, error: ParseError) -> Result<(), RunError> {
     let mut room = [0; ROOM];

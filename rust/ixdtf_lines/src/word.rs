@@ -1,58 +1,58 @@
 // Made by tools/to_rust.py of crates/ixdtf_answers/src/word.rt. Do not edit.
 
-//! The words that name the readers.
+//! The words that can begin a line.
 
-/// A reader.
+/// A word at the beginning of a line. It names a reader, and says what the answer has.
 #[derive(Clone, Copy, Debug, PartialEq)]
 pub enum Word {
-    /// `parse`: a date, or a date and a time, with an offset, a zone and a calendar.
+    /// `parse`: a date, or a date and a time. An offset may follow the time, and there may be a zone and a calendar.
     Parse,
-    /// `year-month`: a year and a month, with a zone and a calendar.
+    /// `year-month`: a year and a month. There may be a zone and a calendar.
     YearMonth,
-    /// `month-day`: a month and a day, with a zone and a calendar.
+    /// `month-day`: a month and a day. There may be a zone and a calendar.
     MonthDay,
-    /// `time`: a time, with an offset, a zone and a calendar.
+    /// `time`: a time. There may be an offset, a zone and a calendar.
     Time,
     /// `offset`: an offset from UTC.
     Offset,
-    /// `zone`: a time zone, by name or by offset.
+    /// `zone`: a time zone, which is a name or an offset.
     Zone,
-    /// `iana`: a time zone by name.
+    /// `iana`: the name of a time zone.
     Iana,
     /// `duration`: a duration.
     Duration,
-    /// `strict-month-day`: as `month-day`, under the strict profile.
+    /// `strict-month-day`: the same as `month-day`, under the strict profile.
     StrictMonthDay,
-    /// `strict-time`: as `time`, under the strict profile.
+    /// `strict-time`: the same as `time`, under the strict profile.
     StrictTime,
-    /// `strict-duration`: as `duration`, under the strict profile.
+    /// `strict-duration`: the same as `duration`, under the strict profile.
     StrictDuration,
-    /// `canonical`: as `parse`, to be printed as its canonical text.
+    /// `canonical`: the same as `parse`, but the answer is the canonical text.
     Canonical,
     /// `rfc3339`: a date-time of RFC 3339, section 5.6.
     Rfc3339,
-    /// `zone-name`: as `iana`.
+    /// `zone-name`: the same as `iana`.
     ZoneName,
-    /// `rfc9557`: a date-time of RFC 9557, section 4.1, with a zone and a calendar.
+    /// `rfc9557`: a date-time of RFC 9557, section 4.1. There may be a zone and a calendar.
     Rfc9557,
-    /// `canonical-offset`: as `offset`, to be printed as its canonical text.
+    /// `canonical-offset`: the same as `offset`, but the answer is the canonical text.
     CanonicalOffset,
-    /// `canonical-zone`: as `zone`, to be printed as its canonical text.
+    /// `canonical-zone`: the same as `zone`, but the answer is the canonical text.
     CanonicalZone,
-    /// `canonical-duration`: as `duration`, to be printed as its canonical text.
+    /// `canonical-duration`: the same as `duration`, but the answer is the canonical text.
     CanonicalDuration,
-    /// `instant`: as `parse`, to be answered by the instant of the record.
+    /// `instant`: the same as `parse`, but the answer is the instant of the record.
     Instant,
-    /// `canonical-time`: as `time`, to be printed as its canonical text.
+    /// `canonical-time`: the same as `time`, but the answer is the canonical text.
     CanonicalTime,
-    /// `canonical-year-month`: as `year-month`, to be printed as its canonical text.
+    /// `canonical-year-month`: the same as `year-month`, but the answer is the canonical text.
     CanonicalYearMonth,
-    /// `canonical-month-day`: as `month-day`, to be printed as its canonical text.
+    /// `canonical-month-day`: the same as `month-day`, but the answer is the canonical text.
     CanonicalMonthDay,
 }
 
 impl Word {
-    /// The reader of this name.
+    /// Returns the word with this name. Returns `None` if there is no such word.
     pub fn named(name: &[u8]) -> Option<Word> {
         if name == b"parse".as_slice() {
             Some(Word::Parse)

@@ -1,4 +1,4 @@
-//! Calls of each reader, as the README and `docs/CALLING.md` show them.
+//! Calls each reader in the way that the README and `docs/CALLING.md` show.
 
 ghost use Rattle.std.specs.Prelude.{map, IfSome};
 ghost use Rattle.ixdtf.specs.Laws.{InLanguage};
@@ -21,7 +21,7 @@ use std::test::Fail;
 
 // ==== An instant ====
 
-// The seconds since 1970-01-01T00:00:00Z of a text that has a date, a time and an offset or `Z`, and `None` for any other text.
+// Returns the seconds since 1970-01-01T00:00:00Z of a text with a date, a time, and an offset or `Z`, and otherwise `None`.
 fn seconds_since_1970(text: &str) -> Option<i64> {
     let Ok(record) = IxdtfParser::from_str(text).parse() else {
         return None;
@@ -42,22 +42,23 @@ fn has_an_instant(rt: HostRuntime) {
 
 // ==== A text taken apart ====
 
-/// A date, a time and an offset, with a zone where the text names one.
+/// A date, a time and an offset, and a zone if the text names one.
 #[derive(Clone, Copy, Debug, PartialEq)]
 struct Moment<'a> {
     /// The year, the month and the day.
     date: (i32, u8, u8),
     /// The hour, the minute and the second.
     time: (u8, u8, u8),
-    /// The nanoseconds beyond the second.
+    /// The nanoseconds after the second.
     nanoseconds: u32,
-    /// How many seconds local time is ahead of UTC; `None` for `Z`, which says nothing of local time.
+    /// The number of seconds that local time is ahead of UTC. It is `None` for `Z`, because `Z` does not say what the local time
+    /// is.
     ahead: Option<i32>,
     /// The name of the time zone.
     zone: Option<&'a str>,
 }
 
-// The parts of a text that has a date, a time and an offset or `Z`, and `None` for any other text.
+// Returns the parts of a text with a date, a time, and an offset or `Z`, and otherwise `None`.
 fn moment_of<'a>(text: &'a str) -> Option<Moment<'a>> {
     let mut parser = IxdtfParser::from_str(text);
     let Ok(record) = parser.parse() else {
@@ -101,7 +102,7 @@ const AT_UTC: Moment<'static> = Moment {
     zone: None,
 };
 
-// Local time is not known.
+// The local time is not known, because the text has `Z`.
 const UNKNOWN: Moment<'static> = Moment {
     date: (2024, 3, 2),
     time: (8, 48, 0),
@@ -131,7 +132,7 @@ fn takes_a_text_apart(rt: HostRuntime) {
 
 // ==== One call of each reader ====
 
-// The date of what a reader returned, or its error.
+// Returns the date of the record, or the error, that a reader returned.
 fn date_in(read: &ParserResult<IxdtfParseRecord<'_, Utf8>>) -> ParserResult<Option<DateRecord>> {
     match read {
         Ok(record) => Ok(record.date),
@@ -139,25 +140,25 @@ fn date_in(read: &ParserResult<IxdtfParseRecord<'_, Utf8>>) -> ParserResult<Opti
     }
 }
 
-// The year, month and day of a text.
+// Returns the year, month and day of a text.
 fn date_of(text: &str) -> ParserResult<Option<(i32, u8, u8)>> {
     let date = date_in(&IxdtfParser::from_str(text).parse())?;
     Ok(date.map(|date| (date.year, date.month, date.day)))
 }
 
-// The year and the month of a text such as `2020-11`.
+// Returns the year and the month of a text such as `2020-11`.
 fn month_of(text: &str) -> ParserResult<Option<(i32, u8)>> {
     let date = date_in(&IxdtfParser::from_str(text).parse_year_month())?;
     Ok(date.map(|date| (date.year, date.month)))
 }
 
-// The month and the day of a text such as `11-07`.
+// Returns the month and the day of a text such as `11-07`.
 fn birthday_of(text: &str) -> ParserResult<Option<(u8, u8)>> {
     let date = date_in(&IxdtfParser::from_str(text).parse_month_day())?;
     Ok(date.map(|date| (date.month, date.day)))
 }
 
-// The hour and the minute of a text such as `T1200`. Without the `T` this one is refused: it begins as a month and a day.
+// Returns the hour and the minute of a text such as `T1200`. The text `1200` is refused, because it begins like a month and a day.
 fn clock_of(text: &str) -> ParserResult<Option<(u8, u8)>> {
     let mut parser = IxdtfParser::from_str(text);
     match parser.parse_time() {
@@ -166,7 +167,7 @@ fn clock_of(text: &str) -> ParserResult<Option<(u8, u8)>> {
     }
 }
 
-// The sign, the hour and the minute of an offset.
+// Returns the sign, the hour and the minute of an offset.
 fn offset_of(text: &str) -> ParserResult<(Sign, u8, u8)> {
     let mut parser = TimeZoneParser::from_str(text);
     match parser.parse_offset() {
@@ -175,7 +176,7 @@ fn offset_of(text: &str) -> ParserResult<(Sign, u8, u8)> {
     }
 }
 
-// Whether a text is a zone by its name, and not by an offset.
+// Returns whether a text is the name of a zone, and not an offset.
 fn has_a_name(text: &str) -> ParserResult<bool> {
     let mut parser = TimeZoneParser::from_str(text);
     match parser.parse_identifier()? {
@@ -184,13 +185,13 @@ fn has_a_name(text: &str) -> ParserResult<bool> {
     }
 }
 
-// The bytes of a zone's name, all of the text.
+// Returns the bytes of a zone's name. This name is the complete text.
 fn name_of<'a>(text: &'a str) -> ParserResult<&'a [u8]> {
     let mut parser = TimeZoneParser::from_str(text);
     parser.parse_iana_identifier()
 }
 
-// The calendar of a text, by its name.
+// Returns the name of the calendar of a text, if the text has one.
 fn calendar_of<'a>(text: &'a str) -> Option<&'a str> {
     let mut parser = IxdtfParser::from_str(text);
     let Ok(record) = parser.parse() else {
@@ -199,7 +200,7 @@ fn calendar_of<'a>(text: &'a str) -> Option<&'a str> {
     std::str::from_utf8(record.calendar?).ok()
 }
 
-// The sign, the weeks and the days of a duration such as `-P2W3D`.
+// Returns the sign, the weeks and the days of a duration such as `-P2W3D`.
 fn days_of(text: &str) -> ParserResult<Option<(Sign, u32, u64)>> {
     let mut parser = IsoDurationParser::from_str(text);
     match parser.parse() {
@@ -211,7 +212,8 @@ fn days_of(text: &str) -> ParserResult<Option<(Sign, u32, u64)>> {
     }
 }
 
-// The sign of a duration without a date, such as `-PT1H30.5M`, and its whole seconds. A fraction is a part of the last unit.
+// Returns the sign and the complete seconds of a duration without a date, such as `-PT1H30.5M`. The fraction belongs to the last
+// duration unit.
 fn seconds_of(text: &str) -> Option<(Sign, u128)> {
     let mut parser = IsoDurationParser::from_str(text);
     let Ok(duration) = parser.parse() else {
@@ -243,7 +245,7 @@ fn seconds_of(text: &str) -> Option<(Sign, u128)> {
     Some((duration.sign, whole + u128::from(part)))
 }
 
-// The year of a date in 16-bit code units.
+// Returns the year of a date in 16-bit code units.
 fn year_of_units(units: &[u16]) -> Option<i32> {
     let mut parser = IxdtfParser::from_utf16(units);
     let Ok(record) = parser.parse() else {
@@ -253,7 +255,7 @@ fn year_of_units(units: &[u16]) -> Option<i32> {
     Some(date.year)
 }
 
-// The weeks of a duration in 16-bit code units.
+// Returns the weeks of a duration in 16-bit code units.
 fn weeks_of_units(units: &[u16]) -> Option<u32> {
     let mut parser = IsoDurationParser::<Utf16>::from_utf8(units);
     let Ok(duration) = parser.parse() else {
@@ -319,10 +321,10 @@ fn counts_seconds(rt: HostRuntime) {
     }
 }
 
-// `2024-03-02`, and a bad code unit after it.
+// The text `2024-03-02`, and a bad code unit after it.
 const WIDE_DATE: [u16; 11] = [50, 48, 50, 52, 45, 48, 51, 45, 48, 50, 0x263A];
 
-// `P2W`.
+// The text `P2W`.
 const WIDE_DURATION: [u16; 3] = [80, 50, 87];
 
 #[test]
@@ -337,7 +339,7 @@ fn reads_wide_units(rt: HostRuntime) {
 
 // ==== Errors ====
 
-// Advice for the author of the text.
+// Returns advice for the author of the text.
 fn advice(error: ParseError) -> &'static str {
     match error {
         InvalidMonthRange => "there is no such month",
@@ -347,7 +349,7 @@ fn advice(error: ParseError) -> &'static str {
     }
 }
 
-// The advice on a text that is refused; empty where it is read.
+// Returns advice for a refused text. The advice is empty if the text is accepted.
 fn advice_on(text: &str) -> &'static str {
     match date_of(text) {
         Ok(_date) => "",
@@ -382,7 +384,7 @@ fn explain(alloc: Global, text: &str) -> Result<String, AllocError> {
     }
 }
 
-// The place of the error of a text that is refused. Only such a text is read twice.
+// Returns the position of the error, if the text is refused. Only a refused text is read twice.
 fn place_of_error(text: &str) -> Option<usize> {
     let mut parser = IxdtfParser::from_str(text);
     if parser.parse().is_ok() {
@@ -394,7 +396,7 @@ fn place_of_error(text: &str) -> Option<usize> {
     }
 }
 
-// The byte at which the name of a zone goes wrong, and the error.
+// Returns the position of the error in the name of a zone, and the error. Returns `None` if the name is accepted.
 fn fault_of_name(text: &str) -> Option<(usize, ParseError)> {
     let mut parser = TimeZoneParser::from_str(text);
     match parser.parse_iana_identifier_located() {
@@ -441,7 +443,7 @@ fn tells_places(rt: HostRuntime) {
 
 // ==== Handlers ====
 
-// How many annotations a text has. None of them is kept, and so none is refused.
+// Returns how many annotations a text has. The handler drops all of them, so none is refused.
 fn count_annotations(text: &str) -> ParserResult<u32> {
     let mut count = 0u32;
     let mut parser = IxdtfParser::from_str(text);
@@ -468,7 +470,7 @@ fn reads_with_notes(text: &str) -> bool {
     read.is_ok()
 }
 
-/// How many annotations there are, and how many of them are critical.
+/// The number of annotations, and how many of them are critical.
 #[derive(Clone, Copy, Debug, PartialEq)]
 struct Counts {
     all: u32,
@@ -484,7 +486,7 @@ impl Counts {
     }
 }
 
-// How many annotations a text has, in a struct that a method of it fills.
+// Returns how many annotations a text has. A method of the struct counts them.
 fn counts_of(text: &str) -> ParserResult<Counts> {
     let mut counts = Counts {
         all: 0,
@@ -536,10 +538,10 @@ fn keeps_an_annotation(rt: HostRuntime) {
 
 // ==== Functions that take a handler ====
 
-/// Why a text has no calendar for a caller of its own.
+/// An error of the caller's own, with the reason why the text has no calendar.
 #[derive(Clone, Copy, Debug, PartialEq)]
 enum Refused {
-    /// The text is refused.
+    /// The reader refuses the text.
     ByTheReader(ParseError),
 }
 
@@ -562,7 +564,7 @@ where
     }
 }
 
-// The annotation `answer-to-universe` of a text, which the text may mark as critical. Every other annotation is handed back.
+// Returns the annotation `answer-to-universe` of a text, even if it is critical. The handler returns every other annotation.
 fn answer_in<'a>(text: &'a str) -> ParserResult<Option<Annotation<'a, Utf8>>> {
     let mut answer = None;
     let read = calendar_or::<ParseError, _>(text, |annotation| {
@@ -579,7 +581,7 @@ fn answer_in<'a>(text: &'a str) -> ParserResult<Option<Annotation<'a, Utf8>>> {
     }
 }
 
-// How many annotations a text has, and how many of them are critical.
+// Returns how many annotations a text has, and how many of them are critical.
 fn count_critical(text: &str) -> ParserResult<(u32, u32)> {
     let mut all = 0u32;
     let mut critical = 0u32;
@@ -596,7 +598,7 @@ fn count_critical(text: &str) -> ParserResult<(u32, u32)> {
     }
 }
 
-// Without an error.
+// Returns the calendar, or `None` if the text is refused.
 fn calendar_if_read<'a, F>(text: &'a str, handler: F) -> Option<Option<&'a [u8]>>
 where
     F: FnMut(Annotation<'a, Utf8>) -> Option<Annotation<'a, Utf8>>,
@@ -609,7 +611,7 @@ where
     Some(record.calendar)
 }
 
-// With a handler for sources of every lifetime.
+// Returns whether a text has a calendar. The handler accepts annotations of every lifetime.
 fn has_calendar<F>(text: &str, handler: F) -> ParserResult<bool>
 where
     F: for<'b> FnMut(Annotation<'b, Utf8>) -> Option<Annotation<'b, Utf8>>,
@@ -619,7 +621,7 @@ where
     Ok(calendar.is_some())
 }
 
-// The calendar of a text, or the caller's own error.
+// Returns the calendar of a text, or the caller's own error.
 fn own_calendar<'a>(text: &'a str) -> Result<Option<&'a [u8]>, Refused> {
     calendar_or::<Refused, _>(text, |annotation| Some(annotation))
 }
@@ -639,7 +641,7 @@ fn forwards_handlers(rt: HostRuntime) {
 
 // ==== What a caller can conclude ====
 
-// The year of a date. `Some` only where the text is in the language of `parse`.
+// Returns the year of a date. It is `Some` only if the text is in the language of `parse`.
 fn year_of(text: &str) -> Option<i32>
     ensures { IfSome result (λ year. InLanguage reader_parse (map byte_letter text.now)) }
 {

@@ -1,5 +1,7 @@
-//! Every public item of `ixdtf` by its name, with its fields, variants and traits, so that a missing one does not compile.
-//! The variants of `ParseError` are named in `errors.rt` of `ixdtf_tests`, the laws in `laws.rt` there, and `in_text` in `located.rt` there.
+//! Names every public item of `ixdtf`, with its fields, variants and traits. If one is missing, this file does not compile.
+//!
+//! The variants of `ParseError` are named in `errors.rt` of `ixdtf_tests`, the laws in `laws.rt` there, and `in_text` in
+//! `located.rt` there.
 
 use super::check;
 use ixdtf::encoding::{EncodingType, Utf8, Utf16};
@@ -26,7 +28,7 @@ fn is_error<X: Copy + Debug + Display + Error + PartialEq>() {}
 
 fn is_displayed<X: Copy + Debug + Display>() {}
 
-// The traits of what an encoding has, and of the encoding.
+// Compiles only if the types with an encoding, and the encoding, have these traits.
 fn has_traits<T: EncodingType>() {
     is_hashed::<IxdtfParseRecord<'static, Utf8>>();
     is_default::<IxdtfParseRecord<'static, Utf16>>();
@@ -65,14 +67,14 @@ fn has_every_trait() {
     is_copied::<Profile>();
 }
 
-// Whether the calls of an encoding are there, and find no code unit, no slice and no calendar in an empty source.
+// Returns whether the functions of an encoding find no code unit, no slice and no calendar in an empty text.
 fn sees_nothing<T: EncodingType>(units: &[T::CodeUnit]) -> bool {
     let letter: ParserResult<Option<u8>> = T::get_ascii(units, 0);
     let part = T::slice(units, 1, 0);
     letter == Ok(None) && part.is_none() && !T::check_calendar_key(units)
 }
 
-// Whether the calls of an offset are there, and agree with its parts.
+// Returns whether the methods of an offset agree with its parts.
 fn has_parts(offset: UtcOffsetRecord, parts: MinutePrecisionOffset) -> bool {
     offset.sign() == parts.sign
         && offset.hour() == parts.hour
@@ -81,13 +83,13 @@ fn has_parts(offset: UtcOffsetRecord, parts: MinutePrecisionOffset) -> bool {
         && UtcOffsetRecordOrZ::Offset(offset).resolve_rfc_9557() == offset
 }
 
-// How many digits the fraction of an offset has, and the number of the first of them.
+// Returns how many digits the fraction of an offset has, and the number that its first digits are.
 fn digits_of(offset: UtcOffsetRecord) -> Option<(u8, u64)> {
     let fraction = offset.fraction()?;
     Some((fraction.digit_count(), fraction.leading_value()))
 }
 
-// The nanoseconds of an offset, as both calls return them.
+// Returns the nanoseconds of an offset from both methods of its fraction.
 fn nanoseconds_of(offset: UtcOffsetRecord) -> Option<(Option<u32>, u32)> {
     match offset.fraction() {
         Some(fraction) => Some((
@@ -129,7 +131,7 @@ fn makes_every_parser_of_dates(rt: HostRuntime) {
     check(&rt, "readers of dates", are_there);
 }
 
-// Whether the readers are there, and read a date, a year-month, a month-day and no empty text.
+// Returns whether the readers accept a date, a year-month and a month-day, and refuse an empty text.
 fn has_the_readers_of_dates(
     mut date: IxdtfParser<'_, Utf8>,
     mut year_month: IxdtfParser<'_, Utf8>,
@@ -142,7 +144,7 @@ fn has_the_readers_of_dates(
         && empty.parse_time().is_err()
 }
 
-// Whether the readers with a handler are there, and read a date and a year-month.
+// Returns whether the readers with a handler accept a date and a year-month.
 fn reads_with_a_handler() -> bool {
     let mut date = IxdtfParser::from_str("2020-01-01");
     let mut year_month = IxdtfParser::from_str("2020-01");
@@ -158,7 +160,7 @@ fn has_every_reader_with_a_handler(rt: HostRuntime) {
     check(&rt, "handlers", reads_with_a_handler());
 }
 
-// Whether the other readers with a handler are there, and read a month-day and a time.
+// Returns whether the other readers with a handler accept a month-day and a time.
 fn reads_parts_with_a_handler() -> bool {
     let mut month_day = IxdtfParser::from_str("01-01");
     let mut time = IxdtfParser::from_str("T12");
@@ -175,7 +177,7 @@ fn has_every_further_reader_with_a_handler(rt: HostRuntime) {
     check(&rt, "handlers", reads_parts_with_a_handler());
 }
 
-// Whether the located readers of dates are there, and read a text each.
+// Returns whether each `*_located` reader of dates accepts a text.
 fn reads_located() -> bool {
     IxdtfParser::from_str("2020-01-01").parse_located().is_ok()
         && IxdtfParser::from_str("2020-01")
@@ -187,7 +189,7 @@ fn reads_located() -> bool {
         && IxdtfParser::from_str("T12").parse_time_located().is_ok()
 }
 
-// Whether the readers of date-times of RFC 3339 are there, and read one.
+// Returns whether the readers of date-times of RFC 3339 accept one.
 fn reads_date_times() -> bool {
     IxdtfParser::from_str("2020-01-01T00:00:00Z")
         .parse_rfc3339()
@@ -202,7 +204,7 @@ fn has_the_readers_of_date_times(rt: HostRuntime) {
     check(&rt, "date-times", reads_date_times());
 }
 
-// Whether the readers of exactly RFC 9557 are there, and read a text each.
+// Returns whether the readers of date-times of RFC 9557 accept a text.
 fn reads_extended() -> bool {
     IxdtfParser::from_str("2020-01-01T00:00:00Z[UTC]")
         .parse_rfc9557()
@@ -212,7 +214,7 @@ fn reads_extended() -> bool {
             .is_ok()
 }
 
-// Whether their forms with a handler are there, and read a text each.
+// Returns whether the variants of these readers with a handler accept a text.
 fn reads_extended_with_handler() -> bool {
     IxdtfParser::from_str("2020-01-01T00:00:00Z[a=b]")
         .parse_rfc9557_with_annotation_handler(|annotation| Some(annotation))
@@ -228,7 +230,7 @@ fn has_the_readers_of_extended_date_times(rt: HostRuntime) {
     check(&rt, "with handler", reads_extended_with_handler());
 }
 
-// Whether the located readers of zones are there, and read a text each.
+// Returns whether each `*_located` reader of zones accepts a text.
 fn reads_located_zones() -> bool {
     TimeZoneParser::from_str("+01")
         .parse_offset_located()
@@ -249,7 +251,7 @@ fn has_every_located_reader(rt: HostRuntime) {
     check(&rt, "durations", duration.is_ok());
 }
 
-// Whether the located readers with a handler are there, and read a date and a year-month.
+// Returns whether the `*_located` readers with a handler accept a date and a year-month.
 fn reads_located_with_a_handler() -> bool {
     let mut date = IxdtfParser::from_str("2020-01-01");
     let mut year_month = IxdtfParser::from_str("2020-01");
@@ -265,7 +267,7 @@ fn has_every_located_reader_with_a_handler(rt: HostRuntime) {
     check(&rt, "handlers", reads_located_with_a_handler());
 }
 
-// Whether the other located readers with a handler are there, and read a month-day and a time.
+// Returns whether the other `*_located` readers with a handler accept a month-day and a time.
 fn reads_located_parts_with_a_handler() -> bool {
     let mut month_day = IxdtfParser::from_str("01-01");
     let mut time = IxdtfParser::from_str("T12");
@@ -282,7 +284,7 @@ fn has_every_further_located_reader_with_a_handler(rt: HostRuntime) {
     check(&rt, "handlers", reads_located_parts_with_a_handler());
 }
 
-// The place of an error, and the error, each by its name.
+// Names the position of an error, and the error.
 #[test]
 fn has_an_error_with_its_place(rt: HostRuntime) {
     let LocatedError { error, at } = LocatedError {
@@ -309,7 +311,7 @@ fn has_every_reader_of_zones(rt: HostRuntime) {
     check(&rt, "readers of zones", are_there);
 }
 
-// Whether the readers are there, and read a name, an offset and no empty text.
+// Returns whether the readers accept a name and an offset, and refuse an empty text.
 fn has_the_readers_of_zones(
     mut zone: TimeZoneParser<'_, Utf8>,
     mut nothing: TimeZoneParser<'_, Utf8>,
@@ -322,7 +324,7 @@ fn has_the_readers_of_zones(
         && wide.parse_offset().is_err()
 }
 
-// The record of a text that has all parts, each field by its name.
+// Returns the record of a text that has all parts. Each field is named.
 fn fullest_record() -> IxdtfParseRecord<'static, Utf8> {
     let minute_precision_offset = MinutePrecisionOffset {
         sign: Sign::Positive,
@@ -355,7 +357,7 @@ fn fullest_record() -> IxdtfParseRecord<'static, Utf8> {
     }
 }
 
-// Whether `parse` returns that record for that text.
+// Returns whether `parse` returns the record of `fullest_record` for its text.
 fn reads_the_fullest_record() -> bool {
     let text = "0001-02-03T04:05:06+07:08:09[!+07:08][u-ca=iso8601]";
     IxdtfParser::from_str(text).parse() == Ok(fullest_record())
@@ -373,7 +375,7 @@ fn has_every_field(rt: HostRuntime) {
     check(&rt, "an annotation", has_fields);
 }
 
-// Whether the variants of an offset and of a zone are there, and differ.
+// Names the variants of an offset and of a zone, and checks that they differ.
 #[test]
 fn has_every_variant(rt: HostRuntime) {
     let zero = MinutePrecisionOffset::zero();
@@ -393,7 +395,7 @@ fn has_every_variant(rt: HostRuntime) {
     check(&rt, "a duration", hours != minutes);
 }
 
-// The records of a duration, with all that they have by its name.
+// Returns a duration with all fields of its records. Each field is named.
 fn longest_duration() -> DurationParseRecord {
     DurationParseRecord {
         sign: Sign::Negative,
@@ -412,7 +414,7 @@ fn longest_duration() -> DurationParseRecord {
     }
 }
 
-// Whether the parser reads that duration.
+// Returns whether the parser returns the duration of `longest_duration`.
 fn reads_the_longest(mut parser: IsoDurationParser<'_, Utf8>) -> bool {
     parser.parse() == Ok(longest_duration())
 }

@@ -1,4 +1,4 @@
-//! What the arguments ask for.
+//! Tests which request follows from the arguments.
 
 use ixdtf::parsers::Profile;
 use ixdtf_checks::arguments::{FieldName, Options, Word, Wrong, meant_by};
@@ -8,7 +8,7 @@ use ixdtf_checks::status::status_of;
 use ixdtf_checks::tally::Tally;
 use std::process::Abort;
 
-/// What the options are after words that belong to options.
+/// Returns the options after these words. Each word has to be an option or its value.
 fn options_of(rt: &impl Abort, words: &[&str]) -> Options {
     let mut options = Options::new();
     for word in words {
@@ -57,7 +57,7 @@ fn takes_options(rt: HostRuntime) {
     assert!(rt; request.is_quiet);
 }
 
-/// Words of which one has the name of a field, and where it has the name.
+/// Words, and the position at which they name a field, if they do.
 const NAMED: &[(&[&str], Option<FieldName>)] = &[
     (&["--header", "--field", "2"], None),
     (
@@ -104,7 +104,7 @@ fn asks_for_date_times_where_nothing_is_said(rt: HostRuntime) {
     assert!(rt; !request.is_quiet);
 }
 
-/// Words that ask for something, or do not go together.
+/// Words, and the reason why they do not fit together, if there is one.
 const TOGETHER: &[(&[&str], Option<Wrong>)] = &[
     (&[], None),
     (&["--separator", ";"], Some(Wrong::SeparatorWithoutField)),
@@ -128,7 +128,7 @@ fn refuses_words_that_do_not_go_together(rt: HostRuntime) {
     }
 }
 
-/// Words in turn, each with what it is.
+/// Words in order, each with its role.
 const ONE_BY_ONE: &[(&str, Word)] = &[
     ("dates", Word::File),
     ("-", Word::File),
@@ -142,7 +142,7 @@ const ONE_BY_ONE: &[(&str, Word)] = &[
     ("--help", Word::File),
 ];
 
-/// Options, each with a word that is no value of it.
+/// Options, each with a word that is not a valid value, and the reason.
 const WITHOUT_VALUES: &[(&str, &str, Wrong)] = &[
     ("--field", "0", Wrong::InvalidField),
     ("--field", "", Wrong::InvalidField),
@@ -152,7 +152,7 @@ const WITHOUT_VALUES: &[(&str, &str, Wrong)] = &[
     ("--max-reports", "-1", Wrong::InvalidCount),
 ];
 
-/// Words that are refused, each with the word that was probably meant.
+/// Refused words, each with the reason and the word that the user probably meant.
 const MEANT: &[(&str, Wrong, Option<&str>)] = &[
     ("--kid", Wrong::UnknownOption, Some("--kind")),
     ("--quite", Wrong::UnknownOption, Some("--quiet")),

@@ -1,8 +1,8 @@
-//! The field that has a name in the first line.
+//! Tests which field has a name in the first line.
 
 use ixdtf_checks::column::{ColumnError, column_named};
 
-/// First lines, names, and the number of fields before the one with the name.
+/// First lines, names, and the number of fields before the field with the name, or the error.
 const FIRST_LINES: &[(&[u8], &str, Result<usize, ColumnError>)] = &[
     (b"id,day", "id", Ok(0)),
     (b"id,day", "day", Ok(1)),

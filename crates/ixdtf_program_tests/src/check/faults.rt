@@ -1,4 +1,4 @@
-//! Readers and writers that fail.
+//! Tests with readers and writers that fail.
 
 ghost use Rattle.std.specs.Prelude.{◌<◌};
 
@@ -35,7 +35,7 @@ impl Read for BrokenReader<'_> {
     }
 }
 
-/// A writer that takes nothing.
+/// A writer that fails at each write.
 #[derive(Drop)]
 struct ClosedWriter;
 
@@ -88,7 +88,7 @@ fn stops_at_a_write_that_fails(rt: HostRuntime) {
     );
 }
 
-/// A writer that takes everything, and fails to flush.
+/// A writer that accepts all bytes, and fails to flush.
 #[derive(Drop)]
 struct UnflushedWriter;
 
@@ -109,7 +109,8 @@ fn tells_that_the_flush_failed(rt: HostRuntime) {
     assert_eq!(rt; checked.end, Err(RunError::Write));
 }
 
-/// A writer that takes at most so many bytes at each write, and fails after so many writes.
+/// A writer that accepts at most `most` bytes in each write, and fails after `writes` writes. `taken` is the number of accepted
+/// bytes.
 #[derive(Clone, Copy)]
 struct ShortWriter {
     most: usize,
@@ -118,7 +119,7 @@ struct ShortWriter {
 }
 
 impl ShortWriter {
-    /// How many of so many bytes it takes, or `None` where it fails.
+    /// Returns how many of `count` bytes the writer accepts. Returns `None` if it fails.
     fn take(&mut self, count: usize) -> Option<usize> {
         if self.writes == 0 {
             return None;
@@ -143,7 +144,7 @@ impl Write for ShortWriter {
     }
 }
 
-/// How many bytes a writer takes at each write, and from how many writes up to how many it fails.
+/// The greatest number of bytes that a writer accepts in each write, and a range of numbers of writes after which it fails.
 const WRITERS: &[(usize, u64, u64)] = &[
     (1, 4090, 4100),
     (7, 575, 600),
@@ -156,13 +157,13 @@ const WRITERS: &[(usize, u64, u64)] = &[
     (20000, 0, 6),
 ];
 
-/// How many pieces are put.
+/// The number of slices that are written to the output.
 const PIECES: u64 = 400;
 
-/// Their bytes.
+/// The bytes of these slices.
 static BYTES: [u8; 4096] = [7; 4096];
 
-/// How many bytes a piece has: up to 60, and one of some fifty 300.
+/// Returns the length of the slice with this number: about one slice in fifty has 300 bytes, and the others have at most 60.
 fn length_of(number: u64) -> usize {
     let mixed = number.wrapping_mul(2_654_435_761) >> 9;
     if mixed % 53 == 0 {
@@ -172,7 +173,7 @@ fn length_of(number: u64) -> usize {
     }
 }
 
-/// Puts so many of the pieces at a time, and hands all of them on.
+/// Writes the slices to the output, `together` of them as one slice, and then writes the complete buffer to the sink.
 fn put_together(output: &mut Output<'_, ShortWriter>, together: u64) -> Result<(), RunError>
     requires { 0 < together }
 {
@@ -187,14 +188,15 @@ fn put_together(output: &mut Output<'_, ShortWriter>, together: u64) -> Result<(
     output.hand_on()
 }
 
-/// How many bytes the writer takes of five of the pieces at a time.
+/// Returns how many bytes the writer accepts, if five slices at a time are written as one.
 fn taken_together(writer: ShortWriter) -> u64 {
     let mut writer = writer;
     let _end = put_together(&mut Output::new(&mut writer), 5);
     writer.taken
 }
 
-/// A plain output, by numbers alone: all that waits is written before each piece that does not fit behind it.
+/// A model of a simple output, which has only numbers of bytes. It writes the complete buffer before each slice that does not fit
+/// into the rest of the buffer.
 #[derive(Clone, Copy)]
 struct PlainOutput {
     writer: ShortWriter,
@@ -202,7 +204,7 @@ struct PlainOutput {
 }
 
 impl PlainOutput {
-    /// Puts a piece of so many bytes, or is `None` where a write failed.
+    /// Writes a slice of `count` bytes to the buffer. Returns `None` if a write failed.
     fn put(&mut self, count: usize) -> Option<()> {
         if count > BYTES.len().saturating_sub(self.waiting) {
             self.hand_on()?;
@@ -211,7 +213,7 @@ impl PlainOutput {
         Some(())
     }
 
-    /// Writes all that waits, or is `None` where a write failed.
+    /// Writes the complete buffer. Returns `None` if a write failed.
     fn hand_on(&mut self) -> Option<()> {
         for _ in 0..BYTES.len() {
             if self.waiting == 0 {
@@ -223,7 +225,7 @@ impl PlainOutput {
         Some(())
     }
 
-    /// Puts each of the pieces by itself, and hands all of them on.
+    /// Writes each slice on its own, and then the complete buffer.
     fn put_pieces(&mut self) -> Option<()> {
         for number in 0..PIECES {
             self.put(length_of(number))?;
@@ -232,14 +234,14 @@ impl PlainOutput {
     }
 }
 
-/// How many bytes the writer takes of the pieces, each put by itself into a plain output.
+/// Returns how many bytes the writer accepts, if each slice is written on its own to the simple output.
 fn taken_apart(writer: ShortWriter) -> u64 {
     let mut output = PlainOutput { writer, waiting: 0 };
     let _end = output.put_pieces();
     output.writer.taken
 }
 
-/// Puts pieces of 4,000, 200 and 3,900 bytes, and does not hand them on.
+/// Writes slices of 4,000, 200 and 3,900 bytes to the output. Does not write the rest of the buffer to the sink.
 fn put_pieces(output: &mut Output<'_, ShortWriter>) -> Result<(), RunError> {
     output.put([1; 4000].as_slice())?;
     output.put([2; 200].as_slice())?;
@@ -260,7 +262,7 @@ fn writes_are_full(rt: HostRuntime) -> Result<(), Fail> {
     Ok(())
 }
 
-/// A writer that takes a byte at each write, and keeps it.
+/// A writer that accepts one byte in each write, and keeps it.
 #[derive(Drop)]
 struct ByteWriter {
     bytes: Vec<u8>,
@@ -280,7 +282,8 @@ impl Write for ByteWriter {
     }
 }
 
-/// Puts pieces of seven bytes, as many as fill what waits several times over, and hands them on.
+/// Writes slices of seven bytes to the output, enough to fill the buffer several times. Then writes the complete buffer to the
+/// sink.
 fn put_sevens(output: &mut Output<'_, ByteWriter>) -> Result<(), RunError> {
     for _ in 0..SEVENS {
         output.put(b"a piece".as_slice())?;
@@ -288,7 +291,7 @@ fn put_sevens(output: &mut Output<'_, ByteWriter>) -> Result<(), RunError> {
     output.hand_on()
 }
 
-/// How many pieces of seven bytes are put.
+/// The number of slices of seven bytes.
 const SEVENS: usize = 2000;
 
 #[test]

@@ -1,11 +1,11 @@
-//! The order of lines by the instants of their texts.
+//! Tests the order of lines by the instants of their texts.
 
 use super::{DATE_TIMES, check_written};
 use ixdtf_checks::kind::{InstantKind, Kind};
 use ixdtf_checks::request::{Field, Task};
 use std::test::Fail;
 
-/// Lines of which some are too early, have no instant, or are refused for another reason.
+/// Lines. Some of them are too early, name no instant, or are refused for another reason.
 const LINES: &[u8] = b"2024-03-02T09:30:00Z\n\
 2024-03-02T10:00+01:00\n\
 2024-03-02T09:00:00.5Z[Europe/Paris]\n\
@@ -46,7 +46,7 @@ fn marks_the_field_that_goes_back(rt: HostRuntime) -> Result<(), Fail> {
     )
 }
 
-/// The kinds whose texts can name instants, and some of the others.
+/// The kinds whose texts can name instants, and some of the other kinds.
 const KINDS: &[(Kind, Option<InstantKind>)] = &[
     (Kind::DateTime, Some(InstantKind::DateTime)),
     (Kind::Rfc3339, Some(InstantKind::Rfc3339)),

@@ -1,4 +1,4 @@
-//! Lines that have no text, and bytes that do not belong to a line.
+//! Tests with lines that have no text, and with bytes that do not belong to a line.
 
 use super::{DATE_TIMES, check_written};
 use ixdtf_checks::request::{Field, Skips};
@@ -11,10 +11,10 @@ const NOTHING: Skips = Skips {
     comment: None,
 };
 
-/// Lines of which some are blank, and some begin with `#`.
+/// Lines. Some of them are blank, and some begin with `#`.
 const LINES: &[u8] = b"when\n# a comment\n\n \t \r\n2020-01-01\n2020-13-01\n #\n";
 
-/// The lines that are skipped, what is written about the others, and the number of lines that are refused.
+/// Which lines are skipped, the reports about the other lines, and the number of refused lines.
 #[rattlefmt::skip]
 const SKIPPED: &[(Skips, &str, u64)] = &[
     (Skips { header: true, blank: true, comment: Some(b'#') },
@@ -60,7 +60,7 @@ fn skips_no_other_line(rt: HostRuntime) -> Result<(), Fail> {
     )
 }
 
-/// Files with a byte order mark, and what is written about them.
+/// Files with a byte order mark, and the reports about them.
 const MARKED: &[(&[u8], &str)] = &[
     (b"\xEF\xBB\xBF2020-01-01\r\n2020-01-02\r\n", ""),
     (

@@ -1,4 +1,4 @@
-//! Worked lines.
+//! Tests with examples of lines and their reports.
 
 use super::{DATE_TIMES, check_written};
 use ixdtf::parsers::Profile;
@@ -62,7 +62,7 @@ const TEXTS: &[(Kind, &str)] = &[
     ),
 ];
 
-/// A text that is refused as one of the kind, under the profile, and what is written of it.
+/// Texts that are refused as texts of the kind under the profile, and their reports.
 #[rattlefmt::skip]
 const REFUSED: &[(Kind, Profile, &str, &str)] = &[
     (Kind::YearMonth, Profile::Crate, "2020", "f:1:5: Parsing ended abruptly while parsing digit\n2020\n    ^\n"),
@@ -73,7 +73,7 @@ const REFUSED: &[(Kind, Profile, &str, &str)] = &[
     (Kind::MonthDay, Profile::Strict, "11-00", "f:1:6: MonthDay was not valid.\n11-00\n     ^\n"),
 ];
 
-/// A check of the kind under the profile.
+/// Returns a request that checks texts of the kind under the profile.
 fn asked_of(kind: Kind, profile: Profile) -> Request<'static> {
     let mut request = DATE_TIMES;
     request.task = Task::Check(kind);
@@ -147,7 +147,7 @@ fn passes_over_sixteen_bytes(rt: HostRuntime) {
     assert_eq!(rt; stayed.left, 8);
 }
 
-/// A long name of a file, and the front of a report that has it.
+/// A long name of a file. `LONG_FRONT` is the beginning of a report with this name.
 const LONG_NAME: &str =
     "a-file-of-a-name-that-is-longer-than-the-room-of-many-a-report-and-goes-on-and-on-and-on-and-on";
 
@@ -170,7 +170,7 @@ fn reports_lines_of_files_with_long_names(rt: HostRuntime) -> Result<(), Fail> {
     )
 }
 
-/// Texts with characters outside printable ASCII, and what is written of them.
+/// Texts with characters outside printable ASCII, and their reports.
 #[rattlefmt::skip]
 const SHOWN: &[(&str, &str)] = &[
     ("2024-03-02\t08:48", "f:1:11: Unexpected character found after parsing was completed.\n2024-03-02.08:48\n          ^\n"),
@@ -250,7 +250,7 @@ fn writes_canonical_texts_of_each_kind(rt: HostRuntime) -> Result<(), Fail> {
     Ok(())
 }
 
-/// Texts with a space before what may be an offset, and what is written about them.
+/// Texts with a space before a possible offset, and their reports.
 const SPACED: &[(Kind, &str, &str)] = &[
     (
         Kind::DateTime,
@@ -295,7 +295,7 @@ fn shows_no_line_that_is_not_utf8(rt: HostRuntime) -> Result<(), Fail> {
         b"f:1:11: Unexpected character found after parsing was completed.\n",
         (1, 1),
     )?;
-    // Nor one that is plain as far as it would be shown.
+    // A line is not shown either if only the part that would be shown is ASCII.
     check_written(
         &rt,
         rt.alloc(),
@@ -306,7 +306,7 @@ fn shows_no_line_that_is_not_utf8(rt: HostRuntime) -> Result<(), Fail> {
     )
 }
 
-/// A line of so many bytes and a line that is refused are reported so.
+/// Asserts the reports of two lines: a line of `count` bytes, and a short line that is refused.
 fn check_long(rt: &impl Abort, alloc: Global, count: usize, reports: &[u8]) -> Result<(), Fail> {
     let mut input = Vec::new(alloc);
     for _ in 0..count {

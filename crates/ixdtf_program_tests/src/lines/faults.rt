@@ -1,4 +1,4 @@
-//! Readers and writers of few bytes at a time that fail.
+//! Tests with readers and writers that fail, and that read or write only few bytes at a time.
 ghost use Rattle.std.specs.Prelude.{◌≤◌};
 
 use super::{FIRST_ANSWER, LINES, STORED, Session, TWO_ANSWERS, TWO_LINES};
@@ -13,11 +13,11 @@ use std::test::Fail;
 #[derive(Drop)]
 struct FaultyReader<'a> {
     rest: &'a [u8],
-    /// The most bytes that one read returns.
+    /// The greatest number of bytes that one read returns.
     most: usize,
-    /// How many reads succeed before the one that fails.
+    /// The number of reads before the one that fails.
     good_reads: usize,
-    /// How many reads there were.
+    /// The number of reads so far.
     reads: usize,
 }
 
@@ -47,14 +47,14 @@ impl Read for FaultyReader<'_> {
     }
 }
 
-/// A writer that takes few bytes at a time, and fails once it is full.
+/// A writer that accepts few bytes at a time, and fails when it is full.
 #[derive(Drop)]
 struct FaultyWriter {
     bytes: [u8; 512],
     length: usize,
-    /// The most bytes that one write takes.
+    /// The greatest number of bytes that one write accepts.
     most: usize,
-    /// How many bytes it takes before it fails.
+    /// The number of bytes that the writer accepts before it fails.
     room: usize,
     takes_none_when_full: bool,
     flush_fails: bool,
@@ -104,8 +104,8 @@ impl Write for FaultyWriter {
     }
 }
 
-/// What a run on the two lines has written where the reader fails once, after so many reads. The run does not read
-/// again.
+/// Asserts which bytes a run on the two lines has written, if the reader fails once, after `good_reads` reads. The run must not
+/// read again.
 fn check_reader(rt: &impl Abort, most: usize, good_reads: usize, bytes: &[u8]) {
     let mut reader = FaultyReader::new(TWO_LINES, most, good_reads);
     let mut writer = FaultyWriter::new();
@@ -136,7 +136,8 @@ fn reads_no_more_after_a_read_that_fails(rt: HostRuntime) {
     assert_eq!(rt; writer.written(), b"".as_slice());
 }
 
-/// With one byte a read, a run that stops after so many reads has the answers to the lines that ended.
+/// Asserts that a run has written the answers to the lines that ended, if the read after `good_reads` reads fails. Each read
+/// returns one byte.
 fn check_fault(rt: &impl Abort, lines: &[u8], answers: &[u8], good_reads: usize) {
     let mut reader = FaultyReader::new(lines, 1, good_reads);
     let mut writer = FaultyWriter::new();
@@ -156,7 +157,7 @@ fn check_fault(rt: &impl Abort, lines: &[u8], answers: &[u8], good_reads: usize)
     assert!(rt; answers.starts_with(writer.written()));
 }
 
-/// The same, whichever read fails.
+/// Asserts the same as `check_fault` for each read that can fail.
 fn check_faults(rt: &impl Abort, lines: &[u8], answers: &[u8]) {
     for good_reads in 0..=lines.len() {
         check_fault(rt, lines, answers, good_reads);
@@ -172,7 +173,7 @@ fn answers_the_lines_before_each_fault(rt: HostRuntime) -> Result<(), Fail> {
     Ok(())
 }
 
-/// With one byte a read, a run to the end writes the answers.
+/// Asserts that a run writes the answers, if each read returns one byte and no read fails.
 fn check_bytes(rt: &impl Abort, lines: &[u8], answers: &[u8]) {
     let mut reader = FaultyReader::new(lines, 1, lines.len().saturating_add(1));
     let mut writer = FaultyWriter::new();
@@ -193,7 +194,7 @@ fn reads_to_the_end_byte_by_byte(rt: HostRuntime) -> Result<(), Fail> {
     Ok(())
 }
 
-/// What a run on the two lines leaves in the writer.
+/// Asserts the result of a run on the two lines, and the bytes that it has written.
 fn check_writer(
     rt: &impl Abort,
     mut writer: FaultyWriter,

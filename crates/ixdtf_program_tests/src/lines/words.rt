@@ -1,4 +1,4 @@
-//! Each word with texts and their answers.
+//! Tests each word with texts and their answers.
 
 use super::{check_answers, check_run};
 use std::alloc::Global;
@@ -212,7 +212,7 @@ fn answers_canonical_texts_of_parts(rt: HostRuntime) -> Result<(), Fail> {
     check_answers(&rt, rt.alloc(), CANONICAL_TEXTS_OF_PARTS)
 }
 
-// The seconds are those of the tests of the library (`instants`).
+// The seconds are the same as in the tests of the library (`instants`).
 #[rattlefmt::skip]
 const INSTANTS: &[(&str, &str)] = &[
     ("instant 2024-03-02T08:48:00.25Z", "ok seconds=1709369280 nanoseconds=250000000"),
@@ -230,8 +230,8 @@ fn answers_instants(rt: HostRuntime) -> Result<(), Fail> {
     check_answers(&rt, rt.alloc(), INSTANTS)
 }
 
-/// A line of 4,096 bytes, its text a first part, the byte again and again, and a last part, is answered by a canonical text
-/// with other such parts, and the byte between them as often, but at most so many times.
+/// Asserts the answer to a line of 4,096 bytes, which is the longest. Its text has a first part, a repeated byte, and a last part.
+/// So has the canonical text in the answer. It repeats the byte the same number of times, but at most `answer.1` times.
 fn check_longest(
     rt: &impl Abort,
     alloc: Global,
@@ -261,7 +261,8 @@ fn check_longest(
     check_run(rt, alloc, line.as_slice(), answered.as_slice())
 }
 
-// The parts of the longest texts, and of their answers. A fraction has at most 255 digits: in the last these 18, and 237 zeros.
+// The parts of the longest texts, and of their answers. A printed fraction has at most 255 digits: in the last row these are 18
+// digits and 237 zeros.
 #[rattlefmt::skip]
 const LONGEST: &[((&[u8], u8, &[u8]), (&[u8], usize, &[u8]))] = &[
     ((b"20200101[", b'a', b"]"), (b"2020-01-01[", 4096, b"]")),

@@ -1,4 +1,4 @@
-//! Brackets: zones, calendars and other pairs.
+//! Tests of brackets: zones, calendars and other annotations.
 
 use super::{check, check_parsed, long, minutes, morning, parts, shifted, short, timed};
 use ixdtf::ParseError;
@@ -7,7 +7,7 @@ use ixdtf::records::Sign::{self, Negative, Positive};
 use ixdtf::records::UtcOffsetRecordOrZ;
 use std::process::Abort;
 
-/// A text of a date and brackets: its date, its zone, by its `!` and its name, and its calendar.
+/// A text with a date and brackets, its date, its zone (whether it has a `!`, and its name), and its calendar.
 type Bracketed = (
     &'static str,
     (i32, u8, u8),
@@ -39,7 +39,7 @@ fn reads_names_in_brackets(rt: HostRuntime) {
     check_bracketed(&rt, NAMES_IN_BRACKETS);
 }
 
-// Offsets in a bracket, by its `!`, its sign, hours and minutes.
+// Offsets in a bracket: whether the bracket has a `!`, and the sign, hours and minutes of the offset.
 const OFFSETS_IN_BRACKETS: &[(&str, bool, Sign, u8, u8)] = &[
     ("2020-04-08[-05:00]", false, Negative, 5, 0),
     ("2020-04-08[!+0530]", true, Positive, 5, 30),
@@ -55,7 +55,8 @@ fn reads_offsets_in_brackets(rt: HostRuntime) {
     }
 }
 
-// A morning in New York by its `!`, with the hours of its offset, or of that of another place, or with `Z`.
+// Texts of a morning in New York: whether the zone has a `!`, and the sign and hours of the offset. The offset is `None` for `Z`,
+// and can be that of another zone.
 #[rattlefmt::skip]
 const MORNINGS_IN_NEW_YORK: &[(&str, bool, Option<(Sign, u8)>)] = &[
     ("2024-03-02T08:48:00-05:00[America/New_York]", false, Some((Negative, 5))),
@@ -91,7 +92,7 @@ const BYTES: &[(&[u8], ParseError)] = &[
     (b"\x80020-01-01", ParseError::DateYear),
 ];
 
-// A byte that is not ASCII is in no class.
+// Asserts that `parse` refuses bytes that are not ASCII with this error.
 fn check_bytes_refused(rt: &impl Abort, bytes: &'static [u8], error: ParseError) {
     let is_refused = IxdtfParser::from_utf8(bytes).parse() == Err(error);
     assert!(rt; is_refused, "at {bytes:?}");

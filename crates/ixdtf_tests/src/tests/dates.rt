@@ -1,11 +1,11 @@
-//! Dates.
+//! Tests of dates.
 
 use super::{check, check_parsed, dated};
 use ixdtf::encoding::Utf8;
 use ixdtf::parsers::IxdtfParser;
 use std::process::Abort;
 
-/// `IxdtfParser::parse` finds this year, month and day in the text, and nothing besides.
+/// Asserts that `IxdtfParser::parse` returns this year, month and day for each text, and no other part.
 fn check_dates(rt: &impl Abort, rows: &[(&'static str, i32, u8, u8)]) {
     for (text, year, month, day) in rows {
         check_parsed(rt, text, &Ok(dated(*year, *month, *day, None)));
@@ -39,7 +39,7 @@ fn reads_one_date_in_four_forms(rt: HostRuntime) {
     check_dates(&rt, ONE_DATE_IN_FOUR_FORMS);
 }
 
-// Whether the parser reads 1 January 2020.
+// Returns whether the parser returns 1 January 2020.
 fn reads_new_year(mut parser: IxdtfParser<'_, Utf8>) -> bool {
     parser.parse() == Ok(dated(2020, 1, 1, None))
 }

@@ -1,4 +1,4 @@
-//! The two encodings.
+//! Tests of the two encodings.
 
 use super::check;
 use super::wide::Wide;
@@ -7,7 +7,7 @@ use ixdtf::parsers::TimeZoneParser;
 use std::process::Abort;
 use std::test::Fail;
 
-// What `Debug` writes of a parser.
+// Texts, and what `Debug` writes for their parser.
 const SHOWN: &[(&str, &str)] = &[
     ("", "TimeZoneParser { cursor: \"\" }"),
     ("+01:00 ~", "TimeZoneParser { cursor: \"+01:00 ~\" }"),
@@ -63,7 +63,7 @@ fn slices_lie_within(rt: HostRuntime) {
     check_slice(&rt, 0, 4, None);
 }
 
-// Whether the key is that of calendars, in both widths.
+// Returns whether the key is that of calendars, for 8-bit and 16-bit text.
 fn is_of_calendars(key: &str) -> (bool, bool) {
     let wide = Wide::new(key);
     (

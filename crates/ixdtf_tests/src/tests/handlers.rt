@@ -5,7 +5,7 @@ use ixdtf::records::{Annotation, DateRecord, Sign, UtcOffsetRecordOrZ};
 use ixdtf::{ParseError, ParserResult};
 use std::test::Fail;
 
-// The result for a text where the calendar of the first reply is not of the source.
+// Returns the result for a text, if the reply to an annotation with the key `x` is a calendar that is not in the text.
 fn with_a_foreign_calendar(text: &'static str) -> ParserResult<Record> {
     let mut parser = IxdtfParser::from_str(text);
     parser.parse_with_annotation_handler(|annotation| {
@@ -29,7 +29,7 @@ fn takes_a_calendar_that_is_not_of_the_source(rt: HostRuntime) {
     check(&rt, text, with_a_foreign_calendar(text) == Ok(record));
 }
 
-/// What a handler saw.
+/// What a handler has seen so far.
 #[derive(Drop)]
 struct Seen {
     calls: u32,
@@ -37,13 +37,13 @@ struct Seen {
 }
 
 impl Seen {
-    // The result for a text with this as the handler.
+    // Returns the result for a text. The handler is `reply`.
     fn parse(&mut self, text: &'static str) -> ParserResult<Record> {
         let mut parser = IxdtfParser::from_str(text);
         parser.parse_with_annotation_handler(|annotation| self.reply(annotation))
     }
 
-    // Drops the answer to the universe, and returns any other annotation.
+    // Drops the annotation `answer-to-universe`, and returns any other annotation.
     fn reply<'a>(&mut self, annotation: Annotation<'a, Utf8>) -> Option<Annotation<'a, Utf8>> {
         self.calls = self.calls.saturating_add(1);
         if annotation.key != "answer-to-universe".as_bytes() {
@@ -70,7 +70,7 @@ fn passes_over_the_answer_to_the_universe(rt: HostRuntime) {
     check(&rt, "its calls", seen.second_is_known && seen.calls == 2);
 }
 
-// The result of a parser, and then its result where the handler drops all annotations.
+// Returns the result of a parser, and then the result of the same parser with a handler that drops all annotations.
 fn read_in_turn(text: &'static str) -> (ParserResult<Record>, ParserResult<Record>) {
     let mut parser = IxdtfParser::from_str(text);
     let first = parser.parse();
@@ -89,7 +89,7 @@ fn keeps_pairs_that_it_refused(rt: HostRuntime) {
     check(&rt, "the second call", is_read);
 }
 
-// The date of a text whose annotations are all dropped, as a result of the crate.
+// Returns the date of a text as a `ParserResult`. The handler drops all annotations.
 fn date_of(text: &'static str) -> ParserResult<Option<DateRecord>> {
     let mut parser = IxdtfParser::from_str(text);
     match parser.parse_with_annotation_handler(|_annotation| None) {
@@ -112,7 +112,7 @@ fn hands_an_error_on(rt: HostRuntime) -> Result<(), Fail> {
     Ok(())
 }
 
-// How many calls of the handler a text makes, whatever the result.
+// Returns how many times the handler is called for a text, whatever the result is.
 fn count_calls(text: &str) -> u32 {
     let mut parser = IxdtfParser::from_str(text);
     let mut calls = 0u32;

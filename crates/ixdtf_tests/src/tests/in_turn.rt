@@ -1,5 +1,5 @@
-//! Several calls with the parsers of one text: what a reader refuses is kept for the next call, and what it reads is gone. The
-//! whole text was read then, and a reader refuses it as it refuses the empty text.
+//! Tests of several calls with the parsers of one text. After an error, the next call reads the same text. After a success, the
+//! complete text is consumed. Then a reader refuses the rest like the empty text.
 
 use super::Reader::{
     self, Duration, IanaIdentifier, Identifier, MonthDay, Offset, Parse, Time, YearMonth,
@@ -57,7 +57,7 @@ fn leaves_what_it_refused_to_another_reader(rt: HostRuntime) {
 
 // ==== After a text was read ====
 
-// Whether the text is read, and then refused as the empty text is.
+// Returns whether the reader accepts the text, and then returns the same error as for the empty text.
 fn is_read_once(reader: Reader, text: &'static str, at_end: ParseError) -> bool {
     let mut parsers = Parsers::from_str(text);
     let is_read = parsers.refusal(reader) == None;

@@ -1,11 +1,12 @@
-//! Instants. The seconds are those of Python's `datetime`, and of a count year by year where it does not reach.
+//! Tests of instants. The expected seconds are those of Python's `datetime`. For years that `datetime` does not support, they were
+//! counted year by year.
 
 use super::{check, check_displayed};
 use ixdtf::Instant;
 use ixdtf::parsers::IxdtfParser;
 use std::test::Fail;
 
-// Texts of `parse`, with the seconds and the nanoseconds of their instants.
+// Texts that `parse` accepts, with the seconds and the nanoseconds of their instants.
 #[rattlefmt::skip]
 const SECONDS: &[(&str, i64, u32)] = &[
     ("1970-01-01T00:00:00Z", 0, 0),
@@ -29,31 +30,31 @@ const SECONDS: &[(&str, i64, u32)] = &[
     ("-000400-02-29T00:00:00Z", -74_784_902_400, 0),
     ("-999999-01-01T00:00:00Z", -31_619_087_596_800, 0),
     ("+999999-12-31T23:59:59Z", 31_494_784_780_799, 0),
-    // second 60 is second 59
+    // Second 60 counts as second 59.
     ("2016-12-31T23:59:60Z", 1_483_228_799, 0),
     ("2016-12-31T23:59:60.5Z", 1_483_228_799, 500_000_000),
-    // fractions: the first nine digits
+    // The nanoseconds are the first nine digits of a fraction.
     ("2024-03-02T08:48:00.25Z", 1_709_369_280, 250_000_000),
     ("2024-03-02T08:48:00.1234567899Z", 1_709_369_280, 123_456_789),
     ("1969-12-31T23:59:59.999999999Z", -1, 999_999_999),
-    // offsets
+    // These texts have offsets.
     ("2024-03-02T08:48:00+00:00", 1_709_369_280, 0),
     ("2024-03-02T08:48:00-00:00", 1_709_369_280, 0),
     ("2024-03-02T03:48:00-05:00", 1_709_369_280, 0),
     ("2024-03-02T14:18:00+05:30", 1_709_369_280, 0),
     ("2024-03-03T08:47:59+23:59:59", 1_709_369_280, 0),
-    // an offset with a fraction
+    // These offsets have a fraction.
     ("2024-03-02T08:48:00+00:00:00.25", 1_709_369_279, 750_000_000),
     ("2024-03-02T08:48:00.5-00:00:00.75", 1_709_369_281, 250_000_000),
     ("2024-03-02T08:48:00.25+00:00:00.25", 1_709_369_280, 0),
     ("1970-01-01T00:00:00+00:00:00.000000001", -1, 999_999_999),
     ("1970-01-01T00:00:00-00:00:00.0000000019", 0, 1),
-    // what stands in brackets does not count
+    // The brackets do not change the instant.
     ("2024-03-02T08:48:00Z[America/New_York]", 1_709_369_280, 0),
     ("2024-03-02T08:48:00Z[-05:00][u-ca=hebrew]", 1_709_369_280, 0),
 ];
 
-// The instant of a text.
+// Returns the instant of a text, if it has one.
 fn instant_of(text: &str) -> Option<Instant> {
     match IxdtfParser::from_str(text).parse() {
         Ok(record) => record.instant(),
@@ -99,20 +100,20 @@ fn the_earlier_instant_is_the_smaller_one(rt: HostRuntime) {
     check(&rt, "seconds", second < third);
 }
 
-// Seconds and nanoseconds, and the texts that `Display` writes of these instants.
+// Seconds and nanoseconds, and the texts that `Display` writes for these instants.
 #[rattlefmt::skip]
 const TEXTS: &[(i64, u32, &str)] = &[
     (0, 0, "1970-01-01T00:00:00Z"),
     (1_709_369_280, 250_000_000, "2024-03-02T08:48:00.25Z"),
     (-1, 999_999_999, "1969-12-31T23:59:59.999999999Z"),
     (951_825_600, 1, "2000-02-29T12:00:00.000000001Z"),
-    // other years than those from 0 to 9999
+    // These years are at the limits of the range from 0 to 9999, or outside it.
     (-62_167_219_200, 0, "0000-01-01T00:00:00Z"),
     (-62_167_219_201, 0, "-000001-12-31T23:59:59Z"),
     (253_402_300_799, 0, "9999-12-31T23:59:59Z"),
     (253_402_300_800, 0, "+010000-01-01T00:00:00Z"),
     (31_494_784_780_799, 0, "+999999-12-31T23:59:59Z"),
-    // instants that no record has
+    // No record has these instants.
     (31_494_784_780_800, 0, "+000001000000-01-01T00:00:00Z"),
     (i64::MAX, 0, "+292277026596-12-04T15:30:07Z"),
     (0, 1_500_000_000, "1970-01-01T00:00:01.5Z"),

@@ -1,4 +1,5 @@
-//! Texts under the five readers of dates, times and durations. At most one of them reads a text; its call is the last one.
+//! Tests of texts with the five readers of dates, times and durations. At most one of them accepts a text. The test calls this
+//! reader last.
 
 use super::Reader::{self, Duration, MonthDay, Parse, Time, YearMonth};
 use super::durations::{Units, lasts, timed as lasting};
@@ -9,7 +10,7 @@ use ixdtf::ParseError::{
 };
 use ixdtf::records::Sign;
 
-/// A text, its reader, the date or the hour that this finds, and the errors of the other readers.
+/// A text, the reader that accepts it, the date or the hour that this reader returns, and the errors of the other readers.
 type OfOne = (
     &'static str,
     Reader,
@@ -24,7 +25,7 @@ const OF_ONE_LANGUAGE: &[OfOne] = &[
         &[(YearMonth, InvalidEnd), (MonthDay, InvalidMonthRange), (Time, InvalidEnd), (Duration, DurationDisgnator)]),
     ("2021-12", YearMonth, Some((2021, 12, 1)), None,
         &[(Parse, DateSeparator), (MonthDay, InvalidMonthRange), (Time, AmbiguousTimeYearMonth), (Duration, DurationDisgnator)]),
-    // a year that begins as a month-day
+    // This year begins like a month-day.
     ("1208-10", YearMonth, Some((1208, 10, 1)), None,
         &[(Parse, DateSeparator), (MonthDay, InvalidEnd), (Time, AmbiguousTimeMonthDay), (Duration, DurationDisgnator)]),
     ("11-07", MonthDay, Some((0, 11, 7)), None,

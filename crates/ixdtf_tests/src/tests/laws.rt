@@ -26,7 +26,7 @@ use ixdtf::records::{
 };
 use ixdtf::{ParseError, ParserResult};
 
-// What a caller concludes from the law: for a date-time of RFC 3339 there is no error.
+// A caller concludes from the law: the reader returns no error for a date-time of RFC 3339.
 fn read_date_time<'a>(bytes: &'a [u8]) -> ParserResult<IxdtfParseRecord<'a, Utf8>>
     ensures { IsRfcDateTime (map byte_letter bytes.now) → IsOk result }
 {
@@ -34,7 +34,7 @@ fn read_date_time<'a>(bytes: &'a [u8]) -> ParserResult<IxdtfParseRecord<'a, Utf8
     IxdtfParser::from_utf8(bytes).parse()
 }
 
-// What a caller concludes from the law: for a name there is no error.
+// A caller concludes from the law: the reader of zones returns no error for a name.
 fn read_named_zone<'a>(bytes: &'a [u8]) -> Option<TimeZoneRecord<'a, Utf8>> {
     match TimeZoneParser::from_utf8(bytes).parse_iana_identifier() {
         Ok(_name) => {
@@ -48,8 +48,8 @@ fn read_named_zone<'a>(bytes: &'a [u8]) -> Option<TimeZoneRecord<'a, Utf8>> {
     }
 }
 
-// What a caller concludes from the law: where a row of the fault table fits the bytes, with no annotation before it,
-// its error is returned.
+// A caller concludes from the law: if a row of the fault table fits the bytes, and no annotation comes before it, the reader
+// returns its error.
 fn read_by_the_table<'a>(bytes: &'a [u8]) -> ParserResult<IxdtfParseRecord<'a, Utf8>>
     ensures { (row : Row) → Fits reader_parse row [] (map byte_letter bytes.now) →
         returned (λ it. it) result ≡ Err row.error }
@@ -58,8 +58,7 @@ fn read_by_the_table<'a>(bytes: &'a [u8]) -> ParserResult<IxdtfParseRecord<'a, U
     IxdtfParser::from_utf8(bytes).parse()
 }
 
-// What a caller concludes from the law: with a handler that drops every annotation, a text is read twice with the same
-// result.
+// A caller concludes from the law: with a handler that drops every annotation, two calls for a text have the same result.
 fn reads_twice<'a>(
     bytes: &'a [u8],
 ) -> (
@@ -77,7 +76,7 @@ fn reads_twice<'a>(
     (found, again)
 }
 
-// What a caller concludes from the law: where bytes are an offset and a zone, both have the same hours.
+// A caller concludes from the law: if bytes are an offset and a zone, both have the same hours.
 fn hours_of_both(bytes: &[u8]) -> Option<(u8, u8)>
     ensures { IfSome result (λ hours. hours.0 ≡ hours.1) }
 {
@@ -96,8 +95,8 @@ fn hours_of_both(bytes: &[u8]) -> Option<(u8, u8)>
     }
 }
 
-// What a caller concludes from the laws: for a date without hyphens and for the same date with both, each before the
-// same bytes, the reader returns the same record or the same error.
+// A caller concludes from the laws: the reader returns the same record or the same error for a date without hyphens and for the
+// same date with both hyphens. The same bytes follow both dates.
 fn read_both_forms<'a>(
     plain: &'a [u8],
     hyphened: &'a [u8],
@@ -119,7 +118,7 @@ fn read_both_forms<'a>(
     (found, same)
 }
 
-// What a caller concludes from the laws: where a hyphen stands before the month alone, the error is `DateSeparator`.
+// A caller concludes from the laws: if there is a hyphen only before the month, the error is `DateSeparator`.
 fn refuses_one_hyphen<'a>(bytes: &'a [u8]) -> ParserResult<IxdtfParseRecord<'a, Utf8>>
     ensures { (years months days rest : Text) → IsDateParts years months days →
         map byte_letter bytes.now ≡ years ++ (Plain 45 ∷ (months ++ (days ++ rest))) →
@@ -130,7 +129,7 @@ fn refuses_one_hyphen<'a>(bytes: &'a [u8]) -> ParserResult<IxdtfParseRecord<'a, 
     IxdtfParser::from_utf8(bytes).parse()
 }
 
-// What a caller concludes from the law.
+// A caller concludes from the law which values the defaults have.
 fn defaults() -> (DateRecord, TimeRecord, DateDurationRecord)
     ensures date { result.0 ≡ record { year = pos 0; month = 0; day = 0 } }
     ensures time { result.1 ≡ record { hour = 0; minute = 0; second = 0; fraction = None } }
@@ -144,7 +143,7 @@ fn defaults() -> (DateRecord, TimeRecord, DateDurationRecord)
     )
 }
 
-// What a caller concludes from the law: bytes that are a date, or a date and a time, are not a year-month.
+// A caller concludes from the law: bytes that are a date, or a date and a time, are not a year-month.
 fn is_read_by_one(bytes: &[u8]) -> bool {
     match IxdtfParser::from_utf8(bytes).parse() {
         Ok(_date) => {
@@ -158,7 +157,7 @@ fn is_read_by_one(bytes: &[u8]) -> bool {
     }
 }
 
-// What a caller concludes from the laws, in every encoding: a zone is equal to its clone.
+// A caller concludes from the laws, in every encoding: a zone is equal to its clone.
 fn equals_its_clone<'a, T: EncodingType>(zone: &TimeZoneAnnotation<'a, T>) -> bool
     ensures { IsTrue result }
 {
@@ -170,7 +169,7 @@ fn equals_its_clone<'a, T: EncodingType>(zone: &TimeZoneAnnotation<'a, T>) -> bo
     }
 }
 
-// What a caller concludes from the laws: a duration is equal to its clone.
+// A caller concludes from the laws: a duration is equal to its clone.
 fn duration_equals_its_clone(duration: &DurationParseRecord) -> bool
     ensures { IsTrue result }
 {
@@ -182,7 +181,7 @@ fn duration_equals_its_clone(duration: &DurationParseRecord) -> bool
     }
 }
 
-// What a caller concludes from the law: where there are exact nanoseconds, nothing was dropped.
+// A caller concludes from the law: if there are exact nanoseconds, no digit was dropped.
 fn drops_nothing(fraction: &Fraction) -> bool
     ensures { IsTrue result }
 {
@@ -193,8 +192,8 @@ fn drops_nothing(fraction: &Fraction) -> bool
     }
 }
 
-// What a caller concludes from the law: for the same numbers from 1 to 126 the reader returns the same offset or the
-// same error in both widths.
+// A caller concludes from the law: for the same numbers from 1 to 126, the reader returns the same offset or the same error for
+// 8-bit and 16-bit text.
 fn gives_one_offset(bytes: &[u8], units: &[u16]) -> bool
     ensures { All (λ n. IsTrue (is_shared n)) bytes.now → units.now ≡ bytes.now → IsTrue result }
 {
@@ -213,7 +212,7 @@ fn gives_one_offset(bytes: &[u8], units: &[u16]) -> bool
     }
 }
 
-// What a caller concludes from the law: for the same numbers from 1 to 126 the error has the same place in both widths.
+// A caller concludes from the law: for the same numbers from 1 to 126, the error has the same position in 8-bit and 16-bit text.
 fn places_of_both(bytes: &[u8], units: &[u16]) -> Option<(usize, usize)>
     ensures { All (λ n. IsTrue (is_shared n)) bytes.now → units.now ≡ bytes.now →
         IfSome result (λ places. places.0 ≡ places.1) }
@@ -302,7 +301,7 @@ fn reads_offsets_of_both_readers(rt: HostRuntime) {
     check(&rt, "-05:30:15", hours_of_both(b"-05:30:15") == None);
 }
 
-// Whether both forms of a date are read with the same result, or both are refused with this error.
+// Returns whether both forms of a date have the same result. If `error` is an error, it is this result.
 fn reads_forms_alike(plain: &[u8], hyphened: &[u8], error: Option<ParseError>) -> bool {
     let (found, same) = read_both_forms(plain, hyphened);
     let as_wanted = match &found {
@@ -338,7 +337,7 @@ fn defaults_are_zero_in_each_field(rt: HostRuntime) {
     check(&rt, "a duration", is_zero);
 }
 
-// The result for a text where the handler drops every annotation.
+// Returns the result for a text, with a handler that drops every annotation.
 fn unanswered(text: &'static str) -> ParserResult<Record> {
     let mut parser = IxdtfParser::from_str(text);
     parse_unanswered(&mut parser, |_annotation| None)

@@ -1,4 +1,4 @@
-//! Handlers that listen, and what is asked of readers with them.
+//! Helpers for tests with handlers: a handler that records its calls, and assertions about readers with it.
 
 use super::wide::Wide;
 use super::widths::same_record;
@@ -10,30 +10,31 @@ use ixdtf::records::{Annotation, IxdtfParseRecord};
 use ixdtf::{LocatedError, ParserResult};
 use std::process::Abort;
 
-/// What a handler replies.
+/// The replies of a handler.
 #[derive(Clone, Copy)]
 pub(super) enum Kind {
-    /// The annotation.
+    /// The reply is the annotation.
     HandsBack,
-    /// None.
+    /// The reply is `None`.
     RepliesNone,
-    /// The annotation made critical.
+    /// The reply is the annotation, made critical.
     MakesCritical,
-    /// The annotation with its flag turned.
+    /// The reply is the annotation, with its critical flag inverted.
     TurnsCritical,
-    /// First the calendar `a`, then the calendar `b` with the annotation's flag, then none, and later the annotation.
+    /// The first reply is the calendar `a`, the second the calendar `b` with the critical flag of the annotation, and the third
+    /// `None`. Every later reply is the annotation.
     RepliesAnother,
 }
 
-/// Code units that are not of a source, for replies.
+/// Code units for replies that are not in the text.
 pub(super) trait Foreign: EncodingType {
-    /// `u-ca`.
+    /// Returns `u-ca`.
     fn key() -> &'static [Self::CodeUnit];
 
-    /// `a`.
+    /// Returns `a`.
     fn first() -> &'static [Self::CodeUnit];
 
-    /// `b`.
+    /// Returns `b`.
     fn second() -> &'static [Self::CodeUnit];
 }
 
@@ -65,7 +66,7 @@ impl Foreign for Utf16 {
     }
 }
 
-// What the handler replies at a call, after so many others.
+// Returns the reply of the handler at a call, after `before` other calls.
 fn reply<'a, T: Foreign + 'static>(
     kind: Kind,
     before: usize,
@@ -101,7 +102,7 @@ fn reply<'a, T: Foreign + 'static>(
     }
 }
 
-/// A handler that writes down the annotations that it is called with, as `[key=value]` and `[!key=value]`.
+/// A handler that records the annotations of its calls, as `[key=value]` and `[!key=value]`.
 #[derive(Drop)]
 struct Listener {
     kind: Kind,
@@ -153,7 +154,7 @@ impl Listener {
         }
     }
 
-    // Whether it had these calls, in this order, and no more.
+    // Returns whether the handler had exactly these calls, in this order.
     fn has_heard(&self, calls: &'static str) -> bool {
         self.heard.get(..self.length) == Some(calls.as_bytes())
     }
@@ -172,7 +173,7 @@ pub(super) enum Form {
     Time,
 }
 
-// What the reader returns with the listener as its handler.
+// Returns the result of the reader. The listener is its handler.
 fn heard<'a, T: Foreign + 'static>(
     parser: &mut IxdtfParser<'a, T>,
     form: Form,
@@ -187,7 +188,7 @@ fn heard<'a, T: Foreign + 'static>(
     }
 }
 
-// The same of the located form of the reader.
+// Returns the result of the `*_located` variant of the reader. The listener is its handler.
 fn heard_located<'a, T: Foreign + 'static>(
     parser: &mut IxdtfParser<'a, T>,
     form: Form,
@@ -202,12 +203,12 @@ fn heard_located<'a, T: Foreign + 'static>(
     }
 }
 
-/// A reader with a handler, what this replies, a text, and the calls that the text makes, in order.
+/// A reader with a handler, the replies of the handler, a text, and the calls of the handler for this text, in order.
 pub(super) type Asked = (Form, Kind, &'static str, &'static str);
 
 // ==== Texts that are refused ====
 
-/// The error of the reader, where it refuses after the calls and no more.
+/// Returns the error of the reader. Returns `None` if it accepts the text, or if the handler had other calls.
 pub(super) fn refusal<'a, T: Foreign + 'static>(
     parser: &mut IxdtfParser<'a, T>,
     (form, kind, _text, calls): Asked,
@@ -219,7 +220,7 @@ pub(super) fn refusal<'a, T: Foreign + 'static>(
     }
 }
 
-// Whether the reader refuses with this error, and its located form, which is called next, with the error at this place.
+// Returns whether the reader returns this error, and then its `*_located` variant returns this error at this position.
 fn refuses_at<'a, T: Foreign + 'static>(
     parser: &mut IxdtfParser<'a, T>,
     asked: Asked,
@@ -237,10 +238,10 @@ fn refuses_at<'a, T: Foreign + 'static>(
     }
 }
 
-/// What is asked, the error, and its place.
+/// A reader with a handler and a text, the error, and its position.
 pub(super) type RefusedReply = (Asked, ParseError, usize);
 
-// The text is refused at this place with the first error, and in 16-bit code units with the second.
+// Asserts that the text is refused at this position: with the first error for 8-bit text, and with the second for 16-bit text.
 fn check_refused_reply(
     rt: &impl Abort,
     asked: Asked,
@@ -256,14 +257,15 @@ fn check_refused_reply(
     assert!(rt; is_refused, "at {text} in 16-bit units");
 }
 
-/// Each text is refused with its error at its place, in both widths.
+/// Asserts that each text is refused with its error at its position, for 8-bit and 16-bit text.
 pub(super) fn check_refused_replies(rt: &impl Abort, rows: &[RefusedReply]) {
     for (asked, error, at) in rows {
         check_refused_reply(rt, *asked, (*error, *error), *at);
     }
 }
 
-/// Each text is refused at the place of a bad 16-bit code unit: for that unit, and as 8-bit code units with its error.
+/// Asserts that each text is refused at a bad 16-bit code unit. For 16-bit text, the error is `NonAsciiCodePoint`. For 8-bit text,
+/// it is the error of the row, at the same position.
 pub(super) fn check_no_letter_replies(rt: &impl Abort, rows: &[RefusedReply]) {
     for (asked, error, at) in rows {
         check_refused_reply(rt, *asked, (*error, NonAsciiCodePoint), *at);
@@ -272,7 +274,7 @@ pub(super) fn check_no_letter_replies(rt: &impl Abort, rows: &[RefusedReply]) {
 
 // ==== Texts that are read ====
 
-/// What the reader, or its located form, reads after the calls and no more.
+/// Returns the record of the reader, or of its `*_located` variant, if the handler had exactly the given calls.
 pub(super) fn reads<'a, T: Foreign + 'static>(
     mut parser: IxdtfParser<'a, T>,
     (form, kind, _text, calls): Asked,
@@ -306,7 +308,8 @@ fn is_wide_record(found: &Option<IxdtfParseRecord<'_, Utf16>>, wanted: &Record) 
     }
 }
 
-/// The record, passed as a reader returns it, is read of the text, by each form of the reader, in both widths.
+/// Asserts that each variant of the reader returns this record for the text, for 8-bit and 16-bit text. The record is passed as a
+/// result of a reader.
 pub(super) fn check_read(rt: &impl Abort, asked: Asked, wanted: &ParserResult<Record>) {
     let (_form, _kind, text, _calls) = asked;
     let Ok(wanted) = wanted else {
@@ -327,7 +330,7 @@ pub(super) fn check_read(rt: &impl Abort, asked: Asked, wanted: &ParserResult<Re
     );
 }
 
-/// What a text has before its brackets: a date, and the hour of a time.
+/// The core of a text: a date, and the hour of a time.
 type Core = (Option<(i32, u8, u8)>, Option<u8>);
 
 pub(super) const NEW_YEAR: Core = (Some((2020, 1, 1)), None);
@@ -340,7 +343,8 @@ pub(super) const NOVEMBER_7: Core = (Some((0, 11, 7)), None);
 
 pub(super) const NOON: Core = (None, Some(12));
 
-/// What is asked, and what is read: what stands before the brackets, a zone by its `!` and its name, and a calendar.
+/// A reader with a handler and a text, and the parts of the record: the core, the zone (whether it has a `!`, and its name), and
+/// the calendar.
 pub(super) type Heeded = (
     Asked,
     Core,
@@ -348,7 +352,7 @@ pub(super) type Heeded = (
     Option<&'static str>,
 );
 
-/// Each text has its parts with its handler, after its calls and no more.
+/// Asserts that each text has these parts with its handler, and that the handler had exactly these calls.
 pub(super) fn check_heeded(rt: &impl Abort, rows: &[Heeded]) {
     for (asked, (date, hour), zone, calendar) in rows {
         let time = match *hour {
@@ -362,7 +366,7 @@ pub(super) fn check_heeded(rt: &impl Abort, rows: &[Heeded]) {
 
 // ==== Texts that are read once ====
 
-// Whether the text is read, and refused then as the empty text is, with no call of the handler.
+// Returns whether the reader accepts the text, and then returns this error without a call of the handler.
 fn is_read_once(form: Form, text: &'static str, at_end: ParseError) -> bool {
     let mut parser = IxdtfParser::from_str(text);
     let is_read = heard(&mut parser, form, &mut Listener::new(Kind::HandsBack)).is_ok();
@@ -371,13 +375,13 @@ fn is_read_once(form: Form, text: &'static str, at_end: ParseError) -> bool {
     is_read && is_at_its_end && more_calls.has_heard("")
 }
 
-// Whether the reader refuses the empty text with this error.
+// Returns whether the reader returns this error for the empty text.
 fn refuses_nothing(form: Form, at_end: ParseError) -> bool {
     let mut listener = Listener::new(Kind::HandsBack);
     heard(&mut IxdtfParser::from_str(""), form, &mut listener) == Err(at_end)
 }
 
-/// Each text is read, and the parser refuses then as it refuses the empty text, with no call of the handler.
+/// Asserts that each text is accepted. The next call returns the same error as for the empty text, without a call of the handler.
 pub(super) fn check_read_once(rt: &impl Abort, rows: &[(Form, &'static str, ParseError)]) {
     for (form, text, at_end) in rows {
         check(rt, text, is_read_once(*form, text, *at_end));

@@ -1,4 +1,4 @@
-//! The texts of errors with their places, and of texts with a mark under the place.
+//! Tests of the texts of errors with their positions, and of texts with a mark under the position.
 
 ghost use Rattle.std.specs.Prelude.{◌≡◌, IfOk};
 ghost use Rattle.std.specs.String.{string_bytes};
@@ -51,7 +51,7 @@ fn gives_its_error(rt: HostRuntime) {
     check(&rt, "its error", error == InvalidMonthRange);
 }
 
-// The two lines for a text and a place in it.
+// Returns the two lines for a text and a position in it.
 fn pointed(alloc: Global, text: &str, at: usize) -> Result<String, AllocError>
     ensures { IfOk result (λ lines. string_bytes lines ≡ pointed_text text.now at) }
 {
@@ -63,7 +63,7 @@ fn pointed(alloc: Global, text: &str, at: usize) -> Result<String, AllocError>
     format!(in alloc; "{lines}")
 }
 
-// The text has the line, and the place that many spaces before its mark.
+// Asserts that the text and the mark under the position have these lines.
 fn check_pointed(
     rt: &impl Abort,
     alloc: Global,
@@ -83,20 +83,20 @@ const MARKS: &[(&str, usize, &str)] = &[
     ("2020-", 1000, "2020-\n     ^"),
     ("", 0, "\n^"),
     ("", 1, "\n^"),
-    // columns are counted by characters
+    // Columns are counted in characters.
     ("\u{e9}1\u{1f600}2", 2, "\u{e9}1\u{1f600}2\n ^"),
     ("\u{e9}1\u{1f600}2", 7, "\u{e9}1\u{1f600}2\n   ^"),
     ("\u{e9}1\u{1f600}2", 8, "\u{e9}1\u{1f600}2\n    ^"),
-    // places inside a character
+    // These positions are inside a character.
     ("\u{e9}1\u{1f600}2", 1, "\u{e9}1\u{1f600}2\n^"),
     ("\u{e9}1\u{1f600}2", 6, "\u{e9}1\u{1f600}2\n  ^"),
-    // controls are shown as dots
+    // Control characters are shown as dots.
     ("2020\n-01", 4, "2020.-01\n    ^"),
     ("\t\0\r\u{7f}x", 4, "....x\n    ^"),
     ("\u{85}\u{a0}", 2, ".\u{a0}\n ^"),
 ];
 
-// The texts have the lines, each with a mark under its place.
+// Asserts the lines of each text, with a mark under its position.
 fn check_marks(
     rt: &impl Abort,
     alloc: Global,
@@ -113,7 +113,7 @@ fn marks_the_place(rt: HostRuntime) -> Result<(), Fail> {
     check_marks(&rt, rt.alloc(), MARKS)
 }
 
-// Thirty times the ten digits.
+// Returns the ten digits, thirty times.
 fn long_text(alloc: Global) -> Result<String, AllocError> {
     let mut text = String::new(alloc);
     for _ in 0..30 {
@@ -149,7 +149,7 @@ fn cuts_the_front_of_a_text(rt: HostRuntime) -> Result<(), Fail> {
     check_marks(&rt, rt.alloc(), OF_A_CUT_FRONT)
 }
 
-// The most characters that are written before the place 48 and from it on.
+// The greatest number of characters that are written: 48 before the position and 24 from it on.
 const FULL: &str = "000000000011111111112222222222333333333344444444555555555566666666667777";
 
 #[rattlefmt::skip]

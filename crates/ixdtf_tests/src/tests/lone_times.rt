@@ -1,4 +1,4 @@
-//! Times that stand alone.
+//! Tests of times without a date.
 
 use super::{Found, Reader, alone, check_found, minutes, parts, short, timed};
 use ixdtf::records::{Sign, TimeZoneAnnotation, TimeZoneRecord, UtcOffsetRecordOrZ};
@@ -45,7 +45,7 @@ fn check_west(rt: &impl Abort, rows: &[(&'static str, (u8, u8, u8), u8)]) {
     }
 }
 
-// The sign of an offset stands where the hyphen of a date would.
+// The sign of the offset is at the position at which a date would have a hyphen.
 const OFFSETS_AFTER_TIMES_ALONE: &[(&str, (u8, u8, u8), u8)] = &[
     ("13-14", (13, 0, 0), 14),
     ("2021-13", (20, 21, 0), 13),

@@ -1,4 +1,4 @@
-//! Year-months and month-days.
+//! Tests of year-months and month-days.
 
 use super::{Found, Reader, check_found, dated, minutes, shifted};
 use ixdtf::records::Sign;

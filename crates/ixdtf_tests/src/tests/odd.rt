@@ -1,4 +1,4 @@
-//! Handlers with odd replies.
+//! Tests of handlers with unusual replies.
 
 use super::{Record, check, parts};
 use ixdtf::encoding::Utf8;
@@ -7,14 +7,14 @@ use ixdtf::records::Annotation;
 use ixdtf::{ParseError, ParserResult};
 use std::process::Abort;
 
-/// What a handler replies in the place of an annotation. None of it is of the source.
+/// The reply of a handler instead of an annotation. Nothing in the reply comes from the text.
 #[derive(Clone, Copy)]
 enum Odd {
-    /// The calendar `foreign`.
+    /// Each reply is the calendar `foreign`.
     Calendar,
-    /// First the calendar `a`, made critical, and later the calendar `b`.
+    /// The first reply is the critical calendar `a`, and each later one is the calendar `b`.
     AnotherCalendar,
-    /// An empty key, made critical.
+    /// Each reply is critical, and has an empty key and an empty value.
     EmptyKey,
 }
 
@@ -43,7 +43,7 @@ impl Replier {
     }
 }
 
-// The result for a text with two annotations and such a handler, and how many calls were made.
+// Returns the result for a text with two annotations, and the number of calls of the handler.
 fn replied(odd: Odd) -> (ParserResult<Record>, usize) {
     let mut replier = Replier { odd, calls: 0 };
     let mut parser = IxdtfParser::from_str("2020-01-01[x=1][x=2]");
@@ -51,7 +51,7 @@ fn replied(odd: Odd) -> (ParserResult<Record>, usize) {
     (found, replier.calls)
 }
 
-// For a text with two annotations and such a handler this is the result, after so many calls.
+// Asserts the result for a text with two annotations, and the number of calls of the handler.
 fn check_replied(rt: &impl Abort, odd: Odd, wanted: &ParserResult<Record>, wanted_calls: usize) {
     let (found, calls) = replied(odd);
     check(rt, "what a text gives", found == *wanted);

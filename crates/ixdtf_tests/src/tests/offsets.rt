@@ -1,4 +1,4 @@
-//! Offsets alone, and after a time.
+//! Tests of offsets, on their own and after a time.
 
 use super::Nanoseconds::Exact;
 use super::{
@@ -14,10 +14,10 @@ fn check_offset(rt: &impl Abort, text: &'static str, offset: UtcOffsetRecord) {
     check_found(rt, Reader::Offset, text, &Ok(Found::Offset(offset)));
 }
 
-/// A text, and an offset by its sign, hours and minutes.
+/// A text, and the sign, hours and minutes of its offset.
 pub(super) type Short = (&'static str, Sign, u8, u8);
 
-// Offsets by their sign, hours, minutes and seconds, where they have some.
+// Texts, and the sign, hours, minutes and seconds of their offsets. The seconds are `None` if the offset has none.
 const OFFSETS: &[(&str, Sign, u8, u8, Option<u8>)] = &[
     ("+05", Positive, 5, 0, None),
     ("-0530", Negative, 5, 30, None),
@@ -34,7 +34,7 @@ fn reads_offsets(rt: HostRuntime) {
     }
 }
 
-// How many seconds local time is ahead of UTC at an offset.
+// Offsets, and how many seconds the local time is ahead of UTC.
 const SECONDS_AHEAD: &[(&str, i32)] = &[
     ("+05", 5 * 60 * 60),
     ("-05:30", -(5 * 60 + 30) * 60),
@@ -56,7 +56,7 @@ fn offsets_are_seconds(rt: HostRuntime) {
     }
 }
 
-// Half a minute, five hours to the west, with a fraction of these nanoseconds.
+// Texts of the offset -05:00:30 with a fraction, and the nanoseconds of the fraction.
 const OFFSETS_WITH_FRACTIONS: &[(&str, u32)] = &[
     ("-050030,25", 250_000_000),
     ("-05:00:30.5", 500_000_000),

@@ -1,4 +1,4 @@
-//! Durations printed as their canonical texts, and these read back.
+//! Tests of durations: they are printed as canonical texts, and these texts are read back.
 
 use super::wide::Wide;
 use super::{check, check_displayed};
@@ -12,14 +12,15 @@ use std::alloc::Global;
 use std::process::Abort;
 use std::test::Fail;
 
-/// Bytes that are not printed to.
+/// Bytes to which nothing was printed.
 const UNTOUCHED: [u8; 512] = [7; 512];
 
 fn is_untouched(bytes: &[u8]) -> bool {
     bytes.iter().all(|byte| *byte == 7)
 }
 
-/// The duration is printed as these bytes into as many bytes, and not into one less.
+/// Asserts that the duration is printed as these bytes if the slice has exactly their length. In a slice with one byte less, it is
+/// not printed.
 fn check_canonical(rt: &impl Abort, duration: &DurationParseRecord, canonical: &[u8]) {
     let mut out = UNTOUCHED;
     let count = canonical.len().min(512);
@@ -31,7 +32,7 @@ fn check_canonical(rt: &impl Abort, duration: &DurationParseRecord, canonical: &
     check_too_short(rt, duration, count.saturating_sub(1));
 }
 
-/// The duration is not printed into so many bytes, and these are unchanged.
+/// Asserts that the duration is not printed to a slice of `count` bytes, and that the bytes are unchanged.
 fn check_too_short(rt: &impl Abort, duration: &DurationParseRecord, count: usize) {
     let mut out = UNTOUCHED;
     let short = print_duration(duration, &mut out[..count.min(512)]);
@@ -39,7 +40,7 @@ fn check_too_short(rt: &impl Abort, duration: &DurationParseRecord, count: usize
     check(rt, "its bytes", is_untouched(&out));
 }
 
-/// It is printed as the same bytes where there is more room, and the bytes behind them are unchanged.
+/// Asserts that the duration is printed as the same bytes to a longer slice, and that the bytes after them are unchanged.
 fn check_with_room(rt: &impl Abort, duration: &DurationParseRecord, canonical: &[u8]) {
     let mut out = UNTOUCHED;
     match print_duration(duration, &mut out) {
@@ -51,7 +52,7 @@ fn check_with_room(rt: &impl Abort, duration: &DurationParseRecord, canonical: &
     }
 }
 
-/// Whether the bytes are read as the duration, under the profile.
+/// Returns whether the reader returns the duration for the bytes, under the profile.
 fn is_read_under(bytes: &[u8], profile: Profile, duration: &DurationParseRecord) -> bool {
     match str::from_utf8(bytes) {
         Ok(text) => {
@@ -64,13 +65,13 @@ fn is_read_under(bytes: &[u8], profile: Profile, duration: &DurationParseRecord)
     }
 }
 
-/// Whether the bytes are read as the duration, as 16-bit code units.
+/// Returns whether the reader returns the duration for the bytes as 16-bit text.
 fn is_read_wide(bytes: &[u8], duration: &DurationParseRecord) -> bool {
     let wide = Wide::of_bytes(bytes);
     IsoDurationParser::<Utf16>::new(wide.units()).parse() == Ok(*duration)
 }
 
-/// It is printed as 16-bit code units too, and read back from these.
+/// Asserts that the duration is printed as 16-bit text too, and read back from it.
 fn check_wide(rt: &impl Abort, duration: &DurationParseRecord, canonical: &[u8]) {
     let mut out = [7; 512];
     let short = print_duration_utf16(duration, &mut out[..1]);
@@ -90,7 +91,7 @@ fn check_wide(rt: &impl Abort, duration: &DurationParseRecord, canonical: &[u8])
     }
 }
 
-/// The duration of the text is printed so, and read back from it.
+/// Asserts that the duration of the text is printed as `canonical`, and read back from it.
 fn check_printed(rt: &impl Abort, text: &str, canonical: &str) {
     let Ok(duration) = IsoDurationParser::from_str(text).parse() else {
         check(rt, text, false);
@@ -151,7 +152,7 @@ fn refuses_an_empty_duration(rt: HostRuntime) {
     check(&rt, "its display", shown.is_none());
 }
 
-/// The duration of the text is displayed so, whatever the width and the fill.
+/// Asserts that `Display` writes `canonical` for the duration of the text, with and without a width and a fill character.
 fn check_shown(rt: &impl Abort, alloc: Global, text: &str, canonical: &str) -> Result<(), Fail> {
     let Ok(duration) = IsoDurationParser::from_str(text).parse() else {
         check(rt, text, false);

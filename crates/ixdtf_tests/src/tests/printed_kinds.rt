@@ -1,4 +1,4 @@
-//! Offsets, zones, times, year-months and month-days printed as their canonical texts, and these read back.
+//! Tests of offsets, zones, times, year-months and month-days: they are printed as canonical texts, and these texts are read back.
 
 ghost use Rattle.std.specs.Prelude.{◌≤◌};
 
@@ -15,21 +15,21 @@ use std::alloc::Global;
 use std::process::Abort;
 use std::test::Fail;
 
-/// Bytes that are not printed to.
+/// Bytes to which nothing was printed.
 const UNTOUCHED: [u8; 64] = [7; 64];
 
 fn is_untouched(bytes: &[u8]) -> bool {
     bytes.iter().all(|byte| *byte == 7)
 }
 
-/// How many bytes are one too few for the text.
+/// Returns a number of bytes that is one too small for the text.
 fn too_few(canonical: &str) -> usize
     ensures { result ≤ 63 }
 {
     canonical.len().min(64).saturating_sub(1)
 }
 
-/// The text was printed and counted so, and what follows it is unchanged.
+/// Asserts that this text was printed and its length counted, and that the bytes after it are unchanged.
 fn check_printed(
     rt: &impl Abort,
     canonical: &str,
@@ -43,7 +43,7 @@ fn check_printed(
     check(rt, canonical, is_counted && is_printed);
 }
 
-/// Nothing was printed, for this reason.
+/// Asserts that nothing was printed, with this error.
 fn check_refused(
     rt: &impl Abort,
     what: &str,
@@ -244,7 +244,7 @@ fn prints_canonical_times_and_months(rt: HostRuntime) -> Result<(), Fail> {
     Ok(())
 }
 
-/// No printer but `print` prints the record of a date and a time.
+/// Asserts that only `print` prints the record of a date and a time.
 fn check_other_printers(rt: &impl Abort, record: &IxdtfParseRecord<'_, Utf8>) {
     let mut out = UNTOUCHED;
     let printed = print_time(record, &mut out);

@@ -1,4 +1,4 @@
-//! Records printed as their canonical texts, and these read back.
+//! Tests of records: they are printed as canonical texts, and these texts are read back.
 
 ghost use Rattle.std.specs.Prelude.{IsTrue};
 
@@ -22,7 +22,7 @@ use std::test::Fail;
 
 // ==== Calls, as `docs/CALLING.md` shows them ====
 
-// The canonical text of a text, in the given bytes; `None` where the text is refused, or the bytes are too few.
+// Returns the canonical text of a text, in the slice `out`. Returns `None` if the text is refused, or if `out` is too short.
 fn canonical_of<'a>(text: &str, out: &'a mut [u8]) -> Option<&'a [u8]> {
     let Ok(parsed) = IxdtfParser::from_str(text).parse() else {
         return None;
@@ -33,8 +33,7 @@ fn canonical_of<'a>(text: &str, out: &'a mut [u8]) -> Option<&'a [u8]> {
     }
 }
 
-// What a caller concludes from the contracts: what was read is printable, and what is printed is read, as an equal
-// record.
+// A caller concludes from the contracts: a record that was read is printable, and its canonical text is read as an equal record.
 fn is_read_back(bytes: &[u8], out: &mut [u8]) -> bool
     ensures { IsTrue result }
 {
@@ -52,12 +51,12 @@ fn is_read_back(bytes: &[u8], out: &mut [u8]) -> bool
     }
 }
 
-// Whether the canonical text of a text is this.
+// Returns whether this is the canonical text of a text.
 fn is_canonical(text: &str, out: &mut [u8], canonical: &str) -> bool {
     canonical_of(text, out) == Some(canonical.as_bytes())
 }
 
-// Whether the canonical text of a text is this, put where there is room for it.
+// Returns whether this is the canonical text of a text, printed to a slice that is long enough.
 fn is_put_with_room(text: &str, out: &mut [u8], canonical: &str) -> bool {
     let Ok(parsed) = IxdtfParser::from_str(text).parse() else {
         return false;
@@ -71,7 +70,7 @@ fn is_put_with_room(text: &str, out: &mut [u8], canonical: &str) -> bool {
     }
 }
 
-// Whether there is no canonical text of a text, or no room for it.
+// Returns whether a text has no canonical text, or `out` is too short for it.
 fn prints_nothing(text: &str, out: &mut [u8]) -> bool {
     canonical_of(text, out) == None
 }
@@ -100,14 +99,15 @@ fn prints_for_callers(rt: HostRuntime) {
 
 // ==== What is printed ====
 
-/// Bytes that are not printed to.
+/// Bytes to which nothing was printed.
 const UNTOUCHED: [u8; 512] = [7; 512];
 
 fn is_untouched(bytes: &[u8]) -> bool {
     bytes.iter().all(|byte| *byte == 7)
 }
 
-/// The record is printed as these bytes into as many bytes, and not into one less.
+/// Asserts that the record is printed as these bytes if the slice has exactly their length. In a slice with one byte less, it is
+/// not printed.
 fn check_canonical(rt: &impl Abort, parsed: &IxdtfParseRecord<'_, Utf8>, canonical: &[u8]) {
     let mut out = UNTOUCHED;
     let count = canonical.len().min(512);
@@ -119,7 +119,7 @@ fn check_canonical(rt: &impl Abort, parsed: &IxdtfParseRecord<'_, Utf8>, canonic
     check_too_short(rt, parsed, count.saturating_sub(1));
 }
 
-/// The record is not printed into so many bytes, and these are unchanged.
+/// Asserts that the record is not printed to a slice of `count` bytes, and that the bytes are unchanged.
 fn check_too_short(rt: &impl Abort, parsed: &IxdtfParseRecord<'_, Utf8>, count: usize) {
     let mut out = UNTOUCHED;
     let short = print(parsed, &mut out[..count.min(512)]);
@@ -127,7 +127,7 @@ fn check_too_short(rt: &impl Abort, parsed: &IxdtfParseRecord<'_, Utf8>, count: 
     check(rt, "its bytes", is_untouched(&out));
 }
 
-// Whether the bytes are read as the record, under the profile.
+// Returns whether the reader returns the record for the bytes, under the profile.
 fn is_read_under(bytes: &[u8], profile: Profile, parsed: &IxdtfParseRecord<'_, Utf8>) -> bool {
     match IxdtfParser::from_utf8(bytes).with_profile(profile).parse() {
         Ok(again) => again == *parsed,
@@ -135,7 +135,7 @@ fn is_read_under(bytes: &[u8], profile: Profile, parsed: &IxdtfParseRecord<'_, U
     }
 }
 
-// Whether the bytes are read as the record, as 16-bit code units.
+// Returns whether the reader returns the record for the bytes as 16-bit text.
 fn is_read_wide(bytes: &[u8], parsed: &IxdtfParseRecord<'_, Utf8>) -> bool {
     let wide = Wide::of_bytes(bytes);
     match IxdtfParser::from_utf16(wide.units()).parse() {
@@ -144,7 +144,7 @@ fn is_read_wide(bytes: &[u8], parsed: &IxdtfParseRecord<'_, Utf8>) -> bool {
     }
 }
 
-/// The bytes are read as the record, under each profile, and as 16-bit code units.
+/// Asserts that the reader returns the record for the bytes under each profile, and for the bytes as 16-bit text.
 fn check_read_as(rt: &impl Abort, bytes: &[u8], parsed: &IxdtfParseRecord<'_, Utf8>) {
     let is_read = is_read_under(bytes, Profile::Crate, parsed)
         && is_read_under(bytes, Profile::Strict, parsed)
@@ -152,7 +152,7 @@ fn check_read_as(rt: &impl Abort, bytes: &[u8], parsed: &IxdtfParseRecord<'_, Ut
     assert!(rt; is_read, "{bytes:?}");
 }
 
-/// The record is printed, and read back from what was printed.
+/// Asserts that the record is printed, and read back from its canonical text.
 pub(super) fn check_read_back(rt: &impl Abort, parsed: &IxdtfParseRecord<'_, Utf8>) {
     let mut out = UNTOUCHED;
     match print(parsed, &mut out) {
@@ -166,7 +166,7 @@ pub(super) fn check_read_back(rt: &impl Abort, parsed: &IxdtfParseRecord<'_, Utf
     }
 }
 
-/// The record of the text is printed so.
+/// Asserts that the record of the text is printed as `canonical`.
 fn check_printed(rt: &impl Abort, text: &[u8], canonical: &[u8]) {
     match IxdtfParser::from_utf8(text).parse() {
         Ok(parsed) => {
@@ -223,7 +223,7 @@ fn prints_back_what_was_read(rt: HostRuntime) {
 
 // ==== What is displayed ====
 
-/// The record of the text is displayed so, whatever the width and the fill.
+/// Asserts that `Display` writes `canonical` for the record of the text, with and without a width and a fill character.
 fn check_shown(rt: &impl Abort, alloc: Global, text: &str, canonical: &str) -> Result<(), Fail> {
     let Ok(parsed) = IxdtfParser::from_str(text).parse() else {
         check(rt, text, false);
@@ -261,8 +261,8 @@ fn displays_errors(rt: HostRuntime) -> Result<(), Fail> {
 
 // ==== What is not ====
 
-/// The record, passed as a reader returns it, is not printed, also not into an empty slice, and the bytes are
-/// unchanged.
+/// Asserts that the record is not printed, even to an empty slice, and that the bytes are unchanged. The record is passed as a
+/// result of a reader.
 fn check_not_printable(rt: &impl Abort, what: &str, built: &ParserResult<Record>) {
     let Ok(parsed) = built else {
         assert!(rt; false, "{what}");
@@ -311,7 +311,7 @@ fn prints_no_other_times(rt: HostRuntime) {
     check_not_printable(&rt, "a time alone", &Ok(alone(timed(0, 0, 0, None), None)));
 }
 
-// With a second, the offset is one in full.
+// An offset with a second is a `FullPrecisionOffset`.
 const OTHER_OFFSETS: &[(&str, Sign, (u8, u8), Option<u8>)] = &[
     ("hour 24", Sign::Positive, (24, 0), None),
     ("minute 60", Sign::Negative, (0, 60), None),
@@ -333,7 +333,7 @@ fn prints_no_other_offsets(rt: HostRuntime) {
     check_not_printable(&rt, "an offset alone", &Ok(alone(None, offset)));
 }
 
-/// 1 January 2020 in this zone.
+/// Returns a record of 1 January 2020 in this zone.
 fn zoned(tz: TimeZoneRecord<'static, Utf8>) -> Record {
     let critical = true;
     let mut record = dated(2020, 1, 1, None);

@@ -1,4 +1,4 @@
-//! Texts under both profiles: month-days, times and durations.
+//! Tests of texts under both profiles: month-days, times and durations.
 
 use super::Reader::{self, Duration, MonthDay, Parse, Time, YearMonth};
 use super::durations::{Units, dated as lasting, lasts, timed as lasting_time};
@@ -20,7 +20,7 @@ use std::process::Abort;
 
 type Outcome = ParserResult<Found<'static, Utf8>>;
 
-/// The parsers under the profile.
+/// Returns the parsers under the profile.
 fn under<'a, T: EncodingType>(parsers: Parsers<'a, T>, profile: Profile) -> Parsers<'a, T> {
     Parsers {
         dates: parsers.dates.with_profile(profile),
@@ -29,12 +29,12 @@ fn under<'a, T: EncodingType>(parsers: Parsers<'a, T>, profile: Profile) -> Pars
     }
 }
 
-/// What the reader returns for the text under the profile.
+/// Returns the result of the reader for the text under the profile.
 fn read_under(reader: Reader, text: &'static str, profile: Profile) -> Outcome {
     under(Parsers::from_str(text), profile).read(reader)
 }
 
-/// The reader returns the first for the text, and under the strict profile the second.
+/// Asserts that the reader returns the first result for the text, and the second one under the strict profile.
 fn check_both(
     rt: &impl Abort,
     reader: Reader,
@@ -83,7 +83,7 @@ fn check_refused_in_both(rt: &impl Abort, reader: Reader, rows: &[Refused]) {
 
 const MONTH_DAYS: &[Refused] = &[("11-001", InvalidEnd, InvalidMonthDay)];
 
-/// A text that is read under the strict profile alone, with its time, and its offset of zero to the west where it has one.
+/// Texts that are accepted only under the strict profile, with their times, and whether they have the offset `-00:00`.
 const STRICT_TIMES: &[(&str, (u8, u8, u8), bool)] = &[
     ("1200", (12, 0, 0), false),
     ("11-00", (11, 0, 0), true),
@@ -92,7 +92,7 @@ const STRICT_TIMES: &[(&str, (u8, u8, u8), bool)] = &[
 
 const TIMES: &[Refused] = &[("110010", AmbiguousTimeMonthDay, AmbiguousTimeYearMonth)];
 
-// The time, with an offset of zero to the west.
+// Returns the time, with the offset `-00:00` if `is_west` is true.
 fn strict_time((hour, minute, second): (u8, u8, u8), is_west: bool) -> Outcome {
     let west = UtcOffsetRecordOrZ::Offset(short(Sign::Negative, 0, 0));
     time(
@@ -129,7 +129,7 @@ fn reads_no_unit_twice_strictly(rt: HostRuntime) {
     check(&rt, "PT1S2S", found == refused);
 }
 
-/// The reader returns the same for the text under both profiles.
+/// Asserts that the reader returns the same result for the text under both profiles.
 fn check_same(rt: &impl Abort, reader: Reader, text: &'static str) {
     let strictly = read_under(reader, text, Profile::Strict);
     let is_same = Parsers::from_str(text).read(reader) == strictly;
@@ -224,7 +224,7 @@ fn asks_handlers_of_strict_times(rt: HostRuntime) {
     check(&rt, text, is_refused);
 }
 
-// The error of a strict reader of 16-bit code units, where it refuses.
+// Returns the error of a strict reader of 16-bit text, or `None` if it accepts the text.
 fn strict_refusal(reader: Reader, text: &'static str) -> Option<ParseError> {
     let wide = Wide::new(text);
     under(Parsers::from_utf16(wide.units()), Profile::Strict).refusal(reader)

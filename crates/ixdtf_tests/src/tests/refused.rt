@@ -1,4 +1,4 @@
-//! Texts that the readers refuse in both widths, each with its error and its place.
+//! Tests of texts that the readers refuse as 8-bit and 16-bit text. Each text has its error and its position.
 
 use super::{
     AT_BRACKET, AT_DATE, AT_DATE_DESIGNATOR, AT_DESIGNATOR, AT_DIGIT, AT_DURATION, AT_MONTH_DAY,
@@ -76,7 +76,7 @@ fn refuses_times(rt: HostRuntime) {
     check_refused(&rt, Reader::Parse, TIMES);
 }
 
-// One text for each of the nineteen places, with an `x` there.
+// One text for each of the nineteen fixed columns. It has an `x` in this column.
 #[rattlefmt::skip]
 const AT_EACH_FIXED_PLACE: &[Refused] = &[
     ("x020-02-29T23:59:60", DateYear, 0),
@@ -105,8 +105,8 @@ fn refuses_at_each_fixed_place(rt: HostRuntime) {
     check_refused(&rt, Reader::Parse, AT_EACH_FIXED_PLACE);
 }
 
-// Texts whose characters fit each place, and whose numbers are not a date or not a time; and texts that end or go wrong
-// after it.
+// Texts whose characters fit the fixed columns, but whose numbers are not a date or not a time. Also texts that end, or have an
+// error, after these columns.
 #[rattlefmt::skip]
 const NUMBERS_AT_FIXED_PLACES: &[Refused] = &[
     ("2020-02-30T00:00:00", InvalidDayRange, 10),

@@ -1,4 +1,5 @@
-//! Texts that are refused with a handler, each with the calls before: for a reply, for a fault, or for a bad 16-bit code unit.
+//! Tests of texts that are refused with a handler: because of a reply, because of another error, or because of a bad 16-bit code
+//! unit. Each text has the calls of the handler before the error.
 
 use super::AT_DIGIT;
 use super::listener::Form::{MonthDay, Parse, Time, YearMonth};

@@ -1,4 +1,4 @@
-//! Date-times of RFC 3339, and texts that are none.
+//! Tests of date-times of RFC 3339, and of texts that are not.
 
 use super::{
     AT_DATE, AT_DIGIT, AT_OFFSET, Found, Parsers, Reader, Refused, check_found, check_reader,
@@ -11,7 +11,7 @@ use ixdtf::ParseError::{
 };
 use ixdtf::records::{Sign, UtcOffsetRecord, UtcOffsetRecordOrZ};
 
-// The offset of a sign, an hour and a minute.
+// Returns the offset with a sign, an hour and a minute.
 fn at_offset(sign: Sign, hour: u8, minute: u8) -> Option<UtcOffsetRecordOrZ> {
     Some(UtcOffsetRecordOrZ::Offset(UtcOffsetRecord::MinutePrecision(minutes(sign, hour, minute))))
 }
@@ -42,7 +42,7 @@ fn reads_date_times(rt: HostRuntime) {
     );
 }
 
-// Texts of RFC 3339, section 5.8, and others with the least and the greatest numbers.
+// Texts of RFC 3339, section 5.8, and texts with the least and the greatest numbers.
 const READ_ALIKE: &[&str] = &[
     "1985-04-12T23:20:50.52Z",
     "1996-12-19T16:39:57-08:00",
@@ -54,7 +54,7 @@ const READ_ALIKE: &[&str] = &[
     "2024-02-29t00:00:00.0z",
 ];
 
-/// `parse_rfc3339` returns the record that `parse` returns.
+/// Tests that `parse_rfc3339` returns the record that `parse` returns.
 #[test]
 fn reads_as_parse_does(rt: HostRuntime) {
     for text in READ_ALIKE {

@@ -1,4 +1,4 @@
-//! Texts of RFC 9557, and texts that are none.
+//! Tests of texts of RFC 9557, and of texts that are not.
 
 use super::{
     AT_BRACKET, AT_DATE, AT_DIGIT, AT_OFFSET, Found, Parsers, Reader, Refused, check_found,
@@ -39,7 +39,7 @@ const READ_ALIKE: &[&str] = &[
     "0000-02-29t00:00:00.0z[!u-ca=iso8601]",
 ];
 
-/// `parse_rfc9557` returns the record that `parse` returns.
+/// Tests that `parse_rfc9557` returns the record that `parse` returns.
 #[test]
 fn reads_as_parse_does(rt: HostRuntime) {
     for text in READ_ALIKE {

@@ -1,4 +1,4 @@
-//! Sources in 16-bit code units. Those from 1 to 126 are ASCII characters, and every other is bad.
+//! Helpers and tests for 16-bit text. The code units from 1 to 126 are read as ASCII characters, and every other code unit is bad.
 
 use super::{Parsers, Reader, check};
 use ixdtf::ParseError;
@@ -6,7 +6,7 @@ use ixdtf::encoding::{EncodingType, Utf16};
 use ixdtf::parsers::TimeZoneParser;
 use std::process::Abort;
 
-/// A text in 16-bit code units, each character or each byte in one.
+/// A 16-bit text. Each character, or each byte, of the source is one code unit.
 #[derive(Drop)]
 pub(super) struct Wide {
     units: [u16; 512],
@@ -56,13 +56,13 @@ impl Wide {
     }
 }
 
-// The error of a text, where it is refused.
+// Returns the error for a 16-bit text, or `None` if it is accepted.
 pub(super) fn refusal(reader: Reader, text: &'static str) -> Option<ParseError> {
     let wide = Wide::new(text);
     Parsers::from_utf16(wide.units()).refusal(reader)
 }
 
-// Whether a text, each character of which is one code unit, is refused with this error at this place.
+// Returns whether a 16-bit text is refused with this error at this position. Each character is one code unit.
 pub(super) fn refuses_wide_at(
     reader: Reader,
     text: &'static str,
@@ -73,7 +73,7 @@ pub(super) fn refuses_wide_at(
     Parsers::from_utf16(wide.units()).refuses_at(reader, error, at)
 }
 
-// Whether a code unit is seen as its ASCII character, or as a bad one.
+// Returns whether a code unit from 1 to 126 is read as its ASCII character, and any other one as bad.
 fn is_seen(unit: u16) -> bool {
     let letter = Utf16::get_ascii(&[unit], 0);
     match u8::try_from(unit) {

@@ -1,4 +1,4 @@
-//! Time zones that stand alone.
+//! Tests of time zones on their own.
 
 use super::offsets::Short;
 use super::{Found, Reader, check, check_found, minutes, named};
@@ -32,7 +32,7 @@ fn reads_names(rt: HostRuntime) {
     check_names(&rt, NAMES);
 }
 
-// Whether the zone of the text has this name.
+// Returns whether the zone of the text has this name, or none if `name` is `None`.
 fn has_name(text: &str, name: Option<&str>) -> bool {
     match TimeZoneParser::from_str(text).parse_identifier() {
         Ok(zone) => zone.name() == name,
@@ -64,7 +64,7 @@ fn reads_zones_that_are_offsets(rt: HostRuntime) {
     }
 }
 
-// Whether the parser reads all of the bytes as a name.
+// Returns whether the parser returns all these bytes as a name.
 fn reads_name(mut parser: TimeZoneParser<'_, Utf8>, bytes: &[u8]) -> bool {
     parser.parse_iana_identifier() == Ok(bytes)
 }

@@ -1,6 +1,6 @@
 // Made by tools/to_rust.py of crates/ixdtf_tests/src/tests/durations.rt. Do not edit.
 
-//! Durations.
+//! Tests of durations.
 
 #[allow(unused_imports)]
 use crate::runtime::{HostRuntime, TryClone};
@@ -31,14 +31,14 @@ pub(super) fn dated(years: u32, months: u32, weeks: u32, days: u64) -> Option<Da
     })
 }
 
-/// The units of a time, up to the last one that it has.
+/// The duration units of a time, up to the last one that it has.
 #[derive(Clone, Copy)]
 pub(super) enum Units {
-    /// Hours.
+    /// The time has hours.
     Hours(u64),
-    /// Hours and minutes.
+    /// The time has hours and minutes.
     Minutes(u64, u64),
-    /// Hours, minutes and seconds.
+    /// The time has hours, minutes and seconds.
     Seconds(u64, u64, u64),
 }
 
@@ -61,7 +61,7 @@ pub(super) fn timed(units: Units, fraction: Option<Fraction>) -> Option<TimeDura
 
 // ==== Texts ====
 
-/// Years, months, weeks and days.
+/// The years, months, weeks and days of a duration.
 type Days = (u32, u32, u32, u64);
 
 fn check_duration(rt: &impl Abort, text: &'static str, wanted: DurationParseRecord) {
@@ -112,7 +112,8 @@ fn reads_times_of_durations() {
     }
 }
 
-/// A duration whose last number has a fraction, its sign, its date, where it has one, its time, and the nanoseconds.
+/// A text of a duration whose last number has a fraction, its sign, its date if it has one, its time, and the nanoseconds of the
+/// fraction.
 type Fractional = (&'static str, Sign, Option<Days>, Units, Nanoseconds);
 
 fn check_fractions(rt: &impl Abort, rows: &[Fractional]) {
@@ -165,7 +166,7 @@ fn reads_dates_and_times_of_durations() {
 
 // ==== Calls ====
 
-// Whether the parser reads one year.
+// Returns whether the parser returns a duration of one year.
 fn reads_a_year(mut parser: IsoDurationParser<'_, Utf8>) -> bool {
     parser.parse() == Ok(lasts(Positive, dated(1, 0, 0, 0), None))
 }
@@ -182,7 +183,7 @@ fn reads_durations_of_units_and_bytes() {
 
 // ==== Records ====
 
-// Whether two texts are read as different durations.
+// Returns whether the durations of two texts differ.
 fn are_read_otherwise(first: &str, second: &str) -> bool {
     let first = IsoDurationParser::from_str(first).parse();
     let second = IsoDurationParser::from_str(second).parse();
@@ -195,7 +196,7 @@ fn durations_differ_by_the_digits_of_their_fractions() {
     check(&rt, "PT0.10S", are_read_otherwise("PT0.1S", "PT0.10S"));
 }
 
-// Whether a duration is that of one year.
+// Returns whether a duration is that of one year.
 fn is_a_year(duration: DurationParseRecord) -> bool {
     duration == lasts(Positive, dated(1, 0, 0, 0), None)
 }

@@ -1,6 +1,6 @@
 // Made by tools/to_rust.py of crates/ixdtf_tests/src/tests/encodings.rt. Do not edit.
 
-//! The two encodings.
+//! Tests of the two encodings.
 
 #[allow(unused_imports)]
 use crate::runtime::{HostRuntime, TryClone};
@@ -12,7 +12,7 @@ use ixdtf::parsers::TimeZoneParser;
 use crate::runtime::Abort;
 use crate::runtime::Fail;
 
-// What `Debug` writes of a parser.
+// Texts, and what `Debug` writes for their parser.
 const SHOWN: &[(&str, &str)] = &[
     ("", "TimeZoneParser { cursor: \"\" }"),
     ("+01:00 ~", "TimeZoneParser { cursor: \"+01:00 ~\" }"),
@@ -71,7 +71,7 @@ fn slices_lie_within() {
     check_slice(&rt, 0, 4, None);
 }
 
-// Whether the key is that of calendars, in both widths.
+// Returns whether the key is that of calendars, for 8-bit and 16-bit text.
 fn is_of_calendars(key: &str) -> (bool, bool) {
     let wide = Wide::new(key);
     (

@@ -1,6 +1,6 @@
 // Made by tools/to_rust.py of crates/ixdtf_tests/src/tests/errors.rt. Do not edit.
 
-//! The texts of all 46 errors, each once.
+//! Tests of the texts of all 46 errors. Each error is named once.
 
 #[allow(unused_imports)]
 use crate::runtime::{HostRuntime, TryClone};
@@ -21,7 +21,7 @@ use ixdtf::ParseError::{
 use crate::runtime::Fail;
 
 const TEXTS: &[(ParseError, &str)] = &[
-    // of ends and dates
+    // These are errors at the end of a text, and errors of dates.
     (ImplAssert, "Implementation error: this error must not throw."),
     (NonAsciiCodePoint, "Code point was not ASCII"),
     (ParseFloat, "Invalid float while parsing fraction part."),
@@ -34,7 +34,7 @@ const TEXTS: &[(ParseError, &str)] = &[
     (DateMonth, "Invalid character while parsing month value."),
     (DateDay, "Invalid character while parsing day value."),
     (DateUnexpectedEnd, "Unexpected end while parsing a date value."),
-    // of times
+    // These are errors of times.
     (TimeRequired, "Time is required."),
     (TimeHour, "Invalid character while parsing hour value."),
     (TimeMinuteSecond, "Invalid character while parsing minute/second value in (0, 59] range."),
@@ -43,7 +43,7 @@ const TEXTS: &[(ParseError, &str)] = &[
     (DateSeparator, "Invalid character while parsing date separator."),
     (TimeSeparator, "Invalid character while parsing time separator."),
     (DecimalSeparator, "Invalid character while parsing decimal separator."),
-    // of annotations
+    // These are errors of annotations.
     (InvalidAnnotation, "Invalid annotation."),
     (AnnotationOpen, "Invalid annotation open character."),
     (AnnotationClose, "Invalid annotation close character."),
@@ -56,7 +56,7 @@ const TEXTS: &[(ParseError, &str)] = &[
     (InvalidMinutePrecisionOffset, "Offset must be minute precision"),
     (CriticalDuplicateCalendar, "Duplicate calendars cannot be provided when one is critical."),
     (UnrecognizedCritical, "Unrecognized annoation is marked as critical."),
-    // of zones and durations
+    // These are errors of zones and durations.
     (TzLeadingChar, "Invalid time zone leading character."),
     (IanaCharPostSeparator, "Expected time zone character after '/'."),
     (IanaChar, "Invalid IANA time zone character after '/'."),

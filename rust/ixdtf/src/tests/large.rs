@@ -1,6 +1,6 @@
 // Made by tools/to_rust.py of crates/ixdtf_tests/src/tests/large.rt. Do not edit.
 
-//! Texts that are longer than any real one, and each 16-bit code unit at each place of a text.
+//! Tests with texts that are longer than any real one, and with each 16-bit code unit at each index of a text.
 
 #[allow(unused_imports)]
 use crate::runtime::{HostRuntime, TryClone};
@@ -19,7 +19,7 @@ use std::ops::Range;
 use crate::runtime::Abort;
 use crate::runtime::Fail;
 
-/// A prefix, then a part so many times, and then an end.
+/// Returns a text: a prefix, then a part `count` times, and then an end.
 fn repeated(
     alloc: Global,
     front: &str,
@@ -50,8 +50,8 @@ impl Counter {
     }
 }
 
-/// Reads a text that is 1 January 2020, or is refused with this error, after so many calls with keys of so many code
-/// units.
+/// Asserts that a text is 1 January 2020, or is refused with this error. Also asserts the number of calls of the handler, and the
+/// number of code units of all keys together.
 fn check_calls(
     rt: &impl Abort,
     text: &str,
@@ -74,7 +74,7 @@ fn check_calls(
     check(rt, "its keys", counter.key_units == key_units);
 }
 
-/// The zone of a record, by its `!` and its name.
+/// Returns whether the zone of a record has a `!`, and its name.
 fn zone_of<'a>(record: &IxdtfParseRecord<'a, Utf8>) -> Option<(bool, &'a str)> {
     match &record.tz {
         Some(
@@ -90,12 +90,12 @@ fn zone_of<'a>(record: &IxdtfParseRecord<'a, Utf8>) -> Option<(bool, &'a str)> {
     }
 }
 
-// Whether a text is refused for its bracket that is open.
+// Returns whether a text is refused because its bracket is not closed.
 fn is_open(text: &str) -> bool {
     IxdtfParser::from_str(text).parse() == Err(AT_BRACKET)
 }
 
-// Whether a text has a zone of this name, without a `!`.
+// Returns whether a text has a zone with this name, without a `!`.
 fn has_zone(text: &str, name: &str) -> bool {
     match IxdtfParser::from_str(text).parse() {
         Ok(record) => zone_of(&record) == Some((false, name)),
@@ -127,12 +127,12 @@ fn asks_about_a_hundred_thousand_annotations() -> Result<(), Fail> {
     Ok(())
 }
 
-// Whether a text is the first second of 2020, with this fraction.
+// Returns whether a text is the first second of 2020, with this fraction.
 fn has_fraction(text: &str, fraction: Option<Fraction>) -> bool {
     IxdtfParser::from_str(text).parse() == Ok(dated(2020, 1, 1, timed(0, 0, 0, fraction)))
 }
 
-// The count of digits ends at 255, and the value at the 18th digit.
+// The count of digits is at most 255, and the value has the first 18 digits.
 #[test]
 fn reads_a_fraction_of_a_million_digits() -> Result<(), Fail> {
     let rt = HostRuntime;
@@ -146,7 +146,7 @@ fn reads_a_fraction_of_a_million_digits() -> Result<(), Fail> {
     Ok(())
 }
 
-// Whether a text is a duration of these years and days.
+// Returns whether a text is a duration of these years and days.
 fn has_date(text: &str, years: u32, days: u64) -> bool {
     let wanted = lasts(Sign::Positive, durations::dated(years, 0, 0, days), None);
     IsoDurationParser::from_str(text).parse() == Ok(wanted)
@@ -162,13 +162,13 @@ fn reads_long_durations() -> Result<(), Fail> {
     Ok(())
 }
 
-// Whether code units are refused for a bad one.
+// Returns whether code units are refused because one of them is bad.
 fn has_no_letter(units: &[u16]) -> bool {
     IxdtfParser::from_utf16(units).parse() == Err(ParseError::NonAsciiCodePoint)
 }
 
-/// With each 16-bit code unit in each of these places, a text is read as the same numbers in 8 bits are, or the code
-/// unit is refused.
+/// Puts each 16-bit code unit at each of these indices of a text. Asserts that the result is that of 8-bit text with the same
+/// numbers, or that the code unit is refused.
 fn check_places(rt: &impl Abort, places: Range<usize>) {
     let text = *b"2020-01-01[cet]";
     let mut units = [0u16; 15];

@@ -1,6 +1,6 @@
 // Made by tools/to_rust.py of crates/ixdtf_tests/src/tests/located.rt. Do not edit.
 
-//! The texts of errors with their places, and of texts with a mark under the place.
+//! Tests of the texts of errors with their positions, and of texts with a mark under the position.
 
 #[allow(unused_imports)]
 use crate::runtime::{HostRuntime, TryClone};
@@ -55,7 +55,7 @@ fn gives_its_error() {
     check(&rt, "its error", error == InvalidMonthRange);
 }
 
-// The two lines for a text and a place in it.
+// Returns the two lines for a text and a position in it.
 fn pointed(alloc: Global, text: &str, at: usize) -> Result<String, AllocError> {
     let error = LocatedError {
         error: InvalidEnd,
@@ -65,7 +65,7 @@ fn pointed(alloc: Global, text: &str, at: usize) -> Result<String, AllocError> {
     format!(in alloc; "{lines}")
 }
 
-// The text has the line, and the place that many spaces before its mark.
+// Asserts that the text and the mark under the position have these lines.
 fn check_pointed(
     rt: &impl Abort,
     alloc: Global,
@@ -85,20 +85,20 @@ const MARKS: &[(&str, usize, &str)] = &[
     ("2020-", 1000, "2020-\n     ^"),
     ("", 0, "\n^"),
     ("", 1, "\n^"),
-    // columns are counted by characters
+    // Columns are counted in characters.
     ("\u{e9}1\u{1f600}2", 2, "\u{e9}1\u{1f600}2\n ^"),
     ("\u{e9}1\u{1f600}2", 7, "\u{e9}1\u{1f600}2\n   ^"),
     ("\u{e9}1\u{1f600}2", 8, "\u{e9}1\u{1f600}2\n    ^"),
-    // places inside a character
+    // These positions are inside a character.
     ("\u{e9}1\u{1f600}2", 1, "\u{e9}1\u{1f600}2\n^"),
     ("\u{e9}1\u{1f600}2", 6, "\u{e9}1\u{1f600}2\n  ^"),
-    // controls are shown as dots
+    // Control characters are shown as dots.
     ("2020\n-01", 4, "2020.-01\n    ^"),
     ("\t\0\r\u{7f}x", 4, "....x\n    ^"),
     ("\u{85}\u{a0}", 2, ".\u{a0}\n ^"),
 ];
 
-// The texts have the lines, each with a mark under its place.
+// Asserts the lines of each text, with a mark under its position.
 fn check_marks(
     rt: &impl Abort,
     alloc: Global,
@@ -116,7 +116,7 @@ fn marks_the_place() -> Result<(), Fail> {
     check_marks(&rt, rt.alloc(), MARKS)
 }
 
-// Thirty times the ten digits.
+// Returns the ten digits, thirty times.
 fn long_text(alloc: Global) -> Result<String, AllocError> {
     let mut text = String::new(alloc);
     for _ in 0..30 {
@@ -153,7 +153,7 @@ fn cuts_the_front_of_a_text() -> Result<(), Fail> {
     check_marks(&rt, rt.alloc(), OF_A_CUT_FRONT)
 }
 
-// The most characters that are written before the place 48 and from it on.
+// The greatest number of characters that are written: 48 before the position and 24 from it on.
 const FULL: &str = "000000000011111111112222222222333333333344444444555555555566666666667777";
 
 const OF_A_FULL_TEXT: &[(&str, usize, &str)] = &[

@@ -1,6 +1,6 @@
 // Made by tools/to_rust.py of crates/ixdtf_tests/src/tests/lone_times.rt. Do not edit.
 
-//! Times that stand alone.
+//! Tests of times without a date.
 
 #[allow(unused_imports)]
 use crate::runtime::{HostRuntime, TryClone};
@@ -51,7 +51,7 @@ fn check_west(rt: &impl Abort, rows: &[(&'static str, (u8, u8, u8), u8)]) {
     }
 }
 
-// The sign of an offset stands where the hyphen of a date would.
+// The sign of the offset is at the position at which a date would have a hyphen.
 const OFFSETS_AFTER_TIMES_ALONE: &[(&str, (u8, u8, u8), u8)] = &[
     ("13-14", (13, 0, 0), 14),
     ("2021-13", (20, 21, 0), 13),

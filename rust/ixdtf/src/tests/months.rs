@@ -1,6 +1,6 @@
 // Made by tools/to_rust.py of crates/ixdtf_tests/src/tests/months.rt. Do not edit.
 
-//! Year-months and month-days.
+//! Tests of year-months and month-days.
 
 #[allow(unused_imports)]
 use crate::runtime::{HostRuntime, TryClone};

@@ -1,6 +1,6 @@
 // Made by tools/to_rust.py of crates/ixdtf_tests/src/tests/records.rt. Do not edit.
 
-//! Records, their fractions and offsets.
+//! Tests of records, and of their fractions and offsets.
 
 #[allow(unused_imports)]
 use crate::runtime::{HostRuntime, TryClone};
@@ -15,12 +15,12 @@ use ixdtf::records::{
     TimeZoneAnnotation, TimeZoneRecord, UtcOffsetRecord, UtcOffsetRecordOrZ,
 };
 
-// The offset -05:30.
+// Returns the offset -05:30.
 fn short_offset() -> UtcOffsetRecord {
     short(Sign::Negative, 5, 30)
 }
 
-// The offset -05:30:15.25.
+// Returns the offset -05:30:15.25.
 fn long_offset() -> UtcOffsetRecord {
     long(
         minutes(Sign::Negative, 5, 30),
@@ -29,7 +29,7 @@ fn long_offset() -> UtcOffsetRecord {
     )
 }
 
-// A text whose fraction has 255 digits, and one with 45 digits more.
+// A text whose fraction has 255 digits. The next constant has 45 digits more.
 const LONGEST: &'static str =
     "+00:00:00.123456789876543210777777777777777777777777777777777777777777777777777777777777777777777777777777777777777777777777777777777777777777777777777777777777777777777777777777777777777777777777777777777777777777777777777777777777777777777777777777777777777777777";
 
@@ -60,7 +60,8 @@ fn fractions_are_cut_at_nanoseconds() {
     }
 }
 
-// Texts with a fraction: how many digits it has, up to 255, and the number of the first 18. The last time has 300 digits.
+// Texts with a fraction, its number of digits, which is at most 255, and the number that its first 18 digits are. The last time has
+// 300 digits.
 const DIGITS: &[(Reader, &str, u8, u64)] = &[
     (Reader::Offset, "+00:00:00.0", 1, 0),
     (Reader::Offset, "+00:00:00.50", 2, 50),
@@ -77,7 +78,7 @@ const DIGITS: &[(Reader, &str, u8, u64)] = &[
     (Reader::Duration, "PT1S2.1234567898765432101234567890987654321S", 37, 123_456_789_876_543_210),
 ];
 
-// Whether the fraction has this count of digits and this value.
+// Returns whether the fraction has this count of digits and this value.
 fn has_digits(fraction: Option<Fraction>, count: u8, value: u64) -> bool {
     match fraction {
         Some(fraction) => fraction.digit_count() == count && fraction.leading_value() == value,
@@ -94,12 +95,12 @@ fn fractions_tell_their_digits() {
     }
 }
 
-// Whether two texts have one fraction.
+// Returns whether two texts have equal fractions.
 fn have_one_fraction(first: &str, second: &str) -> bool {
     fraction_of(first) == fraction_of(second)
 }
 
-// Whether a text has a fraction that is equal to its clone.
+// Returns whether a text has a fraction that is equal to its clone.
 fn has_a_clone(text: &str) -> bool {
     match fraction_of(text) {
         Some(fraction) => {
@@ -148,7 +149,7 @@ fn dates_and_times_have_defaults() {
     check(&rt, "a time", is_zero && fraction == None);
 }
 
-// Whether nothing stands in the default record.
+// Returns whether each part of the default record is `None`.
 fn has_an_empty_default<T: EncodingType>() -> bool {
     let record: IxdtfParseRecord<'_, T> = IxdtfParseRecord::default();
     record.date.is_none()
@@ -158,7 +159,7 @@ fn has_an_empty_default<T: EncodingType>() -> bool {
         && record.calendar.is_none()
 }
 
-// Whether a zone is equal to its clone.
+// Returns whether a zone is equal to its clone.
 fn zone_has_a_clone(zone: TimeZoneAnnotation<'_, Utf8>) -> bool {
     let copy: Result<_, _> = zone.try_clone();
     copy == Ok(zone)
@@ -204,7 +205,7 @@ fn zero_has_a_plus_and_no_seconds() {
     check(&rt, "an offset", zero == short(Sign::Positive, 0, 0));
 }
 
-// Whether this is an offset of five hours and a half to the west.
+// Returns whether this is the offset -05:30, with or without seconds.
 fn is_west(offset: UtcOffsetRecord) -> bool {
     offset.sign() == Sign::Negative && offset.hour() == 5 && offset.minute() == 30
 }

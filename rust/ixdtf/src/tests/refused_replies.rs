@@ -1,6 +1,7 @@
 // Made by tools/to_rust.py of crates/ixdtf_tests/src/tests/refused_replies.rt. Do not edit.
 
-//! Texts that are refused with a handler, each with the calls before: for a reply, for a fault, or for a bad 16-bit code unit.
+//! Tests of texts that are refused with a handler: because of a reply, because of another error, or because of a bad 16-bit code
+//! unit. Each text has the calls of the handler before the error.
 
 #[allow(unused_imports)]
 use crate::runtime::{HostRuntime, TryClone};

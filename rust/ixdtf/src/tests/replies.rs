@@ -1,6 +1,6 @@
 // Made by tools/to_rust.py of crates/ixdtf_tests/src/tests/replies.rt. Do not edit.
 
-//! Replies to annotations that are heeded, and what is read then.
+//! Tests of replies to annotations, and of the records that the readers return for them.
 
 #[allow(unused_imports)]
 use crate::runtime::{HostRuntime, TryClone};
@@ -42,7 +42,7 @@ const HEEDED: &[Heeded] = &[
     ((Time, RepliesAnother, "T12[!SN9diiX.vB-fbtR3cerg/r][pqrfra=a0sa-2l4s][u-ca=japanese]",
         "[pqrfra=a0sa-2l4s][u-ca=japanese]"), NOON, Some((true, "SN9diiX.vB-fbtR3cerg/r")), Some("a")),
     ((Time, RepliesNone, "T12[u-ca=japanese][a=a-b]", "[u-ca=japanese][a=a-b]"), NOON, None, None),
-    // all are passed over
+    // All annotations are dropped.
     ((Parse, RepliesNone, "2020-01-01[a=b][!c=d][e=f]", "[a=b][!c=d][e=f]"), NEW_YEAR, None, None),
     ((YearMonth, RepliesNone, "2020-01[a=b][!c=d][e=f]", "[a=b][!c=d][e=f]"), NEW_YEAR, None, None),
     ((MonthDay, RepliesNone, "11-07[a=b][!c=d][e=f]", "[a=b][!c=d][e=f]"), NOVEMBER_7, None, None),
@@ -55,7 +55,7 @@ fn heeds_handlers() {
     check_heeded(&rt, HEEDED);
 }
 
-// Half a second past midnight, in UTC, with this calendar.
+// Returns a record of 1 January 2020, half a second after midnight, with `Z` and this calendar.
 fn half_past(rt: &impl Abort, calendar: Option<&'static str>) -> Record {
     let text = "+00:00:00.5";
     let fraction = fraction_of(text);
@@ -65,7 +65,7 @@ fn half_past(rt: &impl Abort, calendar: Option<&'static str>) -> Record {
     parts(day, time, Some(UtcOffsetRecordOrZ::Z), None, calendar)
 }
 
-// Texts of half a second past midnight, with their calendars.
+// Texts of half a second after midnight, with their calendars.
 const AFTER_TIMES: &[(Asked, Option<&str>)] = &[
     ((Parse, RepliesNone, "2020-01-01 00:00:00.5Z[!u-ca=A]", "[!u-ca=A]"), None),
     ((Parse, RepliesNone, "2020-01-01 00:00:00.5Z[u-ca=a-b][u-ca=japanese][!u-ca=gB-DxG-f6UUB8-CIgGr]",
@@ -95,7 +95,7 @@ fn heeds_a_handler_in_a_zone_by_offset() {
     check_read(&rt, IN_A_ZONE_BY_OFFSET, &wanted);
 }
 
-// Texts of noon, one hour to the east, with their zones and calendars.
+// Texts of noon with the offset +01:00, with their zones and calendars.
 const WITH_AN_OFFSET: &[(Asked, Option<&str>, Option<&str>)] = &[
     ((Time, RepliesNone, "12:00:00+01[m][u-ca=nTIl6][!u-ca=hebrew][u-ca=a0sa-2l4s][!vpzn-e=OZi5tA-W]",
         "[u-ca=nTIl6][!u-ca=hebrew][u-ca=a0sa-2l4s][!vpzn-e=OZi5tA-W]"), Some("m"), None),
@@ -103,7 +103,7 @@ const WITH_AN_OFFSET: &[(Asked, Option<&str>, Option<&str>)] = &[
         "[!u-cb=1][u-ca=LUnY-xN][!u-ca=b][u_ca=a][u-ca=p1-x-ZkQCD]"), None, Some("a")),
 ];
 
-// Noon, one hour to the east, in this zone and with this calendar.
+// Returns a record of noon with the offset +01:00, in this zone and with this calendar.
 fn noon_in(name: Option<&'static str>, calendar: Option<&'static str>) -> Record {
     let east = Some(UtcOffsetRecordOrZ::Offset(short(Sign::Positive, 1, 0)));
     let zone = match name {

@@ -1,6 +1,6 @@
 // Made by tools/to_rust.py of crates/ixdtf_tests/src/tests/rfc3339.rt. Do not edit.
 
-//! Date-times of RFC 3339, and texts that are none.
+//! Tests of date-times of RFC 3339, and of texts that are not.
 
 #[allow(unused_imports)]
 use crate::runtime::{HostRuntime, TryClone};
@@ -16,7 +16,7 @@ use ixdtf::ParseError::{
 };
 use ixdtf::records::{Sign, UtcOffsetRecord, UtcOffsetRecordOrZ};
 
-// The offset of a sign, an hour and a minute.
+// Returns the offset with a sign, an hour and a minute.
 fn at_offset(sign: Sign, hour: u8, minute: u8) -> Option<UtcOffsetRecordOrZ> {
     Some(UtcOffsetRecordOrZ::Offset(UtcOffsetRecord::MinutePrecision(minutes(sign, hour, minute))))
 }
@@ -48,7 +48,7 @@ fn reads_date_times() {
     );
 }
 
-// Texts of RFC 3339, section 5.8, and others with the least and the greatest numbers.
+// Texts of RFC 3339, section 5.8, and texts with the least and the greatest numbers.
 const READ_ALIKE: &[&str] = &[
     "1985-04-12T23:20:50.52Z",
     "1996-12-19T16:39:57-08:00",
@@ -60,7 +60,7 @@ const READ_ALIKE: &[&str] = &[
     "2024-02-29t00:00:00.0z",
 ];
 
-/// `parse_rfc3339` returns the record that `parse` returns.
+/// Tests that `parse_rfc3339` returns the record that `parse` returns.
 #[test]
 fn reads_as_parse_does() {
     let rt = HostRuntime;

@@ -1,6 +1,6 @@
 // Made by tools/to_rust.py of crates/ixdtf_tests/src/tests/rfc9557.rt. Do not edit.
 
-//! Texts of RFC 9557, and texts that are none.
+//! Tests of texts of RFC 9557, and of texts that are not.
 
 #[allow(unused_imports)]
 use crate::runtime::{HostRuntime, TryClone};
@@ -45,7 +45,7 @@ const READ_ALIKE: &[&str] = &[
     "0000-02-29t00:00:00.0z[!u-ca=iso8601]",
 ];
 
-/// `parse_rfc9557` returns the record that `parse` returns.
+/// Tests that `parse_rfc9557` returns the record that `parse` returns.
 #[test]
 fn reads_as_parse_does() {
     let rt = HostRuntime;

@@ -1,7 +1,7 @@
 // Made by tools/to_rust.py of crates/ixdtf_tests/src/tests/times.rt. Do not edit.
 
-//! Times. What is expected of a fraction are its nanoseconds; those of most texts are of the Rust crate's own tests. At
-//! fixed places it is what the Rust crate returns.
+//! Tests of times. The expected nanoseconds of most fractions come from the tests of `ixdtf` 0.6.7. At fixed columns, the expected
+//! values are those that `ixdtf` 0.6.7 returns.
 
 #[allow(unused_imports)]
 use crate::runtime::{HostRuntime, TryClone};
@@ -14,7 +14,7 @@ use super::{
 use ixdtf::records::UtcOffsetRecordOrZ;
 use crate::runtime::Abort;
 
-/// A text, and its date and time, which has no fraction.
+/// A text, and its date and time. The time has no fraction.
 type Whole = (&'static str, (i32, u8, u8), (u8, u8, u8));
 
 fn check_whole(rt: &impl Abort, rows: &[Whole]) {
@@ -31,7 +31,7 @@ const TIMES: &[Whole] = &[
     ("20200101 05:06", (2020, 1, 1), (5, 6, 0)),
     ("2020-01-01T050607", (2020, 1, 1), (5, 6, 7)),
     ("2020-01-01T23:59:60", (2020, 1, 1), (23, 59, 60)),
-    // at fixed places, `YYYY-MM-DD`, a separator and `HH:MM:SS`, or nearly so
+    // These texts are at fixed columns (`YYYY-MM-DD`, a separator and `HH:MM:SS`), or nearly so.
     ("2020-02-29T23:59:60", (2020, 2, 29), (23, 59, 60)),
     ("2020-01-01T00:00:60", (2020, 1, 1), (0, 0, 60)),
     ("2020-01-01 23:59:60", (2020, 1, 1), (23, 59, 60)),
@@ -45,7 +45,7 @@ fn reads_times() {
     check_whole(&rt, TIMES);
 }
 
-/// A text with a fraction of a second: its date, where it has one, its time, and the nanoseconds.
+/// A text with a fraction of a second, its date if it has one, its time, and the nanoseconds.
 type Fractional = (
     &'static str,
     Option<(i32, u8, u8)>,
@@ -53,7 +53,7 @@ type Fractional = (
     Nanoseconds,
 );
 
-/// The reader finds the date and the time with its fraction in each text, and nothing besides.
+/// Asserts that the reader returns the date, and the time with its fraction, for each text, and no other part.
 fn check_fractional(rt: &impl Abort, reader: Reader, rows: &[Fractional]) {
     for (text, date, (hour, minute, second), nanoseconds) in rows {
         let fraction = fraction_in(reader, text);
@@ -71,7 +71,7 @@ const FRACTIONS_AFTER_DATES: &[Fractional] = &[
     ("2022-06-05 043422.000", Some((2022, 6, 5)), (4, 34, 22), Exact(0)),
     ("2024-03-02T08:48:00,25", Some((2024, 3, 2)), (8, 48, 0), Exact(250_000_000)),
     ("2020-01-01T15:23:30.1234567898765432101234567890987654321", Some((2020, 1, 1)), (15, 23, 30), Cut(123_456_789)),
-    // nearly at fixed places
+    // These texts are nearly at fixed columns.
     ("20200101T00:00:00.25", Some((2020, 1, 1)), (0, 0, 0), Exact(250_000_000)),
     ("2020-01-01T000000.25", Some((2020, 1, 1)), (0, 0, 0), Exact(250_000_000)),
 ];

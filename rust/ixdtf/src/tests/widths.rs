@@ -1,7 +1,7 @@
 // Made by tools/to_rust.py of crates/ixdtf_tests/src/tests/widths.rt. Do not edit.
 
-//! Texts in both widths: for the same numbers from 1 to 126 each reader returns the same. Where another number is among
-//! 16-bit code units, the error is `NonAsciiCodePoint`, or that of the 8-bit text with 128 in its place.
+//! Tests of 8-bit and 16-bit texts. For the same numbers from 1 to 126, each reader returns the same result. If a 16-bit text has
+//! another number, the error is `NonAsciiCodePoint`, or that of the 8-bit text with 128 instead of this number.
 
 #[allow(unused_imports)]
 use crate::runtime::{HostRuntime, TryClone};
@@ -24,8 +24,8 @@ pub(super) const READERS: [Reader; 8] = [
     Reader::Duration,
 ];
 
-// Texts of code units from 1 to 126. Most are of one reader, and the others refuse them with the same error in both
-// widths, and under both profiles.
+// Texts of code units from 1 to 126. Most of them are accepted by one reader. The other readers refuse them with the same error as
+// 8-bit and 16-bit text, under both profiles.
 pub(super) const SHARED: [&'static str; 64] = [
     "",
     "2024-03-02T08:48:00-05:00[America/New_York]",
@@ -93,10 +93,10 @@ pub(super) const SHARED: [&'static str; 64] = [
     "Etc/GMT+8",
 ];
 
-// Such texts that the profiles read otherwise.
+// Texts of such code units for which the two profiles have different results.
 const OF_A_PROFILE: [&'static str; 3] = ["1200", "11-00", "P1Y2Y"];
 
-// Texts with a bad code unit in 16 bits, and the same with 128 in its place.
+// 16-bit texts with a bad code unit, and the same texts with the byte 128 instead of it.
 const MASKED: [(&'static str, &'static [u8]); 11] = [
     ("2020-01-01[cet!\u{e9}]", b"2020-01-01[cet!\x80]"),
     ("2020-13-01\u{e9}", b"2020-13-01\x80"),
@@ -111,12 +111,12 @@ const MASKED: [(&'static str, &'static [u8]); 11] = [
     ("1200\u{e9}", b"1200\x80"),
 ];
 
-// Whether two slices have the same numbers.
+// Returns whether two slices have the same numbers.
 fn same_numbers(bytes: &[u8], units: &[u16]) -> bool {
     Wide::of_bytes(bytes).units() == units
 }
 
-// Whether two zones are the same offset, or names of the same numbers.
+// Returns whether two zones are the same offset, or names of the same numbers.
 fn same_zone(narrow: &TimeZoneRecord<'_, Utf8>, wide: &TimeZoneRecord<'_, Utf16>) -> bool {
     match (narrow, wide) {
         (TimeZoneRecord::Name(bytes), TimeZoneRecord::Name(units)) => same_numbers(bytes, units),
@@ -125,7 +125,7 @@ fn same_zone(narrow: &TimeZoneRecord<'_, Utf8>, wide: &TimeZoneRecord<'_, Utf16>
     }
 }
 
-// Whether two calendars are the same numbers, or neither is there.
+// Returns whether two calendars are the same numbers, or both are `None`.
 pub(super) fn same_calendar(narrow: Option<&[u8]>, wide: Option<&[u16]>) -> bool {
     match (narrow, wide) {
         (None, None) => true,
@@ -134,7 +134,7 @@ pub(super) fn same_calendar(narrow: Option<&[u8]>, wide: Option<&[u16]>) -> bool
     }
 }
 
-// Whether two records are the same, slices by the numbers of their code units.
+// Returns whether two records are the same. Slices are compared by the numbers of their code units.
 pub(super) fn same_record(
     narrow: &IxdtfParseRecord<'_, Utf8>,
     wide: &IxdtfParseRecord<'_, Utf16>,
@@ -152,7 +152,7 @@ pub(super) fn same_record(
     cores && zones && same_calendar(narrow.calendar, wide.calendar)
 }
 
-// Whether a reader found the same in both widths.
+// Returns whether the values of a reader for 8-bit and 16-bit text are the same.
 fn same_found(narrow: &Found<'_, Utf8>, wide: &Found<'_, Utf16>) -> bool {
     match (narrow, wide) {
         (Found::Parts(first), Found::Parts(second)) => same_record(first, second),
@@ -164,7 +164,7 @@ fn same_found(narrow: &Found<'_, Utf8>, wide: &Found<'_, Utf16>) -> bool {
     }
 }
 
-// Whether a reader returned the same in both widths.
+// Returns whether the results of a reader for 8-bit and 16-bit text are the same.
 fn same_result(
     narrow: &ParserResult<Found<'_, Utf8>>,
     wide: &ParserResult<Found<'_, Utf16>>,
@@ -176,8 +176,8 @@ fn same_result(
     }
 }
 
-// Whether the reader returns the same for the bytes and for 16-bit code units of the same numbers, whichever way the
-// parser is made.
+// Returns whether the reader has the same result for the bytes and for 16-bit code units with the same numbers. A parser of 16-bit
+// text that `new` creates has this result too.
 pub(super) fn reads_alike(reader: Reader, bytes: &[u8]) -> bool {
     let numbers = Wide::of_bytes(bytes);
     let narrow = Parsers::from_utf8(bytes).read(reader);
@@ -201,7 +201,7 @@ fn reads_alike_in_both_widths() {
     }
 }
 
-// Whether a reader refuses the text for its bad code unit, or as it refuses the bytes.
+// Returns whether the error of a reader for the 16-bit text is `NonAsciiCodePoint`, or the same as for the bytes.
 fn refuses_as_masked(reader: Reader, text: &'static str, mask: &'static [u8]) -> bool {
     let found = refusal(reader, text);
     let is_bad = found == Some(ParseError::NonAsciiCodePoint);

@@ -1,6 +1,6 @@
 // Made by tools/to_rust.py of crates/ixdtf_tests/src/tests/zones.rt. Do not edit.
 
-//! Time zones that stand alone.
+//! Tests of time zones on their own.
 
 #[allow(unused_imports)]
 use crate::runtime::{HostRuntime, TryClone};
@@ -38,7 +38,7 @@ fn reads_names() {
     check_names(&rt, NAMES);
 }
 
-// Whether the zone of the text has this name.
+// Returns whether the zone of the text has this name, or none if `name` is `None`.
 fn has_name(text: &str, name: Option<&str>) -> bool {
     match TimeZoneParser::from_str(text).parse_identifier() {
         Ok(zone) => zone.name() == name,
@@ -72,7 +72,7 @@ fn reads_zones_that_are_offsets() {
     }
 }
 
-// Whether the parser reads all of the bytes as a name.
+// Returns whether the parser returns all these bytes as a name.
 fn reads_name(mut parser: TimeZoneParser<'_, Utf8>, bytes: &[u8]) -> bool {
     parser.parse_iana_identifier() == Ok(bytes)
 }

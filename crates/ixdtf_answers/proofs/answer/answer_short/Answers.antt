@@ -1,4 +1,4 @@
--- A line that names a reader, and two that name none.
+-- Proves the case of a line that names a reader, and the two cases of a line that does not.
 use Rattle.ixdtf_answers.proofs.answer.answer_short.Goals as goal
 use Rattle.std.proofs.Common.{inl, inr, refl}
 use Rattle.ixdtf_answers.specs.Answer.{unknown_reader}

@@ -1,4 +1,4 @@
--- A text that is read, and one that is refused.
+-- Proves the case of an accepted text, and the case of a refused text.
 use Rattle.ixdtf_answers.proofs.canonical.canonical_record.Goals as goal
 use Rattle.std.proofs.{Common.{refl, sym, arith, length}, lemmas.List.length-map}
 use Rattle.ixdtf.specs.language.{Languages.Found.parsed, Letters.byte_letter}

@@ -1,4 +1,4 @@
--- A point, and nine digits.
+-- Proves that a point and nine digits are added.
 use Rattle.ixdtf_answers.proofs.fields.add_fraction.Goals as goal
 use Rattle.std.proofs.Common.{arith, ◌∙◌}
 use Rattle.ixdtf_answers.proofs.PrintedLemmas.{adds_digits}

@@ -1,4 +1,4 @@
--- The exits of putting a front and a name.
+-- Proves the result at each return, also after a failed write.
 use Rattle.ixdtf_answers.proofs.outcome.put_front_and_name.Goals as goal
 use Rattle.ixdtf_buffers.proofs.OutputLemmas.{Puts-after, Puts-exit}
 

@@ -1,4 +1,4 @@
--- A record with an instant, and one without.
+-- Proves the case of a record with an instant, and the case of a record without one.
 use Rattle.ixdtf_answers.proofs.outcome.put_instant.Goals as goal
 use Rattle.ixdtf_answers.proofs.InstantLemmas.{with_instant, without_instant}
 

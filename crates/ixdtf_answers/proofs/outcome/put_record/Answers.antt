@@ -1,4 +1,4 @@
--- The fields of a record without a calendar, and with one.
+-- Proves the case of a record without a calendar, and the case of a record with one.
 use Rattle.ixdtf_answers.proofs.outcome.put_record.Goals as goal
 use Rattle.std.proofs.Common.{refl, None, Some, [], ◌∷◌}
 use Rattle.std.proofs.lemmas.List.{map-id}

@@ -1,4 +1,4 @@
--- What the reader returned.
+-- Proves which result the reader returned.
 use Rattle.ixdtf_answers.proofs.readers.answer_month_day.Goals as goal
 use Rattle.ixdtf_answers.proofs.PartsLemmas.{record_returned}
 

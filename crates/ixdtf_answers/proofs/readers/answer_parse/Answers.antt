@@ -1,4 +1,4 @@
--- What the reader returned.
+-- Proves which result the reader returned.
 use Rattle.ixdtf_answers.proofs.readers.answer_parse.Goals as goal
 use Rattle.std.proofs.Common.{refl}
 use Rattle.ixdtf_answers.proofs.PartsLemmas.{record_returned}

@@ -1,4 +1,4 @@
--- A text that is read, and one that is refused.
+-- Proves the case of an accepted text, and the case of a refused text.
 use Rattle.ixdtf_answers.proofs.readers.answer_zone.Goals as goal
 use Rattle.std.proofs.Common.{refl}
 use Rattle.ixdtf.specs.{Views.zone_of, table.Faults.fault_of, language.Languages.Found.identified}

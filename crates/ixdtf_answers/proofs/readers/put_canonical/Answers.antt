@@ -1,4 +1,4 @@
--- A canonical text that was printed, and a text that is refused.
+-- Proves the case of a printed canonical text, and the case of a refused text.
 use Rattle.ixdtf_answers.proofs.readers.put_canonical.Goals as goal
 use Rattle.std.proofs.Common.{refl}
 use Rattle.ixdtf.specs.table.Faults.{fault_of}

@@ -1,4 +1,4 @@
--- What was put are the answers.
+-- Proves that the answers were written.
 use Rattle.ixdtf_answers.proofs.runner.answer_lines.Goals as goal
 use Rattle.std.proofs.KnownBytes.{Consumes-whole}
 use Rattle.ixdtf_buffers.specs.Lines.{lines_of}

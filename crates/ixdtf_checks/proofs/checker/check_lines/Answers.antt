@@ -1,4 +1,4 @@
--- What was put are the reports.
+-- Proves that the reports were written.
 use Rattle.ixdtf_checks.proofs.checker.check_lines.Goals as goal
 use Rattle.std.proofs.{Common.{◌≡◌, length, arith, refl}, KnownBytes.Consumes-whole}
 use Rattle.ixdtf_buffers.specs.Lines.{lines_of, ended_lines_of}

@@ -1,4 +1,4 @@
--- Field after field.
+-- One iteration of the loop skips one field.
 use Rattle.ixdtf_checks.proofs.column.column_named.Goals as goal
 use Rattle.std.proofs.{Common.{◌≡◌, ◌+◌, ◌-◌, suc, length, take, drop, position, Some, None, sym, ap, arith}, lemmas.List.{take_all, length-drop}}
 use Rattle.ixdtf_buffers.specs.Lines.{is_byte}

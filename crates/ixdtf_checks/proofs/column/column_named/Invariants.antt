@@ -1,10 +1,10 @@
--- Field after field.
+-- One iteration of the loop skips one field.
 use Rattle.ixdtf_checks.proofs.column.column_named.Given as goal
 use Rattle.std.proofs.Common.{◌≡◌, ◌-◌, ◌≤◌, length, Some}
 use Rattle.ixdtf_checks.specs.Parts.{field_start}
 use Rattle.ixdtf_checks.proofs.ColumnLemmas.{Seen}
 
--- the next field begins here, behind so many others, of which at most one has the name
+-- The next field begins at `start`, after `before` other fields. At most one of these has the name.
 abbrev pub invariant-fields : goal.invariant-fields
 invariant-fields l = record {
   starts : field_start l.separator l.before l.line ≡ Some l.start;

@@ -1,4 +1,4 @@
--- What each reader returned, and what it refused.
+-- Proves which value each reader returned, and which error.
 use Rattle.ixdtf_checks.proofs.instants.read_instant.Goals as goal
 use Rattle.std.proofs.Common.{refl}
 use Rattle.ixdtf_grammar.specs.{Views.parsed_of, language.Languages.Found.{parsed, dated}}

@@ -1,4 +1,4 @@
--- A text that is refused.
+-- Proves the verdict on a refused text.
 use Rattle.ixdtf_checks.proofs.judge.judge_instant.Goals as goal
 use Rattle.std.proofs.Common.{refl, inr}
 use Rattle.ixdtf_checks.specs.Kinds.{instant_reader_of}

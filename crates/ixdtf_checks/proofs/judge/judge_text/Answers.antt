@@ -1,4 +1,4 @@
--- A text that is refused.
+-- Proves the verdict on a refused text.
 use Rattle.ixdtf_checks.proofs.judge.judge_text.Goals as goal
 use Rattle.ixdtf_checks.specs.Kinds.{reader_of}
 use Rattle.ixdtf_checks.proofs.VerdictLemmas.{at_within, check_refused, print_refused, text_short}

@@ -1,4 +1,4 @@
--- A text that is too early.
+-- Proves the verdict on a text whose instant is too early.
 use Rattle.ixdtf_checks.proofs.judge.order.Goals as goal
 use Rattle.std.proofs.Common.{rules, refl}
 use Rattle.ixdtf_checks.specs.Order.{IsBefore}

@@ -1,4 +1,4 @@
--- The lines of a text that is refused.
+-- Proves which lines follow the message about a refused text.
 use Rattle.ixdtf_checks.proofs.judge.refuse.Goals as goal
 use Rattle.std.proofs.Common.{refl}
 use Rattle.ixdtf_checks.proofs.VerdictLemmas.{shows_place}

@@ -1,4 +1,4 @@
--- A field behind many.
+-- Proves that the field after many others is found.
 use Rattle.ixdtf_checks.proofs.part.field_start.Goals as goal
 use Rattle.std.proofs.{Common.{◌≡◌, ◌+◌, ◌-◌, length, take, drop, option_map, sym, ap, ◌∙◌, arith}, lemmas.List.{take_all, length-drop}}
 use Rattle.ixdtf_checks.proofs.PartsLemmas.{start_behind}

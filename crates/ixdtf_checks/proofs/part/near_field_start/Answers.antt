@@ -1,4 +1,4 @@
--- One field more.
+-- Proves that one more field is skipped.
 use Rattle.ixdtf_checks.proofs.part.near_field_start.Goals as goal
 use Rattle.std.proofs.{Common.{◌≡◌, ◌+◌, ◌-◌, length, take, drop, option_map, refl, ap, ◌∙◌, arith}, lemmas.List.{take_all, length-drop, drop-drop}}
 use Rattle.ixdtf_checks.specs.Parts.{field_start}

@@ -1,4 +1,4 @@
--- A text, and what is none.
+-- Proves the case of a text, and the case of bytes that are not UTF-8.
 use Rattle.ixdtf_checks.proofs.pointed.add_any.Goals as goal
 use Rattle.std.proofs.Common.{sym}
 use Rattle.ixdtf_checks.proofs.PointedLemmas.{adds_none, adds_same, lines_hidden, lines_masked}

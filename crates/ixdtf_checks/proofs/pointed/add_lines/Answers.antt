@@ -1,4 +1,4 @@
--- A text that is of ASCII near the place, and what is no text.
+-- Proves the case of a text that is ASCII near the position, and the case of bytes that are not UTF-8.
 use Rattle.ixdtf_checks.proofs.pointed.add_lines.Goals as goal
 use Rattle.std.proofs.Common.{refl, subst, sym}
 use Rattle.std.specs.Str.{IsAscii}

@@ -1,4 +1,4 @@
--- Run after run.
+-- One iteration of the loop adds one run of bytes, and the byte 0xC2 after it or a `.`.
 use Rattle.ixdtf_checks.proofs.pointed.add_masked.Goals as goal
 use Rattle.std.proofs.Common.{◌≡◌, ℕ, ◌+◌, ◌-◌, ◌≤◌, List, [], ◌∷◌, ◌++◌, length, map, take, drop, get_or, refl, sym, ap, ◌∙◌, arith, append_assoc, length-drop}
 use Rattle.std.proofs.lemmas.{Bool.eqb-true, List.{length-take-le, take_all, Quantifiers.position-Some}}
@@ -7,7 +7,7 @@ use Rattle.ixdtf_buffers.proofs.{AddingLemmas.adds_then, LinesLemmas.position-No
 use Rattle.ixdtf_checks.specs.Pointed.{mask, masked}
 use Rattle.ixdtf_checks.proofs.{MaskedLemmas.{masked_all, masked_lead, masked_pair}, PointedLemmas.adds_same}
 
--- a run was added, and a byte for the n bytes from the next 0xC2 on
+-- A run was added, and one byte for the n bytes from the next 0xC2 on.
 goes_on : (old new : List ℕ) (at last n : ℕ) (bs rest part run : List ℕ) (byte : ℕ) → masked rest ≡ run ++ byte ∷ masked (drop n rest)
     → last + (length rest - n) ≤ at + length bs → part ++ masked rest ≡ masked bs → Adds old new at last ((part ++ run) ++ byte ∷ [])
     → (last + length (take (length rest - n) (drop n rest)) ≤ at + length bs)

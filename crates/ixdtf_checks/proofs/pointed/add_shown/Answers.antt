@@ -1,4 +1,4 @@
--- The characters of a slice between marks.
+-- Proves that the shown part and the marks at its ends are added.
 use Rattle.ixdtf_checks.proofs.pointed.add_shown.Goals as goal
 use Rattle.ixdtf_checks.proofs.pointed.add_shown.Goals.{then-is_ascii, else-is_ascii}
 use Rattle.std.proofs.Common.{map, sym, ap, ◌∙◌}

@@ -1,4 +1,4 @@
--- The first of the spaces.
+-- Proves that the added bytes are the newline and the first of the spaces.
 use Rattle.ixdtf_checks.proofs.pointed.add_spaces.Goals as goal
 use Rattle.std.proofs.Common.{◌≡◌, ℕ, ◌+◌, ◌≤◌, suc, zero, List, take, replicate, refl, ap, ◌∷◌, arith}
 use Rattle.ixdtf_buffers.proofs.AddingLemmas.{adds_front}

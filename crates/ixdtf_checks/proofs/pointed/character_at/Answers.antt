@@ -1,4 +1,4 @@
--- Back to where a character begins.
+-- The loop goes back to the first byte of a character.
 use Rattle.ixdtf_checks.proofs.pointed.character_at.Goals as goal
 use Rattle.std.proofs.Common.{◌≡◌, ◌+◌, ◌-◌, get_or, length, rules, sym, ap, ◌∙◌, arith}
 use Rattle.std.proofs.lemmas.{List.take_all, Str.{IsUtf8-take, IsUtf8-drop, IsCharBoundary-start}}

@@ -1,4 +1,4 @@
--- Byte after byte.
+-- One iteration of the loop reads one byte.
 use Rattle.ixdtf_checks.proofs.pointed.characters_in.Goals as goal
 use Rattle.std.proofs.{Common.{◌≡◌, take, get_or, arith}, lemmas.List.length-take-le}
 use Rattle.ixdtf_checks.specs.Pointed.{begun}

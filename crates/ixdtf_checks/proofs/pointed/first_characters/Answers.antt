@@ -1,4 +1,4 @@
--- Over the first characters.
+-- One iteration of the loop reads one byte of the first characters.
 use Rattle.ixdtf_checks.proofs.pointed.first_characters.Goals as goal
 use Rattle.std.proofs.Common.{◌≡◌, take, get_or, subst, sym, arith}
 use Rattle.std.proofs.lemmas.{List.{length-take-le, take_all}, Str.{IsUtf8-take, IsUtf8-drop}}

@@ -1,4 +1,4 @@
--- A text of ASCII that is shown whole.
+-- Proves the case of an ASCII text that is shown completely.
 use Rattle.ixdtf_checks.proofs.pointed.is_text.Goals as goal
 use Rattle.ixdtf_checks.proofs.PointedLemmas.{whole_text}
 

@@ -1,4 +1,4 @@
--- Back over characters.
+-- The loop goes back over the last characters.
 use Rattle.ixdtf_checks.proofs.pointed.last_characters.Goals as goal
 use Rattle.std.proofs.Common.{◌≡◌, ◌+◌, ◌-◌, ◌∙◌, take, drop, get_or, length, sym, ap, arith, length-drop}
 use Rattle.std.proofs.lemmas.{List.{get_or-drop, take_all}, Str.{IsUtf8-take, IsUtf8-drop}}

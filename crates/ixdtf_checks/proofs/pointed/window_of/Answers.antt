@@ -1,4 +1,4 @@
--- The characters that are shown.
+-- Proves which characters are shown.
 use Rattle.ixdtf_checks.proofs.pointed.window_of.Goals as goal
 use Rattle.std.proofs.Common.{◌≡◌, ◌-◌, ◌<◌, ◌≤◌, length, take, drop, ⊎_elim, arith, length-drop, refl}
 use Rattle.std.proofs.lemmas.{Bool.cases_lt, List.{length-take-le, take_all}}

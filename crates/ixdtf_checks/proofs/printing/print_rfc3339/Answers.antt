@@ -1,4 +1,4 @@
--- A record that is read from a line fits.
+-- Proves that the canonical text of a record that was read from a line fits into the buffer.
 use Rattle.ixdtf_checks.proofs.printing.print_rfc3339.Goals as goal
 use Rattle.std.proofs.Common.{refl, arith}
 use Rattle.ixdtf_grammar.specs.Views.{parsed_of}

@@ -1,4 +1,4 @@
--- A value that is read from a line fits.
+-- Proves that the canonical text of a value that was read from a line fits into the buffer.
 use Rattle.ixdtf_checks.proofs.printing.print_time.Goals as goal
 use Rattle.std.proofs.{Common.{refl, arith}, lemmas.List.length-map}
 use Rattle.ixdtf_grammar.specs.{Widths.byte_text, language.Letters.byte_letter}

@@ -1,4 +1,4 @@
--- What each reader returned, and what it refused.
+-- Proves which value each reader returned, and which error.
 use Rattle.ixdtf_checks.proofs.reading.read.Goals as goal
 use Rattle.std.proofs.Common.{refl}
 use Rattle.ixdtf_grammar.specs.language.Languages.Found.{parsed}

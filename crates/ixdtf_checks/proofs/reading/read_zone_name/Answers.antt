@@ -1,4 +1,4 @@
--- What the reader returned, and what it refused.
+-- Proves which value the reader returned, and which error.
 use Rattle.ixdtf_checks.proofs.reading.read_zone_name.Goals as goal
 use Rattle.std.proofs.Common.{refl}
 

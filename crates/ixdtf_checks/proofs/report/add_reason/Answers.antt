@@ -1,4 +1,4 @@
--- The lines of a text with a message of this program.
+-- Proves which lines follow a message of this program about a text.
 use Rattle.ixdtf_checks.proofs.report.add_reason.Goals as goal
 use Rattle.ixdtf_buffers.proofs.AddingLemmas.{adds_then}
 

@@ -1,4 +1,4 @@
--- A long text and its newline.
+-- Proves that a long text and its newline are written.
 use Rattle.ixdtf_checks.proofs.report.put_printed.Goals as goal
 use Rattle.std.proofs.Common.{◌-◌, length}
 use Rattle.std.proofs.lemmas.List.{append-nil, take-append-drop}

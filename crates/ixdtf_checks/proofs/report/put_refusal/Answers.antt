@@ -1,4 +1,4 @@
--- The name, and the rest.
+-- Proves that the name and the other bytes of the report are written.
 use Rattle.ixdtf_checks.proofs.report.put_refusal.Goals as goal
 use Rattle.ixdtf_buffers.proofs.{AddingLemmas.adds_then, OutputLemmas.{Puts-after, Puts-exit}}
 

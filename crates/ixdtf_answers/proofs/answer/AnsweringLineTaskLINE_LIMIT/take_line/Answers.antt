@@ -1,4 +1,4 @@
--- A line that is too long, and one that is not.
+-- Proves the case of a line that is too long, and the case of any other line.
 use Rattle.ixdtf_answers.proofs.answer.AnsweringLineTaskLINE_LIMIT.take_line.Goals as goal
 use Rattle.std.proofs.Common.{[], ◌∷◌, ◌++◌, refl}
 use Rattle.ixdtf_buffers.specs.Lines.{newline}

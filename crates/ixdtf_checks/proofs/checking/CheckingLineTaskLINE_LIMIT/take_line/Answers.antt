@@ -1,4 +1,4 @@
--- A line is reported and counted.
+-- Proves that the line is reported and counted.
 use Rattle.ixdtf_checks.proofs.checking.CheckingLineTaskLINE_LIMIT.take_line.Goals as goal
 use Rattle.std.proofs.Common.{refl}
 use Rattle.ixdtf_checks.specs.Reports.{report_of}

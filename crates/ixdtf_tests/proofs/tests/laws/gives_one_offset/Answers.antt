@@ -6,7 +6,7 @@ use Rattle.ixdtf.specs.language.Readers.Reader.{parse_offset}
 use Rattle.ixdtf.specs.table.Faults.{fault_of}
 use Rattle.ixdtf_tests.proofs.tests.laws.gives_one_offset.Goals as goal
 
--- the outcomes of the two widths are one
+-- The outcomes for 8-bit and 16-bit text are the same.
 one_outcome : OneUnhandledOutcome → SameWhereShared → (bytes units : List ℕ) → All (λ n. IsTrue (is_shared n)) bytes → units ≡ bytes
     → (narrow wide : UnhandledOutcome) → HasUnhandledOutcome parse_offset (byte_text bytes) narrow → HasUnhandledOutcome parse_offset (wide_text units) wide
     → narrow ≡ wide

@@ -10,12 +10,12 @@ use Rattle.ixdtf.specs.language.Readers.Reader.{parse_offset, parse_identifier}
 use Rattle.ixdtf.specs.language.ZoneNames.Zone.{Name, Offset}
 use Rattle.ixdtf_tests.proofs.tests.laws.hours_of_both.Goals as goal
 
--- a text that is an offset is no name
+-- A text that is an offset is not a name.
 no_name : OffsetsAgree → (text : Text) (offset : UtcOffsetRecord) (name : List ℕ) → Derives parse_offset text (shifted offset) []
     → Derives parse_identifier text (identified (Name name)) [] → ⊥
 no_name agree text offset name d e = let clash : Name name ≡ Offset _ = (agree text offset (Name name) d e).2 in absurd cc
 
--- its hour is that of the zone
+-- The hour of the offset is that of the zone.
 one_hour : OffsetsAgree → (text : Text) (offset : UtcOffsetRecord) (minutes : MinutePrecisionOffset) → Derives parse_offset text (shifted offset) []
     → Derives parse_identifier text (identified (Offset minutes)) [] → (minute_part_of offset).hour ≡ minutes.hour
 one_hour agree text offset minutes d e =

@@ -5,7 +5,7 @@ use Rattle.ixdtf.specs.language.Readers.{parse}
 use Rattle.ixdtf.specs.table.Faults.{Fault, fault_of_located}
 use Rattle.ixdtf_tests.proofs.tests.laws.places_of_both.Goals as goal
 
--- the place that the bytes have is that of the units
+-- The position in the bytes is that in the 16-bit code units.
 one_place : SamePlaceWhereShared → (bytes units : List ℕ) → All (λ n. IsTrue (is_shared n)) bytes → units ≡ bytes → (narrow wide : Fault) (at there : ℕ)
     → UnhandledFaultAt parse (byte_text bytes) narrow at → UnhandledOnlyPlace parse (wide_text units) wide there → at ≡ there
 one_place same bytes units shared is narrow wide at there h only =

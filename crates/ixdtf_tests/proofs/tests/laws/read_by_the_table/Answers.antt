@@ -14,12 +14,12 @@ use Rattle.ixdtf.specs.Views.{returned, parsed_of}
 use Rattle.ixdtf_tests.proofs.tests.laws.read_by_the_table.Goals as goal
 use Rattle.ixdtf_reading.proofs.theorems.Replies.{nothing_split}
 
--- a reply that is refused is one to some pair
+-- A refused reply is a reply to some annotation.
 none_refused : (pairs : List Pair) (fault : Fault) → LastRefused (own_replies pairs) fault → Begins pairs [] → ⊥
 none_refused [] fault last begins = nothing_split last.earlier [] last.reply last.split
 none_refused (pair ∷ pairs) fault last begins = let is : [] ≡ pair ∷ (pairs ++ begins.0) = begins.1 in absurd cc
 
--- what `parse` returns where the row fits, with no pairs before it, and what holds of the text is one
+-- If the row fits without annotations before it, `parse` returns its error, because the text has exactly one outcome.
 by_the_row : {X : Type 0} (view : X → Parsed) (text : Text) (row : Row) → Fits parse row [] text → ExactlyOne (Holds parse text) → FrontsBegin
     → (result : Result X ParseError)
     → ((p : Parsed) → (returned view result ≡ Ok p) ↔ UnhandledRecord parse text p) → IfErr result (λ e. UnhandledFault parse text (fault_of e))

@@ -11,7 +11,7 @@ use Rattle.ixdtf.specs.table.Faults.{Fault}
 use Rattle.ixdtf_tests.proofs.tests.laws.reads_twice.Goals as goal
 
 module _ {T U F : Type 0} (number : U → ℕ) {step : Step T U F} where
-  -- each reply is none
+  -- Each reply is `None`.
   replied : ((state : F) (annotation : Annotation T U) (reply : Option (Annotation T U)) (next : F) → step state annotation reply next → reply ≡ None)
       → (calls : Calls T U) (state last : F) → IsChain step state calls last → replies_of number calls ≡ replies_to (λ pairs. None) (handed number calls)
   replied none [] state last chain = refl
@@ -27,7 +27,7 @@ module _ {T U F : Type 0} (number : U → ℕ) {step : Step T U F} where
   gives {handler = handler} {result = Err fault} h none wanted is =
       (handed number h.calls, rw (← is, ← (replied none h.calls handler h.last h.chain)) (h.err fault refl))
 
--- so there is one result
+-- So there is only one result.
 once : OneChain → (text : Text) (x y : Result Parsed Fault) → ((pairs : List Pair) × GivesResult parse text pairs (replies_to (λ pairs. None) pairs) x)
     → ((pairs : List Pair) × GivesResult parse text pairs (replies_to (λ pairs. None) pairs) y) → x ≡ y
 once one text x y (xs, h) (ys, g) =

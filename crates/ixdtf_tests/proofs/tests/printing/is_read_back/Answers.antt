@@ -7,7 +7,7 @@ use Rattle.ixdtf_print.specs.Canonical.{canonical_text}
 use Rattle.ixdtf_print.specs.Printable.{IsPrintable, record_of}
 use Rattle.ixdtf_tests.proofs.tests.printing.is_read_back.Goals as goal
 
--- what was printed gives the record
+-- The printed text gives the record.
 given : (found : Parsed) (printed rest : Text) → rest ≡ printed
     → printed ≡ canonical_text found → UnhandledRecord parse (canonical_text found) found → UnhandledRecord parse rest found
 given found printed rest is spelled same = subst (λ text. UnhandledRecord parse text found) (sym (is ∙ spelled)) same
