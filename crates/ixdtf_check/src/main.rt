@@ -40,9 +40,11 @@ Which lines are read:\n\
 Which part of a line is read:\n\
 \x20 --field N        field N of each line, counted from 1, and not the complete line\n\
 \x20 --field NAME     the field that has this name in the first line; needs --header\n\
+\x20 --fields A-B     fields A to B, between which a line has one space\n\
 \x20 --separator C    the byte between two fields; without this option, it is a tab\n\
 \x20 ixdtf_check --field 3 --separator , table.csv\n\
 \x20 ixdtf_check --header --field time --separator , table.csv\n\
+\x20 ixdtf_check --fields 1-2 server.log\n\
 \n\
 What is written:\n\
 \x20 --canonical      the canonical text of each date-time that is accepted\n\

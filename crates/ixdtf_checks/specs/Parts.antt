@@ -2,7 +2,7 @@
 use Rattle.std.specs.Prelude.{ℕ, Bool, zero, suc, ◌+◌, ◌-◌, ◌==◌, ◌&&◌, if◌then◌else◌, List, length, take, drop, Option, Some, None, position, option_map, slice_index_or}
 use Rattle.std.specs.Option.{option_and_then, unwrap_or}
 use Rattle.ixdtf_buffers.specs.Lines.{is_byte}
-use Rattle.ixdtf_checks.specs.declared.{request.Field.Field, part.Part.Part}
+use Rattle.ixdtf_checks.specs.declared.{request.{Field.Field, Extent.{Extent, TheVariants.{One, More}}}, part.Part.Part}
 
 -- This is the line without the carriage return at its end, if there is one.
 abbrev pub without_return : List ℕ → List ℕ
@@ -36,11 +36,23 @@ field_start separator (suc before) line =
 abbrev pub front_field : ℕ → List ℕ → List ℕ
 front_field separator line = unwrap_or (option_map (λ place. take place line) (position (is_byte separator) line)) line
 
--- This is the requested part: the complete line, or a field of it, if it has enough fields.
+-- These are the first fields, up to the field after `more` others: the bytes up to the end of this field. If the separator is a space,
+-- they are these fields, joined by one space.
+abbrev pub front_fields : ℕ → ℕ → List ℕ → Option (List ℕ)
+front_fields separator more line =
+    option_map (λ last. take (last + length (front_field separator (drop last line))) line) (field_start separator more line)
+
+-- This is the text at the beginning of a line, if it has enough fields.
+abbrev pub front_text : Extent → ℕ → List ℕ → Option (List ℕ)
+front_text One separator line = Some (front_field separator line)
+front_text (More more) separator line = front_fields separator more line
+
+-- This is the requested part: the complete line, or a field of it, or a field and the fields after it, if it has enough fields.
 abbrev pub part_of : Option Field → List ℕ → Option Text
 part_of None line = Some (record { start = 0; bytes = line })
 part_of (Some field) line =
-    option_map (λ start. record { start = start; bytes = front_field field.separator (drop start line) }) (field_start field.separator field.before line)
+    option_and_then (λ start. option_map (λ text. record { start = start; bytes = text }) (front_text field.extent field.separator (drop start line)))
+    (field_start field.separator field.before line)
 
 -- This is the part of the definitions for a part in the code.
 abbrev pub seen_part : Part → Text

@@ -58,9 +58,11 @@ Which lines are read:
 Which part of a line is read:
   --field N        field N of each line, counted from 1, and not the complete line
   --field NAME     the field that has this name in the first line; needs --header
+  --fields A-B     fields A to B, between which a line has one space
   --separator C    the byte between two fields; without this option, it is a tab
   ixdtf_check --field 3 --separator , table.csv
   ixdtf_check --header --field time --separator , table.csv
+  ixdtf_check --fields 1-2 server.log
 
 What is written:
   --canonical      the canonical text of each date-time that is accepted

@@ -2,7 +2,7 @@
 
 //! Finds the part of a line that is its text.
 
-use crate::request::Field;
+use crate::request::{Extent, Field};
 use ixdtf_buffers::place::{pass_many, place_of};
 
 /// If at least this many fields come before a field, separators are counted in steps of sixteen bytes.
@@ -52,15 +52,32 @@ pub fn part_of(field: Option<Field>, line: &[u8]) -> Option<Part<'_>> {
     }
 }
 
-/// Returns the given field of the line. Returns `None` if the line has too few fields.
+/// Returns the part of the line that begins with the given field. Returns `None` if the line has too few fields.
 #[inline(never)]
 fn field_of(field: Field, line: &[u8]) -> Option<Part<'_>> {
     match field_start(field.separator, field.before, line) {
         None => None,
-        Some(start) => Some(Part {
-            start,
-            text: front_field(field.separator, &line[start..]),
-        }),
+        Some(start) => match front_text(field.extent, field.separator, &line[start..]) {
+            None => None,
+            Some(text) => Some(Part { start, text }),
+        },
+    }
+}
+
+/// Returns the text at the beginning of the bytes, which begin with a field. Returns `None` if they have too few fields.
+#[inline(always)]
+fn front_text(extent: Extent, separator: u8, rest: &[u8]) -> Option<&[u8]> {
+    match extent {
+        Extent::One => Some(front_field(separator, rest)),
+        Extent::More(more) => front_fields(separator, more, rest),
+    }
+}
+
+/// Returns the first field and `more` fields after it, with the separators between them. Returns `None` if there are too few fields.
+fn front_fields(separator: u8, more: usize, rest: &[u8]) -> Option<&[u8]> {
+    match field_start(separator, more, rest) {
+        None => None,
+        Some(last) => Some(&rest[..last + front_field(separator, &rest[last..]).len()]),
     }
 }
 

@@ -4,7 +4,7 @@ use super::{DATE_TIMES, check_written};
 use ixdtf::parsers::Profile;
 use ixdtf_buffers::place::pass_many;
 use ixdtf_checks::kind::Kind;
-use ixdtf_checks::request::{Field, Request, Task};
+use ixdtf_checks::request::{Extent, Field, Request, Task};
 use std::alloc::Global;
 use std::process::Abort;
 use std::test::Fail;
@@ -106,6 +106,7 @@ fn reads_a_field(rt: HostRuntime) -> Result<(), Fail> {
     request.field = Some(Field {
         before: 1,
         separator: b',',
+        extent: Extent::One,
     });
     check_written(
         &rt,
@@ -124,6 +125,7 @@ fn reads_a_field_behind_many(rt: HostRuntime) -> Result<(), Fail> {
     request.field = Some(Field {
         before: 20,
         separator: b',',
+        extent: Extent::One,
     });
     check_written(
         &rt,
@@ -133,6 +135,25 @@ fn reads_a_field_behind_many(rt: HostRuntime) -> Result<(), Fail> {
         b"f:2:30: Parsed month value not in a valid range.\n2020-13-01\n       ^\n\
 f:3:30: no such field\n",
         (3, 2),
+    )
+}
+
+#[test]
+fn reads_two_fields(rt: HostRuntime) -> Result<(), Fail> {
+    let mut request = DATE_TIMES;
+    request.field = Some(Field {
+        before: 1,
+        separator: b' ',
+        extent: Extent::More(1),
+    });
+    check_written(
+        &rt,
+        rt.alloc(),
+        &request,
+        b"a 2020-01-01 12:00:00 b\nab 2020-01-01 25:00:00\na 2020-01-01\nabc\na 2020-01-01  12:00\n",
+        b"f:2:17: Invalid character while parsing hour value.\n2020-01-01 25:00:00\n             ^\n\
+f:3:13: no such field\nf:4:4: no such field\nf:5:14: Parsing ended abruptly while parsing digit\n2020-01-01 \n           ^\n",
+        (5, 4),
     )
 }
 
