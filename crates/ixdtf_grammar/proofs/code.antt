@@ -1,2 +1,2 @@
--- What the functions of the code use.
+-- Lemmas that the proofs of functions use.
 pub mod Nanoseconds

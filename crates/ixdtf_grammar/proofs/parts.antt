@@ -1,4 +1,4 @@
--- What readings are made of.
+-- Lemmas about the parts of texts.
 pub mod Classes
 pub mod CoreLetters
 pub mod Texts

@@ -1,4 +1,4 @@
--- What follows for every text.
+-- Theorems about every text.
 pub mod CoreEnds
 pub mod CoreSizes
 pub mod Disjoint

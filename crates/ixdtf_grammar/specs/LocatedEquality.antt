@@ -1,13 +1,13 @@
--- When two errors with their places are equal: where their places are the same, and the errors are equal.
+-- Equality of errors with positions: two of them are equal if their positions are the same and the errors are equal.
 use Rattle.std.specs.{Prelude.{ℕ, Bool, List, ◌∷◌}, Ordering.on, Str.bytes_eq, Cmp.{IsPartialEquivalence, partial_equiv_from_equiv}}
 use Rattle.std.specs.Cmp.Lexicographic.{on_texts_equal}
 use Rattle.ixdtf_grammar.specs.{declared.located.LocatedError.LocatedError, table.{ErrorEquality.spelled, Faults.fault_of}}
 
--- the place, and the error as it is spelled, in one list
+-- This list has the position, and then the numbers that identify the error.
 abbrev pub spelled_at : LocatedError → List ℕ
 spelled_at e = e.at ∷ spelled (fault_of e.error)
 
--- whether two errors with their places are equal
+-- This says whether two errors with their positions are equal.
 abbrev pub same_located : LocatedError → LocatedError → Bool
 same_located = on spelled_at bytes_eq
 

@@ -1,5 +1,5 @@
--- What a public reader of whole texts promises, as one clause: what it returned, with its value and its error each seen by a
--- view, and what it left of the parser.
+-- The promises of the public readers. Each record here is one clause of a contract. It says what the reader returned, and what it
+-- left in the parser. The value and the error that the reader returned are each seen through a view.
 use Rattle.std.specs.Prelude.{◌≡◌, ◌↔◌, ℕ, ◌+◌, ◌*◌, List, [], map, Result, Ok, OnOk, IfErr}
 use Rattle.ixdtf_grammar.specs.{declared.located.LocatedError.LocatedError, language.{Letters.Letter, Readers.Reader, Languages.{Parsed, Found, Derives}}}
 use Rattle.ixdtf_grammar.specs.table.{Faults.{Fault, fault_of_located}, Outcomes.{HasFault, HasFaultAt, OnlyPlace, NoRowFits, OnlyFault}}
@@ -7,29 +7,29 @@ use Rattle.ixdtf_grammar.specs.Handlers.{Reply, replies_of, value_units, Step, H
 use Rattle.ixdtf_grammar.specs.{Places.{HandledAt, UnhandledFaultAt, UnhandledOnlyPlace}, Laws.InNoOther}
 use Rattle.ixdtf_grammar.specs.Views.{Unread, UnreadUnder, unread_of, most_looks, LeavesBehind, returned_by}
 
--- without a handler
+-- This is the clause of a reader without a handler.
 pub record ReadsText {X E : Type 0} (letter : ℕ → Letter) (fault : E → Fault) (view : X → Parsed) (reader : Reader)
     (old : UnreadUnder) (result : Result X E) (new : UnreadUnder) : Type 0 where
-  -- `Ok` exactly with the record that the text gives, where each pair replies for itself
+  -- The result is `Ok` with a record exactly if the text gives this record without a handler.
   pub ok : (found : Parsed) → (returned_by fault view result ≡ Ok found) ↔ UnhandledRecord reader (map letter old.rest) found
-  -- `Err` only with a fault that it gives so
+  -- The result is `Err` only with an error that the text gives without a handler.
   pub err : IfErr result (λ e. UnhandledFault reader (map letter old.rest) (fault e))
-  -- `Ok` only where no row of the fault table fits, and where no other text reader has the text
+  -- The result is `Ok` only if no row of the fault table fits, and the text is in the language of no other text reader.
   pub no_row : OnOk result (NoRowFits reader (map letter old.rest))
   pub no_other_reader : OnOk result (InNoOther old.profile reader (map letter old.rest))
-  -- `Err` only with the one fault that it gives: that of the last pair, which is refused, or of the only row that fits
+  -- The result is `Err` only with the one error that the text gives: that of the last reply, or that of the only row that fits.
   pub only : IfErr result (λ e. UnhandledOnlyFault reader (map letter old.rest) (fault e))
-  -- nothing to be read after `Ok`, and all of it after an error
+  -- After `Ok` there is no remaining input. After an error, the remaining input is unchanged.
   pub leaves : LeavesBehind fault (most_looks old.rest) (unread_of old) result (unread_of new)
   pub profile : new.profile ≡ old.profile
 
--- without a handler, with the place of an error
+-- This is the clause of a reader without a handler whose error has a position.
 pub record ReadsTextAt {X : Type 0} (letter : ℕ → Letter) (view : X → Parsed) (reader : Reader)
     (old : UnreadUnder) (result : Result X LocatedError) (new : UnreadUnder) : Type 0 where
   pub ok : (found : Parsed) → (returned_by fault_of_located view result ≡ Ok found) ↔ UnhandledRecord reader (map letter old.rest) found
-  -- `Err` only with a fault and a place that it gives so
+  -- The result is `Err` only with an error and a position that the text gives without a handler.
   pub err : IfErr result (λ e. UnhandledFaultAt reader (map letter old.rest) (fault_of_located e) e.at)
-  -- no other error comes, nor one at another place
+  -- The text gives no other error, and no error at another position.
   pub place : IfErr result (λ e. UnhandledOnlyPlace reader (map letter old.rest) (fault_of_located e) e.at)
   pub no_row : OnOk result (NoRowFits reader (map letter old.rest))
   pub no_other_reader : OnOk result (InNoOther old.profile reader (map letter old.rest))
@@ -37,22 +37,22 @@ pub record ReadsTextAt {X : Type 0} (letter : ℕ → Letter) (view : X → Pars
   pub leaves : LeavesBehind fault_of_located (most_looks old.rest) (unread_of old) result (unread_of new)
   pub profile : new.profile ≡ old.profile
 
--- the most code unit accesses that a reader makes for a text beside these replies of a handler: two more for each code unit of
--- their values
+-- For a text and these replies of a handler, a reader accesses a code unit at most this number of times. Each code unit in the values
+-- of the replies adds two accesses.
 abbrev pub most_looks_beside : List ℕ → List Reply → ℕ
 most_looks_beside rest replies = most_looks rest + 2 * value_units replies
 
--- with a handler: for the one chain of its calls
+-- This is the clause of a reader with a handler. It is about the one chain of calls of the handler.
 pub record HandlesText {T U F X E : Type 0} (letter : ℕ → Letter) (number : U → ℕ) (step : Step T U F) (handler : F)
     (fault : E → Fault) (view : X → Parsed) (reader : Reader) (old : UnreadUnder) (result : Result X E) (new : UnreadUnder) : Type 0 where
-  -- `Ok` exactly with the record, and `Err` only with the one error, that the text and the replies give
+  -- The result is `Ok` exactly with the record that the text and the replies give, and `Err` only with the one error that they give.
   pub handled : Handled number step handler reader (map letter old.rest) (returned_by fault view result)
   pub no_row : OnOk result (NoRowFits reader (map letter old.rest))
   pub no_other_reader : OnOk result (InNoOther old.profile reader (map letter old.rest))
   pub leaves : LeavesBehind fault (most_looks_beside old.rest (replies_of number handled.calls)) (unread_of old) result (unread_of new)
   pub profile : new.profile ≡ old.profile
 
--- with a handler, with the place of an error
+-- This is the clause of a reader with a handler whose error has a position.
 pub record HandlesTextAt {T U F X E : Type 0} (letter : ℕ → Letter) (number : U → ℕ) (step : Step T U F) (handler : F)
     (fault : E → Fault) (stands : ℕ → E → Type 0) (view : X → Parsed) (reader : Reader) (old : UnreadUnder)
     (result : Result X E) (new : UnreadUnder) : Type 0 where
@@ -64,26 +64,27 @@ pub record HandlesTextAt {T U F X E : Type 0} (letter : ℕ → Letter) (number 
 
 -- ---- readers of a text without brackets
 
--- what was found is named by a view and by what it is in the grammar
+-- This is the clause of a reader of texts without brackets. `view` says how the clause sees the value that the reader returned, and
+-- `found` says which value of the grammar this is.
 pub record ReadsPart {X A E : Type 0} (letter : ℕ → Letter) (fault : E → Fault) (view : X → A) (found : A → Found) (reader : Reader)
     (old : Unread) (result : Result X E) (new : Unread) : Type 0 where
-  -- `Ok` exactly where the language derives it
+  -- The result is `Ok` with a value exactly if the grammar derives this value from the text.
   pub ok : (value : A) → (returned_by fault view result ≡ Ok value) ↔ Derives reader (map letter old.rest) (found value) []
-  -- `Err` only where a row of the fault table with this error fits
+  -- The result is `Err` only if a row of the fault table with this error fits.
   pub err : IfErr result (λ e. HasFault reader (map letter old.rest) [] (fault e))
-  -- `Ok` only where no row fits
+  -- The result is `Ok` only if no row fits.
   pub no_row : OnOk result (NoRowFits reader (map letter old.rest))
-  -- `Err` only where no other row fits, and nothing is derived
+  -- The result is `Err` only if no other row fits, and the grammar derives nothing from the text.
   pub only : IfErr result (λ e. OnlyFault reader (map letter old.rest) [] (fault e))
   pub leaves : LeavesBehind fault (most_looks old.rest) old result new
 
--- with the place of an error
+-- This is the clause of a reader of texts without brackets whose error has a position.
 pub record ReadsPartAt {X A : Type 0} (letter : ℕ → Letter) (view : X → A) (found : A → Found) (reader : Reader)
     (old : Unread) (result : Result X LocatedError) (new : Unread) : Type 0 where
   pub ok : (value : A) → (returned_by fault_of_located view result ≡ Ok value) ↔ Derives reader (map letter old.rest) (found value) []
-  -- `Err` only where a row with this error and this place fits
+  -- The result is `Err` only if a row with this error fits at this position.
   pub err : IfErr result (λ e. HasFaultAt reader (map letter old.rest) [] (fault_of_located e) e.at)
-  -- no other error or place has a row that fits
+  -- No row with another error fits, and no row fits at another position.
   pub place : IfErr result (λ e. OnlyPlace reader (map letter old.rest) (fault_of_located e) e.at)
   pub no_row : OnOk result (NoRowFits reader (map letter old.rest))
   pub only : IfErr result (λ e. OnlyFault reader (map letter old.rest) [] (fault_of_located e))

@@ -1,4 +1,5 @@
--- Two widths: what a reader without a handler returns for numbers as 16-bit code units, and as 8-bit code units.
+-- 8-bit and 16-bit text: laws about the outcome of a reader without a handler for a list of numbers. The numbers are read as 16-bit
+-- code units, and as 8-bit code units.
 use Rattle.std.specs.Prelude.{◌≡◌, ◌↔◌, ◌⊎◌, ℕ, Bool, IsTrue, IsFalse, List, [], ◌∷◌, ◌++◌, map, length, All, Any, nat_le, ◌&&◌, if◌then◌else◌}
 use Rattle.ixdtf_grammar.specs.language.{Letters.{Text, byte_letter, wide_letter}, Readers.{Reader, CoreKind}}
 use Rattle.ixdtf_grammar.specs.language.Readers.Reader.{bracketed, parse_rfc3339, parse_offset, parse_identifier, parse_iana_identifier, parse_duration}
@@ -8,12 +9,12 @@ use Rattle.ixdtf_grammar.specs.Places.{HasUnhandledFaultAt}
 
 -- ---- outcomes without a handler
 
--- what a reader without a handler returns, with slices by the numbers of their code units
+-- An outcome of a reader without a handler is a value or an error. Slices are seen as the numbers of their code units.
 pub data UnhandledOutcome : Type 0 where
   read_as : Found → UnhandledOutcome
   faulted : Fault → UnhandledOutcome
 
--- the text has the outcome in a reader with brackets, where each pair is its own reply
+-- The text has the outcome in the reader of this kind of core and brackets, without a handler.
 abbrev pub HasWithPairs : CoreKind → Text → UnhandledOutcome → Type 0
 HasWithPairs kind text (read_as (parsed found)) = UnhandledRecord (bracketed kind) text found
 HasWithPairs kind text (read_as (dated found)) = ⊥
@@ -23,12 +24,12 @@ HasWithPairs kind text (read_as (named units)) = ⊥
 HasWithPairs kind text (read_as (lasting duration)) = ⊥
 HasWithPairs kind text (faulted fault) = UnhandledFault (bracketed kind) text fault
 
--- the text has the outcome in a reader without brackets
+-- The text has the outcome in a reader of texts without brackets.
 abbrev pub HasAlone : Reader → Text → UnhandledOutcome → Type 0
 HasAlone reader text (read_as found) = Derives reader text found []
 HasAlone reader text (faulted fault) = HasFault reader text [] fault
 
--- the text has the outcome in the reader
+-- The text has the outcome in the reader, without a handler.
 abbrev pub HasUnhandledOutcome : Reader → Text → UnhandledOutcome → Type 0
 HasUnhandledOutcome (bracketed kind) text outcome = HasWithPairs kind text outcome
 HasUnhandledOutcome parse_rfc3339 text outcome = HasAlone parse_rfc3339 text outcome
@@ -37,62 +38,62 @@ HasUnhandledOutcome parse_identifier text outcome = HasAlone parse_identifier te
 HasUnhandledOutcome parse_iana_identifier text outcome = HasAlone parse_iana_identifier text outcome
 HasUnhandledOutcome (parse_duration profile) text outcome = HasAlone (parse_duration profile) text outcome
 
--- each text has exactly one outcome in each reader without a handler
+-- Each text has exactly one outcome in each reader without a handler.
 abbrev pub OneUnhandledOutcome : Type 0
 OneUnhandledOutcome = (reader : Reader) (text : Text) → ExactlyOne (HasUnhandledOutcome reader text)
 
--- ---- two widths
+-- ---- 8-bit and 16-bit text
 
--- 1 to 126: the numbers that stand for a character in both widths
+-- The number is from 1 to 126. These numbers stand for the same character as 8-bit and as 16-bit code units.
 abbrev pub is_shared : ℕ → Bool
 is_shared n = nat_le 1 n && nat_le n 126
 
--- the text of the numbers as 16-bit code units, and as 8-bit code units
+-- These are the texts of the numbers as 16-bit code units, and as 8-bit code units.
 abbrev pub wide_text : List ℕ → Text
 wide_text numbers = map wide_letter numbers
 
 abbrev pub byte_text : List ℕ → Text
 byte_text numbers = map byte_letter numbers
 
--- the numbers, with 128 in place of each that is not from 1 to 126
+-- The mask has 128 instead of each number that is not from 1 to 126.
 abbrev pub mask : List ℕ → List ℕ
 mask numbers = map (λ n. if is_shared n then n else 128) numbers
 
--- On numbers from 1 to 126 the two readings have the same outcome.
+-- If all numbers are from 1 to 126, the 16-bit text and the 8-bit text have the same outcome.
 abbrev pub SameWhereShared : Type 0
 SameWhereShared = (reader : Reader) (numbers : List ℕ) → All (λ n. IsTrue (is_shared n)) numbers
     → (outcome : UnhandledOutcome) → HasUnhandledOutcome reader (wide_text numbers) outcome ↔ HasUnhandledOutcome reader (byte_text numbers) outcome
 
--- With another number the outcome of the 16-bit reading is a fault: `NonAsciiCodePoint`, or the outcome of the mask as 8-bit
--- code units.
+-- If a number is not from 1 to 126, the outcome of the 16-bit text is an error. The error is `NonAsciiCodePoint`, or the outcome of
+-- the mask as 8-bit text.
 abbrev pub FaultWhereNotShared : Type 0
 FaultWhereNotShared = (reader : Reader) (numbers : List ℕ) → Any (λ n. IsFalse (is_shared n)) numbers
     → (fault : Fault) × HasUnhandledOutcome reader (wide_text numbers) (faulted fault)
     × ((fault ≡ NonAsciiCodePoint) ⊎ HasUnhandledOutcome reader (byte_text (mask numbers)) (faulted fault))
 
--- ---- the places of faults in two widths
+-- ---- the positions of errors in 8-bit and 16-bit text
 
--- On numbers from 1 to 126 the two readings have the same faults at the same places.
+-- If all numbers are from 1 to 126, the 16-bit text and the 8-bit text have the same errors at the same positions.
 abbrev pub SamePlaceWhereShared : Type 0
 SamePlaceWhereShared = (reader : Reader) (numbers : List ℕ) → All (λ n. IsTrue (is_shared n)) numbers
     → (fault : Fault) (at : ℕ) → HasUnhandledFaultAt reader (wide_text numbers) fault at ↔ HasUnhandledFaultAt reader (byte_text numbers) fault at
 
--- With another number the 16-bit reading has a fault at a place: `NonAsciiCodePoint`, or one that the mask as 8-bit code units
--- has there too.
+-- If a number is not from 1 to 126, the 16-bit text has an error at a position. The error is `NonAsciiCodePoint`, or the mask as
+-- 8-bit text has the same error at the same position.
 abbrev pub PlaceWhereNotShared : Type 0
 PlaceWhereNotShared = (reader : Reader) (numbers : List ℕ) → Any (λ n. IsFalse (is_shared n)) numbers
     → (fault : Fault) × (at : ℕ) × HasUnhandledFaultAt reader (wide_text numbers) fault at
     × ((fault ≡ NonAsciiCodePoint) ⊎ HasUnhandledFaultAt reader (byte_text (mask numbers)) fault at)
 
--- so many numbers stand before the first that is not from 1 to 126
+-- There are `at` numbers before the first number that is not from 1 to 126.
 abbrev pub IsFirstNotShared : List ℕ → ℕ → Type 0
 IsFirstNotShared numbers at =
     (front rest : List ℕ) × (n : ℕ) × (numbers ≡ front ++ (n ∷ rest)) × (at ≡ length front) × All (λ n. IsTrue (is_shared n)) front × IsFalse (is_shared n)
 
--- The 16-bit reading has `NonAsciiCodePoint` at the first number that is not from 1 to 126, and nowhere else.
+-- If the 16-bit text has `NonAsciiCodePoint` at a position, this is the position of the first number that is not from 1 to 126.
 abbrev pub NonAsciiIsFirst : Type 0
 NonAsciiIsFirst = (reader : Reader) (numbers : List ℕ) (at : ℕ) → HasUnhandledFaultAt reader (wide_text numbers) NonAsciiCodePoint at → IsFirstNotShared numbers at
 
--- The 8-bit reading never has it.
+-- The 8-bit text never has the error `NonAsciiCodePoint`.
 abbrev pub NonAsciiIsWide : Type 0
 NonAsciiIsWide = (reader : Reader) (numbers : List ℕ) (at : ℕ) → ¬ (HasUnhandledFaultAt reader (byte_text numbers) NonAsciiCodePoint at)

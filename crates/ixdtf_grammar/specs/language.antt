@@ -1,4 +1,4 @@
--- The grammar: which texts stand for what.
+-- The grammar: it says which texts stand for which values.
 pub mod Brackets
 pub mod Cores
 pub mod DateTimes

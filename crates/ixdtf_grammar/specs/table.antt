@@ -1,4 +1,4 @@
--- The fault table: the errors, and where each fits.
+-- The fault table: it says which error a text has, and at which position.
 pub mod Before
 pub mod DateTimeFronts
 pub mod DurationFronts

@@ -1,7 +1,7 @@
 //! The encodings that a source can have.
 //!
-//! The readers are generic in the encoding. A code unit stands for a byte, or for no character. The encoding
-//! decides this, and the readers see only the byte.
+//! The readers are generic in the encoding. The encoding decides whether a code unit stands for a byte, or for no
+//! character. The readers see only the byte.
 
 ghost use Rattle.std.specs.Prelude.{◌≡◌, ℕ, ◌<◌, ◌≤◌, ◌↔◌, ◌^◌, map, length, All, IsTrue, IsSome, IfSome, slice_range, codes};
 ghost use Rattle.std.specs.Cmp.{unsigned_Decides};
@@ -37,10 +37,10 @@ pub trait EncodingType: private::Sealed {
     /// The number of a code unit.
     ghost number: { Self.CodeUnit → ℕ };
 
-    /// What a code unit of this number stands for.
+    /// What the code unit with a number stands for.
     ghost letter: { ℕ → Letter };
 
-    /// All code units are below this.
+    /// The number of every code unit is below this limit.
     ghost limit: { ℕ };
 
     /// Returns the code units from `start` up to, but not including, `end`.
@@ -67,14 +67,14 @@ pub trait EncodingType: private::Sealed {
     fn check_calendar_key(key: &[Self::CodeUnit]) -> bool
         ensures { IsTrue result ↔ (map number key.now ≡ codes "u-ca") };
 
-    /// A code unit that stands for a byte is its number.
+    /// If a code unit stands for a byte, this byte is the number of the code unit.
     ghost faithful: { (unit letter_number : ℕ) →
         letter unit ≡ Plain letter_number → letter_number ≡ unit };
 
-    /// Code units of the same number are the same.
+    /// Two code units with the same number are the same.
     ghost injective: { (a b : Self.CodeUnit) → number a ≡ number b → a ≡ b };
 
-    /// Code units are equal exactly where their numbers are.
+    /// Two code units are equal exactly if their numbers are equal.
     ghost equal: { (a b : Self.CodeUnit) → IsTrue (Self.CodeUnit.eq a b) ↔ (number a ≡ number b) };
 }
 

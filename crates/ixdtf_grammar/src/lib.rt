@@ -1,15 +1,22 @@
-//! The grammar of the Extended Date/Time Format and its fault table, as definitions, and the types that they use:
+//! Definitions of the grammar of the Extended Date/Time Format and of its fault table, and the types that they use:
 //! encodings, records, errors and profiles.
 //!
-//! This is the lowest layer of the library `ixdtf`. It uses only the standard library. Callers name `ixdtf`, which
-//! re-exports what is public here.
+//! This is a layer of the library `ixdtf`. Only the layer `ixdtf_instants` is below it. Callers name `ixdtf`, which
+//! re-exports the items that they need.
 //!
 //! - `specs/language` has the grammar (RFC 3339, section 5.6; RFC 9557, section 4.1; ISO 8601; the Temporal grammar).
 //! - `specs/table` has the fault table.
-//! - `specs/Handlers` says what the replies of a handler change.
+//! - `specs/Handlers` says how the replies of a handler change the result. A reply is what a handler returns for one
+//!   annotation.
 //!
-//! For the layers above, this crate proves what follows from the definitions: no row fits a text that the grammar
-//! derives, the five text readers have no text in common, and what a bad code unit does to a text.
+//! For the layers above, this crate also proves three facts about the definitions:
+//!
+//! - No row of the fault table fits a text that the grammar derives.
+//! - Under one profile, no text is in the languages of two of the five text readers. The text readers are the readers of
+//!   dates, times and durations.
+//! - If a row of a table line fits a text with a bad code unit, then its error is `NonAsciiCodePoint` at the first bad code
+//!   unit, or the line has a row with the same error for each text with the same code units before the first bad one. A
+//!   bad code unit is a 16-bit code unit outside 1 to 126.
 #![tactic(auto)]
 
 pub mod encoding;

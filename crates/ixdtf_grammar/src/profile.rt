@@ -4,9 +4,10 @@ ghost use Rattle.std.specs.Prelude.{◌≡◌};
 ghost use Rattle.ixdtf_grammar.specs.language.Months.{least_day};
 ghost use Rattle.ixdtf_grammar.specs.language.Durations.{least_step};
 
-/// The rules of a parser: the rules of `ixdtf` 0.6.7 of ICU4X, or stricter rules for months with a day and for durations.
+/// The rules of a parser: the rules of `ixdtf` 0.6.7 of ICU4X, or stricter rules for month-days and for durations.
 ///
-/// A new parser has [`Profile::Crate`]. For dates, year-months, offsets and zones, both profiles have the same rules.
+/// A month-day is a month and a day without a year. A new parser has [`Profile::Crate`]. For dates, year-months, offsets
+/// and zones, both profiles have the same rules.
 ///
 /// # Examples
 ///
@@ -47,7 +48,7 @@ impl Profile {
         }
     }
 
-    /// Returns the least difference between the ranks of two units of a duration that follow each other.
+    /// Returns the least difference between the ranks of two duration units, one directly after the other in the text.
     #[inline(always)]
     #[doc(hidden)]
     pub fn least_step(self) -> u8

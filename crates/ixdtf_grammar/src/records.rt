@@ -67,7 +67,7 @@ pub struct DateRecord {
     pub day: u8,
 }
 
-/// A time of day (`partial-time` of RFC 3339, section 5.6). Parts that the text does not have are 0.
+/// A time of day (`partial-time` of RFC 3339, section 5.6). A minute or a second that the text does not have is 0.
 #[derive(Clone, Copy, Debug, Default, PartialEq, Eq, Hash)]
 pub struct TimeRecord {
     /// The hour, 0 to 23.
@@ -496,8 +496,8 @@ impl Model for Fraction {
     ghost inverse = { λ p. record { digits = p.count; value = p.value } };
 }
 
-// A record can have two fractions, that of a time and that of an offset. If it is short enough, it is copied without a
-// function call.
+// A record can have two fractions, that of a time and that of an offset. A record that is short enough is copied without a
+// function call, so a fraction must be short.
 const _: () = prove!(size_of::<Fraction>() == 9);
 
 impl Fraction {
@@ -531,7 +531,7 @@ impl Fraction {
         })
     }
 
-    /// Returns whether it has fewer than 18 digits, so that one more digit changes its value.
+    /// Returns whether the fraction has fewer than 18 digits. Then one more digit changes its value.
     #[inline(always)]
     #[doc(hidden)]
     pub fn is_short(self) -> bool
@@ -591,7 +591,7 @@ impl Fraction {
 
     /// Returns the nanoseconds of the fraction, or `None` if it has more than nine digits.
     ///
-    /// Zeros after the ninth digit count too. If the result is `Some`, it has the number that
+    /// A zero after the ninth digit counts as a digit. If the result is `Some`, it has the number that
     /// [`to_truncated_nanoseconds`](Self::to_truncated_nanoseconds) returns.
     ///
     /// # Examples

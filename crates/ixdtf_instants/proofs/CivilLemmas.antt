@@ -1,4 +1,4 @@
--- The date of a day, from the year and the month that it is in where years begin on 1 March.
+-- Lemmas about the date of a day. They start from the year and the month that contain the day, if each year begins on 1 March.
 use Rattle.std.proofs.Common.{◌≡◌, ℕ, zero, suc, ◌+◌, ◌-◌, ◌*◌, ◌<◌, ◌≤◌, refl, arith, ℤ, pos, neg_ℤ, ◌+ℤ◌, ◌≤ℤ◌}
 use Rattle.std.proofs.lemmas.Int.{by_lt_z}
 use Rattle.ixdtf_instants.specs.Calendar.{IsCivilDate, month_length, day_number_of}
@@ -18,7 +18,7 @@ pub number-early : (y : ℤ) (m d : ℕ) (z : ℤ) (n k : ℕ) → y +ℤ pos (4
 number-early y m d z n k e low high h =
     omega (arith, signed_arith, day_number-day_count y m d, day_count-early y n k m d e low high)
 
--- the days of January and February
+-- The next lemmas are about the days of January and February.
 month_length-leap_day : (y : ℤ) → month_length y 2 ≡ 28 + leap_day y
 month_length-leap_day y = grind arith
 
@@ -38,7 +38,7 @@ number-first = number-early (neg_ℤ (pos 999_999)) 1 1 _ 0 2_500 refl (omega ar
 number-last : day_number_of (pos 999_999) 12 31 ≡ pos 364_522_971
 number-last = number-late (pos 999_999) 12 31 _ 999_999 0 refl (omega arith) (omega arith) (omega (arith, signed_arith))
 
--- the days from 1 January of the year -999,999 to 31 December of the year 999,999 are in these years
+-- The days from 1 January of year -999,999 to 31 December of year 999,999 are in these years.
 pub six_digit_year : (y : ℤ) (m d : ℕ) (z : ℤ) → IsCivilDate y m d → day_number_of y m d ≡ z → neg_ℤ (pos 365_961_662) ≤ℤ z → z ≤ℤ pos 364_522_971
     → (neg_ℤ (pos 999_999) ≤ℤ y) × (y ≤ℤ pos 999_999)
 six_digit_year y m d z h e low high =

@@ -1,11 +1,12 @@
--- Day counts in the form that the code computes.
+-- Lemmas about the counts of days, in the form that the code computes.
 use Rattle.std.proofs.Common.{◌≡◌, ℕ, suc, ◌+◌, ◌-◌, ◌*◌, ◌≤◌, refl, sym, ◌∙◌, arith, ℤ, pos, negsuc, ◌+ℤ◌}
 use Rattle.ixdtf_instants.specs.Calendar.{days_before_year, days_of_months, day_count, day_number_of}
 use Rattle.ixdtf_instants.proofs.SignedLemmas.{signed_arith}
 use Rattle.ixdtf_instants.proofs.MarchLemmas.{march_days, march_months, leap_day, march_days-suc, days_of_years_on-march_days, days_of_years_back-march_days, march_days-shift_on, march_days-shift_back, leap_day-negsuc, leap_day-shift_on, leap_day-shift_back, days_of_months-early, days_of_months-late}
 use borrow.Author.Differences.{up, down}
 
--- the days from 1 January of the year 0 to that of a year, by the year n from 1 March of -400 * k on
+-- This gives the number of days from 1 January of year 0 to 1 January of a year, from the number n of the year. n is counted from the
+-- year that begins on 1 March of year -400 * k.
 pub days_before_year-march_days : (y : ℤ) (n k : ℕ) → y +ℤ pos (400 * k) ≡ pos n → up (days_before_year y) + 146_097 * k + leap_day y ≡ down (days_before_year y) + march_days n + 1
 days_before_year-march_days (pos a) n k e =
     let same : n ≡ a + 400 * k = omega (arith, signed_arith) in
@@ -17,7 +18,7 @@ pub day_count-parts : (y : ℤ) (m d : ℕ) → up (day_count y m d) + down (day
 unfolding day_count
 day_count-parts y m d = omega (arith, signed_arith)
 
--- a date from March on lies in the year of its own number
+-- If each year begins on 1 March, a date from March on is in the year with the number of its own year.
 pub day_count-late : (y : ℤ) (n k m d : ℕ) → y +ℤ pos (400 * k) ≡ pos n → 3 ≤ m → m ≤ 12 → up (day_count y m d) + 146_097 * k ≡ down (day_count y m d) + march_days n + march_months (m - 3) + d + 60
 day_count-late y n k m d e low high =
     omega (arith, days_before_year-march_days y n k e, day_count-parts y m d, days_of_months-late y m low high)
@@ -28,7 +29,7 @@ leap_day-shift (pos a) n k e =
 leap_day-shift (negsuc b) n k e =
     leap_day-negsuc b ∙ sym (leap_day-shift_back n (suc b) k (omega (arith, signed_arith)))
 
--- and one before March in the year before
+-- If each year begins on 1 March, a date in January or February is in the year before its own year.
 pub day_count-early : (y : ℤ) (n k m d : ℕ) → y +ℤ pos (400 * k) ≡ pos (suc n) → 1 ≤ m → m ≤ 2 → up (day_count y m d) + 146_097 * k ≡ down (day_count y m d) + march_days n + march_months (m + 9) + d + 60
 day_count-early y n k m d e low high =
     omega (arith, days_before_year-march_days y (suc n) k e, leap_day-shift y (suc n) k e, march_days-suc n, day_count-parts y m d, days_of_months-early y m low high)
@@ -36,7 +37,7 @@ day_count-early y n k m d e low high =
 pub day_count-epoch : (up (day_count (pos 1970) 1 1) ≡ 719_529 + down (day_count (pos 1970) 1 1))
 day_count-epoch = omega (arith, day_count-early (pos 1970) 1_969 0 1 1 refl (omega arith) (omega arith))
 
--- a day number is the count of days less that of 1970-01-01
+-- A day number is the count of the date minus the count of 1970-01-01.
 pub day_number-day_count : (y : ℤ) (m d : ℕ) → up (day_number_of y m d) + 719_529 + down (day_count y m d) ≡ down (day_number_of y m d) + up (day_count y m d)
 unfolding day_number_of
 day_number-day_count y m d = omega (arith, signed_arith, day_count-epoch)

@@ -1,4 +1,4 @@
--- How day numbers follow from one day, month and year to the next, and their order.
+-- Lemmas about the day numbers of the next day, month and year, and about the order of day numbers.
 use Rattle.std.proofs.Common.{◌≡◌, ℕ, zero, suc, ◌+◌, ◌-◌, ◌<◌, ◌≤◌, ◌⊎◌, inl, inr, refl, arith, ℤ, pos, negsuc, ◌+ℤ◌, ◌<ℤ◌, ◌≤ℤ◌, ◌↔◌}
 use Rattle.std.proofs.lemmas.Bool.{cases_order}
 use Rattle.std.proofs.lemmas.Int.{by_lt_z}
@@ -26,7 +26,7 @@ none_back : days_of_years_back zero ≡ 0
 unfolding days_of_years_back
 none_back = refl
 
--- the next year begins after the days of this one
+-- The next year begins after the days of this year.
 days_before_year-next : (y next : ℤ) → next ≡ y +ℤ pos 1 → days_before_year next ≡ days_before_year y +ℤ pos (year_length y)
 days_before_year-next (pos n) next e =
     let here : next ≡ pos (suc n) = omega (arith, signed_arith) in
@@ -38,7 +38,7 @@ days_before_year-next (negsuc (suc n)) next e =
     let here : next ≡ negsuc n = omega (arith, signed_arith) in
     rw here (omega (arith, signed_arith, next_back (suc n)))
 
--- and so does each later one
+-- Each later year begins after the days of this year.
 days_before_year-add : (k : ℕ) (y later : ℤ) → later ≡ y +ℤ pos (suc k) → (days_before_year y +ℤ pos (year_length y)) ≤ℤ days_before_year later
 days_before_year-add zero y later e =
     rw (days_before_year-next y later e) (omega (arith, signed_arith))
@@ -76,7 +76,7 @@ days_of_months_mono y m later h =
     let same : later - m + m ≡ later = omega arith in
     rw same at (days_of_months-add y m (later - m))
 
--- a day of a month lies before each later month, and in its year
+-- The number of a day in its year is at most the number of days in the months up to this month or to a later month.
 day_before : (y : ℤ) (m d later : ℕ) → IsCivilDate y m d → m ≤ later → days_of_months y (m - 1) + d ≤ days_of_months y later
 day_before y m d later h le =
     omega (arith, days_of_months_more y m h.0, days_of_months_mono y m later le)
@@ -86,7 +86,7 @@ day_in_year y m d h = omega (arith, day_before y m d 12 h h.1, days_of_months_al
 
 -- ---- day numbers
 
--- a day number, in terms that `omega` reads
+-- This is the day number, written with the terms that `omega` reads.
 pub day_number-parts : (y : ℤ) (m d : ℕ) → up (day_number_of y m d) + 719_529 + down (days_before_year y) ≡ down (day_number_of y m d) + up (days_before_year y) + days_of_months y (m - 1) + d
 day_number-parts y m d = omega (arith, day_number-day_count y m d, day_count-parts y m d)
 
@@ -122,7 +122,7 @@ day_number-later_day y m d d₂ lt =
 
 -- ---- order
 
--- by year, then by month, then by day
+-- Dates are compared by the year, then by the month, and then by the day.
 abbrev Earlier : ℤ → ℕ → ℕ → ℤ → ℕ → ℕ → Type 0
 Earlier y m d y₂ m₂ d₂ = (y <ℤ y₂) ⊎ ((y ≡ y₂) × ((m < m₂) ⊎ ((m ≡ m₂) × (d < d₂))))
 

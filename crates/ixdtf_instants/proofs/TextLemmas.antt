@@ -1,31 +1,31 @@
--- The digits that the text of an instant is written with.
+-- Lemmas about the digits in the text of an instant.
 use Rattle.std.proofs.Common.{◌≡◌, ◌≢◌, ℕ, zero, suc, ◌+◌, ◌-◌, ◌/◌, ◌%◌, ◌^◌, ◌<◌, ◌≤◌, [], ◌∷◌, refl, arith, ℤ, pos, negsuc}
 use Rattle.std.proofs.Math.Nat.{one-le-pow}
 use Rattle.std.proofs.lemmas.Bool.Decides.{nat_tests}
 use Rattle.ixdtf_instants.specs.Texts.{digits_in, trimmed_digits, long_year, year_digits, fraction_digits}
 
--- a power of ten is above zero
+-- A power of ten is greater than zero.
 pub ten_pos : (k : ℕ) → 0 < 10 ^ k
 ten_pos k = omega (arith, one-le-pow k 10 (omega arith))
 
--- no digits
+-- If no digit is asked for, there is no digit.
 pub digits_in-none : (number : ℕ) → digits_in 0 number ≡ []
 unfolding digits_in
 digits_in-none number = refl
 
--- the first digit, and the others
+-- The digits of a number are its first digit, and the other digits.
 pub digits_in-first : (count number : ℕ) → 0 < count → digits_in count number ≡ (48 + number / 10 ^ (count - 1) % 10) ∷ digits_in (count - 1) number
 unfolding digits_in
 digits_in-first zero number some = absurd (omega arith)
 digits_in-first (suc count) number some = let back : suc count - 1 ≡ count = omega arith in rw back refl
 
--- a zero at the end is left out
+-- A zero at the end is removed.
 pub trimmed-zero : (count number : ℕ) → 0 < count → number % 10 ≡ 0 → trimmed_digits count number ≡ trimmed_digits (count - 1) (number / 10)
 unfolding trimmed_digits
 trimmed-zero zero number some end = absurd (omega arith)
 trimmed-zero (suc count) number some end = let back : suc count - 1 ≡ count = omega arith in rw (back, end) refl
 
--- another digit at the end stays, with those before it
+-- If the last digit is not zero, all digits stay.
 pub trimmed-other : (count number : ℕ) → number % 10 ≢ 0 → trimmed_digits count number ≡ digits_in count number
 unfolding trimmed_digits digits_in
 trimmed-other zero number end = refl

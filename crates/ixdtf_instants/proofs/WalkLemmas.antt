@@ -1,4 +1,4 @@
--- The walk from day to day, and the number of the day that it comes to.
+-- Lemmas about the dates that are reached by going from day to day, and about the numbers of these dates.
 use Rattle.std.proofs.Common.{◌≡◌, ◌⊎◌, ℕ, zero, suc, ◌+◌, ◌-◌, ◌<◌, ◌≤◌, ◌∷◌, ◌++◌, Bool, cond, true, false, inl, inr, refl, arith, nat_lt, ℤ, pos, negsuc, ◌+ℤ◌, ◌-ℤ◌, ◌<ℤ◌, ◌≤ℤ◌}
 use Rattle.std.proofs.lemmas.Bool.{cases_lt, cases_order}
 use Rattle.std.proofs.lemmas.Bool.Decides.{nat_tests}
@@ -10,12 +10,12 @@ use Rattle.ixdtf_instants.proofs.SignedLemmas.{signed_arith}
 use Rattle.ixdtf_instants.proofs.LawLemmas.{day_number-next_day, day_number-next_month, day_number-next_year, day_number-epoch, day_number-order}
 use borrow.Author.Differences.{up, down}
 
--- the calendar has the date, and its day has the number
+-- The calendar has the date, and the date has the day number.
 pub record IsDay (date : Civil) (number : ℤ) : Type 0 where
   pub civil : IsCivilDate date.year date.month date.day
   pub counts : day_number_of date.year date.month date.day ≡ number
 
--- each month has some days
+-- Each month has at least 28 days.
 month_length-some : (y : ℤ) (m : ℕ) → 28 ≤ month_length y m
 month_length-some y m = grind arith
 
@@ -119,7 +119,7 @@ before-is (suc n) =
     let next : pos 0 -ℤ pos n -ℤ pos 1 ≡ pos 0 -ℤ pos (suc n) = omega (arith, signed_arith) in
     rw next at (previous_day-number (date_before n) (pos 0 -ℤ pos n) (before-is n))
 
--- the walk comes to the day with the number
+-- The date that is reached has the day number.
 pub date_on-is : (z : ℤ) → IsDay (date_on z) z
 date_on-is (pos n) = after-is n
 date_on-is (negsuc n) =
@@ -132,7 +132,7 @@ record SameDay (y : ℤ) (m d : ℕ) (y₂ : ℤ) (m₂ d₂ : ℕ) : Type 0 whe
   pub month : m ≡ m₂
   pub day : d ≡ d₂
 
--- two dates of the calendar that have one number are the same
+-- Two dates of the calendar with the same day number are the same.
 one_date : (y : ℤ) (m d : ℕ) (y₂ : ℤ) (m₂ d₂ : ℕ) → IsCivilDate y m d → IsCivilDate y₂ m₂ d₂ → day_number_of y m d ≡ day_number_of y₂ m₂ d₂ → SameDay y m d y₂ m₂ d₂
 one_date y m d y₂ m₂ d₂ h k e =
     let on = (day_number-order y m d y₂ m₂ d₂ h k).0 in
@@ -155,7 +155,7 @@ one_date y m d y₂ m₂ d₂ h k e =
       ]
     ]))
 
--- a date of the calendar is where the walk comes to by its number
+-- A date of the calendar is the date that is reached by its day number.
 pub date_on-of : (y : ℤ) (m d : ℕ) (z : ℤ) → IsCivilDate y m d → day_number_of y m d ≡ z → civil y m d ≡ date_on z
 date_on-of y m d z h e =
     let on = date_on-is z in

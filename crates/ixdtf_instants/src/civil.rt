@@ -1,23 +1,29 @@
-//! The date of a day.
+//! The date with a day number.
 
 ghost use Rattle.std.specs.Prelude.{◌≡◌, ◌+◌, ◌-◌, ◌*◌, ◌/◌, ◌<◌, ◌≤◌, pos, neg_ℤ, ◌+ℤ◌, ◌≤ℤ◌};
 ghost use Rattle.ixdtf_instants.specs.Calendar.{IsCivilDate, day_number_of};
 
-// A multiple of 400 years, and more than the years before 0 of any instant.
+// A number of years. It is a multiple of 400, so that leap years stay leap years, and it is greater than the number of years
+// before year 0 of any instant.
 const SHIFT: i64 = 400_000_000_000;
 
-// The days from 1 March of the year -SHIFT to 1 January 1970.
+// The number of days from 1 March of the year -SHIFT to 1 January 1970.
 const EPOCH: i64 = 146_097_000_719_468;
 
-/// A date of the calendar.
+/// A date of the proleptic Gregorian calendar. Year 0 is the year before year 1.
 #[derive(Clone, Copy, Debug, PartialEq, Eq)]
 pub struct CivilDate {
+    /// The year.
     pub year: i64,
+    /// The month: January is 1.
     pub month: u8,
+    /// The day of the month, from 1 on.
     pub day: u8,
 }
 
-/// The date with a day number: day 0 is 1970-01-01. The numbers of all instants are in the bounds.
+/// Returns the date with a day number: day 0 is 1970-01-01, and day -1 is 1969-12-31.
+///
+/// The day number of every instant is within the bounds that the contract requires.
 pub fn date_of(days: i64) -> CivilDate
     requires low { neg_ℤ (pos 110_000_000_000_000) ≤ℤ days }
     requires high { days ≤ℤ pos 110_000_000_000_000 }
@@ -44,7 +50,7 @@ pub fn date_of(days: i64) -> CivilDate
     }
 }
 
-// The days from 1 March of the year -SHIFT to a day.
+// Returns the number of days from 1 March of the year -SHIFT to the day with a day number.
 fn days_from_first(days: i64) -> u64
     requires low { neg_ℤ (pos 110_000_000_000_000) ≤ℤ days }
     requires high { days ≤ℤ pos 110_000_000_000_000 }
@@ -54,7 +60,7 @@ fn days_from_first(days: i64) -> u64
     (days + EPOCH) as u64
 }
 
-// The year that a day is in, where years begin on 1 March and year 0 begins on day 0.
+// Returns the year that contains a day, if each year begins on 1 March and year 0 begins on day 0.
 fn march_year_of(count: u64) -> u64
     requires { count ≤ 300_000_000_000_000 }
     ensures begun { 365 * result + result / 4 - result / 100 + result / 400 ≤ count }
@@ -66,7 +72,7 @@ fn march_year_of(count: u64) -> u64
     100 * century + (4 * day_of_century + 3) / 1_461
 }
 
-// The days of the first years that begin on 1 March.
+// Returns the number of days in the first `year` years, if each year begins on 1 March.
 fn days_before(year: u64) -> u64
     requires { year ≤ 900_000_000_000 }
     ensures { result ≡ 365 * year + year / 4 - year / 100 + year / 400 }
@@ -74,7 +80,8 @@ fn days_before(year: u64) -> u64
     365 * year + year / 4 - year / 100 + year / 400
 }
 
-// The month of a day in a year that begins on 1 March. March is 0.
+// Returns the month that contains a day of a year, if the year begins on 1 March. March is month 0, and its first day is
+// day 0.
 fn march_month_of(day_of_year: u32) -> u32
     requires { day_of_year ≤ 365 }
     ensures begun { (153 * result + 2) / 5 ≤ day_of_year }

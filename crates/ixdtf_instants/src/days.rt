@@ -1,19 +1,21 @@
-//! The days from 1970-01-01 to a date.
+//! The number of days from 1970-01-01 to a date.
 
 ghost use Rattle.std.specs.Prelude.{◌≡◌, ◌+◌, ◌-◌, ◌*◌, ◌/◌, ◌<◌, ◌≤◌, ℕ, pos, neg_ℤ, ◌+ℤ◌, ◌≤ℤ◌, IfSome, IfNone};
 ghost use Rattle.ixdtf_instants.specs.Calendar.{IsMonth, day_number_of};
 
-// A multiple of 400 years, so that leap years stay leap years, and more than the years before 0 that an `i32` has.
+// A number of years. It is a multiple of 400, so that leap years stay leap years, and it is greater than the number of years
+// before year 0 that an `i32` can have.
 const SHIFT: i64 = 2_147_484_000;
 
-// What the closed form counts for 1 January 1970.
+// The number of days that the formula of `day_number` gives for 1 January 1970, without subtracting EPOCH.
 const EPOCH: i64 = 784_353_144_339;
 
-// What a month adds. Both tables have the same index, and EPOCH is subtracted in the table: a call takes fewer instructions.
+// The numbers that a month adds. Both tables have the same index. EPOCH is already subtracted in the table, so that a call
+// takes fewer instructions.
 struct Months {
-    // SHIFT, and one less for January and February, which are in the year before where years begin on 1 March.
+    // SHIFT, or SHIFT - 1 for January and February: if each year begins on 1 March, these months are in the year before.
     shifts: [i64; 12],
-    // The days from 1 March to the first of the month, less EPOCH.
+    // The number of days from 1 March to the first day of the month, minus EPOCH.
     days: [i64; 12],
 }
 
@@ -26,8 +28,10 @@ static MONTHS: Months = Months {
     ],
 };
 
-/// The days from 1970-01-01 to a date, for each year that an `i32` has, or `None` where the month is not from 1 to 12. A day
-/// that its month does not have is counted on from the first of the month.
+/// Returns the number of days from 1970-01-01 to a date, for every year that an `i32` can have.
+///
+/// Returns `None` if the month is not from 1 to 12. If the month does not have the day, the days are counted on from the first
+/// day of the month.
 #[inline(always)]
 pub fn day_number(year: i32, month: u8, day: u8) -> Option<i64>
     ensures some { IfSome result (λ days. IsMonth month) }
@@ -41,7 +45,7 @@ pub fn day_number(year: i32, month: u8, day: u8) -> Option<i64>
     Some(days_of_years(years) as i64 + days_from_march(index) + i64::from(day))
 }
 
-// Where a month stands in the tables: January is 0.
+// Returns the index of a month in the tables: January has index 0. Returns `None` if the month is not from 1 to 12.
 #[inline(always)]
 fn month_index(month: u8) -> Option<usize>
     ensures some { IfSome result (λ index. (index + 1 ≡ month) × (index < 12)) }
@@ -54,8 +58,8 @@ fn month_index(month: u8) -> Option<usize>
     Some(index)
 }
 
-// The year that a month is in where years begin on 1 March, so that a leap day is the last day of a year, and the year -SHIFT
-// is 0.
+// Returns the year that contains a month, if each year begins on 1 March and year -SHIFT has the number 0. A leap day is then
+// the last day of a year.
 #[inline(always)]
 fn march_year(year: i32, index: usize) -> u64
     requires { index < 12 }
@@ -66,7 +70,7 @@ fn march_year(year: i32, index: usize) -> u64
     (i64::from(year) + year_shift(index)) as u64
 }
 
-// SHIFT, and one less for January and February.
+// Returns SHIFT, or SHIFT - 1 for January and February.
 #[inline(always)]
 fn year_shift(index: usize) -> i64
     requires { index < 12 }
@@ -78,7 +82,7 @@ fn year_shift(index: usize) -> i64
     MONTHS.shifts[index]
 }
 
-// The days from 1 March to the first of a month, less EPOCH.
+// Returns the number of days from 1 March to the first day of a month, minus EPOCH.
 #[inline(always)]
 fn days_from_march(index: usize) -> i64
     requires { index < 12 }
@@ -90,7 +94,8 @@ fn days_from_march(index: usize) -> i64
     MONTHS.days[index]
 }
 
-// The days of the first years that begin on 1 March. The product with 1,374,389,535 and the shift divide by 100.
+// Returns the number of days in the first `years` years, if each year begins on 1 March. The multiplication by 1,374,389,535
+// and the shift divide by 100.
 #[inline(always)]
 fn days_of_years(years: u64) -> u64
     requires { years ≤ 4_294_967_647 }

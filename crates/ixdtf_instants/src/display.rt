@@ -1,4 +1,4 @@
-//! Instants written as date-times in UTC.
+//! The text of an instant: a date and a time in UTC.
 
 ghost use Rattle.std.specs.Prelude.{◌≡◌, ◌+◌, ◌*◌, ◌/◌, ◌%◌, ◌<◌, ◌≤◌, ◌^◌, [], ◌∷◌, ◌++◌, pos, neg_ℤ, nat_abs, ◌≤ℤ◌};
 ghost use Rattle.std.specs.Fmt.{WritesStyledOnOk};
@@ -10,10 +10,10 @@ use crate::civil::{CivilDate, date_of};
 use crate::instant::Instant;
 use std::fmt;
 
-// The seconds of a day.
+// The number of seconds in a day.
 const DAY: i64 = 86_400;
 
-// The nanoseconds of a second.
+// The number of nanoseconds in a second.
 const BILLION: u32 = 1_000_000_000;
 
 // `Display` ignores width and fill.
@@ -35,17 +35,18 @@ impl fmt::Display for Instant {
     }
 }
 
-// A time of a day.
+// A day, and a time on this day.
 #[derive(Clone, Copy)]
 struct Moment {
-    // The number of the day: 0 is 1970-01-01.
+    // The day number: 0 is 1970-01-01.
     day: i64,
-    // The whole seconds since midnight.
+    // The number of complete seconds since midnight.
     second: u32,
     nanoseconds: u32,
 }
 
-// The day and the time of an instant. Nanoseconds from 1,000,000,000 on count as seconds.
+// Returns the day and the time of an instant. If the nanoseconds are 1,000,000,000 or more, they are carried over to the
+// seconds.
 fn moment_of(instant: Instant) -> Moment
     ensures day { result.day ≡ days_of (seconds_of (count_of instant)) }
     ensures second { result.second ≡ nat_abs (int_rem_euclid (seconds_of (count_of instant)) (pos 86_400)) }
@@ -63,7 +64,7 @@ fn moment_of(instant: Instant) -> Moment
     }
 }
 
-// Writes `Year-Month-Day`.
+// Writes a date as `Year-Month-Day`.
 fn write_date<W: fmt::Write>(f: &mut fmt::Formatter<W>, date: CivilDate) -> fmt::Result
     ensures { WritesStyledOnOk W.write_str_gives f.old result
         (year_digits date.year ++ (45 ∷ (digits_in 2 date.month ++ (45 ∷ digits_in 2 date.day)))) f.new }
@@ -75,7 +76,7 @@ fn write_date<W: fmt::Write>(f: &mut fmt::Formatter<W>, date: CivilDate) -> fmt:
     write_digits(f, 2, u64::from(date.day))
 }
 
-// Writes a year: four digits from 0 to 9999, and else a sign and more digits.
+// Writes a year: four digits if it is from 0 to 9999, and otherwise a sign and six or twelve digits.
 fn write_year<W: fmt::Write>(f: &mut fmt::Formatter<W>, year: i64) -> fmt::Result
     ensures { WritesStyledOnOk W.write_str_gives f.old result (year_digits year) f.new }
 {
@@ -91,7 +92,7 @@ fn write_year<W: fmt::Write>(f: &mut fmt::Formatter<W>, year: i64) -> fmt::Resul
     }
 }
 
-// Writes the digits of a year after its sign: six, or twelve where six are too few.
+// Writes the digits of a year after its sign: six digits, or twelve if six are too few.
 fn write_long_year<W: fmt::Write>(f: &mut fmt::Formatter<W>, number: u64) -> fmt::Result
     ensures { WritesStyledOnOk W.write_str_gives f.old result (long_year number) f.new }
 {
@@ -102,7 +103,7 @@ fn write_long_year<W: fmt::Write>(f: &mut fmt::Formatter<W>, number: u64) -> fmt
     }
 }
 
-// Writes `Hour:Min:Sec`, so many seconds after midnight.
+// Writes the time that is `seconds` seconds after midnight, as `Hour:Min:Sec`.
 fn write_clock<W: fmt::Write>(f: &mut fmt::Formatter<W>, seconds: u32) -> fmt::Result
     ensures { WritesStyledOnOk W.write_str_gives f.old result (clock_digits seconds) f.new }
 {
@@ -113,7 +114,7 @@ fn write_clock<W: fmt::Write>(f: &mut fmt::Formatter<W>, seconds: u32) -> fmt::R
     write_digits(f, 2, u64::from(seconds % 60))
 }
 
-// Writes `.` and the nanoseconds without the zeros at the end, or nothing for 0.
+// Writes `.` and the nine digits of the nanoseconds without the zeros at their end. Writes nothing if the nanoseconds are 0.
 fn write_fraction<W: fmt::Write>(f: &mut fmt::Formatter<W>, nanoseconds: u32) -> fmt::Result
     ensures { WritesStyledOnOk W.write_str_gives f.old result (fraction_digits nanoseconds) f.new }
 {
@@ -125,7 +126,8 @@ fn write_fraction<W: fmt::Write>(f: &mut fmt::Formatter<W>, nanoseconds: u32) ->
     write_digits(f, count, u64::from(number))
 }
 
-// How many digits the nanoseconds have without the zeros at the end, and their number.
+// Removes the zeros at the end of the nine digits of the nanoseconds. Returns the number of digits that are left, and the
+// number that these digits stand for.
 fn trimmed(nanoseconds: u32) -> (u32, u32)
     ensures digits { digits_in result.0 result.1 ≡ trimmed_digits 9 nanoseconds }
     ensures bound { result.0 ≤ 9 }
@@ -139,7 +141,7 @@ fn trimmed(nanoseconds: u32) -> (u32, u32)
     (count, number)
 }
 
-// Writes the last digits of a number, so many, with leading zeros.
+// Writes the last `count` digits of a number, with leading zeros.
 fn write_digits<W: fmt::Write>(f: &mut fmt::Formatter<W>, count: u32, number: u64) -> fmt::Result
     requires { count ≤ 19 }
     ensures { WritesStyledOnOk W.write_str_gives f.old result (digits_in count number) f.new }

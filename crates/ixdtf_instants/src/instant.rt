@@ -3,31 +3,33 @@
 ghost use Rattle.std.specs.Prelude.{◌≡◌, ◌+◌, ◌*◌, ◌<◌, ◌^◌, pos, neg_ℤ, ◌+ℤ◌, ◌-ℤ◌, ◌≤ℤ◌};
 ghost use Rattle.ixdtf_instants.specs.Counts.{count_of};
 
-// The nanoseconds of a second.
+// The number of nanoseconds in a second.
 const BILLION: u32 = 1_000_000_000;
 
-/// A point in time: the seconds since 1970-01-01T00:00:00Z and the nanoseconds after them. Leap seconds are not counted: each
-/// day has 86,400 seconds (POSIX.1-2017, section 4.16).
+/// A point in time: the seconds since 1970-01-01T00:00:00Z, and the nanoseconds after these seconds.
 ///
-/// Instants are ordered by time: the earlier of two instants is the smaller one.
+/// Leap seconds are not counted: each day has 86,400 seconds (POSIX.1-2017, section 4.16).
+///
+/// Instants are ordered by the seconds, and then by the nanoseconds. If the nanoseconds of two instants are below
+/// 1,000,000,000, the earlier instant is the smaller one.
 ///
 /// `Display` writes the date and the time in UTC, such as `2024-03-02T08:48:00.25Z`. Years from 0 to 9999 have four digits.
-/// Other years have a sign and six digits, as in `+010000-01-01T00:00:00Z`. The nanoseconds have no zeros at the end. If they
-/// are 0, there is no fraction. `Display` ignores width and fill.
+/// Other years have a sign and six digits, as in `+010000-01-01T00:00:00Z`. The fraction has no zeros at its end. If the
+/// nanoseconds are 0, no fraction is written. `Display` ignores width and fill.
 ///
-/// The fields are public, so a program can make an instant that no record has. A year with more than six digits is written with
-/// a sign and twelve digits, and no reader accepts this text. If the nanoseconds are 1,000,000,000 or more, `Display` carries
-/// them over to the seconds.
+/// The fields are public, so a program can make an instant that no record has. If its year has more than six digits, `Display`
+/// writes a sign and twelve digits, and no reader accepts this text. If the nanoseconds are 1,000,000,000 or more, `Display`
+/// carries them over to the seconds.
 #[derive(Clone, Copy, Debug, PartialEq, Eq, PartialOrd, Ord, Hash)]
 pub struct Instant {
-    /// The seconds since 1970-01-01T00:00:00Z, rounded down. Before 1970 they are below zero.
+    /// The complete seconds since 1970-01-01T00:00:00Z, rounded down. The number is below zero for an instant before 1970.
     pub seconds: i64,
     /// The nanoseconds after these seconds, 0 to 999,999,999.
     pub nanoseconds: u32,
 }
 
 impl Instant {
-    /// The instant so much later.
+    /// Returns the instant that is later by the seconds and the nanoseconds.
     #[inline(always)]
     #[doc(hidden)]
     pub fn later_by(self, seconds: u32, nanoseconds: u32) -> Instant
@@ -43,7 +45,7 @@ impl Instant {
         }
     }
 
-    /// The instant so much earlier.
+    /// Returns the instant that is earlier by the seconds and the nanoseconds.
     #[inline(always)]
     #[doc(hidden)]
     pub fn earlier_by(self, seconds: u32, nanoseconds: u32) -> Instant

@@ -1,8 +1,12 @@
-//! Instants, and the days of the calendar from 1970-01-01 on.
+//! Instants, and the conversion between dates and numbers of days since 1970-01-01.
 //!
-//! This is below the library's other layers, and stands on the standard library alone. Its definitions count:
-//! `specs/Calendar` has the days before a date, as the lengths of the years and months before it, and `specs/CivilDates` walks
-//! from 1 January 1970 day by day. `specs/Texts` has the text of an instant. Callers name `ixdtf`, which re-exports [`Instant`].
+//! All other layers of the library `ixdtf` are above this crate. It uses only the standard library. Callers name `ixdtf`,
+//! which re-exports [`Instant`].
+//!
+//! - `specs/Calendar` defines the number of a day. It adds up the lengths of the years and the months before a date.
+//! - `specs/CivilDates` defines the date with a day number. It goes from 1 January 1970 to this date, day by day.
+//! - `specs/Counts` defines the number of nanoseconds from 1970-01-01T00:00:00Z to an instant.
+//! - `specs/Texts` defines the text of an instant.
 #![tactic(auto)]
 
 pub mod civil;

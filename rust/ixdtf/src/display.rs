@@ -1,15 +1,15 @@
 // Made by tools/to_rust.py of crates/ixdtf_instants/src/display.rt. Do not edit.
 
-//! Instants written as date-times in UTC.
+//! The text of an instant: a date and a time in UTC.
 
 use crate::civil::{CivilDate, date_of};
 use crate::instant::Instant;
 use core::fmt;
 
-// The seconds of a day.
+// The number of seconds in a day.
 const DAY: i64 = 86_400;
 
-// The nanoseconds of a second.
+// The number of nanoseconds in a second.
 const BILLION: u32 = 1_000_000_000;
 
 // `Display` ignores width and fill.
@@ -24,17 +24,18 @@ impl fmt::Display for Instant {
     }
 }
 
-// A time of a day.
+// A day, and a time on this day.
 #[derive(Clone, Copy)]
 struct Moment {
-    // The number of the day: 0 is 1970-01-01.
+    // The day number: 0 is 1970-01-01.
     day: i64,
-    // The whole seconds since midnight.
+    // The number of complete seconds since midnight.
     second: u32,
     nanoseconds: u32,
 }
 
-// The day and the time of an instant. Nanoseconds from 1,000,000,000 on count as seconds.
+// Returns the day and the time of an instant. If the nanoseconds are 1,000,000,000 or more, they are carried over to the
+// seconds.
 fn moment_of(instant: Instant) -> Moment {
     let second = instant.seconds.rem_euclid(DAY) as u32 + instant.nanoseconds / BILLION;
     Moment {
@@ -44,7 +45,7 @@ fn moment_of(instant: Instant) -> Moment {
     }
 }
 
-// Writes `Year-Month-Day`.
+// Writes a date as `Year-Month-Day`.
 fn write_date(f: &mut fmt::Formatter<'_>, date: CivilDate) -> fmt::Result {
     write_year(f, date.year)?;
     f.write_str("-")?;
@@ -53,7 +54,7 @@ fn write_date(f: &mut fmt::Formatter<'_>, date: CivilDate) -> fmt::Result {
     write_digits(f, 2, u64::from(date.day))
 }
 
-// Writes a year: four digits from 0 to 9999, and else a sign and more digits.
+// Writes a year: four digits if it is from 0 to 9999, and otherwise a sign and six or twelve digits.
 fn write_year(f: &mut fmt::Formatter<'_>, year: i64) -> fmt::Result {
     let number = year.unsigned_abs();
     if year < 0 {
@@ -67,7 +68,7 @@ fn write_year(f: &mut fmt::Formatter<'_>, year: i64) -> fmt::Result {
     }
 }
 
-// Writes the digits of a year after its sign: six, or twelve where six are too few.
+// Writes the digits of a year after its sign: six digits, or twelve if six are too few.
 fn write_long_year(f: &mut fmt::Formatter<'_>, number: u64) -> fmt::Result {
     if number <= 999_999 {
         write_digits(f, 6, number)
@@ -76,7 +77,7 @@ fn write_long_year(f: &mut fmt::Formatter<'_>, number: u64) -> fmt::Result {
     }
 }
 
-// Writes `Hour:Min:Sec`, so many seconds after midnight.
+// Writes the time that is `seconds` seconds after midnight, as `Hour:Min:Sec`.
 fn write_clock(f: &mut fmt::Formatter<'_>, seconds: u32) -> fmt::Result {
     write_digits(f, 2, u64::from(seconds / 3600))?;
     f.write_str(":")?;
@@ -85,7 +86,7 @@ fn write_clock(f: &mut fmt::Formatter<'_>, seconds: u32) -> fmt::Result {
     write_digits(f, 2, u64::from(seconds % 60))
 }
 
-// Writes `.` and the nanoseconds without the zeros at the end, or nothing for 0.
+// Writes `.` and the nine digits of the nanoseconds without the zeros at their end. Writes nothing if the nanoseconds are 0.
 fn write_fraction(f: &mut fmt::Formatter<'_>, nanoseconds: u32) -> fmt::Result {
     if nanoseconds == 0 {
         return Ok(());
@@ -95,7 +96,8 @@ fn write_fraction(f: &mut fmt::Formatter<'_>, nanoseconds: u32) -> fmt::Result {
     write_digits(f, count, u64::from(number))
 }
 
-// How many digits the nanoseconds have without the zeros at the end, and their number.
+// Removes the zeros at the end of the nine digits of the nanoseconds. Returns the number of digits that are left, and the
+// number that these digits stand for.
 fn trimmed(nanoseconds: u32) -> (u32, u32) {
     let mut count = 9;
     let mut number = nanoseconds;
@@ -106,7 +108,7 @@ fn trimmed(nanoseconds: u32) -> (u32, u32) {
     (count, number)
 }
 
-// Writes the last digits of a number, so many, with leading zeros.
+// Writes the last `count` digits of a number, with leading zeros.
 fn write_digits(f: &mut fmt::Formatter<'_>, count: u32, number: u64) -> fmt::Result {
     let mut left = count;
     while left > 0 {

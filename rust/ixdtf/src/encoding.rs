@@ -2,8 +2,8 @@
 
 //! The encodings that a source can have.
 //!
-//! The readers are generic in the encoding. A code unit stands for a byte, or for no character. The encoding
-//! decides this, and the readers see only the byte.
+//! The readers are generic in the encoding. The encoding decides whether a code unit stands for a byte, or for no
+//! character. The readers see only the byte.
 
 use crate::{ParseError, ParserResult};
 use core::hash::Hash;

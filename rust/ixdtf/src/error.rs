@@ -44,8 +44,8 @@ pub enum ParseError {
     /// - `digit`: a digit must follow, as in `2020-1`.
     /// - `Date`: the text ends after the year of a date, as in `2020`.
     /// - `AmbiguousAnnotation`: the first bracket is not closed, and it is not known whether it is a zone or an
-    ///   annotation. It is empty after `[` or `[!`, or it begins with a lowercase letter or `_` and contains neither
-    ///   `=` nor `]`, as in `2020-01-01[cet`.
+    ///   annotation. There are two cases. Either the text ends after `[` or `[!`. Or a lowercase letter or `_` follows,
+    ///   and the text ends before the first `=` or `]`, as in `2020-01-01[cet`.
     /// - `MonthDay`: the text for `parse_month_day` is empty, or is one hyphen.
     /// - `time-numoffset`: the text for `parse_offset` is empty, or the text for `parse_rfc3339` or `parse_rfc9557`
     ///   ends where the offset must begin.
@@ -53,8 +53,11 @@ pub enum ParseError {
     /// - `DurationStart`: the text for a duration is empty.
     /// - `DurationDesignator`: a duration ends after its sign.
     /// - `Duration`: a duration ends after its `P`.
-    /// - `DateDurationDesignator`, `TimeDurationDesignator`: after the digits of a number, a duration ends, or has
-    ///   another character than the letter of a date unit or of a time unit.
+    /// - `DateDurationDesignator`: in the date part of a duration, the letter of a date unit does not follow the digits of
+    ///   a number. This is also the location if the text ends there.
+    /// - `TimeDurationDesignator`: in the time part of a duration, neither a fraction nor the letter of a time unit follows
+    ///   the digits of a number, or this letter does not follow the digits of a fraction. This is also the location if the
+    ///   text ends there.
     AbruptEnd {
         /// What was being parsed.
         location: &'static str,
@@ -69,10 +72,11 @@ pub enum ParseError {
     InvalidMonthRange,
     /// The day of a date is 00, or is after the last day of this month in this year.
     InvalidDayRange,
-    /// The text begins with a character that is neither a digit nor a sign, or the four digits of a year contain
-    /// another character. In `parse_rfc3339` and `parse_rfc9557`, this is also the error if the text begins with a sign.
+    /// The text begins with a character that is neither a digit nor a sign, or one of the four characters of a year
+    /// without a sign is not a digit. In `parse_rfc3339` and `parse_rfc9557`, this is also the error if the text begins
+    /// with a sign.
     DateYear,
-    /// The six digits of a year with a sign contain another character, or the year is `-000000`.
+    /// One of the six characters after the sign of a year is not a digit, or the year is `-000000`.
     DateExtendedYear,
     /// A year is followed by a character that is neither a hyphen nor a digit. Or a month contains a character that is
     /// not a digit. Or a month and a day begin with a character that is neither a digit nor a hyphen.

@@ -10,19 +10,22 @@ use crate::Instant;
 use crate::days::day_number;
 
 impl<'a, T: EncodingType> IxdtfParseRecord<'a, T> {
-    /// Returns the instant of the record: the local time minus the offset (RFC 3339, section 4.2). For a record that a reader
-    /// returned, the result is `Some` exactly if the record has a date, a time and an offset or `Z`.
+    /// Returns the instant of the record: the local time minus the offset (RFC 3339, section 4.2).
+    ///
+    /// For a record that a reader returned, the result is `Some` exactly if the record has a date, a time, and an offset
+    /// or `Z`.
     ///
     /// - The nanoseconds are the first nine digits of the fraction. If the offset has a fraction, its first nine digits are
     ///   subtracted too.
-    /// - The second 60 counts as the second 59, as in `ParseISODateTime` of the Temporal proposal. So `23:59:60.5` and
-    ///   `23:59:59.5` are the same instant.
+    /// - The second 60 counts as the second 59, as in `ParseISODateTime` of the Temporal proposal. So, on one date and at
+    ///   one offset, `23:59:60.5` and `23:59:59.5` are the same instant.
     /// - No time zone is looked up: the zone in brackets and the calendar do not change the instant. If the text has an offset
     ///   and a zone, this method does not check that the zone has this offset at this time. If the zone is critical, the
     ///   caller must check it (RFC 9557, section 3.4).
-    /// - A program can also make a record that no reader returns. If its month does not have its day, the days are counted
-    ///   from the first day of the month. Hours above 23 and minutes above 59 are counted in the same way. A second above 59
-    ///   counts as 59. If the month is not from 1 to 12, the result is `None`.
+    /// - A program can also make a record that no reader returns. If the month is not from 1 to 12, the result is `None`. If
+    ///   the month does not have the day, the days are counted on from the first day of the month: 31 February counts as
+    ///   3 March, or as 2 March in a leap year. Hours above 23 and minutes above 59 are counted on in the same way. A
+    ///   second above 59 counts as 59.
     ///
     /// ```rust
     /// use ixdtf::Instant;
@@ -41,7 +44,8 @@ impl<'a, T: EncodingType> IxdtfParseRecord<'a, T> {
             &self.time,
             &self.offset,
         ) {
-            // Most records are like this. Without calls, the instant takes half as many instructions.
+            // A record in UTC without a fraction is frequent. Without function calls, its instant takes half as many
+            // instructions.
             if time.fraction.is_none() && time.second < 60 {
                 let days = day_number(date.year, date.month, date.day)?;
                 let seconds = seconds_in(time.hour, time.minute, time.second);
@@ -54,7 +58,7 @@ impl<'a, T: EncodingType> IxdtfParseRecord<'a, T> {
         self.instant_of_parts()
     }
 
-    // The same for every record, with more instructions.
+    // Returns the instant of any record. It takes more instructions than the case in `instant`.
     #[inline(never)]
     fn instant_of_parts(&self) -> Option<Instant> {
         let date = self.date.as_ref()?;
@@ -72,7 +76,7 @@ impl UtcOffsetRecord {
     /// Returns how many seconds local time is ahead of UTC. The number is below zero if local time is behind UTC.
     ///
     /// A fraction of a second is dropped. Call [`fraction`](Self::fraction) to get it. The result is 0 for `+00:00` and for
-    /// `-00:00`. RFC 9557, section 2, gives these two a different meaning.
+    /// `-00:00`, although these two offsets have different meanings (RFC 9557, section 2).
     ///
     /// # Examples
     ///
@@ -93,7 +97,7 @@ impl UtcOffsetRecord {
     }
 }
 
-// The instant at which a clock in UTC shows the date and the time, or `None` where the calendar has no such month.
+// Returns the instant at which a clock in UTC shows the date and the time. Returns `None` if the month is not from 1 to 12.
 #[inline(always)]
 fn clock_at(date: &DateRecord, time: &TimeRecord) -> Option<Instant> {
     let days = day_number(date.year, date.month, date.day)?;
@@ -104,7 +108,8 @@ fn clock_at(date: &DateRecord, time: &TimeRecord) -> Option<Instant> {
     })
 }
 
-// The instant at which a clock at this offset shows what a clock in UTC shows at the given one.
+// Returns the instant at which a clock at the offset shows the date and the time that a clock in UTC shows at the instant
+// `clock`.
 #[inline(never)]
 fn in_utc(clock: Instant, offset: UtcOffsetRecord) -> Instant {
     let seconds = seconds_in(offset.hour(), offset.minute(), offset.second().unwrap_or(0));
@@ -115,13 +120,13 @@ fn in_utc(clock: Instant, offset: UtcOffsetRecord) -> Instant {
     }
 }
 
-// The seconds of hours, minutes and seconds.
+// Returns the number of seconds in the hours, the minutes and the seconds together.
 #[inline(always)]
 fn seconds_in(hour: u8, minute: u8, second: u8) -> u32 {
     (u32::from(hour) * 60 + u32::from(minute)) * 60 + u32::from(second)
 }
 
-// The first nine digits of a fraction, or 0 where there is none.
+// Returns the nanoseconds of the fraction, which are its first nine digits. Returns 0 if there is no fraction.
 #[inline(always)]
 fn nanoseconds_in(fraction: Option<Fraction>) -> u32 {
     match fraction {

@@ -61,7 +61,7 @@ pub struct DateRecord {
     pub day: u8,
 }
 
-/// A time of day (`partial-time` of RFC 3339, section 5.6). Parts that the text does not have are 0.
+/// A time of day (`partial-time` of RFC 3339, section 5.6). A minute or a second that the text does not have is 0.
 #[derive(Clone, Copy, Debug, Default, PartialEq, Eq, Hash)]
 pub struct TimeRecord {
     /// The hour, 0 to 23.
@@ -457,8 +457,8 @@ pub struct Fraction {
     value: PackedNumber,
 }
 
-// A record can have two fractions, that of a time and that of an offset. If it is short enough, it is copied without a
-// function call.
+// A record can have two fractions, that of a time and that of an offset. A record that is short enough is copied without a
+// function call, so a fraction must be short.
 const _: () = assert!(size_of::<Fraction>() == 9);
 
 impl Fraction {
@@ -485,7 +485,7 @@ impl Fraction {
         })
     }
 
-    /// Returns whether it has fewer than 18 digits, so that one more digit changes its value.
+    /// Returns whether the fraction has fewer than 18 digits. Then one more digit changes its value.
     #[inline(always)]
     pub(crate) fn is_short(self) -> bool {
         self.digits < 18
@@ -529,7 +529,7 @@ impl Fraction {
 
     /// Returns the nanoseconds of the fraction, or `None` if it has more than nine digits.
     ///
-    /// Zeros after the ninth digit count too. If the result is `Some`, it has the number that
+    /// A zero after the ninth digit counts as a digit. If the result is `Some`, it has the number that
     /// [`to_truncated_nanoseconds`](Self::to_truncated_nanoseconds) returns.
     ///
     /// # Examples

@@ -3,11 +3,11 @@ use Rattle.std.proofs.Common.{nat_le, ℕ, zero, suc, IsTrue, List, [], ◌∷�
 use Rattle.ixdtf_grammar.specs.language.Letters.{Text, Class, Letter, digit, Letter.{Plain, Bad}}
 use Rattle.ixdtf_grammar.specs.language.Shapes.{Shape, nothing, one, ◌then◌, ◌either◌, digits, some, Joined, many}
 
--- the code units of ASCII
+-- The class has the code units 0 to 127, which are those of ASCII.
 abbrev pub ascii : Class
 ascii c = nat_le c 127
 
--- a plain code unit of the class
+-- The code unit is plain, and in the class.
 abbrev pub IsOf : Class → Letter → Type 0
 IsOf class (Plain c) = IsTrue (class c)
 IsOf class Bad = ⊥
@@ -20,7 +20,7 @@ pub all_append : (class : Class) (a b : Text) → AllOf class a → AllOf class 
 all_append class [] b h g = g
 all_append class (c ∷ a) b h g = (h.0, all_append class a b h.1 g)
 
--- the first class is a part of the second
+-- Every code unit of the first class is in the second class.
 abbrev pub Within : Class → Class → Type 0
 Within a b = (c : ℕ) → IsTrue (a c) → IsTrue (b c)
 
@@ -31,7 +31,7 @@ all_within within (Plain c ∷ text) h = (within c h.0, all_within within text h
 
 -- ---- shapes
 
--- each text of the shape has code units of the class alone
+-- Each text of the shape has only code units of the class.
 pub record PlainOf (class : Class) (shape : Shape) : Type 0 where
   pub plain : (text : Text) → shape text → AllOf class text
 
@@ -68,7 +68,7 @@ all_joined x (part ∷ parts) text h = rw h.1 (all_append _ part h.0 (x.plain pa
 pub plain_many : {class : Class} {shape : Shape} → PlainOf class shape → PlainOf class (many shape)
 plain_many x = record { plain = λ text h. all_joined x h.0 text h.1 }
 
--- each text that stands for a value is plain
+-- Each text that stands for a value has only code units of the class.
 pub plain_some : {class : Class} {V : Type 0} {part : Text → V → Type 0} → ((text : Text) (value : V) → part text value → AllOf class text)
     → PlainOf class (some part)
 plain_some h = record { plain = λ text s. h text s.0 s.1 }

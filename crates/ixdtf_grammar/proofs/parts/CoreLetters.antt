@@ -1,5 +1,5 @@
--- Code units that no core has: `[`, and `P` and `p`, which begin a duration. So where cores stand before the end or a bracket,
--- those of one text are one core's text, a front without these code units is a front of the core, and none begins as a
+-- Code units that no core has: `[`, and `P` and `p`, with which a duration begins. If a core ends at the end of the text or at a `[`, this
+-- has three consequences. A text has only one core. A prefix without these code units is a prefix of the core. No core begins like a
 -- duration.
 use Rattle.std.proofs.Common.{◌≡◌, ℕ, IsTrue, ◌&&◌, ◌||◌, not, ◌⊎◌, ℤ, [], ◌∷◌, ◌++◌, refl, sym, ◌∙◌, subst, inl, inr, arith}
 use Rattle.std.proofs.lemmas.Bool.{both_ways, eqb-true, Decides.nat_tests}
@@ -9,16 +9,16 @@ use Rattle.ixdtf_grammar.specs.language.{Shapes.{Shape, digits}, Dates.Year, Dur
 use Rattle.ixdtf_grammar.specs.{language.Months.{OptionalHyphen, Marks, IsYearMonth, MonthDayText}, table.Before.AtCoreEnd}
 use Rattle.ixdtf_grammar.proofs.parts.Classes.{ascii, IsOf, AllOf, all_append, Within, PlainOf, plain_nothing, one_of, ◌and_then◌, ◌or_else◌, all_digits}
 
--- the other code units of ASCII
+-- The class has the code units of ASCII that can be in a core: all except `[`, `P` and `p`.
 abbrev pub core_unit : Class
 core_unit c = ascii c && not (opening c || duration_designator c)
 
 abbrev pub AllInside : Shape
 AllInside = AllOf core_unit
 
--- ---- what stands after a core
+-- ---- the text after a core
 
--- the end, or a bracket: what a core may stand before
+-- A core ends here: the text ends, or `[` follows.
 abbrev pub CoreEnds : Text → Type 0
 CoreEnds rest = (rest ≡ []) ⊎ ((more : Text) × (rest ≡ Plain 91 ∷ more))
 
@@ -33,7 +33,7 @@ not_at_end c more rest none (inr h) is =
     let same : c ≡ Plain 91 = cc in
     both_ways (core_unit 91) refl (subst (IsOf core_unit) same none)
 
--- a front with none of these code units is one of the core
+-- A prefix with none of these code units is a prefix of the core.
 pub in_core : (front after cores rest : Text) → AllInside front → CoreEnds rest → cores ++ rest ≡ front ++ after → (more : Text) × (cores ≡ front ++ more)
 in_core [] after cores rest none ends is = (cores, refl)
 in_core (c ∷ front) after [] rest none ends is = absurd (not_at_end c (front ++ after) rest none.0 ends is)
@@ -43,7 +43,7 @@ in_core (c ∷ front) after (d ∷ cores) rest none ends is =
     let inner = in_core front after cores rest none.1 ends tails in
     (inner.0, λ i. heads i ∷ inner.1 i)
 
--- so the cores of a text are one text
+-- So a text has only one core.
 pub same_core : (a b s t : Text) → AllInside a → AllInside b → CoreEnds s → CoreEnds t → a ++ s ≡ b ++ t → a ≡ b
 same_core [] [] s t f g x y is = refl
 same_core [] (d ∷ b) s t f g x y is = absurd (not_at_end d (b ++ t) s g.0 x is)
@@ -56,7 +56,7 @@ same_core (c ∷ a) (d ∷ b) s t f g x y is =
 
 -- ---- no core begins as a duration
 
--- with its designator
+-- A core does not begin with the `P` of a duration.
 no_designator : (cores rest after : Text) (c : ℕ) → AllInside cores → CoreEnds rest → IsTrue (duration_designator c) → cores ++ rest ≡ Plain c ∷ after → ⊥
 no_designator [] rest after c inside (inl h) designates is = let cells : [] ≡ Plain c ∷ after = sym h ∙ is in absurd cc
 no_designator [] rest after c inside (inr h) designates is =
@@ -68,7 +68,7 @@ no_designator (d ∷ cores) rest after c inside ends designates is =
     let unit : IsTrue (core_unit c) = subst (IsOf core_unit) same inside.0 in
     grind (arith, nat_tests, unit, designates)
 
--- with its designator, or with a sign and its designator
+-- A core begins neither with the `P` of a duration, nor with a sign and the `P` of a duration.
 pub no_duration : (cores rest start after : Text) (s : Sign) → AllInside cores → CoreEnds rest → SignedDesignator start s → cores ++ rest ≡ start ++ after → ⊥
 no_duration cores rest start after s inside ends (inl h) is = no_designator cores rest after h.0.0 inside ends h.0.2 (is ∙ rw h.0.1 refl)
 no_duration [] rest start after s inside (inl none) (inr h) is = let cells : [] ≡ Plain h.0 ∷ (h.1 ++ after) = sym none ∙ is ∙ rw h.2 refl in absurd cc

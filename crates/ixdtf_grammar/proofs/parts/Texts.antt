@@ -1,4 +1,4 @@
--- Texts of their parts, where what they stand for is made of these.
+-- Lemmas that put a text together from its parts. The value of the text is made of the values of the parts.
 use Rattle.std.proofs.Common.{◌≡◌, ℕ, IsTrue, ◌∷◌, ◌++◌, List, Option, Some, None, refl}
 use Rattle.ixdtf_grammar.specs.declared.records.{DateRecord.DateRecord, TimeRecord.TimeRecord, UtcOffsetRecordOrZ.UtcOffsetRecordOrZ}
 use Rattle.ixdtf_grammar.specs.language.{Letters.{Text, sign, date_time_separator, Letter.Plain}, Shapes.one, Digits.UpTo, Dates.{IsDate, Year, Month}}
@@ -27,13 +27,13 @@ pub colon_seconds_text : {clock : Clock} {text : Text} {time : TimeRecord} (hs m
 colon_seconds_text hs ms ss is may hour minute second none =
     record { hs = hs; ms = ms; ss = ss; is = is; may = may; hour = hour; minute = minute; second = second; no_fraction = none }
 
--- a sign, and a time after it
+-- The text is a sign, and a time after it.
 pub signed_text : {O : Type 0} {clock : Clock} {record_of : ℕ → TimeShape → TimeRecord → O} {text : Text} (c : ℕ) (body : Text) (shape : TimeShape)
     (time : TimeRecord) → text ≡ Plain c ∷ body → IsTrue (sign c) → ClockOf clock shape body time → IsSigned clock record_of text (record_of c shape time)
 signed_text c body shape time is signs at =
     record { c = c; body = body; shape = shape; time = time; is = is; sign = signs; clock = at; value = refl }
 
--- ---- cores, and what stands behind them
+-- ---- cores, and the text after them
 
 pub date_and_time : {text : Text} (dates separator times offsets : Text) (date : DateRecord) (time : TimeRecord) (offset : Option UtcOffsetRecordOrZ)
     → text ≡ dates ++ (separator ++ (times ++ offsets)) → IsDate dates date → one date_time_separator separator → IsTime times time

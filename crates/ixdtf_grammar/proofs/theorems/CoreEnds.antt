@@ -1,4 +1,4 @@
--- Where the core of a text ends: a core has code units of `core_unit` alone, and after a core stands the end or a bracket.
+-- The end of a core: a core has only code units of `core_unit`, and after it the text ends or a `[` follows.
 use Rattle.std.proofs.Common.{◌≡◌, ℕ, suc, Bool, true, false, IsTrue, List, [], ◌∷◌, ◌++◌, Option, Some, None, refl, ◌∙◌, inl, inr, arith}
 use Rattle.std.proofs.{Common.append_assoc, lemmas.Bool.Decides.nat_tests}
 use Rattle.ixdtf_grammar.specs.declared.records.{DateRecord.DateRecord, TimeRecord.TimeRecord, UtcOffsetRecordOrZ.UtcOffsetRecordOrZ}
@@ -11,7 +11,7 @@ use Rattle.ixdtf_grammar.specs.language.Readers.CoreKind.{date_time, internet_da
 use Rattle.ixdtf_grammar.proofs.parts.Classes.{all_append, PlainOf, plain_nothing, one_of, ◌or_else◌}
 use Rattle.ixdtf_grammar.proofs.parts.CoreLetters.{core_unit, AllInside, CoreEnds, of_sign, in_digits, in_year, in_year_month, in_month_day}
 
--- ---- what stands after a core
+-- ---- the text after a core
 
 opening_is : (c : ℕ) → IsTrue (opening c) → c ≡ 91
 opening_is c h = grind (arith, nat_tests, h)
@@ -108,7 +108,7 @@ in_marked_time text core h =
     rw h.is (all_append _ h.marks _ (in_time_mark.plain _ h.mark)
     (all_append _ h.times _ (in_clock clocks.Time h.is_time.0 h.times h.time h.is_time.1) (in_offset h.offsets h.offset h.is_offset)))
 
--- a core has code units of `core_unit` alone
+-- A core has only code units of `core_unit`.
 pub core_inside : (kind : CoreKind) (text : Text) (core : Core) → IsCore kind text core → AllInside text
 core_inside date_time text core h = in_date_time text core h
 core_inside internet_date_time text core h = in_internet_date_time text core h

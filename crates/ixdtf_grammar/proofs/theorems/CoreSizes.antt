@@ -1,11 +1,11 @@
--- How long cores are: a date, a year-month and a month-day differ by their lengths, where they begin alike.
+-- The lengths of cores: if a date, a year-month and a month-day begin in the same way, they have different lengths.
 use Rattle.std.proofs.Common.{◌≡◌, ℕ, zero, suc, ◌+◌, ◌≤◌, ◌⊎◌, ℤ, Bool, false, IsTrue, [], ◌∷◌, ◌++◌, length, refl, inl, inr, arith, append_assoc}
 use Rattle.std.proofs.{Common.append-nil, lemmas.{Bool.{both_ways, Decides.nat_tests}, List.length-append}}
 use Rattle.ixdtf_grammar.specs.{declared.records.DateRecord.DateRecord, language.Letters.{Class, Text, digit, hyphen, sign, Letter.{Plain, Bad}}}
 use Rattle.ixdtf_grammar.specs.language.{Shapes.digits, Dates.{Year, DateText}, Months.{OptionalHyphen, Marks, IsYearMonth, MonthDayText}}
 use Rattle.ixdtf_grammar.specs.language.Cores.{Core, IsDateTimeCore}
 
--- the first code unit is of the class
+-- The first code unit is in the class.
 abbrev pub begins : Class → Text → Bool
 begins class [] = false
 begins class (Bad ∷ rest) = false
@@ -19,11 +19,11 @@ begins_once [] h g = absurd (both_ways false refl h)
 begins_once (Bad ∷ rest) h g = absurd (both_ways false refl h)
 begins_once (Plain c ∷ rest) h g = digit_no_sign c h g
 
--- it begins with a digit, and has `a` to `b` code units, or with a sign, and has `c` to `d`
+-- The text begins with a digit and has `a` to `b` code units, or it begins with a sign and has `c` to `d` code units.
 abbrev pub Sized : ℕ → ℕ → ℕ → ℕ → Text → Type 0
 Sized a b c d text = (IsTrue (begins digit text) × (a ≤ length text) × (length text ≤ b)) ⊎ (IsTrue (begins sign text) × (c ≤ length text) × (length text ≤ d))
 
--- the same with no greatest length
+-- The text begins with a digit and has `a` code units or more, or it begins with a sign and has `c` code units or more.
 abbrev pub AtLeast : ℕ → ℕ → Text → Type 0
 AtLeast a c text = (IsTrue (begins digit text) × (a ≤ length text)) ⊎ (IsTrue (begins sign text) × (c ≤ length text))
 
@@ -40,7 +40,7 @@ hyphens_long : (text : Text) → OptionalHyphen text → length text ≤ 1
 hyphens_long text (inl none) = rw none (omega arith)
 hyphens_long text (inr h) = rw h.1 (omega arith)
 
--- a year, with what stands behind it
+-- This is the length of a year and the text after it.
 year_size : (years more : Text) (year : ℤ) → Year years year → Sized (4 + length more) (4 + length more) (7 + length more) (7 + length more) (years ++ more)
 year_size years more year (inl h) =
     let long : length (years ++ more) ≡ 4 + length more = omega (arith, length-append years more, digits_long 4 years h.0) in
@@ -66,14 +66,14 @@ pub at_least : (text : Text) (a b c d a' c' : ℕ) → a' ≤ a → c' ≤ c →
 at_least text a b c d a' c' p q (inl h) = inl (h.0, omega (arith, h.1, p))
 at_least text a b c d a' c' p q (inr h) = inr (h.0, omega (arith, h.1, q))
 
--- a year, and four code units or more behind it
+-- This is the least length of a year and a text of four code units or more after it.
 year_and_more : (years after more : Text) (year : ℤ) → Year years year → 4 ≤ length after → AtLeast 8 11 ((years ++ after) ++ more)
 year_and_more years after more year h least =
     let rest : 4 ≤ length (after ++ more) = omega (arith, length-append after more, least) in
     rw (append_assoc years after more)
     (at_least _ _ _ _ _ 8 11 (omega (arith, rest)) (omega (arith, rest)) (year_size years (after ++ more) year h))
 
--- a date, with what stands behind it
+-- This is the least length of a date and the text after it.
 date_size : (text more : Text) (date : DateRecord) → DateText text date → AtLeast 8 11 (text ++ more)
 date_size text more date (inl h) =
     rw h.is (year_and_more h.years (h.months ++ h.days) more date.year h.year
@@ -108,7 +108,7 @@ month_day_size text date h = rw h.is (by_marks h.marks h.mark)
     by_marks marks (inl none) = rw none (inl (digits_begin 1 h.months (h.hyphens ++ h.days) h.month.0.0, least, most))
     by_marks marks (inr two) = rw (two.2, two.3.1, two.4.1) (inr (hyphen_signs two.3.0 two.3.2, omega (arith, least), omega (arith, most)))
 
--- so no text has two of the sizes
+-- So a text whose least length is greater than these lengths does not have one of them.
 pub longer : (text : Text) (a c a' b' c' d' : ℕ) → suc b' ≤ a → suc d' ≤ c → AtLeast a c text → Sized a' b' c' d' text → ⊥
 longer text a c a' b' c' d' p q (inl h) (inl g) = omega (arith, p, h.1, g.2)
 longer text a c a' b' c' d' p q (inl h) (inr g) = begins_once text h.0 g.0

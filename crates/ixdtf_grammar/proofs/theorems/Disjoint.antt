@@ -1,4 +1,4 @@
--- No text is in the languages of two of the readers of dates, times and durations.
+-- Under one profile, no text is in the languages of two of the readers of dates, times and durations.
 use Rattle.std.proofs.Common.{◌≡◌, List, [], ◌∷◌, ◌++◌, refl, sym, ap, ◌∙◌, subst, inl, inr, arith, append_assoc, append-nil}
 use Rattle.ixdtf_grammar.specs.{declared.{profile.Profile.Profile, records.DateRecord.DateRecord}, language.Letters.{Text, Letter.Plain}}
 use Rattle.ixdtf_grammar.specs.language.{Shapes.{Shape, some}, Dates.DateText, Months.{IsYearMonth, IsMonthDay}, Brackets.Pair}
@@ -10,13 +10,13 @@ use Rattle.ixdtf_grammar.specs.Laws.{IsKindUnder, IsTextReader, InLanguage, Lang
 use Rattle.ixdtf_grammar.proofs.{parts.{CoreLetters.{same_core, no_duration}, Texts.year_month_text}, theorems.CoreEnds.{tail_ends, core_inside}}
 use Rattle.ixdtf_grammar.proofs.theorems.CoreSizes.{date_time_size, year_month_size, month_day_size, at_least, longer}
 
--- ---- fronts of cores
+-- ---- prefixes of cores
 
--- the first of a month
+-- This is the first day of the month of a date.
 abbrev month_of : DateRecord → DateRecord
 month_of date = record { year = date.year; month = date.month; day = 1 }
 
--- a date begins with a year-month
+-- A date begins with a year-month.
 date_front : (text more : Text) (date : DateRecord) → DateText text date → BeginsWith (some IsYearMonth) (text ++ more)
 date_front text more date (inl h) = (
   h.years ++ h.months,
@@ -37,20 +37,20 @@ date_time_front : (text : Text) (core : Core) → IsDateTimeCore text core → B
 date_time_front text core (inl h) = rw (← (append-nil text)) (date_front text [] h.0 h.1.0)
 date_time_front text core (inr h) = rw h.is (date_front h.dates _ h.date h.is_date.0)
 
--- a text is a front of itself
+-- A text is a prefix of itself.
 itself : (shape : Shape) (text : Text) → shape text → BeginsWith shape text
 itself shape text h = (text, [], sym (append-nil text), h, tt)
 
 -- ---- pairs of readers with brackets
 
--- a core of the kind, and brackets
+-- The text is a core of the kind, and brackets.
 abbrev Whole : CoreKind → Text → Type 0
 Whole kind text = (found : Parsed) × (pairs : List Pair) × IsBracketed kind text found pairs
 
 abbrev Apart : CoreKind → CoreKind → Type 0
 Apart first second = (text : Text) → Whole first text → Whole second text → ⊥
 
--- where no text is a core of both kinds, none is one with brackets behind it
+-- If no text is a core of both kinds, no text is a core of both kinds with brackets after it.
 cores_apart : (first second : CoreKind) → ((cores : Text) (core other : Core) → IsCore first cores core → IsCore second cores other → ⊥) → Apart first second
 cores_apart first second clash text (found, pairs, h) (others, marks, k) =
     let inside = core_inside first h.cores h.core h.is_core in
@@ -82,7 +82,7 @@ year_months_and_times profile = cores_apart year_month (time_of_day profile) λ 
 month_days_and_times : (profile : Profile) → Apart (month_day profile) (time_of_day profile)
 month_days_and_times profile = cores_apart (month_day profile) (time_of_day profile) λ t core other h k. k.1.0 (itself (some (IsMonthDay profile)) t (h.0, h.1))
 
--- a month-day and a time of one profile
+-- No text is both a month-day and a time, each with brackets, under one profile.
 month_day_or_time : (profile first second : Profile) → first ≡ profile → second ≡ profile → (text : Text) → Whole (month_day first) text
     → Whole (time_of_day second) text → ⊥
 month_day_or_time profile first second is too text h k =
@@ -114,7 +114,7 @@ same_kind profile (time_of_day first) (time_of_day second) is too text h k = ap 
 
 -- ---- durations
 
--- a core before the end or a bracket does not begin as a duration
+-- A core that ends at the end of the text or at a `[` does not begin like a duration.
 whole_no_duration : (profile : Profile) (kind : CoreKind) (text : Text) → Whole kind text → some (IsDuration profile) text → ⊥
 whole_no_duration profile kind text (found, pairs, h) (duration, d) =
     let ends = tail_ends _ h.brackets h.zone pairs h.is_tail in
@@ -142,6 +142,6 @@ languages_disjoint profile text parse_identifier second is too h k = absurd is
 languages_disjoint profile text parse_iana_identifier second is too h k = absurd is
 languages_disjoint profile text first second is too h k = absurd too
 
--- what is in the language of one of the readers is in no other
+-- A text in the language of one of these readers is in the language of no other one.
 pub in_no_other : (profile : Profile) (reader : Reader) (text : Text) → InLanguage reader text → InNoOther profile reader text
 in_no_other profile reader text h is other too differ k = differ (languages_disjoint profile text reader other is too h k)

@@ -1,4 +1,4 @@
--- `parse` derives from the text of an instant a date, a time and `Z`, and these have the instant.
+-- `parse` derives a date, a time and `Z` from the text of an instant, and these have this instant.
 use Rattle.std.proofs.Common.{◌≡◌, ◌≢◌, ℕ, zero, suc, ◌+◌, ◌-◌, ◌*◌, ◌/◌, ◌%◌, ◌^◌, ◌<◌, ◌≤◌, IsTrue, List, [], ◌∷◌, ◌++◌, map, take, length, Option, Some, None, min, nat_abs, ℤ, pos, negsuc, neg_ℤ, ◌+ℤ◌, ◌*ℤ◌, ◌<ℤ◌, ◌≤ℤ◌, refl, sym, ap, ◌∙◌, inl, inr, arith, append_assoc, append-nil, take_all}
 use Rattle.std.proofs.lemmas.{Bool.{cases_lt, Decides.nat_tests}, List.map-append}
 use Rattle.std.proofs.Math.Nat.{pow-suc, mul_assoc}
@@ -95,7 +95,7 @@ is_clock second small =
     inr (colon_seconds_text (map Plain (digits_in 2 (second / 3600))) (map Plain (digits_in 2 (second / 60 % 60))) (map Plain (digits_in 2 (second % 60))) (simp map-append) refl
     (up_to 23 (second / 3600) (omega arith) (omega arith)) (up_to 59 (second / 60 % 60) (omega arith) (omega arith)) (up_to 60 (second % 60) (omega arith) (omega arith)) refl)
 
--- the digits of a number without the zeros at the end, and their number
+-- This record has the number of digits that are left without the zeros at the end, and the number that they stand for.
 record Trimmed (count number : ℕ) : Type 0 where
   pub left : ℕ
   pub value : ℕ
@@ -129,7 +129,7 @@ trimmed (suc count) number small some =
     tenfold : (a b n : ℕ) → a * b ≡ n / 10 → n % 10 ≡ 0 → a * (b * 10) ≡ n
     tenfold a b n e end = rw (← mul_assoc a b 10) (omega (arith, e))
 
--- a time of the text, with the fraction
+-- This record has the time, with its fraction, that the text of a time of day and of nanoseconds stands for.
 record ReadTime (second nanoseconds : ℕ) : Type 0 where
   pub fraction : Option FractionParts
   pub is_time : IsTime (map Plain (clock_digits second ++ fraction_digits nanoseconds)) (time_at second fraction)

@@ -1,4 +1,4 @@
--- What holds of the instants of dates, times and offsets.
+-- Theorems about the instants of dates, times and offsets.
 use Rattle.std.proofs.Common.{◌≡◌, ◌⊎◌, ◌↔◌, ℕ, zero, suc, ◌+◌, ◌-◌, ◌*◌, ◌/◌, ◌%◌, ◌^◌, ◌<◌, ◌≤◌, min, List, [], ◌∷◌, ◌++◌, take, length, Option, Some, None, inl, inr, refl, arith, ℤ, pos, ◌+ℤ◌, ◌-ℤ◌, ◌*ℤ◌, ◌<ℤ◌, ◌≤ℤ◌}
 use Rattle.std.proofs.lemmas.{Bool.{cases_order}, Int.{by_lt_z}, List.length-take}
 use Rattle.std.proofs.Math.Nat.{pow-succ', pow-le-pow_right, mul-le-mul_left}
@@ -11,7 +11,7 @@ use Rattle.ixdtf_grammar.proofs.PaddedDigits.{ten_pos}
 
 -- ---- nanoseconds
 
--- one more digit in front of so many
+-- With one more digit at the beginning, the number of the digits is below the next power of ten.
 digit_before : (w k : ℕ) (rest : Text) → decimal (take k rest) < 10 ^ k → decimal (take (suc k) (Plain (48 + w % 10) ∷ rest)) < 10 ^ suc k
 digit_before w k rest small =
     let long : length (take k rest) ≤ k = omega (arith, length-take k rest) in
@@ -21,7 +21,7 @@ digit_before w k rest small =
     let bare : 48 + w % 10 - 48 ≡ w % 10 = omega arith in
     rw (bare, pow-succ' 10 k) (omega arith)
 
--- the first digits of a number, with zeros behind it
+-- The first k digits of a number with zeros after it stand for a number below 10 ^ k.
 digits_below : (k count number more : ℕ) → decimal (take k (padded_digits count number ++ padded_digits more 0)) < 10 ^ k
 digits_below zero count number more = omega arith
 digits_below (suc k) (suc count) number more =
@@ -73,7 +73,7 @@ time-order time later shown shown₂ = (
   later_total time.hour time.minute (min time.second 59) (fraction_nanoseconds time.fraction) later.hour later.minute (min later.second 59) (fraction_nanoseconds later.fraction) (fits_of time shown) (fits_of later shown₂),
 )
 
--- a time is before the next midnight
+-- A time is before the next midnight.
 time_in_day : (time : TimeRecord) → IsShown time → time_count time < 86_400 * 10 ^ 9
 time_in_day time shown = omega (arith, fits_of time shown)
 
@@ -86,7 +86,7 @@ date-order : (date later : DateRecord) → HasDay date → HasDay later → IsEa
 date-order date later h k =
     day_number-order date.year date.month date.day later.year later.month later.day h k
 
--- one of two dates is earlier, or they are the same
+-- One of two dates is earlier, or they are the same.
 date_cases : (date other : DateRecord) → IsEarlierDate date other ⊎ (SameDate date other ⊎ IsEarlierDate other date)
 date_cases date other =
     by_lt_z date.year other.year (λ below. inl (inl below))
@@ -104,7 +104,7 @@ date_cases date other =
 same_number : (date other : DateRecord) → SameDate date other → number_of date ≡ number_of other
 same_number date other same = rw (same.0, same.1, same.2) refl
 
--- the count of a day and a time in it
+-- This is the count of a day and a time on this day.
 abbrev count_in : ℤ → ℕ → ℤ
 count_in day time = day *ℤ pos (24 * 60 * 60 * 10 ^ 9) +ℤ pos time
 

@@ -1,5 +1,5 @@
--- The errors that no row of the fault table has: those that never come, those of refused replies, and those of which much is written; and that of Bad,
--- which stands at Bad alone.
+-- The errors that no row of the fault table has: the errors that no reader returns, the errors of refused replies, and every error with a
+-- message of more than 69 bytes. A row has the error `NonAsciiCodePoint` only at a bad code unit.
 use Rattle.std.proofs.Common.{◌≡◌, ◌⊎◌, ℕ, ◌≤◌, length, nat_lt, arith, Bool, true, false, ◌||◌, cond, IsFalse, List, ◌∷◌, ◌++◌, refl, sym, ap, subst, ◌∙◌, ◌≢◌, inl, inr, append_assoc}
 use Rattle.std.proofs.lemmas.Bool.{both_ways, or_parts, Decides.nat_tests}
 use Rattle.ixdtf_grammar.specs.language.{Letters.{Text, hyphen, colon, decimal_mark, digit, closing, Letter.Bad}, Times.{Clock, Clock as clocks}, Durations.{Half, Half as halves}}
@@ -21,25 +21,25 @@ use Rattle.ixdtf_grammar.specs.table.Lines.{Line, Ending, Follow, follow_of, mix
 use Rattle.ixdtf_grammar.specs.table.{Lines.{Line.{line, scanned, whole}, Ending.{ok, error}}, Rows.{Place, Stops, Place.{end, other, bad, anywhere}}}
 use Rattle.ixdtf_grammar.specs.table.{ErrorTexts.message_of, Outcomes.HasFault}
 
--- the fault of Bad
+-- This is the error at a bad code unit.
 abbrev is_of_bad : Fault → Bool
 is_of_bad NonAsciiCodePoint = true
 is_of_bad fault = false
 
--- more is written of the fault than of any in the table, in which few locations stand
+-- The message of the error is longer than 69 bytes, and so longer than that of every error in the table.
 abbrev is_long : Fault → Bool
 is_long fault = nat_lt 69 (length (message_of fault))
 
--- no line has the fault: it stands at Bad alone, or nowhere
+-- No line has the error: a row has it only at a bad code unit, or never.
 abbrev no_row : Fault → Bool
 no_row fault = ((never_comes fault || is_refusal fault) || is_of_bad fault) || is_long fault
 
--- the text may end here, or its end is an error that a row may have
+-- The text can end here, or the error at its end is one that a row can have.
 abbrev EndHas : Ending → Type 0
 EndHas ok = IsFalse false
 EndHas (error fault) = IsFalse (no_row fault)
 
--- each error of the line is one that a row may have
+-- Each error of the line is one that a row can have.
 abbrev LineHas : Line → Type 0
 LineHas (line front goes_on at_end at_other) = EndHas at_end × ((c : ℕ) → IsFalse (no_row (at_other c)))
 LineHas (scanned front fault) = EndHas (error fault) × ((c : ℕ) → IsFalse (no_row fault))
@@ -49,7 +49,7 @@ either_has : (b : Bool) (x y : Fault) → IsFalse (no_row x) → IsFalse (no_row
 either_has true x y p q = p
 either_has false x y p q = q
 
--- each error of what may follow is one that a row may have
+-- Each error of `follow` is one that a row can have.
 abbrev FollowHas : Follow → Type 0
 FollowHas follow = EndHas follow.at_end × IsFalse (no_row follow.at_other)
 
@@ -75,7 +75,7 @@ minute_has : (brackets : Bool) (clock : Clock) → EndHas (follow_of brackets cl
 minute_has brackets clock =
     let f = follow_has brackets clock in (f.0, λ c. either_has (colon c || digit c) (mixed clock) (follow_of brackets clock).at_other (clock_has clock).0 f.1)
 
--- each line of a date-time has errors that a row may have
+-- The errors of each number of a date-time are errors that a row can have.
 field_has : (field : Field) → IsFalse (no_row (digit_fault field)) × IsFalse (no_row (range_fault field))
 field_has month_field = (refl, refl)
 field_has day_field = (refl, refl)
@@ -104,7 +104,7 @@ date_time_has brackets after_point = (refl, λ c. refl)
 date_time_has brackets after_secfrac = (refl, λ c. refl)
 date_time_has brackets after_utc = (refl, λ c. refl)
 
--- one line of each group is written out, so that the last case tells the others apart
+-- One line of each group has a case of its own, so that the last case can tell the other lines apart.
 line_has : (brackets : Bool) (name : LineName) → LineHas (line_of brackets name)
 line_has brackets (of_date after_basic_month) = (refl, λ c. either_has (hyphen c) DateSeparator DateDay refl refl)
 line_has brackets (of_clock clock after_hour) = let f = follow_has brackets clock in (f.0, λ c. f.1)
@@ -129,7 +129,7 @@ line_has brackets name = (refl, λ c. refl)
 end_has : (at_end : Ending) (fault : Fault) → EndHas at_end → at_end ≡ error fault → IsFalse (no_row fault)
 end_has at_end fault has is = subst EndHas is has
 
--- the text begins with a Bad, and the fault is that of it
+-- The text begins with a bad code unit, and the error is `NonAsciiCodePoint`.
 abbrev pub BeginsBad : Fault → Text → Type 0
 BeginsBad fault text = (more : Text) × (text ≡ Bad ∷ more) × (fault ≡ NonAsciiCodePoint)
 
@@ -142,7 +142,7 @@ stop_has (scanned front e) (bad left) fault rest has h = inl (h.0, h.1, h.2)
 stop_has (whole front e) (anywhere left) fault rest has h = inr (ap no_row h.0 ∙ has.0)
 stop_has l place fault rest has h = absurd h
 
--- a Bad stands in the text
+-- The text has a bad code unit.
 abbrev pub HasBad : Text → Type 0
 HasBad text = (front more : Text) × (text ≡ front ++ (Bad ∷ more))
 
@@ -161,28 +161,28 @@ row_has reader text pairs fault (row, (before, rest, is, stands, (front, stop, s
       | inr never ↦ inr (ap no_row (sym has) ∙ never)
     ]
 
--- a fault that a text has is one that comes
+-- An error that a text has is one that a reader can return.
 pub fault_comes : (reader : Reader) (text : Text) (pairs : List Pair) (fault : Fault) → HasFault reader text pairs fault → IsFalse (never_comes fault)
 fault_comes reader text pairs fault h = elim (row_has reader text pairs fault h) [
   | inl p ↦ ap never_comes p.1
   | inr never ↦ (or_parts _ _ (or_parts _ _ (or_parts _ _ never).0).0).0
 ]
 
--- a fault that a text has is no refusal of a reply
+-- An error that a text has is not an error of a refused reply.
 pub fault_refuses_none : (reader : Reader) (text : Text) (pairs : List Pair) (fault : Fault) → HasFault reader text pairs fault → IsFalse (is_refusal fault)
 fault_refuses_none reader text pairs fault h = elim (row_has reader text pairs fault h) [
   | inl p ↦ ap is_refusal p.1
   | inr never ↦ (or_parts _ _ (or_parts _ _ (or_parts _ _ never).0).0).1
 ]
 
--- little is written of a fault that a text has
+-- The message of an error that a text has is at most 69 bytes long.
 pub fault_short : (reader : Reader) (text : Text) (pairs : List Pair) (fault : Fault) → HasFault reader text pairs fault → length (message_of fault) ≤ 69
 fault_short reader text pairs fault h = elim (row_has reader text pairs fault h) [
   | inl p ↦ rw p.1 (omega arith)
   | inr never ↦ (let short : IsFalse (is_long fault) = (or_parts _ _ never).1 in grind (arith, nat_tests, short))
 ]
 
--- only a text with a Bad has the fault of Bad
+-- Only a text with a bad code unit has the error `NonAsciiCodePoint`.
 pub fault_of_bad : (reader : Reader) (text : Text) (pairs : List Pair) → HasFault reader text pairs NonAsciiCodePoint → HasBad text
 fault_of_bad reader text pairs h = elim (row_has reader text pairs NonAsciiCodePoint h) [
   | inl p ↦ p.0

@@ -1,11 +1,12 @@
--- What holds of a text with `Bad` in it holds of each text with the same code units before the first `Bad`.
+-- Lemmas about a text with a bad code unit, and another text with the same code units before the first bad one. What is proved about the
+-- first text up to its first bad code unit is then true of the other text.
 use Rattle.std.proofs.Common.{◌≡◌, ◌⊎◌, [], ◌∷◌, ◌++◌, refl, ◌∙◌, ap, subst, inl, inr}
 use Rattle.ixdtf_grammar.specs.language.{Letters.{Text, Class, Letter.{Plain, Bad}}, Shapes.{Shape, nothing, ◌then◌, ◌either◌, anything}, Brackets.FirstIs}
 use Rattle.ixdtf_grammar.specs.table.{Faults.Fault, Lines.{Line, Line.{line, scanned, whole}}, Rows.{Place, Stops, left_at}}
 use Rattle.ixdtf_grammar.specs.table.Rows.Place.{end, other, bad, anywhere}
 use Rattle.ixdtf_grammar.proofs.{theorems.NoRow.BeginsBad, widths.PlainTexts.{IsPlain, PlainShape, plain_nowhere, plain_one, plain_many}}
 
--- The text has a `Bad`, and the other text has the code units before the first one.
+-- The text has a bad code unit, and the other text begins with the code units before the first bad one.
 abbrev pub Sees : Text → Text → Type 0
 Sees [] other_text = ⊥
 Sees (Bad ∷ rest) other_text = Unit {0}
@@ -16,7 +17,7 @@ plain_sees_nothing [] other_text plain sees = sees
 plain_sees_nothing (Bad ∷ text) other_text plain sees = plain.0
 plain_sees_nothing (Plain c ∷ text) other_text plain sees = plain_sees_nothing text sees.0 plain.1 sees.2
 
--- what is plain in front of a text with Bad is in front of the other
+-- A plain prefix of a text with a bad code unit is also a prefix of the other text.
 pub sees_after : (front rest other_text : Text) → IsPlain front → Sees (front ++ rest) other_text
     → (more : Text) × (other_text ≡ front ++ more) × Sees rest more
 sees_after [] rest other_text plain sees = (other_text, refl, sees)
@@ -25,9 +26,9 @@ sees_after (Plain c ∷ front) rest other_text plain sees =
     let next = sees_after front rest sees.0 plain.1 sees.2 in
     (next.0, sees.1 ∙ ap (λ t. Plain c ∷ t) next.1, next.2)
 
--- ---- what a text has up to the first Bad
+-- ---- shapes of a text up to the first bad code unit
 
--- where the text has the shape, so has the other
+-- If the text has the shape, the other text has the shape too.
 pub record Moves (shape : Shape) : Type 0 where
   pub moved : (text other_text : Text) → Sees text other_text → shape text → shape other_text
 
@@ -55,26 +56,26 @@ moves_either x y = record {
 pub moves_first : {class : Class} → Moves (FirstIs class)
 moves_first = moves_then (plain_many plain_one) (moves_then plain_one moves_anything)
 
--- ---- what stands before a front, and from it on
+-- ---- the text before a prefix, and the text from it on
 
--- What stands before is plain, and what is known of the rest is known of the other.
+-- The text before the prefix is plain, and what is known about the rest of the text is also known about the rest of the other text.
 pub record Stands (known : Text → Text → Type 0) : Type 0 where
   pub plain : (before rest : Text) → known before rest → IsPlain before
   pub moved : (before rest other_rest : Text) → Sees rest other_rest → known before rest → known before other_rest
 
--- nothing is asked of the rest
+-- There is no condition on the rest.
 pub alone : {shape : Shape} → PlainShape shape → Stands (λ before rest. shape before)
 alone x = record { plain = λ before rest h. x.plain before h; moved = λ before rest other_rest sees h. h }
 
--- something is asked of the rest
+-- There is a condition on the rest.
 pub ahead : {shape seen : Shape} → PlainShape shape → Moves seen → Stands (λ before rest. shape before × seen rest)
 ahead x y = record { plain = λ before rest h. x.plain before h.0; moved = λ before rest other_rest sees h. (h.0, y.moved rest other_rest sees h.1) }
 
--- the same, and more is known
+-- There is a condition on the rest, and a condition that does not depend on the text.
 pub ahead_where : {shape seen : Shape} {more : Type 0} → PlainShape shape → Moves seen → Stands (λ before rest. shape before × seen rest × more)
 ahead_where x y = record { plain = λ before rest h. x.plain before h.0; moved = λ before rest other_rest sees h. (h.0, y.moved rest other_rest sees h.1, h.2) }
 
--- more is known
+-- There is one more condition, which does not depend on the text.
 pub besides : {known : Text → Text → Type 0} {more : Type 0} → Stands known → Stands (λ before rest. known before rest × more)
 besides x = record { plain = λ before rest h. x.plain before rest h.0; moved = λ before rest other_rest sees h. (x.moved before rest other_rest sees h.0, h.1) }
 
@@ -90,27 +91,27 @@ stands_either x y = record {
   ];
 }
 
--- the line is not looked at
+-- The line does not apply.
 pub never : Stands (λ before rest. ⊥)
 never = alone plain_nowhere
 
--- ---- where a row stops
+-- ---- the place of a row
 
--- the same place in another text, which has this from there on
+-- This is the same place in another text, which has `rest` from there on.
 abbrev pub moved_to : Text → Place → Place
 moved_to rest (end left) = end rest
 moved_to rest (other left) = other rest
 moved_to rest (bad left) = bad rest
 moved_to rest (anywhere left) = anywhere rest
 
--- what a place in another text leaves there
+-- The rest of the other text from this place on is `rest`.
 pub left_moved : (rest : Text) (place : Place) → left_at (moved_to rest place) ≡ rest
 left_moved rest (end left) = refl
 left_moved rest (other left) = refl
 left_moved rest (bad left) = refl
 left_moved rest (anywhere left) = refl
 
--- a row stops at a Bad, or at the same place in the other text
+-- A row fits at a bad code unit, or it fits at the same place in the other text.
 pub stops_move : (l : Line) (place : Place) (fault : Fault) (rest other_rest : Text) → Sees rest other_rest → Stops l place fault rest
     → BeginsBad fault rest ⊎ Stops l (moved_to other_rest place) fault other_rest
 stops_move (line front goes_on at_end at_other) (end left) fault rest other_rest sees h = absurd (subst (λ t. Sees t other_rest) h.0 sees)

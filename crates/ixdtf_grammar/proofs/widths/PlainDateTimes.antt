@@ -1,4 +1,4 @@
--- Date-times of RFC 3339 are plain, and so are the fronts of their lines.
+-- Date-times of RFC 3339 are plain, and the prefixes of their lines are plain.
 use Rattle.std.proofs.Common.{ℕ, suc, Bool, Option, Some, None, ◌++◌, refl, inl, inr, arith}
 use Rattle.std.proofs.lemmas.Bool.Decides.{nat_tests}
 use Rattle.ixdtf_grammar.specs.declared.records.{DateRecord.DateRecord, TimeRecord.TimeRecord, UtcOffsetRecordOrZ.UtcOffsetRecordOrZ}
@@ -13,11 +13,11 @@ use Rattle.ixdtf_grammar.proofs.{parts.CoreLetters.{core_unit, in_digits}, theor
 use Rattle.ixdtf_grammar.proofs.widths.PlainTexts.{IsPlain, is_plain, PlainShape, plain_nothing, plain_one, ◌and_then◌, ◌or_else◌, plain_digits, plain_fewer}
 use Rattle.ixdtf_grammar.proofs.widths.PlainTexts.{plain_some, plain_inside, plain_with}
 
--- a date-time is plain
+-- A date-time is plain.
 pub date_time_plain : (text : Text) (core : Core) → IsDateTime text core → IsPlain text
 date_time_plain text core h = is_plain _ text (in_internet_date_time text core h)
 
--- ---- fronts
+-- ---- prefixes
 
 plain_number : {greatest : ℕ} → PlainShape (some (UpTo greatest))
 plain_number = plain_some (λ text n h. (plain_digits 2).plain text h.0)
@@ -25,7 +25,7 @@ plain_number = plain_some (λ text n h. (plain_digits 2).plain text h.0)
 plain_month : PlainShape (some Month)
 plain_month = plain_some (λ text month h. (plain_digits 2).plain text h.0.0)
 
--- a full date, of which more may be known
+-- A full date is plain, also with a further condition.
 plain_date : {more : DateRecord → Type 0} → PlainShape (some (λ text date. FullDateText text date × more date))
 plain_date = plain_inside (λ text date h. in_full_date text date h.0)
 

@@ -53,7 +53,7 @@ duration_plain profile text duration h =
     rw h.is (plain_append h.start _ (designator_plain _ _ h.is_start)
     (plain_append h.date_text _ (groups_plain profile date _ _ h.are_dates) (time_part_plain profile _ _ h.are_times)))
 
--- ---- fronts
+-- ---- prefixes
 
 context_plain : (profile : Profile) (text : Text) (context : Context) → IsContext profile text context → IsPlain text
 context_plain profile text (in_dates s dates) (start, date_text, is, starts, groups) =

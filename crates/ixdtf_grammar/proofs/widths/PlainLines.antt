@@ -1,4 +1,4 @@
--- The front of each line is plain.
+-- The prefix of each line is plain.
 use Rattle.std.proofs.Common.{Bool}
 use Rattle.ixdtf_grammar.specs.{declared.{profile.Profile.Profile, records.DateRecord.DateRecord}, language.{Shapes.some, Dates.{Year, Month}}}
 use Rattle.ixdtf_grammar.specs.language.{Months.MonthDayText, Times.{Clock, TimeShape, BasicMinuteText, ColonMinuteText, ClockOf}}
@@ -89,7 +89,7 @@ plain_clock clock shape = plain_inside (in_clock clock shape)
 plain_hour : PlainShape (some Hour)
 plain_hour = plain_some (λ text hour h. (plain_digits 2).plain text h.0)
 
--- a minute, before the digits of a second
+-- An hour and a minute are plain, before the digits of a second.
 plain_minute : PlainShape (some BasicMinuteText)
 plain_minute = plain_inside (in_clock Time basic_minutes)
 

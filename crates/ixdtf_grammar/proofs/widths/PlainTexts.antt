@@ -1,5 +1,5 @@
--- Plain texts: none of their code units is `Bad`. Each text of a shape of the grammar is plain, but for durations
--- (PlainDurations). What stands in brackets has code units of ASCII alone, and so has a core.
+-- Plain texts: a text is plain if it has no bad code unit. Each text of a shape of the grammar is plain. The shapes of durations are in
+-- PlainDurations. A core, and the text in a bracket, have only code units of ASCII.
 use Rattle.std.proofs.Common.{ℕ, suc, Bool, true, false, List, [], ◌∷◌, ◌++◌, Option, Some, None, inl, inr, refl, arith}
 use Rattle.std.proofs.lemmas.Bool.Decides.{nat_tests}
 use Rattle.ixdtf_grammar.specs.declared.records.{DateRecord.DateRecord, TimeRecord.TimeRecord}
@@ -11,7 +11,7 @@ use Rattle.ixdtf_grammar.proofs.{parts.CoreLetters.{core_unit, AllInside}, theor
 use Rattle.ixdtf_grammar.proofs.parts.Classes.{ascii, AllOf, all_append, Within, all_within, PlainOf, one_of, all_digits}
 pub use Rattle.ixdtf_grammar.proofs.parts.Classes.{plain_nowhere, plain_nothing, ◌and_then◌, ◌or_else◌, plain_many, plain_some}
 
--- no code unit is Bad
+-- The text has no bad code unit.
 abbrev pub IsPlain : Text → Type 0
 IsPlain text = AllOf any text
 
@@ -23,7 +23,7 @@ is_plain class text h = all_within (λ c k. refl) text h
 
 -- ---- shapes
 
--- each text of the shape is plain
+-- Each text of the shape is plain.
 abbrev pub PlainShape : Shape → Type 0
 PlainShape shape = PlainOf any shape
 
@@ -42,15 +42,15 @@ plain_fewer = record { plain = λ text h. (plain_digits h.0).plain text h.2 }
 pub plain_some_digits : PlainShape SomeDigits
 plain_some_digits = record { plain = λ text h. (plain_digits (suc h.0)).plain text h.1 }
 
--- a shape of which more is known
+-- A shape stays plain with a further condition on the text.
 pub plain_with : {shape more : Shape} → PlainShape shape → PlainShape (λ text. shape text × more text)
 plain_with x = record { plain = λ text h. x.plain text h.0 }
 
--- a shape where something holds
+-- A shape stays plain with a condition that does not depend on the text.
 pub plain_where : {shape : Shape} {known : Type 0} → PlainShape shape → PlainShape (λ text. known × shape text)
 plain_where x = record { plain = λ text h. x.plain text h.1 }
 
--- each text that stands for a value, and has code units of cores alone
+-- A shape is plain if each of its texts has only code units of cores.
 pub plain_inside : {V : Type 0} {part : Text → V → Type 0} → ((text : Text) (value : V) → part text value → AllInside text) → PlainShape (some part)
 plain_inside h = plain_shape (plain_some h)
 
@@ -100,7 +100,7 @@ plain_key = plain_shape ascii_key
 pub plain_value : PlainShape Value
 plain_value = plain_shape ascii_value
 
--- a code unit of a core is one of ASCII
+-- A code unit of a core is a code unit of ASCII.
 pub core_ascii : Within core_unit ascii
 core_ascii c h = grind (arith, nat_tests, h)
 

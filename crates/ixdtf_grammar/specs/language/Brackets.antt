@@ -1,20 +1,20 @@
--- Brackets: zones (`time-zone` of RFC 9557 section 4.1) and annotations of a key and a value (`suffix-tag`), and how the
--- first bracket of a text is told.
+-- Brackets: zones (`time-zone` of RFC 9557 section 4.1), annotations with a key and a value (`suffix-tag`), and the rule that says
+-- whether the first bracket of a text is a zone or an annotation.
 use Rattle.std.specs.Prelude.{◌≡◌, Bool, true, false, [], ◌∷◌, ◌++◌, Option, Some, None, not, ◌&&◌, ◌||◌, ℕ, List, map}
 use Rattle.ixdtf_grammar.specs.language.Letters.{Text, Class, zone_lead, key_lead, opening, closing, exclamation, equals, hyphen, key_char, value_char}
 use Rattle.ixdtf_grammar.specs.language.{Letters.Letter.Plain, Shapes.{Shape, one, ◌then◌, ◌either◌, many, anything}, ZoneNames.{Zone, IsZone, IsExactZone}}
 
--- a zone bracket, and whether it is critical
+-- A zone annotation has a zone, and is critical or not.
 pub record ZoneNote : Type 0 where
   pub critical : Bool
   pub zone : Zone
 
--- `[`, and `!` where the bracket is critical
+-- The text is `[`, followed by `!` if the bracket is critical.
 abbrev pub Opens : Text → Bool → Type 0
 Opens text true = (one opening then one exclamation) text
 Opens text false = one opening text
 
--- `[`, an optional `!`, a zone, and `]`
+-- The text is `[`, an optional `!`, a zone, and `]`.
 pub record IsZoneBracket (text : Text) (note : ZoneNote) : Type 0 where
   pub start : Text
   pub inside : Text
@@ -22,7 +22,7 @@ pub record IsZoneBracket (text : Text) (note : ZoneNote) : Type 0 where
   pub opens : Opens start note.critical
   pub zone : IsZone inside note.zone
 
--- `time-zone = "[" critical-flag time-zone-name / time-numoffset "]"`, exactly
+-- The text is exactly a `time-zone` of RFC 9557: `time-zone = "[" critical-flag time-zone-name / time-numoffset "]"`.
 pub record IsExactBracket (text : Text) (note : ZoneNote) : Type 0 where
   pub start : Text
   pub inside : Text
@@ -30,7 +30,7 @@ pub record IsExactBracket (text : Text) (note : ZoneNote) : Type 0 where
   pub opens : Opens start note.critical
   pub zone : IsExactZone inside note.zone
 
--- what else a zone bracket is, where it is to be exact
+-- If a zone annotation has to be exact, it must also be an `IsExactBracket`.
 abbrev pub MayStand : Bool → Text → ZoneNote → Type 0
 MayStand true text note = IsExactBracket text note
 MayStand false text note = Unit {0}
@@ -41,23 +41,23 @@ OptionalBracket exact text (Some note) = IsZoneBracket text note × MayStand exa
 
 -- ---- zone or key
 
--- what a zone name may begin with, and a key may not
+-- The class has the code units with which a zone name can begin, but a key cannot.
 abbrev pub zone_only_lead : Class
 zone_only_lead c = zone_lead c && not (key_lead c)
 
--- neither `=` nor `]`
+-- The class has all code units except `=` and `]`.
 abbrev pub skipped : Class
 skipped c = not (equals c || closing c)
 
--- a text whose first `=` or `]` is of the class, with no `Bad` before it
+-- The first `=` or `]` of the text is in the class, and no bad code unit is before it.
 abbrev pub FirstIs : Class → Shape
 FirstIs class = many (one skipped) then one class then anything
 
--- What begins here is a zone name: where a key might begin too, a `]` comes before any `=`.
+-- A zone name begins here. If a key can begin with the first code unit too, then a `]` is before the first `=`.
 abbrev pub ReadsAsName : Shape
 ReadsAsName = (one zone_only_lead then anything) either (one key_lead then FirstIs closing)
 
--- an annotation, with its key and its value by the numbers of their code units
+-- An annotation has a key and a value, as the numbers of their code units, and is critical or not.
 pub record Pair : Type 0 where
   pub critical : Bool
   pub key : List ℕ
@@ -66,15 +66,15 @@ pub record Pair : Type 0 where
 abbrev pub Key : Shape
 Key = one key_lead then many (one key_char)
 
--- one or more code units of a value
+-- The text has one or more code units of a value.
 abbrev pub ValueRun : Shape
 ValueRun = one value_char then many (one value_char)
 
--- runs of code units, with a hyphen between each two
+-- The text has one or more runs of code units, with a hyphen between each two of them.
 abbrev pub Value : Shape
 Value = ValueRun then many (one hyphen then ValueRun)
 
--- `[`, an optional `!`, a key, `=`, a value and `]`
+-- The text is `[`, an optional `!`, a key, `=`, a value and `]`.
 pub record IsPair (text : Text) (pair : Pair) : Type 0 where
   pub start : Text
   pub keys : Text
@@ -86,15 +86,15 @@ pub record IsPair (text : Text) (pair : Pair) : Type 0 where
   pub key : keys ≡ map Plain pair.key
   pub value : values ≡ map Plain pair.value
 
--- the brackets of these pairs, in their order
+-- The text has the brackets of these annotations, in this order.
 abbrev pub ArePairs : Text → List Pair → Type 0
 ArePairs text [] = text ≡ []
 ArePairs text (pair ∷ pairs) = (first rest : Text) × (text ≡ first ++ rest) × IsPair first pair × ArePairs rest pairs
 
--- at most one zone bracket, which may have to be exact, and then any number of pairs
+-- The text has at most one zone annotation, and then any number of annotations. If `exact` is true, the zone has to be exact.
 abbrev pub IsTail : Bool → Text → Option ZoneNote → List Pair → Type 0
 IsTail exact text zone pairs = (first rest : Text) × (text ≡ first ++ rest) × OptionalBracket exact first zone × ArePairs rest pairs
 
--- What begins here in a first bracket is a key: an `=` comes before any `]`.
+-- In the first bracket, a key begins here: an `=` is before the first `]`.
 abbrev pub ReadsAsPair : Shape
 ReadsAsPair = one key_lead then FirstIs equals

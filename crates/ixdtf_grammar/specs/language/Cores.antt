@@ -1,4 +1,4 @@
--- Cores: what stands before the brackets of a text.
+-- Cores: a core is the part of a text before its brackets.
 use Rattle.std.specs.Prelude.{◌≡◌, ◌⊎◌, [], ◌++◌, Option, Some, None}
 use Rattle.ixdtf_grammar.specs.declared.{profile.Profile.Profile, records.{DateRecord.DateRecord, TimeRecord.TimeRecord}}
 use Rattle.ixdtf_grammar.specs.{declared.records.UtcOffsetRecordOrZ.UtcOffsetRecordOrZ, language.Letters.{Text, date_time_separator, time_letter}}
@@ -6,7 +6,7 @@ use Rattle.ixdtf_grammar.specs.language.{Shapes.{Shape, nothing, one, ◌then◌
 use Rattle.ixdtf_grammar.specs.language.{Times.IsTime, Offsets.IsOffsetOrZ, Readers.{CoreKind, CoreKind.{date_time, year_month, month_day, time_of_day}}}
 use Rattle.ixdtf_grammar.specs.language.{Readers.CoreKind.internet_date_time, DateTimes.{IsFullDate, IsPartialTime, IsTimeOffset}}
 
--- what stands before the brackets
+-- A core can have a date, a time, and an offset or `Z`.
 pub record Core : Type 0 where
   pub date : Option DateRecord
   pub time : Option TimeRecord
@@ -19,11 +19,11 @@ abbrev pub OptionalOffset : Text → Option UtcOffsetRecordOrZ → Type 0
 OptionalOffset text None = text ≡ []
 OptionalOffset text (Some offset) = IsOffsetOrZ text offset
 
--- a core that is a date of the part alone
+-- The core has only a date, and its text has the form `part`.
 abbrev pub DateAlone : (Text → DateRecord → Type 0) → Text → Core → Type 0
 DateAlone part text core = (date : DateRecord) × part text date × (core ≡ core_of (Some date) None None)
 
--- `Date`, one of `T`, `t` and space, `Time`, and an offset or `Z` where there is one
+-- The text is a `Date`, one of `T`, `t` and space, a `Time`, and an optional offset or `Z`.
 pub record DateAndTime (text : Text) (core : Core) : Type 0 where
   pub dates : Text
   pub separator : Text
@@ -44,7 +44,7 @@ IsDateTimeCore text core = DateAlone IsDate text core ⊎ DateAndTime text core
 
 -- ---- date-times of RFC 3339
 
--- `date-time = full-date "T" full-time`, where `full-time = partial-time time-offset`
+-- The text is a `date-time = full-date "T" full-time` of RFC 3339, with `full-time = partial-time time-offset`.
 pub record IsDateTime (text : Text) (core : Core) : Type 0 where
   pub dates : Text
   pub letters : Text
@@ -60,13 +60,13 @@ pub record IsDateTime (text : Text) (core : Core) : Type 0 where
   pub is_offset : IsTimeOffset offsets offset
   pub has : core ≡ core_of (Some date) (Some time) (Some offset)
 
--- ---- times that stand alone
+-- ---- times without a date
 
--- `T` or `t` or neither
+-- The text is `T`, `t`, or empty.
 abbrev pub TimeMark : Shape
 TimeMark = nothing either one time_letter
 
--- `T` or `t` or neither, a time, and an offset or `Z` where there is one
+-- The text is an optional `T` or `t`, a time, and an optional offset or `Z`.
 pub record MarkedTime (text : Text) (core : Core) : Type 0 where
   pub marks : Text
   pub times : Text
@@ -79,15 +79,15 @@ pub record MarkedTime (text : Text) (core : Core) : Type 0 where
   pub is_offset : OptionalOffset offsets offset
   pub has : core ≡ core_of None (Some time) offset
 
--- a front of the text has the shape
+-- A prefix of the text has the shape.
 abbrev pub BeginsWith : Shape → Shape
 BeginsWith shape = shape then anything
 
--- no front of the text is a month-day, and none a year-month
+-- No prefix of the text is a month-day, and no prefix is a year-month.
 abbrev pub HasNoDateFront : Profile → Shape
 HasNoDateFront profile text = ¬ (BeginsWith (some (IsMonthDay profile)) text) × ¬ (BeginsWith (some IsYearMonth) text)
 
--- a time that does not begin as a month-day or a year-month
+-- The core is a time, and its text does not begin with a month-day or with a year-month.
 abbrev pub IsTimeCore : Profile → Text → Core → Type 0
 IsTimeCore profile text core = MarkedTime text core × HasNoDateFront profile text
 

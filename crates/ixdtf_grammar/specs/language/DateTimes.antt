@@ -1,5 +1,5 @@
--- The parts of the date-times of RFC 3339 section 5.6, production by production, and what they stand for. In quotes stands the
--- ABNF of the section, whose letters are of either case.
+-- The parts of the date-times of RFC 3339 section 5.6, production by production, and the values that they stand for. The ABNF of
+-- the section is quoted. Its letters can be uppercase or lowercase.
 use Rattle.std.specs.Prelude.{◌≡◌, ℕ, IsTrue, ◌⊎◌, [], ◌∷◌, ◌++◌, Option, Some, None}
 use Rattle.ixdtf_grammar.specs.declared.records.{DateRecord.DateRecord, TimeRecord.TimeRecord, MinutePrecisionOffset.MinutePrecisionOffset}
 use Rattle.ixdtf_grammar.specs.declared.records.UtcOffsetRecordOrZ.{UtcOffsetRecordOrZ, TheVariants.{Offset, Z}}
@@ -7,7 +7,7 @@ use Rattle.ixdtf_grammar.specs.declared.records.UtcOffsetRecord.TheVariants.{Min
 use Rattle.ixdtf_grammar.specs.language.{Letters.{Text, sign, zulu, Letter.Plain}, Shapes.one, Digits.{TwoDigits, UpTo}}
 use Rattle.ixdtf_grammar.specs.language.{Dates.{FourDigitYear, Month, IsDayOfMonth}, Fractions.{FractionParts, SomeDigits, fraction_of}, Offsets.sign_of}
 
--- `full-date = date-fullyear "-" date-month "-" date-mday`, whatever its day
+-- The text is `full-date = date-fullyear "-" date-month "-" date-mday`, with any two digits as the day.
 pub record FullDateText (text : Text) (date : DateRecord) : Type 0 where
   pub years : Text
   pub months : Text
@@ -17,11 +17,11 @@ pub record FullDateText (text : Text) (date : DateRecord) : Type 0 where
   pub month : Month months date.month
   pub day : TwoDigits days date.day
 
--- the same, where the month has the day (section 5.7)
+-- The text is a `full-date`, and the month has the day (section 5.7).
 abbrev pub IsFullDate : Text → DateRecord → Type 0
 IsFullDate text date = FullDateText text date × IsDayOfMonth date
 
--- `time-secfrac = "." 1*DIGIT`
+-- The text is `time-secfrac = "." 1*DIGIT`.
 pub record IsSecfrac (text : Text) (fraction : FractionParts) : Type 0 where
   pub ds : Text
   pub is : text ≡ Plain 46 ∷ ds
@@ -32,7 +32,7 @@ abbrev pub OptionalSecfrac : Text → Option FractionParts → Type 0
 OptionalSecfrac text None = text ≡ []
 OptionalSecfrac text (Some fraction) = IsSecfrac text fraction
 
--- `partial-time = time-hour ":" time-minute ":" time-second [time-secfrac]`
+-- The text is `partial-time = time-hour ":" time-minute ":" time-second [time-secfrac]`.
 pub record IsPartialTime (text : Text) (time : TimeRecord) : Type 0 where
   pub hs : Text
   pub ms : Text
@@ -44,7 +44,7 @@ pub record IsPartialTime (text : Text) (time : TimeRecord) : Type 0 where
   pub second : UpTo 60 ss time.second
   pub fraction : OptionalSecfrac part time.fraction
 
--- `time-numoffset = ("+" / "-") time-hour ":" time-minute`
+-- The text is `time-numoffset = ("+" / "-") time-hour ":" time-minute`.
 pub record IsNumOffset (text : Text) (offset : MinutePrecisionOffset) : Type 0 where
   pub c : ℕ
   pub hs : Text
@@ -55,6 +55,6 @@ pub record IsNumOffset (text : Text) (offset : MinutePrecisionOffset) : Type 0 w
   pub minute : UpTo 59 ms offset.minute
   pub value : offset.sign ≡ sign_of c
 
--- `time-offset = "Z" / time-numoffset`
+-- The text is `time-offset = "Z" / time-numoffset`.
 abbrev pub IsTimeOffset : Text → UtcOffsetRecordOrZ → Type 0
 IsTimeOffset text found = (one zulu text × (found ≡ Z)) ⊎ ((offset : MinutePrecisionOffset) × IsNumOffset text offset × (found ≡ Offset (MinutePrecision offset)))

@@ -1,18 +1,18 @@
--- Dates: which texts stand for which dates (RFC 3339 section 5.6, ISO 8601; signed years by the Temporal grammar).
+-- Dates: which texts stand for which dates (RFC 3339 section 5.6, ISO 8601). Years with a sign are from the Temporal grammar.
 use Rattle.std.specs.Prelude.{◌≡◌, ◌≢◌, ℕ, ◌≤◌, IsTrue, ◌⊎◌, ◌∷◌, ◌++◌, ℤ, pos, neg_ℤ, if◌then◌else◌}
 use Rattle.ixdtf_grammar.specs.{declared.records.DateRecord.DateRecord, language.{Letters.{Text, sign, hyphen, Letter.Plain}, Shapes.digits}}
 use Rattle.ixdtf_grammar.specs.language.Digits.{decimal, TwoDigits}
 pub use Rattle.ixdtf_instants.specs.Calendar.{is_leap, month_length}
 
--- a number with its sign
+-- This is the number with its sign: it is negative after a hyphen.
 abbrev pub signed : ℕ → ℕ → ℤ
 signed c n = if hyphen c then neg_ℤ (pos n) else pos n
 
--- four digits
+-- The year has four digits.
 abbrev pub FourDigitYear : Text → ℤ → Type 0
 FourDigitYear text year = digits 4 text × (year ≡ pos (decimal text))
 
--- a sign and six digits, and not `-000000`
+-- The year has a sign and six digits, and is not `-000000`.
 pub record ExtendedYear (text : Text) (year : ℤ) : Type 0 where
   pub c : ℕ
   pub ds : Text
@@ -25,11 +25,11 @@ pub record ExtendedYear (text : Text) (year : ℤ) : Type 0 where
 abbrev pub Year : Text → ℤ → Type 0
 Year text year = FourDigitYear text year ⊎ ExtendedYear text year
 
--- 01 to 12
+-- The month has two digits, and is from 01 to 12.
 abbrev pub Month : Text → ℕ → Type 0
 Month text month = TwoDigits text month × (1 ≤ month) × (month ≤ 12)
 
--- year, month and day in a row; the day is any two digits
+-- The text is a year, a month and a day without hyphens. The day is any two digits.
 pub record BasicDate (text : Text) (date : DateRecord) : Type 0 where
   pub years : Text
   pub months : Text
@@ -39,7 +39,7 @@ pub record BasicDate (text : Text) (date : DateRecord) : Type 0 where
   pub month : Month months date.month
   pub day : TwoDigits days date.day
 
--- the same with a hyphen between each two
+-- The text is a year, a month and a day, with two hyphens between them. The day is any two digits.
 pub record HyphenedDate (text : Text) (date : DateRecord) : Type 0 where
   pub years : Text
   pub months : Text
@@ -49,7 +49,7 @@ pub record HyphenedDate (text : Text) (date : DateRecord) : Type 0 where
   pub month : Month months date.month
   pub day : TwoDigits days date.day
 
--- a date's text, whatever its day
+-- The text has the form of a date, with any two digits as the day.
 abbrev pub DateText : Text → DateRecord → Type 0
 DateText text date = BasicDate text date ⊎ HyphenedDate text date
 

@@ -1,4 +1,4 @@
--- The languages of the readers: which texts stand for what.
+-- The languages of the readers: which texts stand for which values.
 use Rattle.std.specs.Prelude.{◌≡◌, ℕ, List, [], ◌++◌, Option, None}
 use Rattle.ixdtf_grammar.specs.declared.records.{DateRecord.DateRecord, TimeRecord.TimeRecord, UtcOffsetRecord.UtcOffsetRecord}
 use Rattle.ixdtf_grammar.specs.declared.{records.{UtcOffsetRecordOrZ.UtcOffsetRecordOrZ, DurationParseRecord.DurationParseRecord}, profile.Profile.Profile}
@@ -6,7 +6,7 @@ use Rattle.ixdtf_grammar.specs.language.{Letters.Text, Offsets.IsOffset, ZoneNam
 use Rattle.ixdtf_grammar.specs.language.{Cores.{Core, IsCore, IsDateTime}, Durations.IsDuration, Readers.{Reader, CoreKind, has_exact_zones}}
 use Rattle.ixdtf_grammar.specs.language.Readers.Reader.{bracketed, parse_rfc3339, parse_offset, parse_identifier, parse_iana_identifier, parse_duration}
 
--- what is derived from a text with brackets, with names by the numbers of their code units
+-- This is the record that the grammar derives from a text with brackets. Names are the numbers of their code units.
 pub record Parsed : Type 0 where
   pub date : Option DateRecord
   pub time : Option TimeRecord
@@ -14,11 +14,11 @@ pub record Parsed : Type 0 where
   pub zone : Option ZoneNote
   pub calendar : Option (List ℕ)
 
--- a core, and a zone where there is one; a calendar comes from the replies to the pairs
+-- This is the record of a core and an optional zone. It has no calendar, because the replies to the annotations give the calendar.
 abbrev pub parsed_with : Core → Option ZoneNote → Parsed
 parsed_with core zone = record { date = core.date; time = core.time; offset = core.offset; zone = zone; calendar = None }
 
--- a core of the kind, and a zone bracket and pairs where there are
+-- The text is a core of the kind, an optional zone annotation, and any number of annotations.
 pub record IsBracketed (kind : CoreKind) (text : Text) (parsed : Parsed) (pairs : List Pair) : Type 0 where
   pub cores : Text
   pub brackets : Text
@@ -29,11 +29,11 @@ pub record IsBracketed (kind : CoreKind) (text : Text) (parsed : Parsed) (pairs 
   pub is_tail : IsTail (has_exact_zones kind) brackets zone pairs
   pub has : parsed ≡ parsed_with core zone
 
--- a date-time of RFC 3339 section 5.6, with no zone and no calendar
+-- The text is a date-time of RFC 3339 section 5.6, and the record has no zone and no calendar.
 abbrev pub IsRfc3339 : Text → Parsed → Type 0
 IsRfc3339 text parsed = (core : Core) × IsDateTime text core × (parsed ≡ parsed_with core None)
 
--- what the readers derive
+-- These are the values that the grammar derives for the readers.
 pub data Found : Type 0 where
   parsed : Parsed → Found
   dated : Parsed → Found
@@ -42,7 +42,7 @@ pub data Found : Type 0 where
   named : List ℕ → Found
   lasting : DurationParseRecord → Found
 
--- the language of a reader: which texts stand for what, with which pairs
+-- The language of a reader says which texts stand for which values, with which annotations.
 pub data Derives : Reader → Text → Found → List Pair → Type 0 where
   as_parsed : {kind : CoreKind} {text : Text} {found : Parsed} {pairs : List Pair} →
       IsBracketed kind text found pairs → Derives (bracketed kind) text (parsed found) pairs

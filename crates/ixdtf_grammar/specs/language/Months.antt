@@ -1,4 +1,4 @@
--- A year and a month, and a month and a day (ISO 8601, Temporal grammar).
+-- Year-months and month-days: a year and a month, and a month and a day (ISO 8601, Temporal grammar).
 use Rattle.std.specs.Prelude.{◌≡◌, ℕ, ◌≤◌, ◌++◌, pos}
 use Rattle.ixdtf_grammar.specs.declared.{profile.Profile.{Profile, TheVariants.{Crate, Strict}}, records.DateRecord.DateRecord}
 use Rattle.ixdtf_grammar.specs.language.{Letters.{Text, hyphen}, Shapes.{Shape, nothing, one, ◌then◌, ◌either◌}, Digits.TwoDigits}
@@ -7,11 +7,11 @@ use Rattle.ixdtf_grammar.specs.language.Dates.{Year, Month, month_length}
 abbrev pub OptionalHyphen : Shape
 OptionalHyphen = nothing either one hyphen
 
--- two hyphens or none
+-- The text is two hyphens, or empty.
 abbrev pub Marks : Shape
 Marks = nothing either (one hyphen then one hyphen)
 
--- a year and a month, with or without a hyphen between; the day is 1
+-- The text is a year, an optional hyphen and a month. The day of the record is 1.
 pub record IsYearMonth (text : Text) (date : DateRecord) : Type 0 where
   pub years : Text
   pub hyphens : Text
@@ -22,7 +22,7 @@ pub record IsYearMonth (text : Text) (date : DateRecord) : Type 0 where
   pub month : Month months date.month
   pub first_day : date.day ≡ 1
 
--- a month and any two digits, with or without a hyphen between, and with or without two hyphens before; the year is 0
+-- The text is two hyphens or none, a month, an optional hyphen, and any two digits as the day. The year of the record is 0.
 pub record MonthDayText (text : Text) (date : DateRecord) : Type 0 where
   pub marks : Text
   pub months : Text
@@ -35,11 +35,11 @@ pub record MonthDayText (text : Text) (date : DateRecord) : Type 0 where
   pub day : TwoDigits days date.day
   pub no_year : date.year ≡ pos 0
 
--- the greatest day of a month in any year: year 0 is a leap year
+-- This is the greatest day that a month has in any year. It is computed for year 0, which is a leap year.
 abbrev pub greatest_day : ℕ → ℕ
 greatest_day month = month_length (pos 0) month
 
--- the least day of a month-day
+-- This is the least day of a month-day under the profile.
 abbrev pub least_day : Profile → ℕ
 least_day Crate = 0
 least_day Strict = 1

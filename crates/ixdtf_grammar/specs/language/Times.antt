@@ -1,30 +1,30 @@
--- Times: which texts stand for which times (RFC 3339 section 5.6, ISO 8601, Temporal grammar). Second 60 is kept. An
--- offset is written as a time is, after its sign.
+-- Times: which texts stand for which times (RFC 3339 section 5.6, ISO 8601, Temporal grammar). Second 60 stays 60. After its sign, an
+-- offset is written like a time.
 use Rattle.std.specs.Prelude.{◌≡◌, ℕ, Bool, true, false, IsTrue, ◌⊎◌, ◌∷◌, ◌++◌, Some, None}
 use Rattle.ixdtf_grammar.specs.{declared.records.TimeRecord.TimeRecord, language.{Letters.{Text, Letter.Plain}, Digits.UpTo}}
 use Rattle.ixdtf_grammar.specs.language.Fractions.{FractionParts, IsFraction}
 
--- what is written as a time is: a time of day, an offset after its sign, and an offset without seconds after its sign
+-- Three things are written like a time: a time of day, an offset after its sign, and an offset without seconds after its sign.
 pub data Clock : Type 0 where
   Time Offset MinuteOffset : Clock
 
--- the greatest second: a time of day has leap seconds
+-- This is the greatest second. Only a time of day can have a leap second.
 abbrev pub greatest_second : Clock → ℕ
 greatest_second Time = 60
 greatest_second Offset = 59
 greatest_second MinuteOffset = 59
 
--- whether seconds may be written
+-- This says whether the text can have seconds.
 abbrev pub has_seconds : Clock → Bool
 has_seconds Time = true
 has_seconds Offset = true
 has_seconds MinuteOffset = false
 
--- the shapes of a time, by what stands last in it
+-- A time has one of five shapes. The shape is named after the last part of the time.
 pub data TimeShape : Type 0 where
   hours basic_minutes colon_minutes seconds fractions : TimeShape
 
--- whether a second stands in it
+-- This says whether a time of the shape has a second.
 abbrev pub writes_seconds : TimeShape → Bool
 writes_seconds hours = false
 writes_seconds basic_minutes = false
@@ -32,14 +32,14 @@ writes_seconds colon_minutes = false
 writes_seconds seconds = true
 writes_seconds fractions = true
 
--- `Hour`
+-- The text is `Hour`.
 pub record HourText (text : Text) (time : TimeRecord) : Type 0 where
   pub hour : UpTo 23 text time.hour
   pub no_minute : time.minute ≡ 0
   pub no_second : time.second ≡ 0
   pub no_fraction : time.fraction ≡ None
 
--- `Hour Min`
+-- The text is `Hour Min`, without a colon.
 pub record BasicMinuteText (text : Text) (time : TimeRecord) : Type 0 where
   pub hs : Text
   pub ms : Text
@@ -49,7 +49,7 @@ pub record BasicMinuteText (text : Text) (time : TimeRecord) : Type 0 where
   pub no_second : time.second ≡ 0
   pub no_fraction : time.fraction ≡ None
 
--- `Hour : Min`
+-- The text is `Hour : Min`.
 pub record ColonMinuteText (text : Text) (time : TimeRecord) : Type 0 where
   pub hs : Text
   pub ms : Text
@@ -59,7 +59,7 @@ pub record ColonMinuteText (text : Text) (time : TimeRecord) : Type 0 where
   pub no_second : time.second ≡ 0
   pub no_fraction : time.fraction ≡ None
 
--- `Hour Min Sec`
+-- The text is `Hour Min Sec`, without colons.
 pub record BasicSecondText (clock : Clock) (text : Text) (time : TimeRecord) : Type 0 where
   pub hs : Text
   pub ms : Text
@@ -71,7 +71,7 @@ pub record BasicSecondText (clock : Clock) (text : Text) (time : TimeRecord) : T
   pub second : UpTo (greatest_second clock) ss time.second
   pub no_fraction : time.fraction ≡ None
 
--- `Hour : Min : Sec`
+-- The text is `Hour : Min : Sec`.
 pub record ColonSecondText (clock : Clock) (text : Text) (time : TimeRecord) : Type 0 where
   pub hs : Text
   pub ms : Text
@@ -86,7 +86,7 @@ pub record ColonSecondText (clock : Clock) (text : Text) (time : TimeRecord) : T
 abbrev pub SecondText : Clock → Text → TimeRecord → Type 0
 SecondText clock text time = BasicSecondText clock text time ⊎ ColonSecondText clock text time
 
--- the text of the time without its fraction, and the fraction of its seconds
+-- The text is a time with seconds, and the fraction of its second.
 pub record FractionText (clock : Clock) (text : Text) (time : TimeRecord) : Type 0 where
   pub whole : Text
   pub part : Text
@@ -103,6 +103,6 @@ ClockOf clock colon_minutes text time = ColonMinuteText text time
 ClockOf clock seconds text time = SecondText clock text time
 ClockOf clock fractions text time = FractionText clock text time
 
--- a time of any shape
+-- The text is a time of one of the five shapes.
 abbrev pub IsTime : Text → TimeRecord → Type 0
 IsTime text time = (shape : TimeShape) × ClockOf Time shape text time

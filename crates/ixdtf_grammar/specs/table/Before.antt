@@ -1,4 +1,4 @@
--- Where a line is looked at: what stands before its front in a reader, and what the text has from the front on.
+-- Where a table line applies in a reader: the text before the prefix of the line, and conditions on the text from the prefix on.
 use Rattle.std.specs.Prelude.{◌≡◌, ◌≢◌, ◌⊎◌, IsTrue, List, [], ◌++◌, Option}
 use Rattle.ixdtf_grammar.specs.{declared.profile.Profile.Profile, language.Letters.{Text, sign, date_time_separator, time_letter, opening}}
 use Rattle.ixdtf_grammar.specs.language.{Shapes.{Shape, nothing, one, ◌then◌, ◌either◌, some, anything}, Dates.IsDate, Months.IsMonthDay, Times.IsTime}
@@ -28,7 +28,7 @@ DateAndSeparator = some IsDate then one date_time_separator
 abbrev pub DateTime : Shape
 DateTime = DateAndSeparator then some IsTime
 
--- what stands before a line of dates, in a core of the kind
+-- This is the text before a line of dates, in a core of the kind.
 abbrev pub BeforeDate : CoreKind → DateLine → Shape
 BeforeDate date_time year_start before = nothing before
 BeforeDate date_time year_digits before = nothing before
@@ -65,7 +65,7 @@ BeforeYearMonth internet_date_time before = ⊥
 BeforeYearMonth (month_day profile) before = ⊥
 BeforeYearMonth (time_of_day profile) before = ⊥
 
--- what stands before a line of month-days: nothing; and a line of a profile is one of this profile
+-- The text before a line of month-days is empty. If the line depends on a profile, it is the line of this profile.
 abbrev pub InMonthDay : Profile → MonthDayLine → Shape
 InMonthDay profile month_day_start before = nothing before
 InMonthDay profile month_day_hyphen before = nothing before
@@ -83,22 +83,22 @@ BeforeMonthDay internet_date_time line before = ⊥
 BeforeMonthDay year_month line before = ⊥
 BeforeMonthDay (time_of_day profile) line before = ⊥
 
--- the end, or a bracket: what a core may stand before
+-- A core ends here: the text ends, or `[` follows.
 abbrev pub AtCoreEnd : Shape
 AtCoreEnd = nothing either (one opening then anything)
 
--- What begins here is a time with its offset, up to the end or a bracket.
+-- A time with its optional offset begins here, and extends to the end of the text or to a `[`.
 abbrev pub ReadsAsTime : Shape
 ReadsAsTime = some MarkedTime then AtCoreEnd
 
--- The lines of a time's front are looked at where the time ended as a whole. That of a year-month gives way to that of a
--- month-day.
+-- The lines for a time that begins like a date apply only if the text is a complete time up to a `[` or up to its end. The line of
+-- year-months applies only if the line of month-days does not.
 abbrev pub InTimeAlone : Profile → TimeLine → Text → Text → Type 0
 InTimeAlone profile time_start before rest = nothing before
 InTimeAlone profile (time_reads_as_month_day other) before rest = nothing before × ReadsAsTime rest × (other ≡ profile)
 InTimeAlone profile time_reads_as_year_month before rest = nothing before × ReadsAsTime rest × ¬ (BeginsWith (some (IsMonthDay profile)) rest)
 
--- what stands before the other lines of a time that stands alone, and what the text has from their front on
+-- This is the text before the other lines of a time without a date, and a condition on the text from the prefix on.
 abbrev pub BeforeTimeAlone : CoreKind → TimeLine → Text → Text → Type 0
 BeforeTimeAlone (time_of_day profile) line before rest = InTimeAlone profile line before rest
 BeforeTimeAlone date_time line before rest = ⊥
@@ -106,14 +106,15 @@ BeforeTimeAlone internet_date_time line before rest = ⊥
 BeforeTimeAlone year_month line before rest = ⊥
 BeforeTimeAlone (month_day profile) line before rest = ⊥
 
--- what stands before a line of a core, and what the text has from its front on
+-- This is the text before a line of a core, and a condition on the text from the prefix on.
 abbrev pub BeforeCore : CoreKind → CoreLine → Text → Text → Type 0
 BeforeCore kind (dates line) before rest = BeforeDate kind line before
 BeforeCore kind (year_months line) before rest = BeforeYearMonth kind before
 BeforeCore kind (month_days line) before rest = BeforeMonthDay kind line before
 BeforeCore kind (times line) before rest = BeforeTimeAlone kind line before rest
 
--- what stands before a line of times; a time that stands alone has its own line where it begins without `T` or `t`
+-- This is the text before a line of times. If a time without a date begins without `T` or `t`, a line of its own (`time_start`)
+-- applies to its first code unit.
 abbrev pub BeforeTime : CoreKind → ClockLine → Shape
 BeforeTime date_time line before = DateAndSeparator before
 BeforeTime internet_date_time line before = ⊥
@@ -133,7 +134,7 @@ BeforeTime (time_of_day profile) after_second before = TimeMark before
 BeforeTime (time_of_day profile) fraction_start before = TimeMark before
 BeforeTime (time_of_day profile) after_fraction before = TimeMark before
 
--- what stands before the sign of an offset, and before `Z`
+-- This is the text before the sign of an offset, or before `Z`.
 abbrev pub BeforeOffset : CoreKind → Shape
 BeforeOffset date_time before = DateTime before
 BeforeOffset internet_date_time before = ⊥
@@ -145,7 +146,7 @@ abbrev pub BeforeOffsetLine : CoreKind → OffsetLine → Shape
 BeforeOffsetLine kind offset_start before = ⊥
 BeforeOffsetLine kind after_zulu before = BeforeOffset kind before
 
--- what stands before the lines of date-times of RFC 3339
+-- This is the text before the lines of date-times of RFC 3339.
 abbrev pub BeforeInternetDateTime : CoreKind → Shape
 BeforeInternetDateTime internet_date_time before = nothing before
 BeforeInternetDateTime date_time before = ⊥
@@ -155,21 +156,22 @@ BeforeInternetDateTime (time_of_day profile) before = ⊥
 
 -- ---- lines of brackets
 
--- a whole core, `[`, and `!` where there is one
+-- The text is a complete core, `[`, and an optional `!`.
 abbrev pub Opened : CoreKind → Shape
 Opened kind = some (IsCore kind) then some Opens
 
--- a core, and one bracket or more with these pairs
+-- The text is a core and one or more brackets, with these annotations.
 abbrev pub Bracketed : CoreKind → List Pair → Text → Type 0
 Bracketed kind pairs before =
     (cores brackets : Text) × (before ≡ cores ++ brackets) × some (IsCore kind) cores
     × (zone : Option ZoneNote) × IsTail (has_exact_zones kind) brackets zone pairs × (brackets ≢ [])
 
--- what stands before a key: a first bracket's opening, where what begins is a key, or that of another bracket
+-- This is the text before a key. It ends with the opening of the first bracket, if a key begins there, or with the opening of another
+-- bracket.
 abbrev pub BeforeKey : CoreKind → List Pair → Text → Text → Type 0
 BeforeKey kind pairs before rest = (Opened kind before × ReadsAsPair rest × (pairs ≡ [])) ⊎ (Bracketed kind pairs then some Opens) before
 
--- what stands before a line in a reader of a core of the kind and brackets: these pairs stand whole before the front
+-- This is the text before a line, in a reader of a core of the kind and brackets. These are the complete annotations before the prefix.
 abbrev pub BeforeBracketed : CoreKind → LineName → List Pair → Text → Text → Type 0
 BeforeBracketed kind (of_core line) pairs before rest = BeforeCore kind line before rest × (pairs ≡ [])
 BeforeBracketed kind (of_clock Time line) pairs before rest = BeforeTime kind line before × (pairs ≡ [])
@@ -261,7 +263,8 @@ InDuration profile (of_pair line) before = ⊥
 
 -- ---- lines of any reader
 
--- A line is looked at in the reader where this stands before its front and from its front on, with these whole pairs.
+-- The line applies in the reader after the text `before`, with the text `rest` from the prefix of the line on. `pairs` are the
+-- complete annotations before the prefix.
 abbrev pub Before : Reader → LineName → List Pair → Text → Text → Type 0
 Before (bracketed kind) line pairs before rest = BeforeBracketed kind line pairs before rest
 Before parse_rfc3339 line pairs before rest = InRfc3339 line before × (pairs ≡ [])

@@ -1,4 +1,4 @@
--- When two errors are equal: where they are the same variant, and their locations have equal bytes.
+-- Equality of errors: two errors are equal if they are the same variant, and their locations have equal bytes.
 use Rattle.std.specs.{Prelude.{◌≡◌, ℕ, Bool, List, [], ◌∷◌, slice_index_or, refl}, Bool.Decides, Ordering.on, Str.bytes_eq}
 use Rattle.std.specs.Cmp.{IsPartialEquivalence, partial_equiv_from_equiv, Lexicographic.on_texts_equal}
 use Rattle.std.proofs.{Common.{sym, ap, ◌∙◌}, lemmas.Slice.Eq.bytes_eq-Decides}
@@ -12,7 +12,7 @@ use Rattle.ixdtf_grammar.specs.table.Faults.Fault.{TzLeadingChar, IanaCharPostSe
 use Rattle.ixdtf_grammar.specs.table.Faults.Fault.{DurationDisgnator, DurationValueExceededRange, DateDurationPartOrder, TimeDurationPartOrder}
 use Rattle.ixdtf_grammar.specs.table.Faults.Fault.{TimeDurationDesignator, AmbiguousTimeMonthDay, AmbiguousTimeYearMonth, InvalidMonthDay}
 
--- the index of a fault in the list of faults
+-- This is the index of an error in the list of all errors.
 abbrev pub variant_index_of : Fault → ℕ
 variant_index_of ImplAssert = 0
 variant_index_of NonAsciiCodePoint = 1
@@ -61,23 +61,23 @@ variant_index_of AmbiguousTimeMonthDay = 43
 variant_index_of AmbiguousTimeYearMonth = 44
 variant_index_of InvalidMonthDay = 45
 
--- the location of a fault, or nothing
+-- This is the location of an error, or nothing if the error has no location.
 abbrev pub location_of : Fault → List ℕ
 location_of (AbruptEnd location) = location
 location_of fault = []
 
--- the index and the location in one list
+-- This list has the index of the error, and then the bytes of its location.
 abbrev pub spelled : Fault → List ℕ
 spelled f = variant_index_of f ∷ location_of f
 
--- whether two errors are equal
+-- This says whether two errors are equal.
 abbrev pub same_error : ParseError → ParseError → Bool
 same_error = on (λ e. spelled (fault_of e)) bytes_eq
 
 pub same_error-laws : IsPartialEquivalence same_error
 same_error-laws = partial_equiv_from_equiv (on_texts_equal (λ e. spelled (fault_of e)))
 
--- each fault, in the order of the list
+-- These are all errors, in the order of their indices.
 faults : List ℕ → List Fault
 faults location =
     ImplAssert ∷ NonAsciiCodePoint ∷ ParseFloat ∷ AbruptEnd location ∷ InvalidEnd ∷ InvalidMonthRange ∷ InvalidDayRange ∷ DateYear ∷
@@ -88,7 +88,7 @@ faults location =
     UtcTimeSeparator ∷ OffsetNeedsSign ∷ MonthDayHyphen ∷ DurationDisgnator ∷ DurationValueExceededRange ∷ DateDurationPartOrder ∷
     TimeDurationPartOrder ∷ TimeDurationDesignator ∷ AmbiguousTimeMonthDay ∷ AmbiguousTimeYearMonth ∷ InvalidMonthDay ∷ []
 
--- the fault that is spelled so
+-- This is the error that has this index and this location.
 fault_at : List ℕ → Fault
 fault_at [] = ImplAssert
 fault_at (place ∷ location) = slice_index_or (faults location) place ImplAssert

@@ -1,4 +1,4 @@
--- The text of an error.
+-- The texts of errors.
 use Rattle.std.specs.Prelude.{ℕ, List, ◌++◌, codes}
 use Rattle.ixdtf_grammar.specs.table.Faults.{Fault, Fault.{ImplAssert, NonAsciiCodePoint, ParseFloat, AbruptEnd, InvalidEnd, InvalidMonthRange}}
 use Rattle.ixdtf_grammar.specs.table.Faults.Fault.{InvalidDayRange, DateYear, DateExtendedYear, DateMonth, DateDay, DateUnexpectedEnd, TimeRequired, TimeHour}
@@ -10,7 +10,7 @@ use Rattle.ixdtf_grammar.specs.table.Faults.Fault.{IanaCharPostSeparator, IanaCh
 use Rattle.ixdtf_grammar.specs.table.Faults.Fault.{DurationValueExceededRange, DateDurationPartOrder, TimeDurationPartOrder, TimeDurationDesignator}
 use Rattle.ixdtf_grammar.specs.table.Faults.Fault.{AmbiguousTimeMonthDay, AmbiguousTimeYearMonth, InvalidMonthDay}
 
--- the text of a fault
+-- This is the text that `to_static_string` returns for an error.
 abbrev pub text_of : Fault → List ℕ
 text_of ImplAssert = codes "Implementation error: this error must not throw."
 text_of NonAsciiCodePoint = codes "Code point was not ASCII"
@@ -59,7 +59,7 @@ text_of AmbiguousTimeMonthDay = codes "Time is ambiguous with MonthDay"
 text_of AmbiguousTimeYearMonth = codes "Time is ambiguous with YearMonth"
 text_of InvalidMonthDay = codes "MonthDay was not valid."
 
--- what is printed of a fault
+-- This is the text that `Display` writes for an error.
 abbrev pub message_of : Fault → List ℕ
 message_of (AbruptEnd location) = codes "Parsing ended abruptly while parsing " ++ location
 message_of fault = text_of fault

@@ -1,9 +1,9 @@
--- The errors as the definitions speak of them: an error with the bytes of its location, and not with an address.
+-- The errors as the definitions see them: an error has the bytes of its location, and not an address.
 use Rattle.ixdtf_grammar.specs.declared.error.ParseError.TheVariants as errors
 use Rattle.std.specs.Prelude.{◌≡◌, ℕ, List, Bool, true, false}
 use Rattle.ixdtf_grammar.specs.declared.{error.ParseError.ParseError, located.LocatedError.LocatedError}
 
--- an error, with the bytes of its location
+-- A `Fault` is an error, with the bytes of its location.
 pub data Fault : Type 0 where
   ImplAssert : Fault
   NonAsciiCodePoint : Fault
@@ -52,7 +52,7 @@ pub data Fault : Type 0 where
   AmbiguousTimeYearMonth : Fault
   InvalidMonthDay : Fault
 
--- the fault that an error names
+-- This is the `Fault` of an error.
 abbrev pub fault_of : ParseError → Fault
 fault_of errors.ImplAssert = ImplAssert
 fault_of errors.NonAsciiCodePoint = NonAsciiCodePoint
@@ -101,19 +101,19 @@ fault_of errors.AmbiguousTimeMonthDay = AmbiguousTimeMonthDay
 fault_of errors.AmbiguousTimeYearMonth = AmbiguousTimeYearMonth
 fault_of errors.InvalidMonthDay = InvalidMonthDay
 
--- the fault of an error that has its place
+-- This is the `Fault` of an error with a position.
 abbrev pub fault_of_located : LocatedError → Fault
 fault_of_located e = fault_of e.error
 
--- so many code units stand before the place of the error
+-- The error is at the position `at`.
 abbrev pub stands_behind : ℕ → LocatedError → Type 0
 stands_behind at e = e.at ≡ at
 
--- an error without a place may stand behind any number of code units
+-- An error without a position agrees with every position.
 abbrev pub stands_anywhere : ℕ → ParseError → Type 0
 stands_anywhere at e = Unit {0}
 
--- the errors that no reader returns
+-- No reader returns these errors.
 abbrev pub never_comes : Fault → Bool
 never_comes ImplAssert = true
 never_comes ParseFloat = true
@@ -125,7 +125,7 @@ never_comes InvalidAnnotation = true
 never_comes AnnotationChar = true
 never_comes fault = false
 
--- the errors of refused replies, which no row of the fault table has
+-- These are the errors of refused replies. No row of the fault table has them.
 abbrev pub is_refusal : Fault → Bool
 is_refusal UnrecognizedCritical = true
 is_refusal CriticalDuplicateCalendar = true

@@ -1,21 +1,22 @@
--- The rows of the fault table, and when a row fits a text.
+-- The rows of the fault table, and the definition of when a row fits a text.
 use Rattle.std.specs.Prelude.{◌≡◌, ℕ, Bool, IsFalse, List, [], ◌∷◌, ◌++◌}
 use Rattle.ixdtf_grammar.specs.language.{Letters.{Text, Letter.{Plain, Bad}}, Shapes.Shape, Readers.{Reader, has_brackets}, Brackets.Pair}
 use Rattle.ixdtf_grammar.specs.table.{Faults.{Fault, Fault.NonAsciiCodePoint}, LineNames.LineName, Lines.{Line, line_of, Line.{line, scanned, whole}}}
 use Rattle.ixdtf_grammar.specs.table.{Lines.Ending.error, Before.Before}
 
--- where a row stands: at the end of the text, at another code unit, at Bad, or anywhere, with what the text has from there on
+-- The place of a row is the end of the text, another code unit, a bad code unit, or anywhere. It has the rest of the text from there
+-- on.
 pub data Place : Type 0 where
   end other bad anywhere : Text → Place
 
--- what the text has from the place on
+-- This is the rest of the text from the place on.
 abbrev pub left_at : Place → Text
 left_at (end left) = left
 left_at (other left) = left
 left_at (bad left) = left
 left_at (anywhere left) = left
 
--- a row: its line, its place and its error
+-- A row has the name of its line, its place and its error.
 pub record Row : Type 0 where
   pub name : LineName
   pub place : Place
@@ -26,7 +27,7 @@ front_of (line front goes_on at_end at_other) = front
 front_of (scanned front fault) = front
 front_of (whole front fault) = front
 
--- What stands after the front of a line where its row fits.
+-- The text after the prefix of the line is what a row with this place and this error requires.
 abbrev pub Stops : Line → Place → Fault → Text → Type 0
 Stops (line front goes_on at_end at_other) (end left) fault rest = (rest ≡ []) × (at_end ≡ error fault) × (left ≡ rest)
 Stops (line front goes_on at_end at_other) (other left) fault rest =
@@ -42,13 +43,13 @@ Stops (whole front at_front) (end left) fault rest = ⊥
 Stops (whole front at_front) (other left) fault rest = ⊥
 Stops (whole front at_front) (bad left) fault rest = ⊥
 
--- a front of the line, and then what its row asks for, in a reader that has brackets or has none
+-- The text is a prefix of the line, and then a text that the row requires. `brackets` says whether the reader reads brackets.
 abbrev pub FitsHere : Bool → Row → Text → Type 0
 FitsHere brackets row text =
     (front rest : Text) × (text ≡ front ++ rest) × front_of (line_of brackets row.name) front × Stops (line_of brackets row.name) row.place row.error rest
 
--- The row fits the text, with these whole pairs before it: what stands before the line in the reader, then a front of the
--- line, then what its row asks for.
+-- The row fits the text, with these complete annotations before it. The text has three parts: the text before the line in the reader,
+-- a prefix of the line, and a text that the row requires.
 abbrev pub Fits : Reader → Row → List Pair → Text → Type 0
 Fits reader row pairs text =
     (before rest : Text) × (text ≡ before ++ rest) × Before reader row.name pairs before rest × FitsHere (has_brackets reader) row rest

@@ -2,9 +2,10 @@
 
 //! The profile of a parser.
 
-/// The rules of a parser: the rules of `ixdtf` 0.6.7 of ICU4X, or stricter rules for months with a day and for durations.
+/// The rules of a parser: the rules of `ixdtf` 0.6.7 of ICU4X, or stricter rules for month-days and for durations.
 ///
-/// A new parser has [`Profile::Crate`]. For dates, year-months, offsets and zones, both profiles have the same rules.
+/// A month-day is a month and a day without a year. A new parser has [`Profile::Crate`]. For dates, year-months, offsets
+/// and zones, both profiles have the same rules.
 ///
 /// # Examples
 ///
@@ -42,7 +43,7 @@ impl Profile {
         }
     }
 
-    /// Returns the least difference between the ranks of two units of a duration that follow each other.
+    /// Returns the least difference between the ranks of two duration units, one directly after the other in the text.
     #[inline(always)]
     pub(crate) fn least_step(self) -> u8 {
         match self {

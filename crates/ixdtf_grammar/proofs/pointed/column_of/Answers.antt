@@ -5,7 +5,7 @@ use Rattle.std.proofs.lemmas.Bool.Decides.{nat_tests}
 use Rattle.std.specs.{Char.len_utf8, Str.chars}
 use Rattle.ixdtf_grammar.specs.LocatedTexts.{column_of}
 
--- at a character of the text the column is counted by that character
+-- At a character of the text, the column is computed from this character.
 at_character : (cs : List ℕ) (n c left : ℕ) → (n < length cs) × (c ≡ get_or cs n c) → column_of (drop n cs) left ≡ cond (nat_lt left (len_utf8 c)) 0 (column_of (drop (n + 1) cs) (left - len_utf8 c) + 1)
 at_character cs n c left h =
     at_drop_more (λ ds. column_of ds left) cs n c h.0

@@ -3,7 +3,7 @@ use Rattle.std.proofs.Common.{◌≡◌, ◌+◌, ◌≤◌, length, drop}
 use Rattle.std.specs.Str.{chars}
 use Rattle.ixdtf_grammar.specs.LocatedTexts.{column_of}
 
--- the column is the number of characters that were passed, and what is left of the place is their bytes less
+-- `column` is the number of characters that the loop has passed. `left` is the position minus the number of bytes in them.
 abbrev pub invariant-loop-character : goal.invariant-loop-character
 invariant-loop-character l =
     (l.column ≡ length l.yielded)

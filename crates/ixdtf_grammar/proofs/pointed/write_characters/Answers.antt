@@ -5,7 +5,7 @@ use Rattle.std.proofs.lemmas.{Iterator.{Adapters.YieldsList-from_skip, Consumers
 use Rattle.std.specs.{Char.encode_utf8, Str.{chars, encode_utf8_all}}
 use Rattle.ixdtf_grammar.specs.LocatedTexts.{shown}
 
--- one more character is written behind the others
+-- One more character is written after the others.
 one_more : (cs : List ℕ) (c : ℕ) → encode_utf8_all (map shown cs) ++ encode_utf8 (shown c) ≡ encode_utf8_all (map shown (cs ++ c ∷ []))
 one_more cs c =
     ap (λ l. encode_utf8_all (map shown cs) ++ l) (sym (append-nil (encode_utf8 (shown c))))

@@ -3,7 +3,7 @@ use Rattle.std.proofs.Common.{map}
 use Rattle.std.specs.{Str.encode_utf8_all, Fmt.{IsFlush, HasWrittenStyled}}
 use Rattle.ixdtf_grammar.specs.LocatedTexts.{shown}
 
--- what was passed is written, as it is shown
+-- The characters that the loop has passed are written, each as it is shown.
 abbrev pub invariant-loop-character : goal.invariant-loop-character
 invariant-loop-character g l =
     IsFlush l.initial.f

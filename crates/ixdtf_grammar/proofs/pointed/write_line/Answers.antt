@@ -5,7 +5,7 @@ use Rattle.std.proofs.lemmas.{Iterator.Consumers.count_from_yields_List, Str.{en
 use Rattle.std.specs.Str.{chars, encode_utf8_all}
 use Rattle.ixdtf_grammar.specs.LocatedTexts.{shown, cut_mark, line_of}
 
--- the characters of a text are no more than its bytes, of which there are fewer than 2 ^ 63
+-- A text has at most as many characters as bytes, and it has fewer than 2 ^ 63 bytes.
 pub overflow_add-end : goal.overflow_add-end
 overflow_add-end g c =
     let room = c.well_formed.1.0.1 in

@@ -1,4 +1,4 @@
--- Both branches give the number of the first nine digits.
+-- Both branches return the number of the first nine digits.
 use Rattle.ixdtf_grammar.proofs.records.Fraction.to_truncated_nanoseconds.Goals as goal
 use Rattle.std.proofs.Common.{◌≡◌, ℕ, ◌^◌, ◌-◌, max, ap, ◌∙◌, arith}
 use Rattle.ixdtf_grammar.specs.language.Fractions.{nanoseconds_of}
@@ -24,7 +24,7 @@ returns-then-self-le9-clause-small c =
     (c.pow.ensures ∙ ap (λ k. 10 ^ k) c.from.ensures) in
     rw c.number-value.ensures few.small
 
--- a power of ten is at least 1
+-- A power of ten is at least 1.
 power_is : (power k : ℕ) → power ≡ 10 ^ k → max power 1 ≡ 10 ^ k
 power_is power k is = omega (arith, ten_pos k)
 

@@ -1,4 +1,4 @@
--- One more digit makes less than 10 ^ 18 of a value of fewer than 18 digits.
+-- If one more digit is added to a value of fewer than 18 digits, the new value is less than 10 ^ 18.
 use Rattle.ixdtf_grammar.proofs.records.Fraction.with_digit.Goals as goal
 use Rattle.std.proofs.Common.{◌+◌, ap, arith}
 use Rattle.ixdtf_grammar.proofs.code.Nanoseconds.{one_more, eighteen}
