@@ -92,6 +92,7 @@ fn front_text(extent: Extent, separator: u8, rest: &[u8]) -> Option<&[u8]>
 }
 
 /// Returns the first field and `more` fields after it, with the separators between them. Returns `None` if there are too few fields.
+#[inline(never)]
 fn front_fields(separator: u8, more: usize, rest: &[u8]) -> Option<&[u8]>
     ensures text { option_map (λ text. text.now) result ≡ front_fields separator more rest.now }
     ensures shorter { IfSome result (λ text. length text.now ≤ length rest.now) }
@@ -106,6 +107,7 @@ fn front_fields(separator: u8, more: usize, rest: &[u8]) -> Option<&[u8]>
 ///
 /// If many fields come before it, the function counts the separators in sixteen bytes at once. If the fields are short, this is
 /// faster than one search for each field.
+#[inline(always)]
 fn field_start(separator: u8, before: usize, line: &[u8]) -> Option<usize>
     ensures start { result ≡ field_start separator before line.now }
     ensures within { IfSome result (λ start. start ≤ length line.now) }
