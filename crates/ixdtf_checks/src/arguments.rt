@@ -1,5 +1,6 @@
 //! The arguments of the program: the words after its name.
 
+use crate::csv::QUOTE;
 use crate::kind::{InstantKind, Kind};
 use crate::nearest::{KINDS, OPTIONS, nearest_of};
 use crate::request::{Extent, Field, Request, Skips, Task};
@@ -7,6 +8,9 @@ use ixdtf::parsers::Profile;
 
 /// The separator of fields, if no option gives another one.
 const TAB: u8 = b'\t';
+
+/// The separator of the fields of `--csv`, if there is no `--separator`.
+const COMMA: u8 = b',';
 
 /// The separator of the fields of `--fields`, between which the text has one space.
 const SPACE: u8 = b' ';
@@ -60,6 +64,10 @@ pub enum Wrong {
     InvalidFields,
     /// There is `--fields`, and the value of `--separator` is not a space.
     FieldsSeparator,
+    /// There is `--csv`, but no `--field`.
+    CsvWithoutField,
+    /// There is `--csv`, and the value of `--separator` is a quote.
+    CsvSeparator,
     /// There is `--ordered`, and the texts of the kind do not name instants.
     OrderedKind,
     /// There is `--ordered` together with `--canonical`.
@@ -91,6 +99,8 @@ impl Wrong {
             Wrong::FieldsSeparator => {
                 "--fields joins fields that a space separates; expected no --separator, or a space"
             }
+            Wrong::CsvWithoutField => "--csv needs --field",
+            Wrong::CsvSeparator => "with --csv, the separator cannot be a quote",
             Wrong::OrderedKind => {
                 "--ordered is only for the kinds date-time, rfc3339 and rfc9557, whose texts can name instants"
             }
@@ -118,6 +128,8 @@ pub fn meant_by(word: &str, wrong: Wrong) -> Option<&'static str> {
         | Wrong::SeparatorWithoutField
         | Wrong::InvalidFields
         | Wrong::FieldsSeparator
+        | Wrong::CsvWithoutField
+        | Wrong::CsvSeparator
         | Wrong::OrderedKind
         | Wrong::OrderedCanonical => None,
     }
@@ -174,6 +186,7 @@ pub struct Options {
     is_strict: bool,
     column: Option<Column>,
     separator: Option<u8>,
+    is_csv: bool,
     skips: Skips,
     most_reports: Option<u64>,
     is_canonical: bool,
@@ -191,6 +204,7 @@ impl Options {
             is_strict: false,
             column: None,
             separator: None,
+            is_csv: false,
             skips: NOTHING_SKIPPED,
             most_reports: None,
             is_canonical: false,
@@ -253,6 +267,8 @@ impl Options {
             self.skips.header = true;
         } else if option == "--skip-blank" {
             self.skips.blank = true;
+        } else if option == "--csv" {
+            self.is_csv = true;
         } else if option == "--canonical" {
             self.is_canonical = true;
         } else if option == "--ordered" {
@@ -391,6 +407,10 @@ impl Options {
             Awaited::Anything | Awaited::File => {
                 if self.separator.is_some() && self.column.is_none() {
                     Some(Wrong::SeparatorWithoutField)
+                } else if self.is_csv && !self.is_one_field() {
+                    Some(Wrong::CsvWithoutField)
+                } else if self.is_csv && self.separator == Some(QUOTE) {
+                    Some(Wrong::CsvSeparator)
                 } else if self.joins_other_fields() {
                     Some(Wrong::FieldsSeparator)
                 } else if self.field_name().is_some() && !self.skips.header {
@@ -414,6 +434,14 @@ impl Options {
         }
     }
 
+    /// Returns whether the text is one field of a line.
+    fn is_one_field(&self) -> bool {
+        match self.column {
+            Some(Column::After(_) | Column::Named(_)) => true,
+            Some(Column::Between(_, _)) | None => false,
+        }
+    }
+
     /// Returns whether `--fields` is to join fields that something else than a space separates.
     fn joins_other_fields(&self) -> bool {
         match (self.column, self.separator) {
@@ -426,8 +454,14 @@ impl Options {
     pub fn field_after(&self, before: usize) -> Field {
         Field {
             before,
-            separator: self.separator.unwrap_or(TAB),
-            extent: Extent::One,
+            separator: self
+                .separator
+                .unwrap_or(if self.is_csv { COMMA } else { TAB }),
+            extent: if self.is_csv {
+                Extent::Csv
+            } else {
+                Extent::One
+            },
         }
     }
 

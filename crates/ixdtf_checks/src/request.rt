@@ -33,6 +33,8 @@ pub enum Extent {
     One,
     /// The field and this number of fields after it, with the separators between them.
     More(usize),
+    /// The field of a record of RFC 4180, which may be in quotes.
+    Csv,
 }
 
 /// Which lines have no text. These lines are skipped: nothing is written about them.

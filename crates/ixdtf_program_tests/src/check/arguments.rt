@@ -62,6 +62,21 @@ fn takes_options(rt: HostRuntime) {
 const JOINED: &[(&str, usize, usize)] = &[("1-2", 0, 1), ("3-3", 2, 0), ("2-9", 1, 7)];
 
 #[test]
+fn asks_for_a_field_of_a_record(rt: HostRuntime) {
+    let Some(request) = options_of(&rt, &["--csv", "--field", "3"]).request("f") else {
+        panic!(rt; "no request");
+    };
+    assert_eq!(rt;
+        request.field,
+        Some(Field {
+            before: 2,
+            separator: b',',
+            extent: Extent::Csv
+        })
+    );
+}
+
+#[test]
 fn asks_for_fields(rt: HostRuntime) {
     for (value, before, more) in JOINED {
         let Some(request) = options_of(&rt, &["--fields", value]).request("f") else {
@@ -136,8 +151,18 @@ const TOGETHER: &[(&[&str], Option<Wrong>)] = &[
     (&["--field=when"], Some(Wrong::NameWithoutHeader)),
     (&["--header", "--field", "when"], None),
     (&["--fields=1-2", "--separator= "], None),
-    (&["--fields", "1-2", "--separator", ","], Some(Wrong::FieldsSeparator)),
+    (
+        &["--fields", "1-2", "--separator", ","],
+        Some(Wrong::FieldsSeparator),
+    ),
     (&["--fields"], Some(Wrong::MissingValue)),
+    (&["--csv"], Some(Wrong::CsvWithoutField)),
+    (&["--csv", "--fields=1-2"], Some(Wrong::CsvWithoutField)),
+    (
+        &["--csv", "--field=1", "--separator=\""],
+        Some(Wrong::CsvSeparator),
+    ),
+    (&["--csv", "--field=1", "--separator=;"], None),
     (&["--kind", "rfc9557", "--ordered"], None),
     (&["--ordered", "--kind=time"], Some(Wrong::OrderedKind)),
     (&["--ordered", "--canonical"], Some(Wrong::OrderedCanonical)),

@@ -157,6 +157,69 @@ f:3:13: no such field\nf:4:4: no such field\nf:5:14: Parsing ended abruptly whil
     )
 }
 
+/// Records of RFC 4180 and lines that are none, with what is written about the second field.
+const RECORDS: &[(&[u8], &str)] = &[
+    (b"a,2020-01-01,b\n", ""),
+    (b"\"a,b\",2020-01-01\n", ""),
+    (b"\"a\"\"\"\",b\",\"2020-01-01\",\"\"\r\n", ""),
+    (
+        b"\"a,b\",\"2020-13-01\"\n",
+        "f:1:15: Parsed month value not in a valid range.\n2020-13-01\n       ^\n",
+    ),
+    (
+        b"a,\"2020-\"\"12\",\"\"\n",
+        "f:1:9: Invalid character while parsing month value.\n2020-\"12\n     ^\n",
+    ),
+    (
+        b"a,\"\"\"\"\n",
+        "f:1:4: Invalid chracter while parsing year value.\n\"\n^\n",
+    ),
+    (b"\"a,2020-01-01\"\n", "f:1:15: no such field\n"),
+    (b"a\n", "f:1:2: no such field\n"),
+    (
+        b"a,2020-01-01,\"b\n",
+        "f:1:14: a quote is not closed in this line\n",
+    ),
+    (
+        b"a,\"2020-01-01\n",
+        "f:1:3: a quote is not closed in this line\n",
+    ),
+    (
+        b"a,\"2020-01-01\"\"\n",
+        "f:1:3: a quote is not closed in this line\n",
+    ),
+    (
+        b"\"a\"b,2020-01-01\n",
+        "f:1:4: text after a closing quote\n",
+    ),
+    (
+        b"a,2020-01-01,b\"c\n",
+        "f:1:15: a quote in a field without quotes\n",
+    ),
+];
+
+#[test]
+fn reads_a_field_of_a_record(rt: HostRuntime) -> Result<(), Fail> {
+    let mut request = DATE_TIMES;
+    request.field = Some(Field {
+        before: 1,
+        separator: b',',
+        extent: Extent::Csv,
+    });
+    for (line, report) in RECORDS {
+        let refused = u64::from(!report.is_empty());
+        check_written(
+            &rt,
+            rt.alloc(),
+            &request,
+            line,
+            report.as_bytes(),
+            (1, refused),
+        )?;
+    }
+    Ok(())
+}
+
 #[test]
 fn passes_over_sixteen_bytes(rt: HostRuntime) {
     let fields = b"a,b,c,d,e,f,g,h,i,j";
