@@ -595,34 +595,7 @@ class Calls(unittest.TestCase):
 
 
 class Runs(unittest.TestCase):
-    """The package does not leak memory, and it works in several threads and in several interpreters."""
-
-    def test_nothing_leaks(self):
-        def work():
-            record = ixdtf.parse("2024-03-02T08:48:00.25-05:00[America/New_York][u-ca=hebrew]")
-            record.date, record.time, record.offset, record.zone, record.calendar, hash(record), repr(record), record == record
-            record.to_datetime()
-            ixdtf.canonical(record)
-            ixdtf.instant(record)
-            pickle.loads(pickle.dumps(record))
-            ixdtf.parse("2024-03-02[u-ca=a][b=c]", handler=lambda it: it)
-            for text in ("2024-13-01", "2024\u20ac", b"\xff"):
-                refusal(ixdtf.parse, text)
-            refusal(ixdtf.parse, "2024-03-02[!b=c]", handler=lambda it: it)
-            ixdtf.canonical(ixdtf.parse_duration("P1DT1.5H"))
-            ixdtf.canonical(record.offset), ixdtf.canonical(record.zone)
-            ixdtf.parse_duration("P1DT1.5H").to_timedelta()
-            ixdtf.is_valid("P1D", "duration")
-
-        for _ in range(1000):
-            work()
-        gc.collect()
-        before = sys.getallocatedblocks()
-        for _ in range(4000):
-            work()
-        gc.collect()
-        # If each call of work() leaked one block, 4000 blocks would be left.
-        self.assertLess(sys.getallocatedblocks() - before, 2000)
+    """The package works in several threads and in several interpreters."""
 
     def test_threads(self):
         long = "2024-03-02[" + "a" * 100_000 + "]"
