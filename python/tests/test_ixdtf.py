@@ -88,6 +88,26 @@ class Rows(unittest.TestCase):
         self.assertGreater(seen, 250)
 
 
+    def test_rows_as_str(self):
+        """Each row as a str. The position of the error is that of the row, except that a row for 16-bit text can have a character that is not ASCII. Then
+        another error can be found before it."""
+        seen = other = 0
+        with open(TOP / "tools" / "places.tsv", encoding="utf-8", newline="") as file:
+            for row in csv.DictReader(file, delimiter="\t", quoting=csv.QUOTE_NONE):
+                text = row["text"].encode("utf-8").decode("unicode_escape")
+                keywords = {"strict": True} if row["profile"] == "strict" and row["reader"] in WITH_PROFILES else {}
+                with self.subTest(row=row):
+                    error = refusal(READERS[row["reader"]], text, **keywords)
+                    seen += 1
+                    if row["error"] == "NonAsciiCodePoint":
+                        self.assertLessEqual(error.position, int(row["place"]))
+                        other += error.position != int(row["place"])
+                    else:
+                        self.assertEqual((error.position, error.within), (int(row["place"]), row["error"].partition(" ")[2]))
+        self.assertGreater(seen, 350)
+        self.assertLess(other, 10)
+
+
 class Texts(unittest.TestCase):
     """A text is str or bytes, and may contain any characters. A record keeps its text as long as the record exists."""
 

@@ -11,6 +11,7 @@ import datetime
 import gc
 import importlib
 import itertools
+import os
 import pickle
 import sys
 import threading
@@ -23,6 +24,11 @@ import ixdtf
 import ixdtf._reader
 import ixdtf._records
 from ixdtf import Annotation, Date, Duration, Fraction, IxdtfError, Offset, Record, Time, Z, Zone
+
+try:
+    import _testcapi  # a module for the tests of CPython, which is not installed with each Python
+except ImportError:
+    _testcapi = None
 
 WARM, CALLS, ROUNDS = 8, 24, 5
 REPLY = Annotation("u-ca", "of-a-reply")
@@ -43,7 +49,7 @@ WITH_HANDLER = (ixdtf.parse, ixdtf.parse_year_month, ixdtf.parse_month_day, ixdt
 WITH_PROFILES = (ixdtf.parse_month_day, ixdtf.parse_time, ixdtf.parse_duration)
 # objects that exist as long as the package, and to which the extension makes and drops references
 SHARED = [it for module in (ixdtf, ixdtf._reader, ixdtf._records) for it in vars(module).values() if isinstance(it, (type, types.FunctionType, types.ModuleType))]
-SHARED += [Z, datetime.timezone.utc, datetime.datetime, datetime.timedelta, REPLY]
+SHARED += [Z, datetime.timezone.utc, datetime.datetime, datetime.timedelta, REPLY, None, True, False, *range(61)]
 
 
 def attempt(call, *arguments, **keywords):
@@ -54,6 +60,25 @@ def attempt(call, *arguments, **keywords):
         return None
 
 
+def starved(call):
+    """Makes a call again and again. In each call, one allocation of memory fails: the first, then the second, and so on, until 20 calls in a row did not
+    need a further allocation. Returns the types of the exceptions that were raised."""
+    raised, number, since = set(), 0, 0
+    while since < 20:
+        since, number = since + 1, number + 1
+        try:
+            try:
+                _testcapi.set_nomemory(number, number + 1)
+                call()
+            finally:
+                _testcapi.remove_mem_hooks()
+        except MemoryError:
+            since = 0
+        except Exception as error:
+            raised.add(type(error))
+    return raised
+
+
 def settle():
     """Frees what Python keeps only to be faster, such as the names of attributes in its cache of types, and reference cycles."""
     getattr(sys, "_clear_internal_caches", sys._clear_type_cache)()
@@ -62,7 +87,8 @@ def settle():
 
 def measure(call, arguments, keywords, count):
     """Makes a call `count` times. Returns by how much the memory, the references to its arguments and to SHARED, and all references have changed."""
-    watched = [*SHARED, *arguments, *keywords.values()]
+    given = [*arguments, *keywords.values()]
+    watched = [*SHARED, *given, *(part for it in given if isinstance(it, tuple) for part in it)]
     settle()
     references = [sys.getrefcount(it) for it in watched]
     total = getattr(sys, "gettotalrefcount", int)()
@@ -213,7 +239,11 @@ class Leaks(unittest.TestCase):
             self.none(Record, date=record.date, zone=record.zone, calendar=record.calendar)
 
     def test_records_that_are_refused(self):
-        wrong = (dict(date=Date(2024, 13, 1)), dict(date=Date(2024, 1, 300)), dict(date=Date(1 << 70, 1, 1)), dict(date=Date("2024", 1, 1)), dict(time=Time(24, 0, 0)),
+        class Broken:
+            def __bool__(self):
+                raise ZeroDivisionError
+
+        wrong = (dict(zone=Zone("UTC", None, Broken())), dict(zone=Zone(None, Offset(1, 1, 1), Broken())), dict(date=Date(2024, 13, 1)), dict(date=Date(2024, 1, 300)), dict(date=Date(1 << 70, 1, 1)), dict(date=Date("2024", 1, 1)), dict(time=Time(24, 0, 0)),
                  dict(time=Time(1, 1, 1, 5)), dict(time=Time(1, 1, 1, Fraction(0, 0))), dict(offset=Offset(0, 1, 0)), dict(offset=Offset(1, 1, 60)),
                  dict(offset=Offset(1, 1, 1, 60)), dict(offset=Offset(1, 1, 1, 1, 5)), dict(offset=5), dict(calendar="h\u00e9brew"), dict(calendar=5), dict(zone=5),
                  dict(zone=Zone("\u00e9")), dict(zone=Zone(None)), dict(zone=Zone(None, Offset(1, 1, 60))), dict(zone=Zone("UTC", 5)), dict(date="2024-03-02"), dict(other=5))
@@ -253,7 +283,7 @@ class Leaks(unittest.TestCase):
             self.none(record.to_datetime, on_conflict="offset", truncate=True)
             self.none(record.to_datetime, "both")
             self.none(record.to_datetime, other=5)
-        self.none(ixdtf.parse("2024-07-01T00:00[No/Where]").to_datetime, count=10)
+        self.none(ixdtf.parse("2024-07-01T00:00[No/Where]").to_datetime)
         one, two = ixdtf.parse("2024-03-02T08:48:00+01:00"), ixdtf.parse("2024-03-02T08:48:00+02:00")
         self.none(lambda: (one.to_datetime(), two.to_datetime()))
 
@@ -261,6 +291,34 @@ class Leaks(unittest.TestCase):
         for text in ("P1W", "-P1DT1.5H", "P1Y", "PT0.0000001S", "P18446744073709551615D"):
             self.none(ixdtf.parse_duration(text).to_timedelta)
         self.none(ixdtf.parse_offset("-05:30:10.5").to_timedelta)
+
+    def test_without_memory(self):
+        """If there is no memory, a call raises MemoryError, or the exception that it raises otherwise. It does not leak either. repr() is left out, because
+        CPython 3.12 and 3.13 crash if there is no memory for a text such as f"{', '.join(f'{it!r}' for it in parts)}"."""
+        if _testcapi is None or "IXDTF_WITHOUT_MEMORY" not in os.environ:
+            self.skipTest("the environment variable IXDTF_WITHOUT_MEMORY is not set, or this Python has no module _testcapi")
+        record, other = ixdtf.parse(FULL), ixdtf.parse("2024-03-02T08:48:00.5+01:00[+01:00]")
+        duration, seconds = ixdtf.parse_duration("P1DT1.5H"), ixdtf.parse_offset("-05:30:10.5")
+        calls = [lambda: (record.date, record.time, record.offset, record.zone, record.calendar), lambda: hash(record), record.__reduce__,
+                 lambda: Record(record.date, record.time, record.offset, record.zone, record.calendar), lambda: Record(other.date, other.time, seconds, other.zone),
+                 record.to_datetime, ixdtf.parse("2024-03-02T08:48:00+02:00").to_datetime, ixdtf.parse("2024-03-02T08:48:00Z").to_datetime,
+                 lambda: other.to_datetime("zone", truncate=True), lambda: ixdtf.instant(record), lambda: ixdtf.instant(ixdtf.parse("2024-03-02"))]
+        calls += [lambda it=it: ixdtf.canonical(it) for it in (record, other, duration, seconds, record.zone, other.zone, Zone("A" * 1000),
+                                                               ixdtf.parse("2024-03-02[Area/" + "a" * 1000 + "]"), Duration(), Zone(5), Offset(1, 1, 60))]
+        for reader, (kind, accepted, refused) in READERS.items():
+            for text in (accepted, refused, bytearray(accepted.encode()), accepted + "\u20ac"):
+                calls += [lambda reader=reader, text=text: reader(text), lambda kind=kind, text=text: ixdtf.is_valid(text, kind)]
+            if reader in WITH_HANDLER:
+                for handler in (lambda it: it, lambda it: None, lambda it: REPLY, lambda it: 5):
+                    calls.append(lambda reader=reader, text=accepted + "[!a=b]", handler=handler: reader(text, handler=handler))
+        for call in calls:
+            try:
+                call()
+                expected = set()
+            except Exception as error:
+                expected = {type(error)}
+            self.assertLessEqual(starved(call), expected)
+            self.none(starved, call, count=24)
 
     def test_threads(self):
         long = "2024-03-02[" + "a" * 10_000 + "]"
