@@ -480,7 +480,7 @@ class Datetimes(unittest.TestCase):
              "Europe/Moscow", "Pacific/Apia", "Pacific/Auckland", "Pacific/Kiritimati", "America/Santiago")
 
     def test_each_change_of_offset(self):
-        """Tests instants up to two hours before and after each change of the offset of a zone, from 1950 to 2035. The offset that the zone has is accepted,
+        """Tests instants up to two hours before and after each change of the offset of a zone, from 1950 to 2034. The offset that the zone has is accepted,
         and another one is refused."""
         changes = 0
         for name in self.ZONES:
