@@ -17,7 +17,7 @@ use ixdtf::encoding::{Utf8, Utf16};
 use ixdtf::records::IxdtfParseRecord;
 use std::fmt;
 
-/// Writes the canonical text of the record to the beginning of the slice, such as `2024-03-02T08:48:00Z[u-ca=hebrew]`.
+/// Writes the canonical text of the record, such as `2024-03-02T08:48:00Z`, to the beginning of the slice.
 ///
 /// The canonical text has these parts, if the record has them: the date; the time, with its seconds; the offset, with
 /// seconds only if the record has them; the zone, with its `!` if it is critical; and the calendar. Some parts of a parsed
@@ -196,7 +196,7 @@ pub fn length_of(parsed: &IxdtfParseRecord<'_, Utf8>) -> u128
     text::length(Canonical { parsed })
 }
 
-/// A record that `Display` writes as its canonical text, such as `2024-03-02T08:48:00Z[u-ca=hebrew]`.
+/// A value that displays the canonical text of a record, such as `2024-03-02T08:48:00Z`.
 ///
 /// This is the text that [`print`](crate::print) writes into a slice. `Display` does not allocate, and ignores width
 /// and fill.

@@ -15,7 +15,7 @@ use core::fmt;
 /// time. In a date, only the days can have more than ten digits. No number has more than twenty digits.
 const MOST_WITHOUT_FRACTION: usize = 120;
 
-/// Writes the canonical text of a duration to the beginning of the slice, such as `P1Y2M3DT4H5.5M`.
+/// Writes the canonical text of a duration, such as `P1Y2M3DT4H5.5M`, to the beginning of the slice.
 ///
 /// The duration is a record that [`IsoDurationParser::parse`](ixdtf::parsers::IsoDurationParser::parse) returns. The
 /// canonical text begins with `-` if the duration is negative. A duration unit whose number is zero is left out, with two
@@ -106,7 +106,7 @@ fn has_part(date: Option<DateDurationRecord>, time: Option<TimeDurationRecord>) 
     date.is_some() || time.is_some()
 }
 
-/// A duration that `Display` writes as its canonical text, such as `-PT1H30.5M`.
+/// A value that displays the canonical text of a duration, such as `-PT1H30.5M`.
 ///
 /// This is the text that [`print_duration`](crate::print_duration) writes into a slice. `Display` does not allocate, and
 /// ignores width and fill.

@@ -13,7 +13,7 @@ use ixdtf::encoding::{Utf8, Utf16};
 use ixdtf::records::{DateRecord, IxdtfParseRecord, TimeRecord, UtcOffsetRecordOrZ};
 use core::fmt;
 
-/// Writes the canonical text of a time to the beginning of the slice, such as `08:48:00Z[u-ca=hebrew]`.
+/// Writes the canonical text of a time, such as `08:48:00Z[u-ca=hebrew]`, to the beginning of the slice.
 ///
 /// The time is a record that [`IxdtfParser::parse_time`](ixdtf::parsers::IxdtfParser::parse_time) returns. The canonical
 /// text has the time with its seconds, and no `T`. If the record has an offset, a zone or a calendar, they follow the time,
@@ -130,7 +130,7 @@ pub fn time_length_utf16(parsed: &IxdtfParseRecord<'_, Utf16>) -> Option<usize> 
     wide_names::printed_length(CanonicalTime { parsed: &core }, parsed)
 }
 
-/// A record of a time that `Display` writes as its canonical text, such as `08:48:00Z[u-ca=hebrew]`.
+/// A value that displays the canonical text of a time, such as `08:48:00Z`.
 ///
 /// This is the text that [`print_time`](crate::print_time) writes into a slice. `Display` does not allocate, and ignores
 /// width and fill.
