@@ -30,7 +30,11 @@ use std::fmt;
 /// use ixdtf_print::{PrintError, print_offset};
 ///
 /// let mut out = [0; 16];
-/// for (text, canonical) in [("-05", "-05:00"), ("+0130", "+01:30"), ("+013015,5", "+01:30:15.5")] {
+/// for (text, canonical) in [
+///     ("-05", "-05:00"),
+///     ("+0130", "+01:30"),
+///     ("+013015,5", "+01:30:15.5"),
+/// ] {
 ///     let offset = TimeZoneParser::from_str(text).parse_offset().unwrap();
 ///     let count = print_offset(&offset, &mut out).unwrap();
 ///     assert_eq!(&out[..count], canonical.as_bytes());

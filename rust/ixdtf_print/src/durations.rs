@@ -32,7 +32,11 @@ const MOST_WITHOUT_FRACTION: usize = 120;
 /// use ixdtf_print::{PrintError, print_duration};
 ///
 /// let mut out = [0; 64];
-/// for (text, canonical) in [("+p1y0m03dt04,50m", "P1Y3DT4.50M"), ("-P0Y", "-P0D"), ("P0WT0H0S", "P0DT0S")] {
+/// for (text, canonical) in [
+///     ("+p1y0m03dt04,50m", "P1Y3DT4.50M"),
+///     ("-P0Y", "-P0D"),
+///     ("P0WT0H0S", "P0DT0S"),
+/// ] {
 ///     let duration = IsoDurationParser::from_str(text).parse().unwrap();
 ///     let count = print_duration(&duration, &mut out).unwrap();
 ///     assert_eq!(&out[..count], canonical.as_bytes());

@@ -71,7 +71,8 @@ pub fn print_time(parsed: &IxdtfParseRecord<'_, Utf8>, out: &mut [u8]) -> Result
 /// let record = IxdtfParser::from_utf16(&text).parse_time().unwrap();
 /// let mut out = [0; 64];
 /// let count = print_time_utf16(&record, &mut out).unwrap();
-/// assert_eq!(String::from_utf16(&out[..count]).unwrap(), "12:00:00+01:00[!+01:00][u-ca=hebrew]");
+/// let printed = String::from_utf16(&out[..count]).unwrap();
+/// assert_eq!(printed, "12:00:00+01:00[!+01:00][u-ca=hebrew]");
 /// assert_eq!(print_time_utf16(&record, &mut [0; 7]), Err(PrintError::TooShort));
 /// ```
 ///

@@ -29,7 +29,11 @@ use core::fmt;
 /// use ixdtf_print::{PrintError, print_zone};
 ///
 /// let mut out = [0; 16];
-/// for (text, canonical) in [("Europe/Paris", "Europe/Paris"), ("-05", "-05:00"), ("+0530", "+05:30")] {
+/// for (text, canonical) in [
+///     ("Europe/Paris", "Europe/Paris"),
+///     ("-05", "-05:00"),
+///     ("+0530", "+05:30"),
+/// ] {
 ///     let zone = TimeZoneParser::from_str(text).parse_identifier().unwrap();
 ///     let count = print_zone(&zone, &mut out).unwrap();
 ///     assert_eq!(&out[..count], canonical.as_bytes());
