@@ -1,4 +1,6 @@
 //! The structs for 8-bit text that are passed between C and Rust, and a function that writes a calendar into a record.
+//!
+//! In C, a `Slice` is a pointer and a length.
 
 ghost use Rattle.std.specs.Prelude.{◌≡◌, map, option_map};
 ghost use Rattle.ixdtf.specs.Handlers.{pair_of};

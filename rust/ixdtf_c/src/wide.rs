@@ -1,6 +1,8 @@
 // Made by tools/to_rust.py of crates/ixdtf_c/src/wide.rt. Do not edit.
 
 //! The structs for 16-bit text that are passed between C and Rust, and a function that writes a calendar into a record.
+//!
+//! In C, a `Slice` is a pointer and a length.
 
 use crate::errors::number_and_location;
 use crate::forms::{Date, Offset, Time};
