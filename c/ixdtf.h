@@ -18,8 +18,7 @@
  *
  * RESULTS. A reader is a function that reads a text. A reader returns 0 (IXDTF_OK) if it accepts
  * the text. Otherwise it returns the number of the error, from 1 to 46. If a program ignores the
- * result, a compiler such as GCC or Clang warns. In this file, "after 0" means: if the function has
- * returned 0.
+ * result, a compiler such as GCC or Clang warns.
  * If a reader returns 0, it has written every field of the record. The fields of a part that the
  * text does not contain are 0, false, or a slice of length 0. The length of `location` and the
  * value of `place` are 0 too.
@@ -54,9 +53,9 @@
  * and is unchanged. The library keeps no pointer between calls. A location and the text of an error
  * are valid as long as the program runs. If a function writes a slice, its pointer is never NULL,
  * even if its length is 0.
- * The library does not check whether there is a time zone with the name in the text. The name may
- * have the parts "." and "..": for example, ../../etc/passwd is such a name. Never join a name to a
- * path without a check.
+ * A reader accepts Foo/Bar as the name of a time zone, although no time zone has this name: the
+ * library has no list of time zones. The name may have the parts "." and "..": for example,
+ * ../../etc/passwd is such a name. Never join a name to a path without a check.
  *
  * THREADS. Any number of threads may call the library at the same time, as long as no thread writes
  * what another thread uses. No function blocks, and each function returns. The time of a call is
@@ -65,8 +64,8 @@
  *
  * VERSIONS. Names, numbers, sizes and the offsets of fields do not change within a version of the
  * interface, and none of them is removed. Functions and numbers may be added: this raises the
- * revision. If you compile a program with this header, it runs with each library of the same
- * version, if the revision of the library is not lower than the revision of the header.
+ * revision. A program that was compiled with this header runs with each library of the same version
+ * whose revision is not lower than the revision of the header.
  * This header has version 2. ixdtf_interface_version() returns the version of the library. It must
  * be equal to IXDTF_INTERFACE_VERSION. The file name of the shared library has the version.
  */
@@ -132,8 +131,8 @@ enum {
     IXDTF_ANNOTATION_VALUE_CHAR_POST_HYPHEN = 28,
     IXDTF_ANNOTATION_VALUE_CHAR = 29,
     IXDTF_INVALID_MINUTE_PRECISION_OFFSET = 30,
-    IXDTF_CRITICAL_DUPLICATE_CALENDAR = 31, /* about an annotation of the text, or a reply */
-    IXDTF_UNRECOGNIZED_CRITICAL = 32, /* about an annotation of the text, or a reply */
+    IXDTF_CRITICAL_DUPLICATE_CALENDAR = 31, /* ixdtf_reply can return this number too */
+    IXDTF_UNRECOGNIZED_CRITICAL = 32, /* ixdtf_reply can return this number too */
     IXDTF_TZ_LEADING_CHAR = 33,
     IXDTF_IANA_CHAR_POST_SEPARATOR = 34,
     IXDTF_IANA_CHAR = 35,
@@ -153,7 +152,7 @@ enum {
 /* The numbers that printers, ixdtf_instant and ixdtf_duration_fraction return if they fail. No
  * reader returns them. */
 enum {
-    /* there is no text for which the reader that belongs to the printer writes this value */
+    /* the value has no text: the reader that belongs to the printer never writes this value */
     IXDTF_NOT_PRINTABLE = 101,
     /* the array is too short; the length of the text is in `count` */
     IXDTF_TOO_SHORT = 102,
@@ -173,7 +172,7 @@ typedef struct ixdtf16_units { const uint16_t *at; size_t length; } ixdtf16_unit
 typedef struct ixdtf_date {
     int32_t year;  /* -999999 to 999999; 0 if the text has only a month and a day */
     uint8_t month; /* 1 to 12 */
-    uint8_t day;   /* 1 to 31; 1 if the text has only a year and a month; 0 if its day is 00 */
+    uint8_t day;   /* 1 to 31; 1 if the text has only a year and a month; 0 for the day 00 */
     bool is_there; /* true if a date is present; if false, the other fields are 0 */
 } ixdtf_date;
 
@@ -309,12 +308,12 @@ typedef struct ixdtf_duration {
 /* Reads a date, or a date and a time, which may have an offset. A zone and annotations may follow
  * in brackets. An example is 2024-03-02T08:48:00-05:00[America/New_York][u-ca=hebrew]. */
 IXDTF_CHECKED_ uint32_t ixdtf_parse(const uint8_t *text, size_t length, ixdtf_record *out);
-/* Reads a year and a month, such as 2020-11. A zone and annotations may follow in brackets. After
- * 0, the day is 1. */
+/* Reads a year and a month, such as 2020-11. A zone and annotations may follow in brackets. If
+ * the reader returns 0, the day is 1. */
 IXDTF_CHECKED_ uint32_t ixdtf_parse_year_month(const uint8_t *text, size_t length,
     ixdtf_record *out);
-/* Reads a month and a day, such as 11-07. A zone and annotations may follow in brackets. After 0,
- * the year is 0. The day can be 0, because the reader accepts the day 00. */
+/* Reads a month and a day, such as 11-07. A zone and annotations may follow in brackets. If the
+ * reader returns 0, the year is 0. The day can be 0, because the reader accepts the day 00. */
 IXDTF_CHECKED_ uint32_t ixdtf_parse_month_day(const uint8_t *text, size_t length,
     ixdtf_record *out);
 /* Reads a time, such as T12:30. It may have an offset. A zone and annotations may follow in
@@ -322,8 +321,8 @@ IXDTF_CHECKED_ uint32_t ixdtf_parse_month_day(const uint8_t *text, size_t length
  * and a month. For example, 1200 could also mean month 12, day 00. */
 IXDTF_CHECKED_ uint32_t ixdtf_parse_time(const uint8_t *text, size_t length, ixdtf_record *out);
 /* Reads a date-time of RFC 3339, section 5.6, such as 2024-03-02T08:48:00.25-05:00, and accepts no
- * other text. ixdtf_parse accepts each of these texts too, and writes the same record. After 0, the
- * date, the time and the offset are present, and no other part is. */
+ * other text. ixdtf_parse accepts each of these texts too, and writes the same record. If this
+ * reader returns 0, the date, the time and the offset are present, and no other part is. */
 IXDTF_CHECKED_ uint32_t ixdtf_parse_rfc3339(const uint8_t *text, size_t length, ixdtf_record *out);
 /* Reads a date-time-ext of RFC 9557, section 4.1, and accepts no other text. The text begins with a
  * date-time of RFC 3339. A zone and annotations may follow in brackets. This reader accepts fewer
@@ -331,17 +330,18 @@ IXDTF_CHECKED_ uint32_t ixdtf_parse_rfc3339(const uint8_t *text, size_t length, 
  * must begin with a letter, "." or "_", as RFC 9557 says. No part may be "." or "..". If the zone
  * is an offset, it must have the form +05:30. An annotation that ixdtf_parse refuses is refused
  * here too. ixdtf_parse accepts each text that this reader accepts, and writes the same record.
- * After 0, the date, the time and the offset are present. */
+ * If this reader returns 0, the date, the time and the offset are present. */
 IXDTF_CHECKED_ uint32_t ixdtf_parse_rfc9557(const uint8_t *text, size_t length, ixdtf_record *out);
-/* Reads an offset, such as +05:30, into the field `offset`. The text Z is refused. After 0,
- * offset.form is IXDTF_MINUTES or IXDTF_SECONDS, and no other part is present. */
+/* Reads an offset, such as +05:30, into the field `offset`. The text Z is refused. If the
+ * reader returns 0, offset.form is IXDTF_MINUTES or IXDTF_SECONDS, and no other part is present. */
 IXDTF_CHECKED_ uint32_t ixdtf_parse_offset(const uint8_t *text, size_t length, ixdtf_record *out);
 /* Reads a time zone into the field `zone`. The text is a name or an offset, such as Europe/Berlin
- * or +05:30, without brackets. After 0, the zone is not critical, and no other part is present. */
+ * or +05:30, without brackets. If the reader returns 0, the zone is not critical, and no other part
+ * is present. */
 IXDTF_CHECKED_ uint32_t ixdtf_parse_identifier(const uint8_t *text, size_t length,
     ixdtf_record *out);
-/* Reads the name of a time zone, such as Europe/Berlin, into the field `zone`. After 0, zone.form
- * is IXDTF_NAME, the zone is not critical, and no other part is present. */
+/* Reads the name of a time zone, such as Europe/Berlin, into the field `zone`. If the reader
+ * returns 0, zone.form is IXDTF_NAME, the zone is not critical, and no other part is present. */
 IXDTF_CHECKED_ uint32_t ixdtf_parse_iana_identifier(const uint8_t *text, size_t length,
     ixdtf_record *out);
 /* Reads a duration, such as -P1Y2M3W4DT5H6M7.5S. */
@@ -360,10 +360,11 @@ IXDTF_CHECKED_ uint32_t ixdtf_parse_time_strict(const uint8_t *text, size_t leng
 IXDTF_CHECKED_ uint32_t ixdtf_parse_duration_strict(const uint8_t *text, size_t length,
     ixdtf_duration *out);
 
-/* Readers that list annotations. Each of them reads like the reader above whose name has no
- * _with_annotations, with three differences:
- * - It refuses no annotation that has a key and a value, even if this annotation is critical.
- * - It writes no calendar into the record: after 0, has_calendar is false.
+/* Readers that list annotations. If you leave _with_annotations out of the name of such a reader,
+ * you get the name of a reader above. A reader that lists annotations reads like that reader above,
+ * with three differences:
+ * - It accepts every annotation that has a key and a value, also a critical one.
+ * - It writes no calendar into the record: if it returns 0, has_calendar is false.
  * - It lists the annotations of the text.
  * The reader writes the number of annotations to `count`. If the text is accepted, these are all
  * annotations of the text. If the text is refused, these are the annotations before its error.
@@ -421,7 +422,8 @@ IXDTF_CHECKED_ uint32_t ixdtf_reply(ixdtf_calendar *calendar, const ixdtf_annota
  * If ixdtf_parse wrote the record for a text of n bytes, a capacity of n + 14 bytes is always
  * enough. The printer reads the slices of the record, so the text of the slices must still exist.
  * You can also write the fields of a record yourself. Then set all fields of each part that is
- * present. If a part is not present, its other fields do not matter. */
+ * present. If a part is not present, set the field that says so: is_there, `form` or has_calendar.
+ * The other fields of this part do not matter. */
 IXDTF_CHECKED_ uint32_t ixdtf_print(const ixdtf_record *record, uint8_t *out, size_t room,
     size_t *count);
 
@@ -464,11 +466,12 @@ IXDTF_CHECKED_ uint32_t ixdtf_print_offset(const ixdtf_offset *offset, uint8_t *
 IXDTF_CHECKED_ uint32_t ixdtf_print_zone(const ixdtf_zone *zone, uint8_t *out, size_t room,
     size_t *count);
 
-/* Write the canonical text of a record of ixdtf_parse_time, ixdtf_parse_year_month or
- * ixdtf_parse_month_day to the array `out`, in ASCII. Examples are 08:48:00Z[u-ca=hebrew],
- * 2024-03[Europe/Berlin] and 03-02. The arguments and the results have the same meaning as in
- * ixdtf_print. Each of these printers belongs to one reader: ixdtf_print_time to ixdtf_parse_time,
- * for example. If this reader reads the canonical text, it writes the same record.
+/* Write the canonical text of a record to the array `out`, in ASCII. ixdtf_print_time writes the
+ * text of a time, such as 08:48:00Z[u-ca=hebrew]. ixdtf_print_year_month writes the text of a year
+ * and a month, such as 2024-03[Europe/Berlin]. ixdtf_print_month_day writes the text of a month and
+ * a day, such as 03-02. The arguments and the results have the same meaning as in ixdtf_print.
+ * Each of these printers belongs to one reader: ixdtf_print_time to ixdtf_parse_time, for example.
+ * If this reader reads the canonical text, it writes the same record.
  * The fields of a record do not say which reader wrote it. So your program must know the reader,
  * and must call its printer. For example, the record of the text 11-01 is printed as 11-01 by
  * ixdtf_print_month_day, as 0000-11 by ixdtf_print_year_month, and as 0000-11-01 by ixdtf_print.
@@ -606,8 +609,9 @@ IXDTF_CHECKED_ size_t ixdtf_printed_offset_length(const ixdtf_offset *offset);
 IXDTF_CHECKED_ size_t ixdtf_printed_zone_length(const ixdtf_zone *zone);
 
 /* Return the length of the canonical text that ixdtf_print_time, ixdtf_print_year_month and
- * ixdtf_print_month_day write, in bytes. They return 0 if the printer of the same name cannot print
- * the record, or if a size_t cannot hold the length. */
+ * ixdtf_print_month_day write, in bytes. ixdtf_printed_time_length returns 0 if ixdtf_print_time
+ * cannot print the record, or if a size_t cannot hold the length. The other two functions do the
+ * same for their printers. */
 IXDTF_CHECKED_ size_t ixdtf_printed_time_length(const ixdtf_record *record);
 IXDTF_CHECKED_ size_t ixdtf_printed_year_month_length(const ixdtf_record *record);
 IXDTF_CHECKED_ size_t ixdtf_printed_month_day_length(const ixdtf_record *record);

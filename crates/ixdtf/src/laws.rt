@@ -37,7 +37,7 @@ use ixdtf_reading::stop::FromStop;
 /// States that [`IxdtfParser::parse`] accepts every date-time of RFC 3339, section 5.6. Its `T` and `Z` may be
 /// lowercase.
 ///
-/// The law is about texts, and so about sources in every encoding. It states that, without a handler, each of
+/// The law does not name an encoding, so it is about sources in every encoding. It states that, without a handler, each of
 /// these texts gives a record. By the clause `ok` in the contract of `parse`, `parse` then returns this record.
 pub fn every_rfc3339_date_time_is_read()
     ensures { EveryDateTimeIsRead }
@@ -112,8 +112,9 @@ pub fn hyphens_say_nothing()
 ///   annotations in the outcome of the text.
 /// - `chain`: a text, its annotations, and the replies to them give at most one result, a record or an error.
 /// - `place`: a text, its annotations, and one reply for each annotation give at most one position of an error.
-/// - `replied`: suppose that a handler decides about each annotation by the annotations so far. Then it is called with
-///   exactly one list of annotations, and there is exactly one result.
+/// - `replied`: suppose that each reply of a handler depends only on the annotations for which it has been called up to
+///   this reply. Then, for each text, there is exactly one list of annotations for which the handler is called, and exactly
+///   one result.
 ///
 /// The law is about all texts. The clauses `no_row` and `only` in the contract of each reader are about one call: after
 /// `Ok`, no row fits, and after an error, no other error is possible.
@@ -145,8 +146,9 @@ pub fn languages_disjoint()
 ///   its code units.
 /// - If no number is bad, the 8-bit text and the 16-bit text have the same outcome, and the same errors at the same
 ///   positions.
-/// - If a number is bad, the 16-bit text has an error. This error is `NonAsciiCodePoint`, or the error of the 8-bit text
-///   that has 128 instead of each bad number. In the second case, the position is that of the 8-bit text.
+/// - If a number is bad, the 16-bit text has an error. For a comparison, replace each bad number by 128, and read the new
+///   list as 8-bit text. The error of the 16-bit text is `NonAsciiCodePoint`, or it is the error of this 8-bit text, at
+///   the same position.
 /// - The position of `NonAsciiCodePoint` is that of the first bad number. No 8-bit text has this error.
 pub fn widths_agree()
     ensures one { OneUnhandledOutcome }
@@ -166,11 +168,11 @@ pub fn exact_nanoseconds_are_the_truncated_ones(fraction: &Fraction)
     let _ = fraction.to_nanoseconds();
 }
 
-/// States that `==` is true exactly for two values that contracts do not distinguish.
+/// States that `==` of two values is true exactly if the two values have the same content.
 ///
-/// The law is about slices of code units, records and errors, in every encoding. In a contract, a slice is the list of
-/// the numbers of its code units, and a location is the list of its bytes. So `==` is reflexive, symmetric and
-/// transitive.
+/// The law is about slices of code units, records and errors, in every encoding. The content of a value is what contracts
+/// say about it. For a slice, it is the list of the numbers of its code units. For a location, it is the list of its
+/// bytes. So `==` is reflexive, symmetric and transitive.
 pub fn equality_is_of_what_is_seen<'a, T: EncodingType>()
 where
     T::CodeUnit: 'a,
@@ -210,7 +212,9 @@ pub fn defaults_are_zero()
         (record { years = 0; months = 0; weeks = 0; days = 0 }) }
 {}
 
-/// States that `clone` of a record or of an error returns `Ok` with the same value, in every encoding.
+/// States that `clone` of a record or of an error succeeds, and returns the same value, in every encoding.
+///
+/// In Rattle, `clone` returns a `Result`. By this law, the result is `Ok` for these types.
 pub fn clones_are_equal<'a, T: EncodingType>()
 where
     T::CodeUnit: 'a,

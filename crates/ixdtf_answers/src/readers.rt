@@ -1,8 +1,8 @@
 //! Writes the answers of the readers, with one function for each reader.
 //!
-//! Each function reads the text and writes the answer. No function for a single reader is inlined. So the value that a reader
-//! returns is in the stack frame of its own function, and the program does not clear the frames of the other functions for a line.
-//! A record is passed by reference, so that it is not moved.
+//! Each of these functions reads the text and writes the answer. None of them is inlined. So each has a stack frame of its own,
+//! and the value that its reader returns is in this frame. For each line, the program clears at most the frames of the functions
+//! that it calls. A record is passed by reference, so that it is not moved.
 ghost use Rattle.std.specs.Prelude.{◌≡◌, ◌≤◌, length};
 ghost use Rattle.ixdtf.specs.Views.{parsed_of};
 ghost use Rattle.ixdtf.specs.language.Languages.Found.{parsed};

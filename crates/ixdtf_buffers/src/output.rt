@@ -12,11 +12,12 @@ const LEAST_WRITTEN: usize = 2048;
 
 /// A sink, and a buffer for the bytes that are not written to it yet.
 ///
-/// The buffer has a capacity of 4,096 bytes. A slice that does not fit into the rest of the buffer is written in these steps:
+/// The buffer has a capacity of 4,096 bytes. If a slice of at most 4,096 bytes does not fit into the rest of the buffer, it is
+/// written in these steps:
 ///
 /// 1. The first bytes of the slice fill the buffer.
-/// 2. At least 2,048 of the bytes in the buffer are written to the sink, and at least as many as the rest of the slice has. The
-///    others stay in the buffer.
+/// 2. The first bytes in the buffer are written to the sink. At least 2,048 bytes are written, and more if the rest of the slice
+///    needs more space. The other bytes stay in the buffer.
 /// 3. The rest of the slice is appended to the buffer.
 ///
 /// A slice of more than 4,096 bytes does not use the buffer. The bytes in the buffer are written to the sink, and then the slice.

@@ -12,8 +12,8 @@ const LANES: usize = 16;
 /// Returns the index of the first byte that is equal to `wanted`.
 ///
 /// The function compares `bytes[0]` on its own before it compares 16 bytes at once. In a text with many empty lines or fields,
-/// `bytes[0]` is often the wanted byte. If the function compared 16 bytes at once there too, each search would have to wait for
-/// the result of the search before it.
+/// `bytes[0]` is often the wanted byte. The next search begins after the byte that was found. If the function found this byte by
+/// comparing 16 bytes at once, the processor could not begin the next search before it had the result of this comparison.
 pub fn place_of(wanted: u8, bytes: &[u8]) -> Option<usize>
     ensures place { result ≡ position (is_byte wanted) bytes.now }
     ensures within { IfSome result (λ place. place < length bytes.now) }

@@ -4,8 +4,9 @@
 //! These clauses are in the contracts of the readers:
 //!
 //! - `read`: The outcome of the text determines the number that is returned and every field of the record. The outcome is a
-//!   record of the grammar, or an error with its position. A text reader returns 0 only if no other text reader accepts the
-//!   text under the same profile.
+//!   record of the grammar, or an error with its position. There are five *text readers*: `ixdtf_parse`, and the readers of
+//!   a year and a month, of a month and a day, of a time, and of a duration. If a text reader returns 0, no other text reader
+//!   accepts the text under the same profile.
 //! - `lists`: This clause is like `read`, for a reader that drops each annotation. It also says that `count` is the number of
 //!   annotations before the end of the text, or before its error. The first of these annotations are in the array, in order.
 //! - `few`: Five times the number of annotations is at most the length of the text. So an array of `length / 5` elements is
@@ -290,9 +291,9 @@ pub extern "C" fn ixdtf_parse_time_with_annotations_strict<'a>(
 /// calendar was kept before, the reply is kept in `calendar`.
 #[unsafe(no_mangle)]
 pub extern "C" fn ixdtf_reply<'a>(calendar: &mut Calendar<'a>, reply: &Annotation<'a>) -> u32
-    // The result is an error exactly if the library refuses the reply beside the calendar that was kept before. It is the
-    // error of the library. After 0, the calendar that was kept before is still kept. If none was kept before, and the key of
-    // the reply is `u-ca`, the reply is kept.
+    // Two things decide whether the library refuses the reply: the reply, and the calendar that was kept before. The result is
+    // an error exactly if the library refuses the reply. It is the error of the library. After 0, the calendar that was kept
+    // before is still kept. If none was kept before, and the key of the reply is `u-ca`, the reply is kept.
     ensures takes { TakesReply (calendar_by calendar.old) (calendar_by calendar.new) (annotation_by reply.now) result }
     // After an error, the calendar is unchanged.
     ensures unchanged { result ≢ 0 → calendar.new ≡ calendar.old }
@@ -553,9 +554,9 @@ pub extern "C" fn ixdtf16_reply<'a>(
     calendar: &mut wide::Calendar<'a>,
     reply: &wide::Annotation<'a>,
 ) -> u32
-    // The result is an error exactly if the library refuses the reply beside the calendar that was kept before. It is the
-    // error of the library. After 0, the calendar that was kept before is still kept. If none was kept before, and the key of
-    // the reply is `u-ca`, the reply is kept.
+    // Two things decide whether the library refuses the reply: the reply, and the calendar that was kept before. The result is
+    // an error exactly if the library refuses the reply. It is the error of the library. After 0, the calendar that was kept
+    // before is still kept. If none was kept before, and the key of the reply is `u-ca`, the reply is kept.
     ensures takes { TakesReply (wide_calendar_by calendar.old) (wide_calendar_by calendar.new) (wide_annotation_by reply.now) result }
     // After an error, the calendar is unchanged.
     ensures unchanged { result ≢ 0 → calendar.new ≡ calendar.old }

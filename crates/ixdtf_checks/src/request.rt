@@ -10,8 +10,8 @@ pub enum Task {
     Check(Kind),
     /// The text is read as a text of this kind, and its canonical text is written.
     Print(Kind),
-    /// The text is read as a text of this kind. It has to name an instant. This instant must not be before the previous instant,
-    /// which is that of the nearest line above whose text names an instant.
+    /// The text is read as a text of this kind. It has to name an instant. This instant must not be before the previous instant.
+    /// The previous instant is that of the nearest preceding line whose text names an instant.
     Order(InstantKind),
 }
 
@@ -48,7 +48,7 @@ pub struct Request<'n> {
     pub field: Option<Field>,
     /// Which lines are skipped. If it is `None`, no line is skipped.
     pub skips: Option<Skips>,
-    /// The greatest number of reports about refused lines. Only the first refused lines have a report.
+    /// The greatest number of reports about refused lines. If it is `n`, only the first `n` refused lines can have a report.
     pub most_reports: u64,
     /// Whether no report is written about a refused line.
     pub is_quiet: bool,

@@ -162,7 +162,7 @@ pub trait FromStop {
     /// The fault of an error. `Fault` is the type of errors in the definitions.
     ghost fault: { Self → Fault };
 
-    /// The statement that the position of an error is this number of code units, if the error has a position.
+    /// The statement about a number and an error: if the error has a position, its position is the number.
     ghost stands: { ℕ → Self → Type 0 };
 
     /// Makes the error from a `Stop` with position `at`.
@@ -204,8 +204,8 @@ impl FromStop for ParseError {
 
 /// Makes the error from a `Stop` with position `at`.
 ///
-/// The function is not inlined, so that a loop over a name stays small. It is generic, so that the compiler sees its body
-/// at each call. If a caller does not use the error, the compiler can remove the call.
+/// The function is not inlined, so that a loop over a name stays small. But it is generic, so the compiler knows its body
+/// when it compiles a caller. If the caller does not use the error, the compiler can remove the call.
 #[cold]
 #[inline(never)]
 pub fn error_of_stop<E: FromStop>(stop: Stop, at: usize) -> E

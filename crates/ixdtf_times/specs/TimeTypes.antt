@@ -2,11 +2,10 @@
 use Rattle.ixdtf_times.specs.declared.offsets.AfterCore.TheVariants as afters
 use Rattle.ixdtf_times.specs.declared.time.Clock.TheVariants as code_clocks
 use Rattle.ixdtf_times.specs.declared.time.TimeShape.TheVariants as code_shapes
-use Rattle.std.specs.Prelude.{Bool, true, false, Some, None}
+use Rattle.std.specs.Prelude.{Bool, true, false, None}
 use Rattle.ixdtf_grammar.specs.{declared.records.TimeRecord.TimeRecord, language.Times.{Clock, TimeShape, Clock as clocks, TimeShape as shapes}}
 use Rattle.ixdtf_times.specs.declared.{time.{Clock.{Clock as CodeClock}, TimeShape.{TimeShape as CodeTimeShape}, WholeTime.WholeTime}}
-use Rattle.ixdtf_times.specs.declared.{offsets.AfterCore.AfterCore, rfc3339.DateTime.DateTime}
-use Rattle.ixdtf_grammar.specs.language.Cores.{Core, core_of}
+use Rattle.ixdtf_times.specs.declared.offsets.AfterCore.{AfterCore}
 use Rattle.ixdtf_reading.specs.reading.Times.{OpenTime, time_of}
 
 abbrev pub clock_of : CodeClock → Clock
@@ -33,7 +32,3 @@ open_time_of time shape = (shape_of shape, time)
 abbrev pub opens_bracket : AfterCore → Bool
 opens_bracket afters.End = false
 opens_bracket afters.Bracket = true
-
--- The core of a date-time that was read.
-abbrev pub core_read : DateTime → Core
-core_read read = core_of (Some read.date) (Some read.time) (Some read.offset)

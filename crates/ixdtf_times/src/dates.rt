@@ -17,7 +17,7 @@ use ixdtf_reading::classes::{is_ascii_sign, is_hyphen, two_digit_number};
 use ixdtf_reading::cursor::Cursor;
 use ixdtf_reading::stop::Stop;
 
-/// Reads a date: in its ten or eight fixed columns if they fit, and otherwise part by part.
+/// Reads a date: in ten or eight fixed columns if the text fits them, and otherwise part by part.
 #[inline(always)]
 pub fn parse_date<'a, T: EncodingType>(cursor: &mut Cursor<'a, T>) -> Result<DateRecord, Stop>
     ensures date { Reads T.letter (λ date. date) cursor.old result cursor.new

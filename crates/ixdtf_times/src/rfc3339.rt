@@ -11,19 +11,17 @@
 ghost use Rattle.std.specs.Prelude.{◌≡◌, ◌+◌, ◌<◌, ◌≤◌, map, length, Some, None, IfOk, IfSome, OnOk, IsTrue, pos};
 ghost use Rattle.ixdtf_grammar.specs.declared.records.DateRecord.{DateRecord};
 ghost use Rattle.ixdtf_grammar.specs.declared.records.TimeRecord.{TimeRecord};
-ghost use Rattle.ixdtf_grammar.specs.Views.{parsed_of};
 ghost use Rattle.ixdtf_grammar.specs.language.Languages.{parsed_with};
 ghost use Rattle.ixdtf_grammar.specs.language.Letters.{hyphen, colon, time_letter};
 ghost use Rattle.ixdtf_grammar.specs.table.Faults.Fault.{DateYear};
 ghost use Rattle.ixdtf_grammar.specs.table.DateTimeFronts.Field.{month_field, day_field};
 ghost use Rattle.ixdtf_grammar.specs.table.LineNames.LineName.{of_date_time};
-ghost use Rattle.ixdtf_grammar.specs.table.LineNames.DateTimeLine.{after_secfrac, after_utc};
+ghost use Rattle.ixdtf_grammar.specs.table.LineNames.DateTimeLine.{after_secfrac};
 ghost use Rattle.ixdtf_reading.specs.reading.Clauses.{Reads, Spends, SpendsOr, KeepsBrackets, core_in, fault_of_stop};
 ghost use Rattle.ixdtf_reading.specs.reading.Looks.{error_of, as_number, digit_look, digits_by, look_for, next_by, letter_at};
-ghost use Rattle.ixdtf_reading.specs.reading.DateTimes.{field_at, is_month, is_day, secfrac_digits_at, num_offset_at, time_offset_at, secfrac_at, after_whole_second_at};
+ghost use Rattle.ixdtf_reading.specs.reading.DateTimes.{field_at, is_month, is_day, numeric_core, secfrac_digits_at, num_offset_at, time_offset_at, secfrac_at, after_whole_second_at};
 ghost use Rattle.ixdtf_reading.specs.reading.DateTimes.{full_time_at, full_day_at, full_month_at};
-ghost use Rattle.ixdtf_reading.specs.reading.DateTimes.{open_end, date_time_by, date_time_ends, rfc_3339_at};
-ghost use Rattle.ixdtf_times.specs.TimeTypes.{core_read};
+ghost use Rattle.ixdtf_reading.specs.reading.DateTimes.{open_end, date_time_by, rfc_3339_at};
 
 use crate::date_times::take_fixed_date_time;
 use crate::dates::{check_month, has_day};
@@ -31,7 +29,7 @@ use crate::offsets::{sign_from, take_numeric_offset};
 use crate::time::{WholeTime, next_number, parse_fraction};
 use ixdtf_grammar::encoding::EncodingType;
 use ixdtf_grammar::records::{
-    DateRecord, Fraction, IxdtfParseRecord, MinutePrecisionOffset, TimeRecord, UtcOffsetRecord,
+    DateRecord, Fraction, IxdtfParseRecord, MinutePrecisionOffset, UtcOffsetRecord,
     UtcOffsetRecordOrZ,
 };
 use ixdtf_reading::classes::{
@@ -40,41 +38,6 @@ use ixdtf_reading::classes::{
 };
 use ixdtf_reading::cursor::Cursor;
 use ixdtf_reading::stop::Stop;
-
-/// A date-time: its date, its time and its offset.
-#[derive(Clone, Copy)]
-pub struct DateTime {
-    pub date: DateRecord,
-    pub time: TimeRecord,
-    pub offset: UtcOffsetRecordOrZ,
-}
-
-impl DateTime {
-    /// Returns the record of the parts, without a zone and without a calendar.
-    #[inline(always)]
-    pub fn record<'a, T: EncodingType>(self) -> IxdtfParseRecord<'a, T>
-        ensures { parsed_of T.number result ≡ parsed_with (core_read self) None }
-    {
-        IxdtfParseRecord {
-            date: Some(self.date),
-            time: Some(self.time),
-            offset: Some(self.offset),
-            tz: None,
-            calendar: None,
-        }
-    }
-
-    /// Writes the parts into a record.
-    #[inline(always)]
-    pub fn place<'a, T: EncodingType>(self, found: &mut IxdtfParseRecord<'a, T>)
-        ensures core { core_in found.new ≡ core_read self }
-        ensures kept { KeepsBrackets found.old found.new }
-    {
-        found.date = Some(self.date);
-        found.time = Some(self.time);
-        found.offset = Some(self.offset);
-    }
-}
 
 /// Consumes a colon. Returns `NonAsciiCodePoint` at a bad code unit, and `stop` at the end of the input and at any other
 /// code unit.
@@ -178,27 +141,30 @@ fn parse_day<'a, T: EncodingType>(
     Ok(day)
 }
 
-/// Reads a time offset after its first code unit `lead`, and returns the complete date-time.
+/// Reads a time offset after its first code unit `lead`, and writes it into the record.
 #[inline(always)]
 fn parse_time_offset<'a, T: EncodingType>(
     cursor: &mut Cursor<'a, T>,
-    date: DateRecord,
-    time: TimeRecord,
     lead: u8,
-) -> Result<DateTime, Stop>
-    ensures offset { Reads T.letter core_read cursor.old result cursor.new
+    found: &mut IxdtfParseRecord<'a, T>,
+) -> Result<(), Stop>
+    ensures offset { (date : DateRecord) (time : TimeRecord) → found.old.date ≡ Some date → found.old.time ≡ Some time →
+        Reads T.letter (λ _. core_in found.new) cursor.old result cursor.new
         (time_offset_at error_of open_end date time lead) }
+    ensures kept { KeepsBrackets found.old found.new }
     ensures looks { Spends 8 cursor.old cursor.new }
 {
     if is_utc_designator(lead) {
-        let offset = UtcOffsetRecordOrZ::Z;
-        return Ok(DateTime { date, time, offset });
+        found.offset = Some(UtcOffsetRecordOrZ::Z);
+        return Ok(());
     }
     if let Some(minutes) = take_numeric_offset(cursor, lead) {
-        let offset = UtcOffsetRecordOrZ::Offset(UtcOffsetRecord::MinutePrecision(minutes));
-        return Ok(DateTime { date, time, offset });
+        found.offset = Some(UtcOffsetRecordOrZ::Offset(UtcOffsetRecord::MinutePrecision(minutes)));
+        return Ok(());
     }
-    parse_offset_by_numbers(cursor, date, time, lead)
+    let minutes = parse_offset_by_numbers(cursor, lead)?;
+    found.offset = Some(UtcOffsetRecordOrZ::Offset(UtcOffsetRecord::MinutePrecision(minutes)));
+    Ok(())
 }
 
 /// Consumes the first code unit of a time offset, after the digits of a fraction, and returns it.
@@ -228,44 +194,51 @@ fn parse_secfrac<'a, T: EncodingType>(cursor: &mut Cursor<'a, T>) -> Result<Frac
     parse_fraction(cursor)
 }
 
-/// Reads the digits of a fraction after its `.`, and the offset after the fraction.
+/// Reads the digits of a fraction after its `.`, and the offset after the fraction. Writes the time and the offset into the
+/// record.
 #[inline(always)]
 fn parse_fractional<'a, T: EncodingType>(
     cursor: &mut Cursor<'a, T>,
-    date: DateRecord,
     whole: WholeTime,
-) -> Result<DateTime, Stop>
-    ensures rest { Reads T.letter core_read cursor.old result cursor.new
+    found: &mut IxdtfParseRecord<'a, T>,
+) -> Result<(), Stop>
+    ensures rest { (date : DateRecord) → found.old.date ≡ Some date →
+        Reads T.letter (λ _. core_in found.new) cursor.old result cursor.new
         (secfrac_at error_of open_end date whole.hour whole.minute whole.second) }
+    ensures kept { KeepsBrackets found.old found.new }
     ensures looks { Spends 11 cursor.old cursor.new }
 {
     let fraction = parse_secfrac(cursor)?;
     let lead = take_lead(cursor)?;
-    let time = whole.with_fraction(Some(fraction));
-    parse_time_offset(cursor, date, time, lead)
+    found.time = Some(whole.with_fraction(Some(fraction)));
+    parse_time_offset(cursor, lead, found)
 }
 
-/// Reads what follows the seconds: an optional fraction, and an offset.
+/// Reads what follows the seconds: an optional fraction, and an offset. Writes the date, the time and the offset into the
+/// record.
 #[inline(always)]
 fn parse_after_seconds<'a, T: EncodingType>(
     cursor: &mut Cursor<'a, T>,
     date: DateRecord,
     whole: WholeTime,
-) -> Result<DateTime, Stop>
-    ensures rest { Reads T.letter core_read cursor.old result cursor.new
+    found: &mut IxdtfParseRecord<'a, T>,
+) -> Result<(), Stop>
+    ensures rest { Reads T.letter (λ _. core_in found.new) cursor.old result cursor.new
         (after_whole_second_at error_of open_end date whole.hour whole.minute whole.second) }
+    ensures kept { KeepsBrackets found.old found.new }
     ensures looks { Spends 12 cursor.old cursor.new }
 {
+    found.date = Some(date);
     match cursor.look()? {
         None => Err(Stop::AbruptOffset),
         Some(byte) if byte == b'.' => {
             cursor.advance();
-            parse_fractional(cursor, date, whole)
+            parse_fractional(cursor, whole, found)
         }
         Some(byte) if is_ascii_sign(byte) || is_utc_designator(byte) => {
             cursor.advance();
-            let time = whole.with_fraction(None);
-            parse_time_offset(cursor, date, time, byte)
+            found.time = Some(whole.with_fraction(None));
+            parse_time_offset(cursor, byte, found)
         }
         Some(byte) if is_decimal_separator(byte) => Err(Stop::FractionPart),
         Some(_) => Err(Stop::OffsetNeedsSign),
@@ -295,24 +268,21 @@ fn take_fixed_rfc3339<'a, T: EncodingType>(
 #[inline(always)]
 fn parse_offset_by_numbers<'a, T: EncodingType>(
     cursor: &mut Cursor<'a, T>,
-    date: DateRecord,
-    time: TimeRecord,
     sign: u8,
-) -> Result<DateTime, Stop>
-    ensures offset { Reads T.letter core_read cursor.old result cursor.new
+) -> Result<MinutePrecisionOffset, Stop>
+    ensures offset { (date : DateRecord) (time : TimeRecord) →
+        Reads T.letter (λ offset. numeric_core date time offset) cursor.old result cursor.new
         (num_offset_at error_of open_end date time sign) }
     ensures looks { Spends 3 cursor.old cursor.new }
 {
     let offset_hour = next_number(cursor, 23, Stop::TimeHour)?;
     take_colon(cursor, Stop::UtcTimeSeparator)?;
     let offset_minute = next_number(cursor, 59, Stop::TimeMinuteSecond)?;
-    let minutes = MinutePrecisionOffset {
+    Ok(MinutePrecisionOffset {
         sign: sign_from(sign),
         hour: offset_hour,
         minute: offset_minute,
-    };
-    let offset = UtcOffsetRecordOrZ::Offset(UtcOffsetRecord::MinutePrecision(minutes));
-    Ok(DateTime { date, time, offset })
+    })
 }
 
 /// Reads the time after a date and its `T` or `t`, and what follows the time.
@@ -320,9 +290,11 @@ fn parse_offset_by_numbers<'a, T: EncodingType>(
 fn parse_time_by_numbers<'a, T: EncodingType>(
     cursor: &mut Cursor<'a, T>,
     date: DateRecord,
-) -> Result<DateTime, Stop>
-    ensures time { Reads T.letter core_read cursor.old result cursor.new
+    found: &mut IxdtfParseRecord<'a, T>,
+) -> Result<(), Stop>
+    ensures time { Reads T.letter (λ _. core_in found.new) cursor.old result cursor.new
         (full_time_at error_of open_end date) }
+    ensures kept { KeepsBrackets found.old found.new }
     ensures looks { Spends 14 cursor.old cursor.new }
 {
     let hour = next_number(cursor, 23, Stop::TimeHour)?;
@@ -335,7 +307,7 @@ fn parse_time_by_numbers<'a, T: EncodingType>(
         minute,
         second,
     };
-    parse_after_seconds(cursor, date, whole)
+    parse_after_seconds(cursor, date, whole, found)
 }
 
 /// Reads the day after a month and its hyphen, and what follows the day.
@@ -344,9 +316,11 @@ fn parse_day_by_numbers<'a, T: EncodingType>(
     cursor: &mut Cursor<'a, T>,
     year: u16,
     month: u8,
-) -> Result<DateTime, Stop>
-    ensures day { Reads T.letter core_read cursor.old result cursor.new
+    found: &mut IxdtfParseRecord<'a, T>,
+) -> Result<(), Stop>
+    ensures day { Reads T.letter (λ _. core_in found.new) cursor.old result cursor.new
         (full_day_at error_of open_end (pos year) month) }
+    ensures kept { KeepsBrackets found.old found.new }
     ensures looks { Spends 15 cursor.old cursor.new }
 {
     let day = parse_day(cursor, year, month)?;
@@ -356,7 +330,7 @@ fn parse_day_by_numbers<'a, T: EncodingType>(
         month,
         day,
     };
-    parse_time_by_numbers(cursor, date)
+    parse_time_by_numbers(cursor, date, found)
 }
 
 /// Reads the month after a year and its hyphen, and what follows the month.
@@ -364,79 +338,77 @@ fn parse_day_by_numbers<'a, T: EncodingType>(
 fn parse_month_by_numbers<'a, T: EncodingType>(
     cursor: &mut Cursor<'a, T>,
     year: u16,
-) -> Result<DateTime, Stop>
-    ensures month { Reads T.letter core_read cursor.old result cursor.new
+    found: &mut IxdtfParseRecord<'a, T>,
+) -> Result<(), Stop>
+    ensures month { Reads T.letter (λ _. core_in found.new) cursor.old result cursor.new
         (full_month_at error_of open_end (pos year)) }
+    ensures kept { KeepsBrackets found.old found.new }
     ensures looks { Spends 16 cursor.old cursor.new }
 {
     let month = parse_month(cursor)?;
     take_date_hyphen(cursor, Stop::DateSeparator)?;
-    parse_day_by_numbers(cursor, year, month)
+    parse_day_by_numbers(cursor, year, month, found)
 }
 
 /// Reads a date-time number by number. The function is not inlined, because it is called only for a text with an error.
 #[inline(never)]
 #[tactic(auto, using(ixdtf_reading::proofs::code::FixedDateTimes::year_then), unfolding(ixdtf_reading::specs::reading::Looks::look_readings))]
-fn parse_by_numbers<'a, T: EncodingType>(cursor: &mut Cursor<'a, T>) -> Result<DateTime, Stop>
-    ensures date_time { Reads T.letter core_read cursor.old result cursor.new
+fn parse_by_numbers<'a, T: EncodingType>(
+    cursor: &mut Cursor<'a, T>,
+    found: &mut IxdtfParseRecord<'a, T>,
+) -> Result<(), Stop>
+    ensures date_time { Reads T.letter (λ _. core_in found.new) cursor.old result cursor.new
         (date_time_by error_of open_end) }
+    ensures kept { KeepsBrackets found.old found.new }
     ensures looks { Spends 17 cursor.old cursor.new }
 {
     let year = parse_year(cursor)?;
     take_date_hyphen(cursor, Stop::AbruptDate)?;
-    parse_month_by_numbers(cursor, year)
+    parse_month_by_numbers(cursor, year, found)
 }
 
-/// Reads a date-time of RFC 3339, section 5.6. Anything can follow it.
+/// Reads a date-time of RFC 3339, section 5.6, into the record. Anything can follow it.
+///
+/// `parse_by_numbers` writes into a record of its own. If it wrote into `found`, the other texts would take more
+/// instructions too, if `rustc` compiles the reader (`docs/PERF.md`).
 #[inline(always)]
 pub fn parse_internet_date_time<'a, T: EncodingType>(
     cursor: &mut Cursor<'a, T>,
-) -> Result<DateTime, Stop>
-    ensures date_time { Reads T.letter core_read cursor.old result cursor.new
+    found: &mut IxdtfParseRecord<'a, T>,
+) -> Result<(), Stop>
+    ensures date_time { Reads T.letter (λ _. core_in found.new) cursor.old result cursor.new
         (date_time_by error_of open_end) }
+    ensures kept { KeepsBrackets found.old found.new }
     ensures looks { Spends 37 cursor.old cursor.new }
 {
     match take_fixed_rfc3339(cursor) {
-        Some((date, whole)) => parse_after_seconds(cursor, date, whole),
-        None => parse_by_numbers(cursor),
+        Some((date, whole)) => parse_after_seconds(cursor, date, whole, found),
+        None => {
+            let mut here = cursor.fork();
+            let mut slow = IxdtfParseRecord::default();
+            let read = parse_by_numbers(&mut here, &mut slow);
+            *cursor = here;
+            read?;
+            found.date = slow.date;
+            found.time = slow.time;
+            found.offset = slow.offset;
+            Ok(())
+        }
     }
 }
 
-/// Expects the end of the input after a date-time, and returns the record of the date-time.
-#[inline(always)]
-fn close_record<'a, T: EncodingType>(
-    cursor: &mut Cursor<'a, T>,
-    read: DateTime,
-) -> Result<IxdtfParseRecord<'a, T>, Stop>
-    ensures end { Reads T.letter (parsed_of T.number) cursor.old result cursor.new
-        (date_time_ends error_of (of_date_time after_utc) (core_read read)) }
-    ensures looks { Spends 1 cursor.old cursor.new }
-{
-    cursor.close()?;
-    Ok(read.record())
-}
-
-/// Reads a date-time of RFC 3339, section 5.6, and expects the end of the input.
-///
-/// Each of the two ways to read a date-time has its own call of `close_record`. So the compiler can build the record
-/// where its parts are read.
+/// Reads a date-time of RFC 3339, section 5.6, into the record, and expects the end of the input.
 #[inline(always)]
 #[tactic(auto, using(ixdtf_reading::proofs::code::OpenDateTimes::rfc_3339_open))]
 pub fn parse_rfc3339_text<'a, T: EncodingType>(
     cursor: &mut Cursor<'a, T>,
-) -> Result<IxdtfParseRecord<'a, T>, Stop>
-    ensures date_time { Reads T.letter (parsed_of T.number) cursor.old result cursor.new
+    found: &mut IxdtfParseRecord<'a, T>,
+) -> Result<(), Stop>
+    ensures date_time { Reads T.letter (λ _. parsed_with (core_in found.new) None) cursor.old result cursor.new
         (rfc_3339_at error_of) }
+    ensures kept { KeepsBrackets found.old found.new }
     ensures looks { Spends 38 cursor.old cursor.new }
 {
-    match take_fixed_rfc3339(cursor) {
-        Some((date, whole)) => {
-            let read = parse_after_seconds(cursor, date, whole)?;
-            close_record(cursor, read)
-        }
-        None => {
-            let read = parse_by_numbers(cursor)?;
-            close_record(cursor, read)
-        }
-    }
+    parse_internet_date_time(cursor, found)?;
+    cursor.close()
 }

@@ -189,8 +189,8 @@ pub fn next_number<'a, T: EncodingType>(
 
 /// Reads a time or an offset, and writes it to `time`. Returns which parts it has.
 ///
-/// Other code units can follow the time or the offset. A bad code unit is an error there. After a minute, a colon or a digit
-/// that does not begin a second is an error too.
+/// Other code units can follow the time or the offset. A bad code unit is an error there. It is also an error if a colon or
+/// a digit follows a minute, and does not begin a second.
 #[inline(always)]
 #[tactic(auto, using(crate::proofs::code::HourDigits::hour_is_number))]
 pub fn parse_clock<'a, T: EncodingType>(

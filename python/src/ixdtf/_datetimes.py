@@ -47,8 +47,9 @@ def _local(record: Record, truncate: bool) -> _datetime.datetime:
 
 
 def _microsecond(fraction: Optional[Fraction], truncate: bool) -> int:
-    """Returns the microseconds of a fraction of a second. Unless `truncate` is true, raises ValueError if the fraction has digits other than 0 after the
-    sixth, or more than 18 digits. Raises ValueError if its value has more digits than its field `digits` says. No text gives such a fraction."""
+    """Returns the microseconds of a fraction of a second. If `truncate` is true, drops the digits after the sixth. Otherwise raises ValueError if the
+    number of microseconds is not whole, or if the fraction has more than 18 digits. Raises ValueError if its value has more digits than its field `digits`
+    says. No text gives such a fraction."""
     if fraction is None:
         return 0
     known = min(fraction.digits, 18)

@@ -642,12 +642,12 @@ static PyMethodDef record_methods[] = {
       "tzinfo is a datetime.timezone.\n\n"
       "If the record has an offset and a zone, there are two cases. If the offset is Z or -00:00, the result is the same instant in\n"
       "the zone. If the record has any other offset, the zone should have this offset at this time. If the zone has a different one,\n"
-      "on_conflict decides. 'error' raises ZoneConflictError. 'offset' returns the instant that the offset gives, in the zone. 'zone'\n"
-      "ignores the offset, and returns the local time in the zone.\n\n"
+      "on_conflict decides. 'error' raises ZoneConflictError. 'offset' computes the instant from the offset, and returns this instant\n"
+      "in the zone. 'zone' ignores the offset, and returns the local time in the zone.\n\n"
       "Raises ValueError if the date or the time is missing, if the year is not 1 to 9999, or if the day is 0. If the result is an\n"
-      "instant in the zone, also raises ValueError if the year of this instant is not 1 to 9999 in UTC or in the zone. Unless\n"
-      "truncate is true, also raises ValueError if the second is 60, or if a fraction has digits other than 0 after the sixth, or\n"
-      "more than 18 digits. With truncate=True, the second 60 becomes 59, and digits after the sixth are dropped. Raises\n"
+      "instant in the zone, also raises ValueError if the year of this instant is not 1 to 9999 in UTC or in the zone. With\n"
+      "truncate=True, the second 60 becomes 59, and digits after the sixth are dropped. With truncate=False, also raises ValueError if\n"
+      "the second is 60, if a fraction is not a whole number of microseconds, or if a fraction has more than 18 digits. Raises\n"
       "zoneinfo.ZoneInfoNotFoundError if the name of the zone is unknown." },
     { "__reduce__", record_reduce, METH_NOARGS, NULL },
     { NULL, NULL, 0, NULL },
@@ -1169,8 +1169,7 @@ static PyMethodDef module_methods[] = {
       "kind says which function reads the text of a Record: parse() for date-time, parse_year_month() for year-month,\n"
       "parse_month_day() for month-day, and parse_time() for time. parse_duration(), parse_offset() and parse_zone() read the texts\n"
       "of the other three types. The function that reads the text returns an equal value, except that the text of a Zone does not\n"
-      "say whether the Zone is critical. Raises ValueError if there is no text for which the function that reads the texts\n"
-      "returns this value." },
+      "say whether the Zone is critical. Raises ValueError if a value has no such text: for example, if the date is 30 February." },
     { "instant", instant, METH_O,
       "instant(record, /)\n--\n\nReturns the Instant of a Record: the seconds since 1970-01-01T00:00:00Z, rounded down, and the nanoseconds after them.\n\n"
       "Raises ValueError if the record has no date, no time or no offset. The time zone does not matter. The second 60 is the same\n"

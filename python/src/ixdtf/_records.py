@@ -89,7 +89,7 @@ Z = _Utc()
 
 
 class Zone(NamedTuple):
-    """A time zone. It has either a name or an offset. The field that it does not have is None. If it is critical, a program must use this zone, or
+    """A time zone. If it has a name, `offset` is None. If it has an offset, `name` is None. If it is critical, a program must use this zone, or
     reject the text."""
 
     name: Optional[str] = None
@@ -109,7 +109,7 @@ class Duration(NamedTuple):
     """A duration.
 
     sign                           1 or -1
-    years, months, weeks, days     numbers, or None for all four if the text has none of them
+    years, months, weeks, days     numbers. If the text has no years, months, weeks or days, all four are None.
     hours, minutes, seconds        numbers or None. For "PT5M", they are 0, 5 and None: the units after the last unit in the text are None. If the
                                    text has no time, all three are None.
     fraction                       the fraction of the last unit of the time, or None if it has none
@@ -140,7 +140,7 @@ class Duration(NamedTuple):
 
 
 class Instant(NamedTuple):
-    """A point in time. If one instant is earlier than another, it is also less in a comparison with `<`.
+    """A point in time. You can compare instants: `a < b` is true if `a` is earlier than `b`.
 
     seconds      the seconds since 1970-01-01T00:00:00Z, rounded down; negative before 1970; leap seconds are not counted
     nanoseconds  the nanoseconds after these seconds, 0 to 999,999,999
@@ -155,7 +155,8 @@ for _part in (Fraction, Date, Time, Offset, Zone, Annotation, Duration, Instant)
 
 
 def _microseconds(fraction: Optional[Fraction], seconds: int) -> int:
-    """Returns the microseconds of a fraction of a unit with this number of seconds. Raises ValueError if the number of microseconds is not whole."""
+    """Returns the microseconds of a fraction of a duration unit. The duration unit has `seconds` seconds. Raises ValueError if the number of microseconds
+    is not whole, or if the fraction has more than 18 digits."""
     if fraction is None:
         return 0
     if fraction.digits > 18:

@@ -5,7 +5,7 @@
 use ixdtf::parsers::IsoDurationParser;
 use ixdtf::records::{Fraction, Sign, TimeDurationRecord};
 
-/// Returns the nanoseconds of a fraction. It is a fraction of a duration unit that has `unit` seconds.
+/// Returns the nanoseconds of a fraction of a duration unit. The duration unit has `unit` seconds.
 ///
 /// Returns `None` if the number of nanoseconds is not a whole number. Also returns `None` if the fraction has more than 18 digits, because
 /// a record keeps only the first 18.

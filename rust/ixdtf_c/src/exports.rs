@@ -6,8 +6,9 @@
 //! These clauses are in the contracts of the readers:
 //!
 //! - `read`: The outcome of the text determines the number that is returned and every field of the record. The outcome is a
-//!   record of the grammar, or an error with its position. A text reader returns 0 only if no other text reader accepts the
-//!   text under the same profile.
+//!   record of the grammar, or an error with its position. There are five *text readers*: `ixdtf_parse`, and the readers of
+//!   a year and a month, of a month and a day, of a time, and of a duration. If a text reader returns 0, no other text reader
+//!   accepts the text under the same profile.
 //! - `lists`: This clause is like `read`, for a reader that drops each annotation. It also says that `count` is the number of
 //!   annotations before the end of the text, or before its error. The first of these annotations are in the array, in order.
 //! - `few`: Five times the number of annotations is at most the length of the text. So an array of `length / 5` elements is

@@ -109,8 +109,8 @@ pub fn core_length(parsed: &IxdtfParseRecord<'_, Utf8>) -> u16 {
 /// Tests quickly whether the canonical text of a record fits into `room` bytes. The record must have a canonical text.
 ///
 /// `true` means that the text fits. `false` means that the caller must count the length, because the text may fit or not.
-/// `MOST_BESIDES_NAMES` bytes of `room` are for everything except the name of the zone and the calendar. The result is `true`
-/// if each of these two has at most half of the other bytes.
+/// `MOST_BESIDES_NAMES` bytes of `room` are enough for everything except the name of the zone and the calendar. The result is
+/// `true` if the name and the calendar each have at most half of the remaining bytes of `room`.
 #[inline(always)]
 #[must_use]
 pub fn has_plenty(parsed: &IxdtfParseRecord<'_, Utf8>, room: usize) -> bool {

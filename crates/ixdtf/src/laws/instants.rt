@@ -27,7 +27,10 @@ pub fn instants_are_in_order()
     ensures instants { CountsAreInOrder }
 {}
 
-/// States that two dates and times at two offsets are the same instant exactly if they differ by as much as the offsets.
+/// States when two local times are the same instant. A local time here is a date and a time, and has an offset.
+///
+/// The two are the same instant exactly if the second local time minus the first is equal to the second offset minus the
+/// first. For example, on one date, `12:00+01:00` and `13:00+02:00` are the same instant: both differences are one hour.
 pub fn offsets_make_up()
     ensures { OffsetsMakeUp }
 {}

@@ -36,8 +36,8 @@ impl<'a, T: EncodingType> IxdtfParser<'a, T> {
     /// The reader then tests the reply: see the errors below. With the handler `|annotation| Some(annotation)`, the
     /// result is the same as the result of [`parse`](Self::parse).
     ///
-    /// `calendar` is the value of the first reply with the key `u-ca`. It is a slice of this reply, which need not be a
-    /// slice of the source.
+    /// `calendar` is the value of the first reply with the key `u-ca`. So the slice comes from the handler, and it need
+    /// not be a part of the source.
     ///
     /// If the call succeeds, no input remains, and a second call returns the error of the empty text. If it fails, the
     /// input is unchanged. Calls of the handler are not undone.
@@ -425,7 +425,7 @@ impl<'a, T: EncodingType> IxdtfParser<'a, T> {
         }
     }
 
-    /// Reads a text with a core of the kind, like
+    /// Reads a text with a core of the kind that `C` reads, like
     /// [`parse_with_annotation_handler`](Self::parse_with_annotation_handler).
     ///
     /// The handler is left in the state after its last call, so the caller can use it. The error is made from a `Stop`.
@@ -453,7 +453,7 @@ impl<'a, T: EncodingType> IxdtfParser<'a, T> {
         }
     }
 
-    /// Keeps the calendar of a reply, if it is the first one, as the readers do.
+    /// Writes a reply to `calendar`, as the readers do, if the reply has the key `u-ca` and `calendar` is `None`.
     ///
     /// This function is only for crates of this repository, and not a part of the public interface.
     ///

@@ -134,7 +134,8 @@ impl<'a, T: EncodingType> TimeZoneParser<'a, T> {
     /// - `TimeHour`: the hour of an offset contains a character that is not a digit, or is greater than 23.
     /// - `TimeMinuteSecond`: the minute of an offset contains a character that is not a digit, or is greater than 59.
     /// - `InvalidMinutePrecisionOffset`: a colon or a digit follows the minute of an offset.
-    /// - `InvalidEnd`: a `]` follows a name, or any other character follows an offset.
+    /// - `InvalidEnd`: a `]` follows a name. Or a character that is neither a colon nor a digit follows the hour or the
+    ///   minute of an offset.
     /// - `NonAsciiCodePoint`: 16-bit text has a code unit outside 1 to 126. 8-bit text never has this error.
     pub fn parse_identifier(&mut self) -> ParserResult<TimeZoneRecord<'a, T>>
         ensures reads { ReadsPart T.letter fault_of (zone_of T.number) identified parse_identifier self.old result self.new }
@@ -199,7 +200,8 @@ impl<'a, T: EncodingType> TimeZoneParser<'a, T> {
     /// - `TimeMinuteSecond`: the minute or the second contains a character that is not a digit, or is greater than 59.
     /// - `UtcTimeSeparator`: the offset has only one of its two colons.
     /// - `FractionPart`: no digit follows the `.` or `,`. This is also the error if the text ends there.
-    /// - `InvalidEnd`: any other character follows the offset.
+    /// - `InvalidEnd`: the offset is followed by a character that must not follow it, and no other error of this list is
+    ///   about this character.
     /// - `NonAsciiCodePoint`: 16-bit text has a code unit outside 1 to 126. 8-bit text never has this error.
     pub fn parse_offset(&mut self) -> ParserResult<UtcOffsetRecord>
         ensures reads { ReadsPart T.letter fault_of (λ offset. offset) shifted parse_offset self.old result self.new }

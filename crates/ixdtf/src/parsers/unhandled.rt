@@ -36,9 +36,9 @@ impl<'a, T: EncodingType> IxdtfParser<'a, T> {
     /// 9557, section 4.1 (`suffix`).
     ///
     /// The record has the fields `date`, `time`, `offset` and `tz` for the parts that the text has. `calendar` is the
-    /// value of the first annotation with the key `u-ca`. An annotation is *critical* if it has the `!`. All annotations
-    /// with other keys are ignored, but a critical one is refused. To decide about annotations yourself, call
-    /// [`parse_with_annotation_handler`](Self::parse_with_annotation_handler).
+    /// value of the first annotation with the key `u-ca`. An annotation is *critical* if it has the `!`. If the key of an
+    /// annotation is not `u-ca`, the annotation is refused if it is critical, and otherwise ignored. To decide about
+    /// annotations yourself, call [`parse_with_annotation_handler`](Self::parse_with_annotation_handler).
     ///
     /// If the call succeeds, no input remains, and a second call returns the error of the empty text. If it fails, the
     /// input is unchanged, and a second call returns the same error.
@@ -83,8 +83,8 @@ impl<'a, T: EncodingType> IxdtfParser<'a, T> {
     ///
     /// - `AbruptEnd`: the text ends too early. The location is `Date` if it ends after the year, and `digit` if it ends
     ///   where a digit is required. It is `AmbiguousAnnotation` if the text ends after the `[` or `[!` of the first
-    ///   bracket. This is also the location if a lowercase letter or `_` follows, and the text ends before the first `=`
-    ///   or `]`.
+    ///   bracket. This is also the location if a lowercase letter or `_` follows this `[` or `[!`, and the text ends
+    ///   before the first `=` or `]`.
     /// - `DateYear`: another character occurs instead of a digit of the year.
     /// - `DateExtendedYear`: another character occurs instead of a digit of a year with a sign, or the year is
     ///   `-000000`.
@@ -117,7 +117,8 @@ impl<'a, T: EncodingType> IxdtfParser<'a, T> {
     ///   not read.
     /// - `CriticalDuplicateCalendar`: an annotation with the key `u-ca` has a value that differs from that of the first
     ///   such annotation, and at least one of the two is critical. What follows this annotation is not read.
-    /// - `InvalidEnd`: any other character follows a date, a time, an offset or a bracket.
+    /// - `InvalidEnd`: a date, a time, an offset or a bracket is followed by a character that must not follow it, and no
+    ///   other error of this list is about this character.
     /// - `NonAsciiCodePoint`: 16-bit text has a code unit outside 1 to 126. 8-bit text never has this error.
     #[inline(always)]
     pub fn parse(&mut self) -> ParserResult<IxdtfParseRecord<'a, T>>
@@ -139,8 +140,8 @@ impl<'a, T: EncodingType> IxdtfParser<'a, T> {
     /// [`parse_rfc3339`](Self::parse_rfc3339). Brackets can follow it (`suffix`). The first bracket can have a time zone.
     /// All other brackets have annotations.
     ///
-    /// [`parse`](Self::parse) accepts each of these texts too, and returns an equal record. Each text that
-    /// [`parse_rfc3339`](Self::parse_rfc3339) accepts is one of them. The record has `date`, `time` and `offset`. The
+    /// [`parse`](Self::parse) accepts each of these texts too, and returns an equal record. `parse_rfc9557` accepts each
+    /// text that [`parse_rfc3339`](Self::parse_rfc3339) accepts. The record has `date`, `time` and `offset`. The
     /// fields `tz` and `calendar` are as in [`parse`](Self::parse). The profile does not matter.
     ///
     /// If the call succeeds, no input remains, and a second call returns the error of the empty text. If it fails, the
@@ -234,7 +235,7 @@ impl<'a, T: EncodingType> IxdtfParser<'a, T> {
     ///   `-000000`.
     /// - `DateMonth`: another character occurs instead of a digit of the month.
     /// - `InvalidMonthRange`: the month is not 01 to 12.
-    /// - `InvalidEnd`: any other character follows the month.
+    /// - `InvalidEnd`: another character than `[` follows the month.
     /// - `NonAsciiCodePoint`: 16-bit text has a code unit outside 1 to 126. 8-bit text never has this error.
     #[inline(always)]
     pub fn parse_year_month(&mut self) -> ParserResult<IxdtfParseRecord<'a, T>>
@@ -294,7 +295,7 @@ impl<'a, T: EncodingType> IxdtfParser<'a, T> {
     /// - `DateMonth`, `DateDay`: another character occurs instead of a digit of the month, or of the day.
     /// - `InvalidMonthRange`: the month is not 01 to 12.
     /// - `InvalidMonthDay`: the month does not have this day in any year, or the day is 00 under [`Profile::Strict`].
-    /// - `InvalidEnd`: any other character follows the day.
+    /// - `InvalidEnd`: another character than `[` follows the day.
     /// - `NonAsciiCodePoint`: 16-bit text has a code unit outside 1 to 126. 8-bit text never has this error.
     #[inline(always)]
     pub fn parse_month_day(&mut self) -> ParserResult<IxdtfParseRecord<'a, T>>
@@ -357,8 +358,9 @@ impl<'a, T: EncodingType> IxdtfParser<'a, T> {
     ///
     /// The first wrong part of the text decides the error. To get the position of the error, call
     /// [`parse_time_located`](Self::parse_time_located). Times, offsets and brackets have the errors that they have in
-    /// [`parse`](Self::parse). If the text does not begin with `T` or `t`, it must begin with the hour, and has the errors
-    /// of the hour there.
+    /// [`parse`](Self::parse). The error of the empty text is `AbruptEnd` (location `digit`). If the text begins with a
+    /// character that is neither a digit nor `T` nor `t`, the error is `TimeHour`. In 16-bit text, this character can also
+    /// have the error `NonAsciiCodePoint`.
     ///
     /// Two more errors are about an ambiguous text. Such a text does not begin with `T` or `t`. Its part before the first
     /// `[`, or the complete text if it has no `[`, is a time, with or without an offset. But the text also begins like a

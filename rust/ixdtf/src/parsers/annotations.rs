@@ -77,7 +77,7 @@ fn start_component<'a, T: EncodingType>(cursor: &mut Cursor<'a, T>, other: Stop)
 
 /// Reads a value and the `]` after it, and returns the code units of the value.
 ///
-/// A value consists of components with a hyphen between each two.
+/// A value consists of components. One hyphen separates each component from the next one.
 #[inline(always)]
 pub fn parse_annotation_value<'a, T: EncodingType>(
     cursor: &mut Cursor<'a, T>,

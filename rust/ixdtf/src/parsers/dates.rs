@@ -8,7 +8,7 @@ use crate::classes::{is_ascii_sign, is_hyphen, two_digit_number};
 use crate::cursor::Cursor;
 use crate::stop::Stop;
 
-/// Reads a date: in its ten or eight fixed columns if they fit, and otherwise part by part.
+/// Reads a date: in ten or eight fixed columns if the text fits them, and otherwise part by part.
 #[inline(always)]
 pub fn parse_date<'a, T: EncodingType>(cursor: &mut Cursor<'a, T>) -> Result<DateRecord, Stop> {
     match take_fixed_date(cursor) {

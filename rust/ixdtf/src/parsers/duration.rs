@@ -187,7 +187,7 @@ impl<'a, T: EncodingType> IsoDurationParser<'a, T> {
     /// - `DurationValueExceededRange`: a number is 2^64 or more, or the number of years, months or weeks is 2^32 or
     ///   more.
     /// - `FractionPart`: no digit follows the `.` or `,`. This is also the error if the text ends there.
-    /// - `InvalidEnd`: any other character follows `P` or a group.
+    /// - `InvalidEnd`: `P` or a group is followed by a character that must not follow it.
     /// - `NonAsciiCodePoint`: 16-bit text has a code unit outside 1 to 126. 8-bit text never has this error.
     #[inline(always)]
     pub fn parse(&mut self) -> ParserResult<DurationParseRecord> {

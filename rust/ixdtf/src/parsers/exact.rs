@@ -69,8 +69,8 @@ impl<'a, T: EncodingType> IxdtfParser<'a, T> {
     /// - `DateSeparator`: no `-` follows the month, or another character than `-` follows the year.
     /// - `TimeSeparator`: no `T` follows the date, or no `:` follows the hour or the minute of the time.
     /// - `FractionPart`: no digit follows the `.`, or a `,` follows the second.
-    /// - `OffsetNeedsSign`: another character than a sign, `Z` or `z` is where the offset has to begin. A `.` or `,` after
-    ///   the second is about a fraction: see above.
+    /// - `OffsetNeedsSign`: another character than a sign, `Z` or `z` is where the offset has to begin. But directly
+    ///   after the second, a `.` begins a fraction, and a `,` has the error `FractionPart`.
     /// - `UtcTimeSeparator`: no `:` follows the hour of the offset.
     /// - `InvalidEnd`: any character follows the offset.
     /// - `NonAsciiCodePoint`: 16-bit text has a code unit outside 1 to 126. 8-bit text never has this error.
@@ -78,8 +78,9 @@ impl<'a, T: EncodingType> IxdtfParser<'a, T> {
     pub fn parse_rfc3339(&mut self) -> ParserResult<IxdtfParseRecord<'a, T>> {
         let mut here = self.cursor.fork();
         // The error is returned in an arm of its own, as in `parse`.
-        match parse_rfc3339_text(&mut here) {
-            Ok(found) => {
+        let mut found = IxdtfParseRecord::default();
+        match parse_rfc3339_text(&mut here, &mut found) {
+            Ok(()) => {
                 self.cursor = here;
                 Ok(found)
             }
@@ -118,8 +119,9 @@ impl<'a, T: EncodingType> IxdtfParser<'a, T> {
     pub fn parse_rfc3339_located(&mut self) -> Result<IxdtfParseRecord<'a, T>, LocatedError> {
         let mut here = self.cursor.fork();
         // These two arms do what `settle` does. The borrow checker has no rule for a call of `settle` with a record.
-        match parse_rfc3339_text(&mut here) {
-            Ok(found) => {
+        let mut found = IxdtfParseRecord::default();
+        match parse_rfc3339_text(&mut here, &mut found) {
+            Ok(()) => {
                 self.cursor = here;
                 Ok(found)
             }

@@ -14,7 +14,7 @@ use crate::parsers::offsets::{sign_from, take_numeric_offset};
 use crate::parsers::time::{WholeTime, next_number, parse_fraction};
 use crate::encoding::EncodingType;
 use crate::records::{
-    DateRecord, Fraction, IxdtfParseRecord, MinutePrecisionOffset, TimeRecord, UtcOffsetRecord,
+    DateRecord, Fraction, IxdtfParseRecord, MinutePrecisionOffset, UtcOffsetRecord,
     UtcOffsetRecordOrZ,
 };
 use crate::classes::{
@@ -23,36 +23,6 @@ use crate::classes::{
 };
 use crate::cursor::Cursor;
 use crate::stop::Stop;
-
-/// A date-time: its date, its time and its offset.
-#[derive(Clone, Copy)]
-pub struct DateTime {
-    pub date: DateRecord,
-    pub time: TimeRecord,
-    pub offset: UtcOffsetRecordOrZ,
-}
-
-impl DateTime {
-    /// Returns the record of the parts, without a zone and without a calendar.
-    #[inline(always)]
-    pub fn record<'a, T: EncodingType>(self) -> IxdtfParseRecord<'a, T> {
-        IxdtfParseRecord {
-            date: Some(self.date),
-            time: Some(self.time),
-            offset: Some(self.offset),
-            tz: None,
-            calendar: None,
-        }
-    }
-
-    /// Writes the parts into a record.
-    #[inline(always)]
-    pub fn place<'a, T: EncodingType>(self, found: &mut IxdtfParseRecord<'a, T>) {
-        found.date = Some(self.date);
-        found.time = Some(self.time);
-        found.offset = Some(self.offset);
-    }
-}
 
 /// Consumes a colon. Returns `NonAsciiCodePoint` at a bad code unit, and `stop` at the end of the input and at any other
 /// code unit.
@@ -132,23 +102,24 @@ fn parse_day<'a, T: EncodingType>(
     Ok(day)
 }
 
-/// Reads a time offset after its first code unit `lead`, and returns the complete date-time.
+/// Reads a time offset after its first code unit `lead`, and writes it into the record.
 #[inline(always)]
 fn parse_time_offset<'a, T: EncodingType>(
     cursor: &mut Cursor<'a, T>,
-    date: DateRecord,
-    time: TimeRecord,
     lead: u8,
-) -> Result<DateTime, Stop> {
+    found: &mut IxdtfParseRecord<'a, T>,
+) -> Result<(), Stop> {
     if is_utc_designator(lead) {
-        let offset = UtcOffsetRecordOrZ::Z;
-        return Ok(DateTime { date, time, offset });
+        found.offset = Some(UtcOffsetRecordOrZ::Z);
+        return Ok(());
     }
     if let Some(minutes) = take_numeric_offset(cursor, lead) {
-        let offset = UtcOffsetRecordOrZ::Offset(UtcOffsetRecord::MinutePrecision(minutes));
-        return Ok(DateTime { date, time, offset });
+        found.offset = Some(UtcOffsetRecordOrZ::Offset(UtcOffsetRecord::MinutePrecision(minutes)));
+        return Ok(());
     }
-    parse_offset_by_numbers(cursor, date, time, lead)
+    let minutes = parse_offset_by_numbers(cursor, lead)?;
+    found.offset = Some(UtcOffsetRecordOrZ::Offset(UtcOffsetRecord::MinutePrecision(minutes)));
+    Ok(())
 }
 
 /// Consumes the first code unit of a time offset, after the digits of a fraction, and returns it.
@@ -170,36 +141,40 @@ fn parse_secfrac<'a, T: EncodingType>(cursor: &mut Cursor<'a, T>) -> Result<Frac
     parse_fraction(cursor)
 }
 
-/// Reads the digits of a fraction after its `.`, and the offset after the fraction.
+/// Reads the digits of a fraction after its `.`, and the offset after the fraction. Writes the time and the offset into the
+/// record.
 #[inline(always)]
 fn parse_fractional<'a, T: EncodingType>(
     cursor: &mut Cursor<'a, T>,
-    date: DateRecord,
     whole: WholeTime,
-) -> Result<DateTime, Stop> {
+    found: &mut IxdtfParseRecord<'a, T>,
+) -> Result<(), Stop> {
     let fraction = parse_secfrac(cursor)?;
     let lead = take_lead(cursor)?;
-    let time = whole.with_fraction(Some(fraction));
-    parse_time_offset(cursor, date, time, lead)
+    found.time = Some(whole.with_fraction(Some(fraction)));
+    parse_time_offset(cursor, lead, found)
 }
 
-/// Reads what follows the seconds: an optional fraction, and an offset.
+/// Reads what follows the seconds: an optional fraction, and an offset. Writes the date, the time and the offset into the
+/// record.
 #[inline(always)]
 fn parse_after_seconds<'a, T: EncodingType>(
     cursor: &mut Cursor<'a, T>,
     date: DateRecord,
     whole: WholeTime,
-) -> Result<DateTime, Stop> {
+    found: &mut IxdtfParseRecord<'a, T>,
+) -> Result<(), Stop> {
+    found.date = Some(date);
     match cursor.look()? {
         None => Err(Stop::AbruptOffset),
         Some(byte) if byte == b'.' => {
             cursor.advance();
-            parse_fractional(cursor, date, whole)
+            parse_fractional(cursor, whole, found)
         }
         Some(byte) if is_ascii_sign(byte) || is_utc_designator(byte) => {
             cursor.advance();
-            let time = whole.with_fraction(None);
-            parse_time_offset(cursor, date, time, byte)
+            found.time = Some(whole.with_fraction(None));
+            parse_time_offset(cursor, byte, found)
         }
         Some(byte) if is_decimal_separator(byte) => Err(Stop::FractionPart),
         Some(_) => Err(Stop::OffsetNeedsSign),
@@ -224,20 +199,16 @@ fn take_fixed_rfc3339<'a, T: EncodingType>(
 #[inline(always)]
 fn parse_offset_by_numbers<'a, T: EncodingType>(
     cursor: &mut Cursor<'a, T>,
-    date: DateRecord,
-    time: TimeRecord,
     sign: u8,
-) -> Result<DateTime, Stop> {
+) -> Result<MinutePrecisionOffset, Stop> {
     let offset_hour = next_number(cursor, 23, Stop::TimeHour)?;
     take_colon(cursor, Stop::UtcTimeSeparator)?;
     let offset_minute = next_number(cursor, 59, Stop::TimeMinuteSecond)?;
-    let minutes = MinutePrecisionOffset {
+    Ok(MinutePrecisionOffset {
         sign: sign_from(sign),
         hour: offset_hour,
         minute: offset_minute,
-    };
-    let offset = UtcOffsetRecordOrZ::Offset(UtcOffsetRecord::MinutePrecision(minutes));
-    Ok(DateTime { date, time, offset })
+    })
 }
 
 /// Reads the time after a date and its `T` or `t`, and what follows the time.
@@ -245,7 +216,8 @@ fn parse_offset_by_numbers<'a, T: EncodingType>(
 fn parse_time_by_numbers<'a, T: EncodingType>(
     cursor: &mut Cursor<'a, T>,
     date: DateRecord,
-) -> Result<DateTime, Stop> {
+    found: &mut IxdtfParseRecord<'a, T>,
+) -> Result<(), Stop> {
     let hour = next_number(cursor, 23, Stop::TimeHour)?;
     take_colon(cursor, Stop::TimeSeparator)?;
     let minute = next_number(cursor, 59, Stop::TimeMinuteSecond)?;
@@ -256,7 +228,7 @@ fn parse_time_by_numbers<'a, T: EncodingType>(
         minute,
         second,
     };
-    parse_after_seconds(cursor, date, whole)
+    parse_after_seconds(cursor, date, whole, found)
 }
 
 /// Reads the day after a month and its hyphen, and what follows the day.
@@ -265,7 +237,8 @@ fn parse_day_by_numbers<'a, T: EncodingType>(
     cursor: &mut Cursor<'a, T>,
     year: u16,
     month: u8,
-) -> Result<DateTime, Stop> {
+    found: &mut IxdtfParseRecord<'a, T>,
+) -> Result<(), Stop> {
     let day = parse_day(cursor, year, month)?;
     take_time_letter(cursor)?;
     let date = DateRecord {
@@ -273,7 +246,7 @@ fn parse_day_by_numbers<'a, T: EncodingType>(
         month,
         day,
     };
-    parse_time_by_numbers(cursor, date)
+    parse_time_by_numbers(cursor, date, found)
 }
 
 /// Reads the month after a year and its hyphen, and what follows the month.
@@ -281,57 +254,55 @@ fn parse_day_by_numbers<'a, T: EncodingType>(
 fn parse_month_by_numbers<'a, T: EncodingType>(
     cursor: &mut Cursor<'a, T>,
     year: u16,
-) -> Result<DateTime, Stop> {
+    found: &mut IxdtfParseRecord<'a, T>,
+) -> Result<(), Stop> {
     let month = parse_month(cursor)?;
     take_date_hyphen(cursor, Stop::DateSeparator)?;
-    parse_day_by_numbers(cursor, year, month)
+    parse_day_by_numbers(cursor, year, month, found)
 }
 
 /// Reads a date-time number by number. The function is not inlined, because it is called only for a text with an error.
 #[inline(never)]
-fn parse_by_numbers<'a, T: EncodingType>(cursor: &mut Cursor<'a, T>) -> Result<DateTime, Stop> {
+fn parse_by_numbers<'a, T: EncodingType>(
+    cursor: &mut Cursor<'a, T>,
+    found: &mut IxdtfParseRecord<'a, T>,
+) -> Result<(), Stop> {
     let year = parse_year(cursor)?;
     take_date_hyphen(cursor, Stop::AbruptDate)?;
-    parse_month_by_numbers(cursor, year)
+    parse_month_by_numbers(cursor, year, found)
 }
 
-/// Reads a date-time of RFC 3339, section 5.6. Anything can follow it.
+/// Reads a date-time of RFC 3339, section 5.6, into the record. Anything can follow it.
+///
+/// `parse_by_numbers` writes into a record of its own. If it wrote into `found`, the other texts would take more
+/// instructions too, if `rustc` compiles the reader (`docs/PERF.md`).
 #[inline(always)]
 pub fn parse_internet_date_time<'a, T: EncodingType>(
     cursor: &mut Cursor<'a, T>,
-) -> Result<DateTime, Stop> {
+    found: &mut IxdtfParseRecord<'a, T>,
+) -> Result<(), Stop> {
     match take_fixed_rfc3339(cursor) {
-        Some((date, whole)) => parse_after_seconds(cursor, date, whole),
-        None => parse_by_numbers(cursor),
+        Some((date, whole)) => parse_after_seconds(cursor, date, whole, found),
+        None => {
+            let mut here = cursor.fork();
+            let mut slow = IxdtfParseRecord::default();
+            let read = parse_by_numbers(&mut here, &mut slow);
+            *cursor = here;
+            read?;
+            found.date = slow.date;
+            found.time = slow.time;
+            found.offset = slow.offset;
+            Ok(())
+        }
     }
 }
 
-/// Expects the end of the input after a date-time, and returns the record of the date-time.
-#[inline(always)]
-fn close_record<'a, T: EncodingType>(
-    cursor: &mut Cursor<'a, T>,
-    read: DateTime,
-) -> Result<IxdtfParseRecord<'a, T>, Stop> {
-    cursor.close()?;
-    Ok(read.record())
-}
-
-/// Reads a date-time of RFC 3339, section 5.6, and expects the end of the input.
-///
-/// Each of the two ways to read a date-time has its own call of `close_record`. So the compiler can build the record
-/// where its parts are read.
+/// Reads a date-time of RFC 3339, section 5.6, into the record, and expects the end of the input.
 #[inline(always)]
 pub fn parse_rfc3339_text<'a, T: EncodingType>(
     cursor: &mut Cursor<'a, T>,
-) -> Result<IxdtfParseRecord<'a, T>, Stop> {
-    match take_fixed_rfc3339(cursor) {
-        Some((date, whole)) => {
-            let read = parse_after_seconds(cursor, date, whole)?;
-            close_record(cursor, read)
-        }
-        None => {
-            let read = parse_by_numbers(cursor)?;
-            close_record(cursor, read)
-        }
-    }
+    found: &mut IxdtfParseRecord<'a, T>,
+) -> Result<(), Stop> {
+    parse_internet_date_time(cursor, found)?;
+    cursor.close()
 }
