@@ -1,5 +1,5 @@
 """Compares the package with the program ixdtf_lines. For each line, such as `parse 2024-03-02`, the program writes an answer, such as
-`ok date=2024,3,2` (docs/PROGRAM.md). These tests make the same answer from what the package returns or raises.
+`ok date=2024,3,2` (docs/PROGRAM.md). These tests make the same answer from what the package returns or raises. They also read each canonical text again.
 
 IXDTF_LINES is the path of the program. If this environment variable is set, the texts of tools/places.tsv, and changes of them, are the lines.
 IXDTF_ANSWERS is the path of a folder with lines and the answers to them. If this variable is set, each pair of files NAME.in and NAME.out is tested. The
@@ -142,6 +142,9 @@ class Lines(unittest.TestCase):
             self.assertEqual(answer(name, text.decode()), found)
         except UnicodeDecodeError:
             self.assertFalse(found.startswith("ok"), line)
+        if name in CANONICAL and found.startswith("ok "):
+            reader = CANONICAL[name][0]
+            self.assertEqual(reader(found[3:]), reader(text), line)
         if name in WORDS:
             strict = WORDS[name][1]
             kind = name[len("strict-"):] if strict else VALID.get(name, name)
