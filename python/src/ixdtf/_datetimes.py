@@ -11,7 +11,10 @@ if TYPE_CHECKING:
 
 
 class ZoneConflictError(ValueError):
-    """Raised if the offset of a record differs from the offset that its zone has at this time (RFC 9557, section 3.4)."""
+    """Raised by to_datetime if on_conflict is "error", and the offset and the zone of a record do not agree (RFC 9557, section 3.4).
+
+    They do not agree if the zone has another offset at this time, or if the local time does not exist in the zone. If the record has
+    its offset in hours and minutes, the offset of the zone is first rounded to minutes."""
 
     __module__ = "ixdtf"
 
