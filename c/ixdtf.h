@@ -1,25 +1,24 @@
 /* ixdtf.h: functions that read and print date-times of RFC 9557, years with months, months with
  * days, times, offsets, time zones and durations. This is version 2 of the interface.
  *
- * LIBRARY. Link libixdtf.a or libixdtf.so. The library allocates no memory, keeps no state and
- * starts no thread. There are two libraries with the same functions. The proved library is for
- * Linux on x86-64 processors with SSE4.2 and POPCNT (x86-64-v2), and calls no function of another
- * library. The plain library is for each 64-bit system that rustc supports. It may call memcmp,
- * memcpy and similar functions of the C library. docs/C.md says what is proved about each of the
- * two.
+ * LIBRARY. Link the static library libixdtf.a or the shared library libixdtf.so. The library
+ * allocates no memory, keeps no state and starts no thread. c/build builds either the proved
+ * library or the plain library. Both have the same functions. The proved library is for Linux on
+ * x86-64 processors with SSE4.2 and POPCNT (x86-64-v2), and calls no function of another library.
+ * The plain library is for each 64-bit system that rustc supports. It may call memcmp, memcpy and
+ * similar functions of the C library. docs/C.md says what is proved about each of the two.
  *
  * TEXTS. A text is passed as a pointer to its first code unit and a length, in code units. A code
  * unit has 8 bits in the functions whose names begin with ixdtf_, and 16 bits in the functions
  * whose names begin with ixdtf16_. A function reads no memory before or after the text, and does
  * not write to the text. A text need not be NUL-terminated. A NUL within the length counts as a
  * code unit. A text need not be valid UTF-8 or UTF-16. If the length is 0, the pointer may be NULL.
- * A text of 16-bit code units must have the alignment of uint16_t. A text has at most PTRDIFF_MAX
- * bytes, as every object in C has.
+ * A text of 16-bit code units must have the alignment of uint16_t. A text must not have more than
+ * PTRDIFF_MAX bytes.
  *
  * RESULTS. A reader is a function that reads a text. A reader returns 0 (IXDTF_OK) if it accepts
  * the text. Otherwise it returns the number of the error, from 1 to 46. If a program ignores the
- * result, a compiler such as GCC or Clang warns. In this file, "after 0" means: if the function has
- * returned 0.
+ * result, a compiler such as GCC or Clang warns.
  * If a reader returns 0, it has written every field of the record. The fields of a part that the
  * text does not contain are 0, false, or a slice of length 0. The length of `location` and the
  * value of `place` are 0 too.
@@ -39,7 +38,10 @@
  * record again, even if its slices point into a text that no longer exists, because no reader
  * follows these pointers. But the printers read the slices of the parts that are present. The
  * fields `is_there`, `form` and `has_..` say which parts are present. If a reader returns 0, each
- * `form` has one of the values that are named below.
+ * `form` has one of the values that are named below. A field that does not belong to the `form`
+ * does not matter: for example, `second` does not matter in an offset whose `form` is
+ * IXDTF_MINUTES. If `fraction_digits` is 0, there is no fraction, and the value of `fraction` does
+ * not matter.
  * An array that a function writes is passed as a pointer and a capacity. The capacity is the number
  * of elements of the array. Its parameter has the name `room`.
  * The memory that a function writes must not overlap anything else that is passed to the function.
@@ -51,8 +53,9 @@
  * and is unchanged. The library keeps no pointer between calls. A location and the text of an error
  * are valid as long as the program runs. If a function writes a slice, its pointer is never NULL,
  * even if its length is 0.
- * The name of a time zone is the name that is written in the text. It may have the parts "." and
- * "..": for example, ../../etc/passwd is such a name. Never join a name to a path without a check.
+ * A reader accepts Foo/Bar as the name of a time zone, although no time zone has this name: the
+ * library has no list of time zones. The name may have the parts "." and "..": for example,
+ * ../../etc/passwd is such a name. Never join a name to a path without a check.
  *
  * THREADS. Any number of threads may call the library at the same time, as long as no thread writes
  * what another thread uses. No function blocks, and each function returns. The time of a call is
@@ -61,7 +64,8 @@
  *
  * VERSIONS. Names, numbers, sizes and the offsets of fields do not change within a version of the
  * interface, and none of them is removed. Functions and numbers may be added: this raises the
- * revision. A program runs with each library that has its version, and its revision or a later one.
+ * revision. A program that was compiled with this header runs with each library of the same version
+ * whose revision is not lower than the revision of the header.
  * This header has version 2. ixdtf_interface_version() returns the version of the library. It must
  * be equal to IXDTF_INTERFACE_VERSION. The file name of the shared library has the version.
  */
@@ -127,8 +131,8 @@ enum {
     IXDTF_ANNOTATION_VALUE_CHAR_POST_HYPHEN = 28,
     IXDTF_ANNOTATION_VALUE_CHAR = 29,
     IXDTF_INVALID_MINUTE_PRECISION_OFFSET = 30,
-    IXDTF_CRITICAL_DUPLICATE_CALENDAR = 31, /* about an annotation of the text, or a reply */
-    IXDTF_UNRECOGNIZED_CRITICAL = 32, /* about an annotation of the text, or a reply */
+    IXDTF_CRITICAL_DUPLICATE_CALENDAR = 31, /* ixdtf_reply can return this number too */
+    IXDTF_UNRECOGNIZED_CRITICAL = 32, /* ixdtf_reply can return this number too */
     IXDTF_TZ_LEADING_CHAR = 33,
     IXDTF_IANA_CHAR_POST_SEPARATOR = 34,
     IXDTF_IANA_CHAR = 35,
@@ -148,9 +152,12 @@ enum {
 /* The numbers that printers, ixdtf_instant and ixdtf_duration_fraction return if they fail. No
  * reader returns them. */
 enum {
-    IXDTF_NOT_PRINTABLE = 101, /* there is no text for which the reader writes this record */
-    IXDTF_TOO_SHORT = 102,     /* the array is too short; the length of the text is in `count` */
-    IXDTF_NO_INSTANT = 103,    /* the record has no date, no time or no offset */
+    /* the value has no text: the reader that belongs to the printer never writes this value */
+    IXDTF_NOT_PRINTABLE = 101,
+    /* the array is too short; the length of the text is in `count` */
+    IXDTF_TOO_SHORT = 102,
+    /* the record has no date, no time or no offset */
+    IXDTF_NO_INSTANT = 103,
     /* the fraction is not a whole number of nanoseconds, or it has more than 18 digits */
     IXDTF_NOT_EXACT = 104
 };
@@ -165,7 +172,7 @@ typedef struct ixdtf16_units { const uint16_t *at; size_t length; } ixdtf16_unit
 typedef struct ixdtf_date {
     int32_t year;  /* -999999 to 999999; 0 if the text has only a month and a day */
     uint8_t month; /* 1 to 12 */
-    uint8_t day;   /* 1 to 31; 1 if the text has only a year and a month; 0 if its day is 00 */
+    uint8_t day;   /* 1 to 31; 1 if the text has only a year and a month; 0 for the day 00 */
     bool is_there; /* true if a date is present; if false, the other fields are 0 */
 } ixdtf_date;
 
@@ -235,8 +242,7 @@ typedef struct ixdtf16_record {
 } ixdtf16_record;
 
 /* An annotation: a key and a value, such as u-ca and hebrew for [u-ca=hebrew]. `is_critical` is
- * true for [!u-ca=hebrew]. A reply to an annotation, which ixdtf_reply checks, has this type
- * too. */
+ * true for [!u-ca=hebrew]. A reply has this type too: see ixdtf_reply. */
 typedef struct ixdtf_annotation { ixdtf_units key, value; bool is_critical; } ixdtf_annotation;
 typedef struct ixdtf16_annotation {
     ixdtf16_units key, value;
@@ -302,38 +308,40 @@ typedef struct ixdtf_duration {
 /* Reads a date, or a date and a time, which may have an offset. A zone and annotations may follow
  * in brackets. An example is 2024-03-02T08:48:00-05:00[America/New_York][u-ca=hebrew]. */
 IXDTF_CHECKED_ uint32_t ixdtf_parse(const uint8_t *text, size_t length, ixdtf_record *out);
-/* Reads a year and a month, such as 2020-11. A zone and annotations may follow in brackets. After
- * 0, the day is 1. */
+/* Reads a year and a month, such as 2020-11. A zone and annotations may follow in brackets. If
+ * the reader returns 0, the day is 1. */
 IXDTF_CHECKED_ uint32_t ixdtf_parse_year_month(const uint8_t *text, size_t length,
     ixdtf_record *out);
-/* Reads a month and a day, such as 11-07. A zone and annotations may follow in brackets. After 0,
- * the year is 0. The day can be 0, because the reader accepts the day 00. */
+/* Reads a month and a day, such as 11-07. A zone and annotations may follow in brackets. If the
+ * reader returns 0, the year is 0. The day can be 0, because the reader accepts the day 00. */
 IXDTF_CHECKED_ uint32_t ixdtf_parse_month_day(const uint8_t *text, size_t length,
     ixdtf_record *out);
 /* Reads a time, such as T12:30. It may have an offset. A zone and annotations may follow in
- * brackets. A time without T is refused if it begins with a month and a day, or with a year and a
- * month: 1200 could also mean month 12, day 00. */
+ * brackets. A text without T is refused if its beginning could also be a month and a day, or a year
+ * and a month. For example, 1200 could also mean month 12, day 00. */
 IXDTF_CHECKED_ uint32_t ixdtf_parse_time(const uint8_t *text, size_t length, ixdtf_record *out);
 /* Reads a date-time of RFC 3339, section 5.6, such as 2024-03-02T08:48:00.25-05:00, and accepts no
- * other text. ixdtf_parse accepts each of these texts too, and writes the same record. After 0, the
- * date, the time and the offset are present, and no other part is. */
+ * other text. ixdtf_parse accepts each of these texts too, and writes the same record. If this
+ * reader returns 0, the date, the time and the offset are present, and no other part is. */
 IXDTF_CHECKED_ uint32_t ixdtf_parse_rfc3339(const uint8_t *text, size_t length, ixdtf_record *out);
 /* Reads a date-time-ext of RFC 9557, section 4.1, and accepts no other text. The text begins with a
- * date-time of RFC 3339. A zone and annotations may follow in brackets. Fewer zones are accepted
- * than by ixdtf_parse: each part of the name of a zone must begin as RFC 9557 says, and must not be
- * . or .., and the offset of a zone must have the form +05:30. An annotation that ixdtf_parse
- * refuses is refused here too. ixdtf_parse accepts each text that this reader accepts, and writes
- * the same record. After 0, the date, the time and the offset are present. */
+ * date-time of RFC 3339. A zone and annotations may follow in brackets. This reader accepts fewer
+ * zones than ixdtf_parse. If the zone is a name, a / separates the parts of the name. Each part
+ * must begin with a letter, "." or "_", as RFC 9557 says. No part may be "." or "..". If the zone
+ * is an offset, it must have the form +05:30. An annotation that ixdtf_parse refuses is refused
+ * here too. ixdtf_parse accepts each text that this reader accepts, and writes the same record.
+ * If this reader returns 0, the date, the time and the offset are present. */
 IXDTF_CHECKED_ uint32_t ixdtf_parse_rfc9557(const uint8_t *text, size_t length, ixdtf_record *out);
-/* Reads an offset, such as +05:30, into the field `offset`. The text Z is refused. After 0,
- * offset.form is IXDTF_MINUTES or IXDTF_SECONDS, and no other part is present. */
+/* Reads an offset, such as +05:30, into the field `offset`. The text Z is refused. If the
+ * reader returns 0, offset.form is IXDTF_MINUTES or IXDTF_SECONDS, and no other part is present. */
 IXDTF_CHECKED_ uint32_t ixdtf_parse_offset(const uint8_t *text, size_t length, ixdtf_record *out);
 /* Reads a time zone into the field `zone`. The text is a name or an offset, such as Europe/Berlin
- * or +05:30, without brackets. After 0, the zone is not critical, and no other part is present. */
+ * or +05:30, without brackets. If the reader returns 0, the zone is not critical, and no other part
+ * is present. */
 IXDTF_CHECKED_ uint32_t ixdtf_parse_identifier(const uint8_t *text, size_t length,
     ixdtf_record *out);
-/* Reads the name of a time zone, such as Europe/Berlin, into the field `zone`. After 0, zone.form
- * is IXDTF_NAME, the zone is not critical, and no other part is present. */
+/* Reads the name of a time zone, such as Europe/Berlin, into the field `zone`. If the reader
+ * returns 0, zone.form is IXDTF_NAME, the zone is not critical, and no other part is present. */
 IXDTF_CHECKED_ uint32_t ixdtf_parse_iana_identifier(const uint8_t *text, size_t length,
     ixdtf_record *out);
 /* Reads a duration, such as -P1Y2M3W4DT5H6M7.5S. */
@@ -352,10 +360,11 @@ IXDTF_CHECKED_ uint32_t ixdtf_parse_time_strict(const uint8_t *text, size_t leng
 IXDTF_CHECKED_ uint32_t ixdtf_parse_duration_strict(const uint8_t *text, size_t length,
     ixdtf_duration *out);
 
-/* Readers that list annotations. Each of them reads like the reader above whose name has no
- * _with_annotations, with three differences:
- * - It refuses no annotation that has a key and a value, even if this annotation is critical.
- * - It writes no calendar into the record: after 0, has_calendar is false.
+/* Readers that list annotations. If you leave _with_annotations out of the name of such a reader,
+ * you get the name of a reader above. A reader that lists annotations reads like that reader above,
+ * with three differences:
+ * - It accepts every annotation that has a key and a value, also a critical one.
+ * - It writes no calendar into the record: if it returns 0, has_calendar is false.
  * - It lists the annotations of the text.
  * The reader writes the number of annotations to `count`. If the text is accepted, these are all
  * annotations of the text. If the text is refused, these are the annotations before its error.
@@ -381,8 +390,9 @@ IXDTF_CHECKED_ uint32_t ixdtf_parse_month_day_with_annotations_strict(const uint
 IXDTF_CHECKED_ uint32_t ixdtf_parse_time_with_annotations_strict(const uint8_t *text,
     size_t length, ixdtf_annotation *annotations, size_t room, size_t *count, ixdtf_record *out);
 
-/* Checks the reply to an annotation of the list. The reply is the annotation itself, or another
- * annotation. The function returns one of these:
+/* Checks a reply. A reader has listed the annotations of a text. For each of these annotations,
+ * your program can pass one reply: the annotation itself, or another annotation that replaces it.
+ * If your program passes no reply, the annotation is dropped. The function returns one of these:
  * - IXDTF_OK: the reply is accepted. If the key of the reply is u-ca, and no calendar was kept
  *   before, the function keeps the reply in `calendar`. Otherwise `calendar` is unchanged.
  * - IXDTF_UNRECOGNIZED_CRITICAL: the reply is critical, and its key is not u-ca.
@@ -390,10 +400,10 @@ IXDTF_CHECKED_ uint32_t ixdtf_parse_time_with_annotations_strict(const uint8_t *
  *   value of the calendar that was kept, and at least one of the two is critical.
  * After an error, `calendar` is unchanged.
  * Initialise `calendar` before the first reply. Pass the replies in the order of the list, and pass
- * no reply after the first error. calendar->value is the slice that you passed as the value of the
- * reply, and is valid as long as the code units of this slice. ixdtf_keep_calendar writes the
- * calendar into a record. ixdtf_reply_place returns the position of the error of a refused
- * reply. */
+ * no reply after the first error. If the function keeps a reply, calendar->value is the slice that
+ * you passed as the value of this reply. It is valid as long as the memory to which it points.
+ * ixdtf_keep_calendar writes the calendar into a record. ixdtf_reply_place returns the position of
+ * the error of a refused reply. */
 IXDTF_CHECKED_ uint32_t ixdtf_reply(ixdtf_calendar *calendar, const ixdtf_annotation *reply);
 
 /* Writes the canonical text of a record to the array `out`, in ASCII. The canonical text is the one
@@ -401,8 +411,8 @@ IXDTF_CHECKED_ uint32_t ixdtf_reply(ixdtf_calendar *calendar, const ixdtf_annota
  * function returns one of these:
  * - IXDTF_OK: the function has written the text to the first bytes of `out`, and the length of the
  *   text, in bytes, to `count`. The text is not NUL-terminated. The bytes of `out` after the text
- *   are unchanged. ixdtf_parse reads this text as the same record. So two records whose present
- *   parts differ never have the same canonical text.
+ *   are unchanged. ixdtf_parse reads this text as the same record. So if two records differ in a
+ *   value that matters, they have different canonical texts.
  * - IXDTF_NOT_PRINTABLE: there is no text for which ixdtf_parse writes this record. For example,
  *   the date is 30 February, no date is present, a `form` has a value that is not named above, or
  *   `fraction` has more digits than `fraction_digits` says. `out` and `count` are unchanged.
@@ -412,33 +422,43 @@ IXDTF_CHECKED_ uint32_t ixdtf_reply(ixdtf_calendar *calendar, const ixdtf_annota
  * If ixdtf_parse wrote the record for a text of n bytes, a capacity of n + 14 bytes is always
  * enough. The printer reads the slices of the record, so the text of the slices must still exist.
  * You can also write the fields of a record yourself. Then set all fields of each part that is
- * present. If a part is not present, its other fields do not matter. */
+ * present. If a part is not present, set the field that says so: is_there, `form` or has_calendar.
+ * The other fields of this part do not matter. */
 IXDTF_CHECKED_ uint32_t ixdtf_print(const ixdtf_record *record, uint8_t *out, size_t room,
     size_t *count);
 
 /* Writes the canonical text of a duration, such as -P1Y2DT3H0.5M, to the array `out`, in ASCII. The
  * arguments and the results have the same meaning as in ixdtf_print. ixdtf_parse_duration reads the
- * text as the same duration. So two durations whose present parts differ never have the same
- * canonical text. The text begins with - if the duration is negative. It has each duration unit
- * that is not 0. If the duration has a date, and all numbers of the date are 0, the text has 0D.
+ * text as the same duration. So if two durations differ in a value that matters, they have
+ * different canonical texts. The text begins with - if the duration is negative. It has each
+ * duration unit that is not 0. If the duration has a date, and all numbers of the date are 0, the
+ * text has 0D.
  * The text always has the last unit of the time, because PT0H and PT0S are different durations. The
- * function returns IXDTF_NOT_PRINTABLE if the duration has neither a date nor a time, if
- * `time_form` has a value that is not named above, or if `fraction` has more digits than
- * `fraction_digits` says, or more than 18 digits.
+ * function returns IXDTF_NOT_PRINTABLE in these cases:
+ * - The duration has neither a date nor a time.
+ * - `time_form` has a value that is not named above.
+ * - `fraction` has more digits than `fraction_digits` says, or more than 18 digits.
  * If ixdtf_parse_duration wrote the duration for a text of n bytes, a capacity of n bytes is always
  * enough. A capacity of 406 bytes is enough for every duration. */
 IXDTF_CHECKED_ uint32_t ixdtf_print_duration(const ixdtf_duration *duration, uint8_t *out,
     size_t room, size_t *count);
 
-/* Write the canonical text of an offset, such as -05:00 or +05:30:10.5, and of a time zone, such as
- * Europe/Berlin, to the array `out`, in ASCII. The text of a zone has neither the brackets of the
- * zone nor its !. The arguments and the results have the same meaning as in ixdtf_print.
+/* Write a canonical text to the array `out`, in ASCII. ixdtf_print_offset writes the text of an
+ * offset, such as -05:00 or +05:30:10.5. ixdtf_print_zone writes the text of a time zone, such as
+ * Europe/Berlin. The text of a zone has neither the brackets of the zone nor its !.
+ * The arguments and the results have the same meaning as in ixdtf_print.
  * ixdtf_parse_offset reads the text of an offset as the same offset. ixdtf_parse_identifier reads
  * the text of a zone as the same zone, except that the zone is not critical.
- * The functions return IXDTF_NOT_PRINTABLE if the `form` of the offset is neither IXDTF_MINUTES nor
- * IXDTF_SECONDS, if the `form` of the zone is neither IXDTF_NAME nor IXDTF_ZONE_OFFSET, if a number
- * is out of range, if `fraction` has more digits than `fraction_digits` says, or more than 18
- * digits, or if the grammar does not accept the name of the zone.
+ * ixdtf_print_offset returns IXDTF_NOT_PRINTABLE in these cases:
+ * - `form` is neither IXDTF_MINUTES nor IXDTF_SECONDS.
+ * - `hour` or `minute` is out of range.
+ * - `form` is IXDTF_SECONDS, and `second` is out of range.
+ * - `form` is IXDTF_SECONDS, and `fraction` has more digits than `fraction_digits` says, or more
+ *   than 18 digits.
+ * ixdtf_print_zone returns IXDTF_NOT_PRINTABLE in these cases:
+ * - `form` is neither IXDTF_NAME nor IXDTF_ZONE_OFFSET.
+ * - `form` is IXDTF_ZONE_OFFSET, and `hour` or `minute` is out of range.
+ * - `form` is IXDTF_NAME, and the grammar does not accept the name.
  * If ixdtf_parse_offset or ixdtf_parse_identifier wrote the offset or the zone for a text of n
  * bytes, a capacity of n + 3 bytes is always enough. */
 IXDTF_CHECKED_ uint32_t ixdtf_print_offset(const ixdtf_offset *offset, uint8_t *out, size_t room,
@@ -446,12 +466,14 @@ IXDTF_CHECKED_ uint32_t ixdtf_print_offset(const ixdtf_offset *offset, uint8_t *
 IXDTF_CHECKED_ uint32_t ixdtf_print_zone(const ixdtf_zone *zone, uint8_t *out, size_t room,
     size_t *count);
 
-/* Write the canonical text of a record of ixdtf_parse_time, ixdtf_parse_year_month or
- * ixdtf_parse_month_day to the array `out`, in ASCII. Examples are 08:48:00Z[u-ca=hebrew],
- * 2024-03[Europe/Berlin] and 03-02. The arguments and the results have the same meaning as in
- * ixdtf_print. If the reader that belongs to the printer reads the text, it writes the same record.
- * Call the printer that belongs to the reader of the record, because the fields of the record do
- * not say which reader wrote it. The record of the text 11-01 is printed as 11-01 by
+/* Write the canonical text of a record to the array `out`, in ASCII. ixdtf_print_time writes the
+ * text of a time, such as 08:48:00Z[u-ca=hebrew]. ixdtf_print_year_month writes the text of a year
+ * and a month, such as 2024-03[Europe/Berlin]. ixdtf_print_month_day writes the text of a month and
+ * a day, such as 03-02. The arguments and the results have the same meaning as in ixdtf_print.
+ * Each of these printers belongs to one reader: ixdtf_print_time to ixdtf_parse_time, for example.
+ * If this reader reads the canonical text, it writes the same record.
+ * The fields of a record do not say which reader wrote it. So your program must know the reader,
+ * and must call its printer. For example, the record of the text 11-01 is printed as 11-01 by
  * ixdtf_print_month_day, as 0000-11 by ixdtf_print_year_month, and as 0000-11-01 by ixdtf_print.
  * The functions return IXDTF_NOT_PRINTABLE if there is no text for which the reader writes this
  * record. For example, a part is missing, a part is present that must not be present (such as a
@@ -521,9 +543,10 @@ IXDTF_CHECKED_ uint32_t ixdtf16_reply(ixdtf16_calendar *calendar, const ixdtf16_
  * other number, the text is empty. */
 void ixdtf_error_text(uint32_t error, ixdtf_text *out);
 
-/* Writes the name that a number has in this header to `out`, as a slice. `error` is 0, the number
- * of an error, or 101 to 104. The name is, for example, "IXDTF_DATE_MONTH" or "IXDTF_OK". For every
- * other number, the name is empty. The name is NUL-terminated. `length` does not count this NUL. */
+/* Writes the name of a number to `out`, as a slice. This header defines the names, such as
+ * IXDTF_DATE_MONTH for 10 and IXDTF_OK for 0. `error` is 0, the number of an error, or 101 to 104.
+ * For every other number, the name is empty. The name is NUL-terminated. `length` does not count
+ * this NUL. */
 void ixdtf_error_constant(uint32_t error, ixdtf_text *out);
 
 /* Returns the nanoseconds of a fraction of a second, from 0 to 999999999. The arguments are the
@@ -542,8 +565,8 @@ IXDTF_CHECKED_ int32_t ixdtf_offset_seconds(const ixdtf_offset *offset);
  * Before 1970, the seconds are negative. Leap seconds are not counted: each day has 86400 seconds.
  * The function returns one of these:
  * - IXDTF_OK: the function has written the two numbers.
- * - IXDTF_NO_INSTANT: the record has no date, no time, or neither an offset nor Z. The function has
- *   written nothing.
+ * - IXDTF_NO_INSTANT: the record has no date, or no time, or neither an offset nor Z. The function
+ *   has written nothing.
  * The instant is the local time of the record minus its offset. The time zone in brackets does not
  * matter: the function looks up no zone. The calendar does not matter either. Digits of a fraction
  * after the ninth are dropped. The second 60 is the same instant as the second 59.
@@ -561,16 +584,16 @@ IXDTF_CHECKED_ uint32_t ixdtf16_instant(const ixdtf16_record *record, int64_t *s
  * for PT1.5H, it is 1800 seconds and 0 nanoseconds. Without a fraction, both numbers are 0. The
  * sign of the duration does not matter. The function returns one of these:
  * - IXDTF_OK: the two numbers are exactly the fraction.
- * - IXDTF_NOT_EXACT: the fraction is not a whole number of nanoseconds, as in PT0.0000000001S, or
- *   it has more than 18 digits, and the struct has only the first 18. The function also returns
- *   this number if `fraction` has more digits than `fraction_digits` says. It has written
- *   nothing. */
+ * - IXDTF_NOT_EXACT: the fraction is not a whole number of nanoseconds, as in PT0.0000000001S. The
+ *   function also returns this number if the fraction has more than 18 digits, because the struct
+ *   has only the first 18 of them. It also does so if `fraction` has more digits than
+ *   `fraction_digits` says. After IXDTF_NOT_EXACT, the function has written nothing. */
 IXDTF_CHECKED_ uint32_t ixdtf_duration_fraction(const ixdtf_duration *duration, uint32_t *seconds,
     uint32_t *nanoseconds);
 
-/* Write the calendar that ixdtf_reply kept to the fields `calendar` and `has_calendar` of a record.
- * If ixdtf_reply kept none, `calendar` has length 0, and `has_calendar` is false. No other field of
- * the record changes. */
+/* Write a calendar into the fields `calendar` and `has_calendar` of a record. This is the calendar
+ * that ixdtf_reply kept. If ixdtf_reply kept none, the field `calendar` gets the length 0, and
+ * `has_calendar` becomes false. No other field of the record changes. */
 void ixdtf_keep_calendar(ixdtf_record *record, const ixdtf_calendar *calendar);
 void ixdtf16_keep_calendar(ixdtf16_record *record, const ixdtf16_calendar *calendar);
 
@@ -586,8 +609,9 @@ IXDTF_CHECKED_ size_t ixdtf_printed_offset_length(const ixdtf_offset *offset);
 IXDTF_CHECKED_ size_t ixdtf_printed_zone_length(const ixdtf_zone *zone);
 
 /* Return the length of the canonical text that ixdtf_print_time, ixdtf_print_year_month and
- * ixdtf_print_month_day write, in bytes. They return 0 if this printer cannot print the record, or
- * if a size_t cannot hold the length. */
+ * ixdtf_print_month_day write, in bytes. ixdtf_printed_time_length returns 0 if ixdtf_print_time
+ * cannot print the record, or if a size_t cannot hold the length. The other two functions do the
+ * same for their printers. */
 IXDTF_CHECKED_ size_t ixdtf_printed_time_length(const ixdtf_record *record);
 IXDTF_CHECKED_ size_t ixdtf_printed_year_month_length(const ixdtf_record *record);
 IXDTF_CHECKED_ size_t ixdtf_printed_month_day_length(const ixdtf_record *record);
@@ -598,8 +622,8 @@ IXDTF_CHECKED_ uint32_t ixdtf_interface_version(void);
 /* The functions after this line are compiled into your program. They are tested, but not proved. */
 
 /* Readers of C strings. There is one for each reader of 8-bit text. Its name is the name of that
- * reader and _text, such as ixdtf_parse_duration_strict_text. It reads the bytes before the NUL of
- * the string, and does what the reader without _text does. For example:
+ * reader, with _text at the end: ixdtf_parse_duration_strict_text, for example. It reads the bytes
+ * before the NUL of the string, and does what the reader without _text does. For example:
  *     uint32_t ixdtf_parse_text(const char *text, ixdtf_record *out);
  *     uint32_t ixdtf_parse_with_annotations_text(const char *text, ixdtf_annotation *annotations,
  *         size_t room, size_t *count, ixdtf_record *out);

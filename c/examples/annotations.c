@@ -1,5 +1,5 @@
-/* For each argument, prints its annotations and its calendar, or the error. The program knows the key x-note, and accepts it even if it is
- * critical. It keeps every other annotation, so the library decides about it as usual.
+/* For each argument, prints its annotations and its calendar, or the error. The program knows the key x-note: it accepts an annotation with this
+ * key, even if the annotation is critical. It passes every other annotation to the library, which accepts or refuses it as usual.
  *
  *     cc -std=c99 annotations.c $(pkg-config --cflags --libs ixdtf) -o annotations
  *     ./annotations '2024-03-02[Europe/Paris][u-ca=hebrew][!x-note=a-b]'
@@ -17,8 +17,9 @@ static bool is_note(const ixdtf_annotation *annotation) {
     return annotation->key.length == 6 && memcmp(annotation->key.at, "x-note", 6) == 0;
 }
 
-/* Prints and checks each annotation of the list, in order. Returns 0, or the error of the first annotation that is refused. Then `place` is the
- * position of this error, directly after the bracket of the annotation. */
+/* Prints and checks the annotations of the list, in order. If an annotation is refused, the function stops. It returns the error, and writes the
+ * position of the error to `place`. This position is directly after the bracket of the annotation. If no annotation is refused, the function
+ * returns 0. */
 static uint32_t ask(const uint8_t *text, const ixdtf_annotation *list, size_t count, ixdtf_calendar *calendar, size_t *place) {
     for (size_t i = 0; i < count; i++) {
         printf("  %s", list[i].is_critical ? "critical " : "");

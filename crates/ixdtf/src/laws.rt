@@ -1,8 +1,9 @@
 //! Theorems for callers, which follow from the contracts of the readers.
 //!
 //! A law is a function whose contract states the theorem. To use a law, call the function: after the call, the prover
-//! knows what the function ensures. A law without parameters does nothing when it runs. [`parse_unanswered`] parses its
-//! input. Its contract is that of [`IxdtfParser::parse_with_annotation_handler`], and also states the law.
+//! knows what the function ensures. A law without parameters does nothing when it runs. [`parse_unanswered`] is the only
+//! law that parses a text. Its contract has the clauses of [`IxdtfParser::parse_with_annotation_handler`] and those of
+//! the law.
 
 pub mod instants;
 
@@ -36,8 +37,8 @@ use ixdtf_reading::stop::FromStop;
 /// States that [`IxdtfParser::parse`] accepts every date-time of RFC 3339, section 5.6. Its `T` and `Z` may be
 /// lowercase.
 ///
-/// The law is about texts, and so about sources in every encoding. For each of these texts, it states the right side of the
-/// clause `ok` in the contract of `parse`.
+/// The law does not name an encoding, so it is about sources in every encoding. It states that, without a handler, each of
+/// these texts gives a record. By the clause `ok` in the contract of `parse`, `parse` then returns this record.
 pub fn every_rfc3339_date_time_is_read()
     ensures { EveryDateTimeIsRead }
 {}
@@ -103,18 +104,20 @@ pub fn hyphens_say_nothing()
 /// positions.
 ///
 /// The outcome contains annotations. If the grammar derives a value, these are the annotations of the text. Otherwise
-/// they are the complete annotations before the row. The outcome does not contain the replies of a handler. If a reply
-/// is refused, a reader refuses a text from which the grammar derives a value.
+/// they are the complete annotations before the position of the row. The outcome does not contain the replies of a
+/// handler. So a reader can refuse a text although the grammar derives a value from it: the reason is a refused reply.
 ///
 /// - `outcome`: each text has exactly one outcome in each reader.
 /// - `begins`: if the grammar derives a value from a prefix of the text, the annotations of this prefix are the first
 ///   annotations in the outcome of the text.
 /// - `chain`: a text, its annotations, and the replies to them give at most one result, a record or an error.
 /// - `place`: a text, its annotations, and one reply for each annotation give at most one position of an error.
-/// - `replied`: suppose that a handler decides about each annotation by the annotations so far. Then it is called with
-///   exactly one list of annotations, and there is exactly one result.
+/// - `replied`: suppose that each reply of a handler depends only on the annotations for which it has been called up to
+///   this reply. Then, for each text, there is exactly one list of annotations for which the handler is called, and exactly
+///   one result.
 ///
-/// The clauses `no_row` and `only` in the contract of each reader say this about one call.
+/// The law is about all texts. The clauses `no_row` and `only` in the contract of each reader are about one call: after
+/// `Ok`, no row fits, and after an error, no other error is possible.
 pub fn one_outcome()
     ensures outcome { OneOutcome }
     ensures begins { FrontsBegin }
@@ -137,14 +140,15 @@ pub fn languages_disjoint()
 
 /// Compares 8-bit and 16-bit text, for each reader without a handler.
 ///
-/// A *bad* number is one outside 1 to 126.
+/// The law is about a list of numbers, each of which is a code unit of the text. A *bad* number is one outside 1 to 126.
 ///
-/// - A text has exactly one outcome: a value or an error. The law sees a slice in the value as the list of the numbers of
+/// - A text has exactly one outcome: a value or an error. If the value contains a slice, the law compares the numbers of
 ///   its code units.
 /// - If no number is bad, the 8-bit text and the 16-bit text have the same outcome, and the same errors at the same
 ///   positions.
-/// - If a number is bad, the 16-bit text has an error. This error is `NonAsciiCodePoint`, or the error of the 8-bit text
-///   that has 128 instead of each bad number. In the second case, the position is that of the 8-bit text.
+/// - If a number is bad, the 16-bit text has an error. For a comparison, replace each bad number by 128, and read the new
+///   list as 8-bit text. The error of the 16-bit text is `NonAsciiCodePoint`, or it is the error of this 8-bit text, at
+///   the same position.
 /// - The position of `NonAsciiCodePoint` is that of the first bad number. No 8-bit text has this error.
 pub fn widths_agree()
     ensures one { OneUnhandledOutcome }
@@ -164,10 +168,11 @@ pub fn exact_nanoseconds_are_the_truncated_ones(fraction: &Fraction)
     let _ = fraction.to_nanoseconds();
 }
 
-/// States that two values are equal exactly if a contract sees them as the same value.
+/// States that `==` of two values is true exactly if the two values have the same content.
 ///
-/// The law is about slices of code units, records and errors, in every encoding. A contract sees a slice as the numbers
-/// of its code units, and a location as its bytes. So equality is reflexive, symmetric and transitive.
+/// The law is about slices of code units, records and errors, in every encoding. The content of a value is what contracts
+/// say about it. For a slice, it is the list of the numbers of its code units. For a location, it is the list of its
+/// bytes. So `==` is reflexive, symmetric and transitive.
 pub fn equality_is_of_what_is_seen<'a, T: EncodingType>()
 where
     T::CodeUnit: 'a,
@@ -207,7 +212,9 @@ pub fn defaults_are_zero()
         (record { years = 0; months = 0; weeks = 0; days = 0 }) }
 {}
 
-/// States that `clone` of a record or of an error returns `Ok` with the same value, in every encoding.
+/// States that `clone` of a record or of an error succeeds, and returns the same value, in every encoding.
+///
+/// In Rattle, `clone` returns a `Result`. By this law, the result is `Ok` for these types.
 pub fn clones_are_equal<'a, T: EncodingType>()
 where
     T::CodeUnit: 'a,

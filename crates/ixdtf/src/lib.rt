@@ -1,32 +1,36 @@
 //! A parser of the Internet Extended Date/Time Format (RFC 9557), proved in Rattle.
 //!
-//! [`parsers::IxdtfParser::parse`] parses a date, or a date and a time with its offset, and the brackets after it. A
-//! text has 8-bit or 16-bit code units. The forms of dates and times are those of RFC 3339 and shorter ones of ISO
-//! 8601. The brackets are those of RFC 9557, section 4.1 (`suffix`): a time zone, and annotations with a key and a
-//! value, such as `[u-ca=hebrew]`.
+//! [`parsers::IxdtfParser::parse`] parses a date, or a date and a time. An offset can follow the time. Brackets can
+//! follow at the end. A text has 8-bit or 16-bit code units. The forms of dates and times are those of RFC 3339 and
+//! shorter ones of ISO 8601. The brackets are those of RFC 9557, section 4.1 (`suffix`): a time zone, and annotations
+//! with a key and a value, such as `[u-ca=hebrew]`.
 //!
-//! - `parse_year_month`, `parse_month_day` and `parse_time` of the same parser parse a year and a month, a month and a
-//!   day, and a time, each with the same brackets.
-//! - Each of these four methods has a variant `*_with_annotation_handler`. It calls a closure of the caller with each
-//!   annotation.
+//! - `parse_rfc9557` of the same parser accepts only the texts of RFC 9557, and `parse_rfc3339` only the date-times of
+//!   RFC 3339.
+//! - `parse_year_month` parses a year and a month, such as `2020-11`. `parse_month_day` parses a month and a day, such
+//!   as `11-07`. `parse_time` parses a time. The same brackets can follow each of them.
+//! - Each method of this parser except `parse_rfc3339` has a variant `*_with_annotation_handler`. It calls a closure of
+//!   the caller, the *handler*, with each annotation.
 //! - [`parsers::TimeZoneParser`] parses a text that is only an offset, or only a time zone.
 //! - [`parsers::IsoDurationParser`] parses a duration, such as `P1Y2M3DT4H`.
 //! - Each method has a variant `*_located`, whose error has a position.
-//! - [`parsers::Profile`] has stricter rules for months with a day, for times and for durations.
+//! - [`parsers::Profile`] has stricter rules for a month and a day, and for a duration. `parse_time` refuses some texts
+//!   because they could also be a month and a day. So the profile also decides which texts these are.
 //!
-//! The grammar is written down. A reader accepts every text of its grammar, unless an annotation must be refused, and
-//! accepts no other text. For every text that it does not accept, a reader returns one error: the error that a written
-//! table has for this text, or the error of a refused annotation. A reader does not allocate, and returns on every input.
+//! The grammar is written down. A *reader* is one of these parsing methods. It accepts every text of its grammar,
+//! unless an annotation must be refused, and accepts no other text. For every text that it does not accept, a
+//! reader returns one error: the error that a written table has for this text, or the error of a refused
+//! annotation. A reader does not allocate, and returns on every input.
 //!
 //! - [`parsers`]: the parsers.
-//! - [`records`]: what they return.
-//! - [`ParseError`]: their errors.
+//! - [`records`]: what the parsers return.
+//! - [`ParseError`]: the errors of the parsers.
 //! - [`encoding`]: the code units of a text.
-//! - [`laws`]: theorems that follow from their contracts, for callers.
+//! - [`laws`]: theorems for callers, which follow from the contracts of the parsers.
 //!
 //! In the repository, `docs/GRAMMAR.md` describes the grammar, and `docs/FAULTS.md` has the table of errors. The
-//! definitions are in `crates/ixdtf_grammar/specs`: the grammar in `language`, the table of errors in `table`, and what
-//! the replies of a handler change in `Handlers`.
+//! definitions are in `crates/ixdtf_grammar/specs`. `language` has the grammar, and `table` has the table of errors.
+//! `Handlers` says how the result depends on what a handler returns.
 #![tactic(auto)]
 
 pub mod laws;

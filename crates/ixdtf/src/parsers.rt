@@ -158,7 +158,8 @@ impl<'a, T: EncodingType> IxdtfParser<'a, T> {
 
     /// Returns the parser with another profile. The remaining input is unchanged.
     ///
-    /// The profile decides which texts are a month and a day. So it also decides which times are ambiguous.
+    /// The profile decides which texts are a month and a day. [`parse_time`](Self::parse_time) refuses some texts because
+    /// they could also be a month and a day. So the profile also decides which texts these are.
     ///
     /// # Examples
     ///

@@ -9,7 +9,7 @@ use ixdtf_buffers::memory::{MemorySink, MemorySource};
 
 /// Answers each line of the bytes, and writes the answers to an empty sink in memory.
 ///
-/// Only a write can fail. Then the sink is full, and its bytes are a prefix of the answers.
+/// The only possible error is that of a write. After this error, the sink is full, and its bytes are a prefix of the answers.
 pub fn run_in_memory<const SIZE: usize>(
     bytes: &[u8],
     sink: &mut MemorySink<SIZE>,

@@ -128,7 +128,7 @@ pub fn put_offset<K: Sink>(
     output.put(&room[..end])
 }
 
-/// Writes `ok`, the zone as a zone that is not critical, and a newline.
+/// Writes `ok`, the zone without the `!` of a critical zone, and a newline.
 pub fn put_zone<K: Sink>(
     output: &mut Output<'_, K>,
     zone: &TimeZoneRecord<'_, Utf8>,

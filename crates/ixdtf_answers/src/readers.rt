@@ -1,8 +1,8 @@
 //! Writes the answers of the readers, with one function for each reader.
 //!
-//! Each function reads the text and writes the answer. No function for a single reader is inlined. So the value that a reader
-//! returns is in the stack frame of its own function, and a line does not clear the frames of the other functions. A record is
-//! passed by reference, so that it is not moved.
+//! Each of these functions reads the text and writes the answer. None of them is inlined. So each has a stack frame of its own,
+//! and the value that its reader returns is in this frame. For each line, the program clears at most the frames of the functions
+//! that it calls. A record is passed by reference, so that it is not moved.
 ghost use Rattle.std.specs.Prelude.{◌≡◌, ◌≤◌, length};
 ghost use Rattle.ixdtf.specs.Views.{parsed_of};
 ghost use Rattle.ixdtf.specs.language.Languages.Found.{parsed};
@@ -26,7 +26,7 @@ use ixdtf_buffers::error::RunError;
 use ixdtf_buffers::output::Output;
 use ixdtf_buffers::sink::Sink;
 
-/// Writes the answer to the text. The word decides which reader reads the text, and what the answer has.
+/// Writes the answer to the text. The word decides which reader reads the text, and what the answer says about the value.
 pub fn answer_text<K: Sink>(
     output: &mut Output<'_, K>,
     room: &mut [u8; MOST_PRINTED],

@@ -1,4 +1,6 @@
-//! Functions that test whether the zone of a first bracket is exactly one of RFC 9557, section 4.1.
+//! Functions that test whether the zone of a first bracket has the form of RFC 9557, section 4.1.
+//!
+//! A reader that does not use this test also accepts other zones, for example names with a part `.` or `..`.
 
 #![tactic(auto)]
 
@@ -20,21 +22,21 @@ use ixdtf_reading::classes::{
 use ixdtf_reading::cursor::Cursor;
 use ixdtf_reading::stop::Stop;
 
-/// What was read of a part of a name.
+/// Which code units of a part of a name were read.
 #[derive(Clone, Copy)]
 pub enum PartForm {
-    /// Nothing yet.
+    /// No code unit.
     Start,
-    /// A `.` alone.
+    /// Only a `.`.
     OneDot,
-    /// `..` alone.
+    /// Only `..`.
     TwoDots,
-    /// What a part may be.
+    /// Code units that can be a complete part.
     Whole,
 }
 
 impl PartForm {
-    /// What is read of a part with one more code unit, or `None` if it does not continue the name.
+    /// Returns the form after one more code unit, or `None` if this code unit cannot continue the name.
     #[inline(always)]
     fn after(self, byte: u8) -> Option<PartForm>
         ensures { option_map part_form_of result ≡ form_after (part_form_of self) byte }
@@ -79,9 +81,10 @@ fn has_exact_parts<'a, T: EncodingType>(cursor: &mut Cursor<'a, T>) -> bool
     }
 }
 
-/// Tests whether the zone of a first bracket is exactly one of RFC 9557. `start` is the input after the `[`.
+/// Tests whether the zone of a first bracket has the form of RFC 9557, section 4.1. `start` is the input after the `[`.
 ///
-/// The position of the cursor does not change. It is not inlined, because the bracket has been read without it.
+/// The position of the cursor does not change. The function is not inlined, because it is called only if a zone must have
+/// this form, after the bracket has been read.
 #[inline(never)]
 fn is_exact_zone<'a, T: EncodingType>(
     cursor: &mut Cursor<'a, T>,
@@ -106,7 +109,7 @@ fn is_exact_zone<'a, T: EncodingType>(
     is_exact
 }
 
-/// Returns the error of a zone that is not exactly one of RFC 9557.
+/// Returns the error of a zone that does not have the form of RFC 9557, section 4.1.
 #[inline(always)]
 fn zone_stop<'a, T: EncodingType>(zone: &TimeZoneAnnotation<'a, T>) -> Stop
     ensures { (rest : Text) → error_of (form_row (note_of T.number zone.now).zone rest) ≡ (fault_of_stop result, rest) }
@@ -117,7 +120,10 @@ fn zone_stop<'a, T: EncodingType>(zone: &TimeZoneAnnotation<'a, T>) -> Stop
     }
 }
 
-/// Reads a first bracket after its `[`. If `is_exact`, its zone has to be exactly one of RFC 9557.
+/// Reads a first bracket after its `[`. If `is_exact`, a zone must have the form of RFC 9557, section 4.1.
+///
+/// If the zone is a name without this form, returns `IanaChar`. If it is an offset without this form, returns
+/// `InvalidMinutePrecisionOffset`. Both errors have the position after the `]`.
 #[inline(always)]
 pub fn parse_bracket_by<'a, T: EncodingType>(
     cursor: &mut Cursor<'a, T>,

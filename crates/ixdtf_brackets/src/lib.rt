@@ -2,8 +2,11 @@
 //!
 //! This is a layer of the library `ixdtf`, above `ixdtf_grammar`, `ixdtf_reading` and `ixdtf_times`. It uses
 //! `ixdtf_times`, because an offset can be in a bracket. The module `zone` reads a name or an offset without seconds.
-//! The module `brackets` reads the first bracket, and `exact_zones` tests whether its zone is exactly one of RFC 9557.
-//! This crate proves that they do what their reading functions do, and how many accesses they make. `ixdtf_reading::annotations` reads the later brackets.
+//! The module `brackets` reads the first bracket. The module `exact_zones` tests whether its zone has the form of
+//! RFC 9557. `ixdtf_reading::annotations` reads the later brackets.
+//!
+//! This crate proves that the functions do what their reading functions do. It also proves a limit for the number of
+//! accesses of each function.
 #![tactic(auto)]
 
 pub mod brackets;

@@ -8,7 +8,8 @@ ghost use Rattle.std.specs.Prelude.{◌≡◌, ◌+◌, ◌<◌, ◌≤◌, ◌^
 ghost use Rattle.std.specs.Fmt.{decimal, signed_decimal};
 ghost use Rattle.ixdtf_buffers.specs.Adding.{Adds, pair_of};
 
-/// The size in bytes of the array for an answer. An answer that contains no names always fits into the array.
+/// The size in bytes of the array in which `ixdtf_lines` makes an answer. An answer fits into the array if it has no name of a time
+/// zone, no calendar and no canonical text.
 pub const ROOM: usize = 192;
 
 /// The number of digits of the greatest `u64`.
@@ -114,7 +115,7 @@ fn add_two_digits<const SIZE: usize>(room: &mut [u8; SIZE], at: usize, number: u
 
 /// Writes a signed number, such as a year, from the index on, and returns the index after it.
 ///
-/// A number of four digits is tested first, because nearly all years have four digits.
+/// The function first tests whether the number is between 1000 and 9999, because nearly all years are.
 #[inline(always)]
 pub fn add_signed<const SIZE: usize>(room: &mut [u8; SIZE], at: usize, number: i32) -> usize
     requires { at + 11 ≤ SIZE }

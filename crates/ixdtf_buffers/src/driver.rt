@@ -44,9 +44,13 @@ pub struct Driven {
 
 /// Reads the source to its end, and passes each of its lines to the task. The task writes its results to the sink.
 ///
-/// A newline ends a line. The bytes after the last newline are a line too, unless there are none. Before each read and at the
-/// end, all results are written to the sink. At the end, the sink is also flushed. A read asks for `LIMIT` bytes. If the number of
-/// bytes could exceed a `u64`, the function does not read further, and returns `RunError::Read`.
+/// A newline ends a line. If bytes follow the last newline, they are the last line. A source without a newline is one line,
+/// unless it is empty.
+///
+/// Before each read and at the end, all results are written to the sink. At the end, the sink is also flushed.
+///
+/// A read asks for `LIMIT` bytes. If a read could make the number of bytes in the run greater than `u64::MAX`, the function
+/// returns `RunError::Read` instead of reading.
 pub fn drive<S: Source, K: Sink, T: LineTask<LIMIT>, const LIMIT: usize>(
     source: &mut S,
     sink: &mut K,

@@ -12,14 +12,21 @@ const LEAST_WRITTEN: usize = 2048;
 
 /// A sink, and a buffer for the bytes that are not written to it yet.
 ///
-/// If a slice does not fit into the buffer, the buffer is filled with the first bytes of the slice, and at least half of the buffer
-/// is written to the sink. So the buffer can still have up to 2,048 bytes after the write.
+/// The buffer has a capacity of 4,096 bytes. If a slice of at most 4,096 bytes does not fit into the rest of the buffer, it is
+/// written in these steps:
 ///
-/// Compare this with an output that writes its complete buffer before each slice that does not fit. Suppose that a writer accepts
-/// up to some number of bytes in each write. After the same number of writes, it has received at least as many bytes from this output
-/// as from the other one. A test checks this comparison, and no contract states it.
+/// 1. The first bytes of the slice fill the buffer.
+/// 2. The first bytes in the buffer are written to the sink. At least 2,048 bytes are written, and more if the rest of the slice
+///    needs more space. The other bytes stay in the buffer.
+/// 3. The rest of the slice is appended to the buffer.
 ///
-/// Bytes stay in the buffer until `hand_on` or `finish` is called.
+/// A slice of more than 4,096 bytes does not use the buffer. The bytes in the buffer are written to the sink, and then the slice.
+///
+/// A simpler output would write all bytes of its buffer before each slice that does not fit. Suppose that both outputs write to
+/// sinks that accept at most `n` bytes in each write, and that fail after `k` writes. Then this output writes at least as many
+/// bytes as the simpler one. A test checks this for some `n` and `k`, and no contract states it.
+///
+/// After the last slice, call `hand_on` or `finish`. Without this call, the bytes in the buffer are not written to the sink.
 #[derive(Drop)]
 pub struct Output<'k, K> {
     sink: &'k mut K,
@@ -39,7 +46,9 @@ impl<'k, K: Sink> Output<'k, K> {
         }
     }
 
-    /// Writes the bytes to the buffer. If they do not fit, writes bytes to the sink first.
+    /// Appends the bytes to the output. They go into the buffer if they fit, and otherwise the function also writes to the sink.
+    ///
+    /// Returns `RunError::Write` if a write fails.
     pub fn put(&mut self, bytes: &[u8]) -> Result<(), RunError>
         ensures { Puts K.contents K.failed self.old self.new result bytes.now }
     {

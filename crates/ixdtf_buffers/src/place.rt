@@ -11,8 +11,9 @@ const LANES: usize = 16;
 
 /// Returns the index of the first byte that is equal to `wanted`.
 ///
-/// The first byte is compared separately. If many fields or lines are empty, each comparison of many bytes would otherwise have
-/// to wait for the result of the comparison before it.
+/// The function compares `bytes[0]` on its own before it compares 16 bytes at once. In a text with many empty lines or fields,
+/// `bytes[0]` is often the wanted byte. The next search begins after the byte that was found. If the function found this byte by
+/// comparing 16 bytes at once, the processor could not begin the next search before it had the result of this comparison.
 pub fn place_of(wanted: u8, bytes: &[u8]) -> Option<usize>
     ensures place { result ≡ position (is_byte wanted) bytes.now }
     ensures within { IfSome result (λ place. place < length bytes.now) }
@@ -79,9 +80,10 @@ pub struct Passed {
     pub left: usize,
 }
 
-/// Skips bytes up to the byte number `count` that is equal to `wanted`, as far as this is possible in steps of `LANES` bytes.
+/// Skips bytes in steps of 16, as long as fewer than `count` of the skipped bytes are equal to `wanted`.
 ///
-/// The function stops before a step that contains this byte. It also stops if fewer than `LANES` bytes are left.
+/// For example, if `wanted` is `b','` and `count` is 3, the function stops before the step that contains the third comma. The
+/// function also stops if fewer than 16 bytes are left.
 pub fn pass_many(wanted: u8, count: usize, bytes: &[u8]) -> Passed
     ensures within { result.place ≤ length bytes.now }
     ensures passed { result.left + count_by (is_byte wanted) (take result.place bytes.now) ≡ count }

@@ -11,12 +11,16 @@ use ixdtf::records::Annotation;
 
 /// States that replying to listed annotations has the same outcome as a handler.
 ///
-/// A caller lists all annotations of a text, replies to them in order, and stops at the first reply that is refused.
+/// A caller lists all annotations of a text, replies to them in order, and stops at the first reply that is refused. A
+/// *beginning* of a list is any number of its elements, from the first one on.
 ///
-/// - `gives`, `wide_gives`: The text gives this outcome with the first of these annotations and the first of these replies.
-///   The definition of this relation is `GivesResult`. Its two cases are in the contracts of the readers with a handler.
-/// - `handling`, `wide_handling`: If the replies of a handler are the first of these replies, a reader of the same kind with
-///   this handler has the same outcome. The handler is called for the first of these annotations.
+/// - `gives`, `wide_gives`: The list of annotations has a beginning, and the list of replies has a beginning of the same length.
+///   The text with the annotations and the replies of these two beginnings gives the outcome of the caller. The relation *give*
+///   is `GivesResult`. It is `GivesRecord` for a record, and `GivesFault` for an error. The contracts of the readers with a
+///   handler refer to these two definitions.
+/// - `handling`, `wide_handling`: A reader of the same kind has a handler. Suppose that all replies of the handler, in order, are
+///   a beginning of the list of replies. Then the outcome of the reader is the outcome of the caller, and the reader called the
+///   handler for a beginning of the list of annotations.
 pub fn replying_is_handling<'a, T: EncodingType, F>()
 where
     T::CodeUnit: 'a,

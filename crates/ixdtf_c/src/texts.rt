@@ -30,7 +30,7 @@ use ixdtf_print::{
 
 /// A value of C that a printer of the library can print.
 pub trait HasText {
-    /// States that the reader returns this value for some text.
+    /// States that there is a text for which the reader returns this value. The reader is the one for values of this kind.
     ghost printable: { Self → Type 0 };
 
     /// The canonical text of the value.
@@ -54,21 +54,22 @@ pub trait HasText {
         ensures not_printable { ¬ (printable self.now) → result ≡ None };
 }
 
-/// A record that is printed as `ixdtf_parse_time` reads it: a time, and an offset, a zone and a calendar if they are present.
+/// A record that is printed as a time. Its offset, its zone and its calendar are printed too, if they are present.
+/// `ixdtf_parse_time` reads such texts.
 #[derive(Clone, Copy)]
 pub struct AsTime<'a> {
     pub record: &'a Record<'a>,
 }
 
-/// A record that is printed as `ixdtf_parse_year_month` reads it: a year and a month, and a zone and a calendar if they are
-/// present.
+/// A record that is printed as a year and a month. Its zone and its calendar are printed too, if they are present.
+/// `ixdtf_parse_year_month` reads such texts.
 #[derive(Clone, Copy)]
 pub struct AsYearMonth<'a> {
     pub record: &'a Record<'a>,
 }
 
-/// A record that is printed as `ixdtf_parse_month_day` reads it: a month and a day, and a zone and a calendar if they are
-/// present.
+/// A record that is printed as a month and a day. Its zone and its calendar are printed too, if they are present.
+/// `ixdtf_parse_month_day` reads such texts.
 #[derive(Clone, Copy)]
 pub struct AsMonthDay<'a> {
     pub record: &'a Record<'a>,

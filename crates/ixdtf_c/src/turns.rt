@@ -92,9 +92,9 @@ fn units_of<'a>(calendar: &Calendar<'a>) -> &'a [u8]
 /// Reads a date, or a date and a time, and calls the handler for each annotation, with the functions for C.
 ///
 /// This function calls [`ixdtf_parse_with_annotations`], passes each reply of the handler to [`ixdtf_reply`], and stops at the
-/// first reply that is refused. If the array is long enough for all annotations, the outcome is the one of
-/// `parse_with_annotation_handler`, without its position: `place` is always the one that [`ixdtf_parse_with_annotations`] wrote,
-/// also if a reply is refused. If the array is too short, the handler is not called.
+/// first reply that is refused. If the array is too short for all annotations, the handler is not called. Otherwise the outcome
+/// is the one of `parse_with_annotation_handler`. Only the position of an error can differ, because `place` is always the one
+/// that [`ixdtf_parse_with_annotations`] wrote, also if a reply is refused.
 ///
 /// After an error, the record is unchanged, except for `location` and `place`.
 pub fn parse_in_turn<'a, F>(

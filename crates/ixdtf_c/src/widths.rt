@@ -72,7 +72,8 @@ pub trait RecordOf<'a, T: EncodingType> {
     /// States that the second record is equal to the first, except for `location` and `place`.
     ghost same_but_error: { Self → Self → Type 0 };
 
-    /// Writes every field of the record. The fields of a part that is absent, `location` and `place` become 0, false or empty.
+    /// Writes every field of the record. If a part is absent, its fields become 0, false or empty. `location` becomes empty, and
+    /// `place` becomes 0.
     ///
     /// Each part is written directly to the record of the caller, in the match arm that reads it. It took sixty instructions
     /// more to build a record first and then to copy it.

@@ -1,4 +1,4 @@
-//! A reader that can read its first line ahead.
+//! A reader that can show its first line, and still returns this line to later reads.
 ghost use Rattle.std.specs.Prelude.{◌≤◌};
 
 use ixdtf_buffers::place::place_of;
@@ -8,8 +8,8 @@ use std::io::Read;
 /// The greatest number of bytes that are read ahead. A longer line is not accepted in any case.
 const ROOM: usize = 65536;
 
-/// A reader that can read the first line of another reader ahead. Its function `read` then returns all bytes of the other reader,
-/// and begins with the first line.
+/// A reader around another reader. The method `first_line` returns the first line of the other reader. After this call, `read`
+/// still returns all bytes of the other reader, from the beginning of the first line.
 #[derive(Drop)]
 pub struct Front<'r, R> {
     inner: &'r mut R,
@@ -33,8 +33,8 @@ impl<'r, R: Read> Front<'r, R> {
         }
     }
 
-    /// Reads the first line ahead, and returns it without its newline. If it has more than `ROOM` bytes, returns its first `ROOM`
-    /// bytes.
+    /// Reads the first line of the other reader, and returns it without its newline. If the line has more than 65,536 bytes, returns
+    /// its first 65,536 bytes.
     pub fn first_line(&mut self) -> io::Result<&[u8]> {
         for _ in 0..ROOM {
             if self.end == ROOM || place_of(b'\n', &self.bytes[..self.end]).is_some() {

@@ -74,7 +74,7 @@ const VERSION: &str = "ixdtf_check 0.6.7+rattle";
 struct Outcome {
     total: Tally,
     has_failed: bool,
-    /// The greatest number of reports about all files together, as the last request had it.
+    /// The greatest number of reports about all files together. `limit_reports` copies it from each request.
     most_reports: u64,
     /// Whether refused lines are reported.
     shows_refusals: bool,

@@ -28,8 +28,9 @@ use crate::skipped::kept_line;
 use crate::verdict::{Early, LINE_LIMIT, Reason, Refusal, Unread, Verdict};
 use ixdtf::{Instant, LocatedError};
 
-/// Writes the verdict on the line to `verdict`. The line is `None` if it is too long. `last` is the instant of the last earlier
-/// line that names one. If the text of this line names an instant and was read for it, `last` becomes this instant.
+/// Writes the verdict on the line to `verdict`. The line is `None` if it is too long. `last` is the instant of the nearest
+/// preceding line whose text names an instant. If the task is `Task::Order` and the text of this line names an instant, `last`
+/// becomes this instant.
 ///
 /// The verdict is written through a reference, and not returned. Most lines are accepted, and their verdict needs only one byte.
 pub fn judge<'a>(

@@ -90,7 +90,7 @@ pub enum InstantKind {
 }
 
 impl InstantKind {
-    /// Returns the same kind as an `InstantKind`. Returns `None` if no text of the kind can name an instant.
+    /// Converts the kind into an `InstantKind`. Returns `None` if no text of the kind can name an instant.
     pub fn of(kind: Kind) -> Option<InstantKind>
         ensures { result ≡ instant_kind kind }
     {

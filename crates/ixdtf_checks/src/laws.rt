@@ -10,7 +10,7 @@ use ixdtf_buffers::memory::{MemorySink, MemorySource};
 
 /// Checks each line of the bytes, and writes the reports to an empty sink in memory.
 ///
-/// Only a write can fail. Then the sink is full, and its bytes are a prefix of the reports.
+/// The only possible error is that of a write. After this error, the sink is full, and its bytes are a prefix of the reports.
 pub fn check_in_memory<const SIZE: usize>(
     bytes: &[u8],
     sink: &mut MemorySink<SIZE>,

@@ -22,7 +22,7 @@ const FROM_PLACE: usize = 24;
 /// The greatest number of bytes of a report after the name of the file.
 ///
 /// The line and the column have at most 44 bytes, a message has at most 70 bytes, and the lines under it have at most 345 bytes.
-/// The lines have 72 characters of four bytes, a mark of two bytes at each end, a newline, 50 spaces, `^` and a newline.
+/// The lines have `..`, 72 characters of four bytes, `..`, a newline, 50 spaces, `^` and a newline.
 pub const ROOM: usize = 459;
 
 /// A newline, and the greatest number of spaces before a mark.
@@ -45,7 +45,8 @@ const LEAD: u8 = 0xC2;
 
 /// Adds the lines under a message, if the bytes are UTF-8. Returns the index after the added bytes.
 ///
-/// If all bytes near the position are ASCII, they are the part that is shown.
+/// At most 48 bytes before the position, and at most 24 from it on, are tested first. If all of them are ASCII, they are the part
+/// that is shown.
 pub fn add_lines(room: &mut [u8; ROOM], at: usize, bytes: &[u8], place: usize) -> usize
     requires { at + 345 ≤ 459 }
     ensures place { result ≤ 459 }

@@ -10,12 +10,12 @@ pub enum Task {
     Check(Kind),
     /// The text is read as a text of this kind, and its canonical text is written.
     Print(Kind),
-    /// The text is read as a text of this kind. It has to name an instant, and this instant must not be before the instant of the
-    /// last earlier line that names one.
+    /// The text is read as a text of this kind. It has to name an instant. This instant must not be before the previous instant.
+    /// The previous instant is that of the nearest preceding line whose text names an instant.
     Order(InstantKind),
 }
 
-/// The field of a line that is its text, or with which its text begins.
+/// Says which field of a line is the text that is read, or with which field this text begins.
 #[derive(Clone, Copy, Debug, PartialEq)]
 pub struct Field {
     /// The number of fields before it.
@@ -57,11 +57,11 @@ pub struct Request<'n> {
     pub task: Task,
     /// The profile that the readers use.
     pub profile: Profile,
-    /// The field of a line that is its text, or with which its text begins. If it is `None`, the complete line is the text.
+    /// Says which field of a line is the text that is read, or with which field this text begins. If this is `None`, the complete line is the text.
     pub field: Option<Field>,
     /// Which lines are skipped. If it is `None`, no line is skipped.
     pub skips: Option<Skips>,
-    /// The greatest number of reports about refused lines. Only the first refused lines have a report.
+    /// The greatest number of reports about refused lines. If it is `n`, only the first `n` refused lines can have a report.
     pub most_reports: u64,
     /// Whether no report is written about a refused line.
     pub is_quiet: bool,

@@ -13,8 +13,8 @@ pub const LINE_LIMIT: usize = 65536;
 pub enum Verdict<'a> {
     /// The text of the line is accepted.
     Accepted,
-    /// The text of the line is accepted, and names this instant. The instant is not before that of the last earlier line that names
-    /// one.
+    /// The text of the line is accepted, and names this instant. The instant is not before the previous instant. The previous
+    /// instant is that of the nearest preceding line whose text names an instant.
     Timed(Instant),
     /// The text of the line is accepted, and its canonical text is printed.
     Printed,
@@ -52,7 +52,8 @@ pub enum Reason<'a> {
     Spaced(Unread<'a>),
     /// This text of the line is accepted, but does not name an instant.
     NoInstant(&'a [u8]),
-    /// The text of the line names an instant before that of the last earlier line that names one.
+    /// The text of the line names an instant that is before the previous instant. The previous instant is that of the nearest
+    /// preceding line whose text names an instant.
     Early(Early<'a>),
 }
 
@@ -67,7 +68,8 @@ pub struct Unread<'a> {
     pub ghost short: { length (message_of (fault_of_located error)) ≤ 69 },
 }
 
-/// A text that names an instant before that of the last earlier line that names one.
+/// A text that names an instant before the previous instant. The previous instant is that of the nearest preceding line whose text
+/// names an instant.
 #[derive(Clone, Copy)]
 pub struct Early<'a> {
     /// The instant that the text names.

@@ -1,4 +1,4 @@
--- What the functions of the code use.
+-- Lemmas that the proofs of the functions of the code use.
 pub mod DurationFractions
 pub mod DurationGroups
 pub mod DurationLetters

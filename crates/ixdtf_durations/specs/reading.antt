@@ -1,2 +1,2 @@
--- Reading: functions on texts in the shape of the code, which private clauses cite. No public clause cites one.
+-- Statements about the reading functions of durations. Private clauses refer to them, public clauses do not.
 pub mod DurationClauses

@@ -53,8 +53,10 @@ fn date_rank(letter: u8) -> u8
     DATE_RANKS[letter as usize]
 }
 
-/// Consumes the letter of a date unit after a number. Returns its rank if it is at least `least`, and the number is in
-/// the range of the unit. Any other code unit is not consumed.
+/// Consumes the letter of a date unit after a number, and returns the rank of the unit.
+///
+/// Returns `AbruptDateDesignator` at any other code unit, which is not consumed. Returns `DateDurationPartOrder` if the
+/// rank is less than `least`, and `DurationValueExceededRange` if the number is too great for the unit.
 #[inline(always)]
 #[tactic(auto, using(crate::proofs::code::DurationSteps::letters_left))]
 fn take_date_unit<'a, T: EncodingType>(

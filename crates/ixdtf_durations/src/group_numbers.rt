@@ -1,4 +1,4 @@
-//! The number of a group: digits, and the code unit after them.
+//! Functions that read the number of a group, and store it.
 
 ghost use Rattle.std.specs.Prelude.{◌≡◌, ◌+◌, ◌-◌, ◌*◌, ◌≤◌, ◌<◌, length, nat_le, slice_set, OnOk, IfOk, IsTrue};
 ghost use Rattle.ixdtf_grammar.specs.language.Letters.{digit};
@@ -36,8 +36,11 @@ fn add_digit(value: u64, byte: u8) -> Result<u64, Stop>
     }
 }
 
-/// Consumes the digits of a number after the first one. Returns the number, and the code unit after it, which is not
-/// consumed. Returns `end` at the end of the input.
+/// Consumes the digits of a number after the first one.
+///
+/// Returns the number, and the code unit after it, which is not consumed. Returns `end` at the end of the input,
+/// `NonAsciiCodePoint` at a bad code unit, and `DurationValueExceededRange` after the digit with which the number
+/// becomes 2^64 or more.
 #[inline(always)]
 pub fn parse_number<'a, T: EncodingType>(
     cursor: &mut Cursor<'a, T>,
@@ -62,7 +65,7 @@ pub fn parse_number<'a, T: EncodingType>(
     Err(end)
 }
 
-/// Stores the number of a group at the rank of its unit.
+/// Stores the number of a group in `values`. The index is the rank of the unit of the group.
 #[inline(always)]
 pub fn keep_number(values: &mut [u64], rank: u8, number: u64)
     requires { rank < length values.old }

@@ -7,8 +7,8 @@
 //! - `date_groups` reads the date part, and `time_groups` the time part. Both use `group_numbers`.
 //! - `duration` puts the two parts together.
 //!
-//! For callers, this crate proves a complete reader: the result is `Ok` exactly if the grammar derives the text, and
-//! otherwise the error of the one row that fits.
+//! For callers, this crate proves what the reader returns. The result is `Ok` exactly if the grammar derives a value from
+//! the text. Otherwise the result is the error of the one row of the fault table that fits the text.
 #![tactic(auto)]
 
 mod date_groups;

@@ -56,9 +56,8 @@ pub enum ParseError {
     /// - `Duration`: a duration ends after its `P`.
     /// - `DateDurationDesignator`: in the date part of a duration, the letter of a date unit does not follow the digits of
     ///   a number. This is also the location if the text ends there.
-    /// - `TimeDurationDesignator`: in the time part of a duration, neither a fraction nor the letter of a time unit follows
-    ///   the digits of a number, or this letter does not follow the digits of a fraction. This is also the location if the
-    ///   text ends there.
+    /// - `TimeDurationDesignator`: in the time part of a duration, the letter of a time unit is missing after a number, with or
+    ///   without a fraction. This is also the location if the text ends there.
     AbruptEnd {
         /// What was being parsed.
         location: &'static str,
@@ -67,7 +66,7 @@ pub enum ParseError {
     /// month and a day, a time, an offset, a bracket or a duration.
     ///
     /// If the text must be only a name, a `]` after the name has this error. In a duration, a character after the `P`
-    /// that is neither a digit nor a `T` has this error.
+    /// that is neither a digit nor `T` or `t` has this error.
     InvalidEnd,
     /// The month is not 01 to 12.
     InvalidMonthRange,
@@ -90,7 +89,7 @@ pub enum ParseError {
     /// No reader returns this error.
     TimeRequired,
     /// The hour of a time or of an offset contains a character that is not a digit, or is greater than 23. In
-    /// `parse_time`, this is also the error if the text begins with a character that is neither a digit nor a `T`.
+    /// `parse_time`, this is also the error if the text begins with a character that is neither a digit nor `T` or `t`.
     TimeHour,
     /// The minute of a time, or the minute or the second of an offset, contains a character that is not a digit, or is
     /// greater than 59.
@@ -124,7 +123,8 @@ pub enum ParseError {
     /// In a bracket that is not the first one, the key begins with a character that cannot begin a key. This is also
     /// the error if the text ends there.
     AnnotationKeyLeadingChar,
-    /// The key of an annotation contains a character that a key cannot contain, and that is not the `=` after it.
+    /// The key of an annotation contains a character that a key cannot contain. This is not the error of the `=` after
+    /// the key.
     AnnotationKeyChar,
     /// In the value of an annotation, no ASCII letter or digit follows a hyphen. This is also the error if the text
     /// ends there.
@@ -132,9 +132,9 @@ pub enum ParseError {
     /// The value of an annotation contains a character that a value cannot contain, and that is not the `]` after it.
     /// This is also the error if no ASCII letter or digit follows the `=`, or if the text ends after the `=`.
     AnnotationValueChar,
-    /// A colon or a digit follows the minute of an offset that must not have seconds: an offset in brackets, or for
-    /// `parse_identifier`. In `parse_rfc9557`, this is also the error of an offset in brackets that does not have the
-    /// form `+05:30`.
+    /// A colon or a digit follows the minute of an offset that must not have seconds. An offset in brackets must not have
+    /// seconds, and an offset that `parse_identifier` reads must not have them either. In `parse_rfc9557`, this is
+    /// also the error of an offset in brackets that does not have the form `+05:30`.
     InvalidMinutePrecisionOffset,
     /// An annotation with the key `u-ca` has another value than the first annotation with this key, and at least one of
     /// the two is critical. With a handler, this is about the annotations that the handler returned.
@@ -145,8 +145,8 @@ pub enum ParseError {
     /// A time zone begins with a character that cannot begin a time zone. For `parse_iana_identifier`, this is also the
     /// error of the empty text.
     TzLeadingChar,
-    /// In the name of a time zone, a `/` is not followed by a character of a name. This is also the error if the text
-    /// ends there.
+    /// In the name of a time zone, a `/` is followed by another `/`, by a character that a name cannot contain, or by the
+    /// end of the text.
     IanaCharPostSeparator,
     /// The name of a time zone contains a character that a name cannot contain, and that is not the `]` of its bracket.
     /// In `parse_rfc9557`, this is also the error of a name that RFC 9557 does not allow, such as `a/1` or `..`.
@@ -159,8 +159,8 @@ pub enum ParseError {
     OffsetNeedsSign,
     /// A month and a day begin with one hyphen and another character. Two hyphens or none are allowed.
     MonthDayHyphen,
-    /// A duration begins with a character that is neither a sign nor a `P`, or its sign is followed by another
-    /// character than `P`.
+    /// A duration begins with a character that is neither a sign nor `P` or `p`, or its sign is followed by
+    /// another character than `P` or `p`.
     DurationDisgnator,
     /// A number of a duration is 2^64 or more, or the number of its years, months or weeks is 2^32 or more.
     DurationValueExceededRange,

@@ -26,9 +26,12 @@ impl<'a, T: EncodingType> IxdtfParseRecord<'a, T> {
     ///   and a zone, this method does not check that the zone has this offset at this time. If the zone is critical, the
     ///   caller must check it (RFC 9557, section 3.4).
     /// - A program can also make a record that no reader returns. If the month is not from 1 to 12, the result is `None`. If
-    ///   the month does not have the day, the days are counted on from the first day of the month: 31 February counts as
-    ///   3 March, or as 2 March in a leap year. Hours above 23 and minutes above 59 are counted on in the same way. A
-    ///   second above 59 counts as 59.
+    ///   the month does not have the day, the days are counted from the first day of the month: 31 February is 30 days
+    ///   after 1 February, so it counts as 3 March, or as 2 March in a leap year. In the same way, hours above 23 are
+    ///   counted from the beginning of the day, and minutes above 59 from the beginning of the hour. A second above 59
+    ///   counts as 59.
+    ///
+    /// # Examples
     ///
     /// ```rust
     /// use ixdtf::Instant;

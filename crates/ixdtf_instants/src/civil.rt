@@ -1,4 +1,4 @@
-//! The date with a day number.
+//! The date that has a given day number.
 
 ghost use Rattle.std.specs.Prelude.{◌≡◌, ◌+◌, ◌-◌, ◌*◌, ◌/◌, ◌<◌, ◌≤◌, pos, neg_ℤ, ◌+ℤ◌, ◌≤ℤ◌};
 ghost use Rattle.ixdtf_instants.specs.Calendar.{IsCivilDate, day_number_of};

@@ -19,7 +19,7 @@ const BILLION: u32 = 1_000_000_000;
 ///
 /// The fields are public, so a program can make an instant that no record has. If its year has more than six digits, `Display`
 /// writes a sign and twelve digits, and no reader accepts this text. If the nanoseconds are 1,000,000,000 or more, `Display`
-/// carries them over to the seconds.
+/// adds the complete seconds in them to the seconds.
 #[derive(Clone, Copy, Debug, PartialEq, Eq, PartialOrd, Ord, Hash)]
 pub struct Instant {
     /// The complete seconds since 1970-01-01T00:00:00Z, rounded down. The number is below zero for an instant before 1970.

@@ -4,7 +4,8 @@
 //! which re-exports [`Instant`].
 //!
 //! - `specs/Calendar` defines the number of a day. It adds up the lengths of the years and the months before a date.
-//! - `specs/CivilDates` defines the date with a day number. It goes from 1 January 1970 to this date, day by day.
+//! - `specs/CivilDates` defines the date that has a given day number. The definition counts day by day from
+//!   1 January 1970 to this date.
 //! - `specs/Counts` defines the number of nanoseconds from 1970-01-01T00:00:00Z to an instant.
 //! - `specs/Texts` defines the text of an instant.
 #![tactic(auto)]

@@ -16,3 +16,4 @@ pub mod SharedTexts
 pub mod ShortCores
 pub mod ShortDurations
 pub mod ShortErrors
+pub mod WideTexts

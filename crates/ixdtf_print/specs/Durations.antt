@@ -43,6 +43,13 @@ time_units_text (Hours hours fraction) = last_text hours fraction 72
 time_units_text (Minutes hours minutes fraction) = unit_text hours 72 ++ last_text minutes fraction 77
 time_units_text (Seconds hours minutes seconds fraction) = unit_text hours 72 ++ (unit_text minutes 77 ++ last_text seconds fraction 83)
 
+-- The fraction of the last duration unit of a time, if there is one.
+abbrev pub last_fraction : Option TimeDurationRecord → Option FractionParts
+last_fraction None = None
+last_fraction (Some (Hours hours fraction)) = fraction
+last_fraction (Some (Minutes hours minutes fraction)) = fraction
+last_fraction (Some (Seconds hours minutes seconds fraction)) = fraction
+
 -- The text is `T` and the time, if there is one.
 abbrev pub time_part_text : Option TimeDurationRecord → Text
 time_part_text None = []

@@ -1,8 +1,10 @@
 //! Date-times printed as their canonical texts.
 ghost use Rattle.std.specs.Prelude.{◌≡◌, ◌↔◌, ◌<◌, ◌≤◌, ◌^◌, length, map, take, drop, IfOk, IfSome, OnErr, OnOk, OnSome, Err, None};
+ghost use Rattle.ixdtf.specs.Widths.{wide_text};
 ghost use Rattle.ixdtf.specs.language.Letters.{byte_letter};
 ghost use Rattle.ixdtf_print.specs.Canonical.{canonical_text};
 ghost use Rattle.ixdtf_print.specs.Printable.{IsPrintable, IsReadBack, record_of};
+ghost use Rattle.ixdtf_print.specs.Printing.{PrintsOrRefuses};
 ghost use Rattle.ixdtf_print.specs.Shown.{shown_text};
 
 use crate::check::is_spelled;
@@ -10,16 +12,24 @@ use crate::error::PrintError;
 use crate::fields::put_core;
 use crate::length::{core_length, has_plenty};
 use crate::text::{self, CanonicalText, Tail, length_of_parts};
-use ixdtf::encoding::Utf8;
+use crate::wide_names::{self, print_bracketed, without_names};
+use ixdtf::encoding::{Utf8, Utf16};
 use ixdtf::records::IxdtfParseRecord;
 use std::fmt;
 
-/// Writes the canonical text of the record to the beginning of the slice, such as `2024-03-02T08:48:00Z[u-ca=hebrew]`.
+/// Writes the canonical text of the record, such as `2024-03-02T08:48:00Z`, to the beginning of the slice.
 ///
-/// The canonical text has these parts, if the record has them: the date; the time, with its seconds; the offset, with
-/// or without seconds as it was written; the zone, with its `!` if it is critical; and the calendar. Some parts of a parsed text are not
-/// in the record, and so not in the canonical text: the `!` of a calendar, and all other annotations. Digits of a
-/// fraction after the first 18 are written as zeros.
+/// The canonical text has these parts, if the record has them:
+///
+/// - the date;
+/// - the time, with its seconds;
+/// - the offset, with seconds only if the record has them;
+/// - the zone, with its `!` if it is critical;
+/// - the calendar.
+///
+/// Some parts of a parsed text are not in the record, and so not in the canonical text: the `!` of a calendar, and all
+/// annotations other than the zone and the calendar of the record. Digits of a fraction after the first 18 are written as
+/// zeros.
 ///
 /// A record of `parse_year_month` has the first day of the month, so this function writes `2020-11-01` for `2020-11`. A
 /// record of `parse_month_day` has the year 0, so this function writes `0000-11-07` for `11-07`. A record of `parse_time`
@@ -55,8 +65,8 @@ use std::fmt;
 ///
 /// After an error, the slice is unchanged.
 ///
-/// - [`PrintError::NotPrintable`]: the record has no canonical text. It has no date, or an offset without a time, or a field
-///   whose value no text has.
+/// - [`PrintError::NotPrintable`]: the record has no canonical text. It has no date, or an offset without a time, or a value
+///   that `parse` never returns, such as the month 13 or February 30.
 /// - [`PrintError::TooShort`]: the slice is shorter than the canonical text.
 pub fn print(parsed: &IxdtfParseRecord<'_, Utf8>, out: &mut [u8]) -> Result<usize, PrintError>
     ensures count { IfOk result
@@ -74,6 +84,48 @@ pub fn print(parsed: &IxdtfParseRecord<'_, Utf8>, out: &mut [u8]) -> Result<usiz
     ensures unchanged { OnErr result (out.new ≡ out.old) }
 {
     text::print(Canonical { parsed }, out)
+}
+
+/// Writes the canonical text of the record as 16-bit code units, like [`print`](crate::print).
+///
+/// The record is one that [`IxdtfParser::parse`](ixdtf::parsers::IxdtfParser::parse) returns for 16-bit
+/// text. Each code unit is the number of an ASCII character, so `from_utf16` makes a parser that reads the text. The number of
+/// code units is the number of bytes that `print` writes for the same fields.
+///
+/// # Examples
+///
+/// ```rust
+/// use ixdtf::parsers::IxdtfParser;
+/// use ixdtf_print::{PrintError, print_utf16};
+///
+/// let text = "20240302 084800z[!Europe/Paris][!u-ca=hebrew][a=b]";
+/// let text: Vec<u16> = text.encode_utf16().collect();
+/// let record = IxdtfParser::from_utf16(&text).parse().unwrap();
+/// let mut out = [0; 64];
+/// let count = print_utf16(&record, &mut out).unwrap();
+/// let printed = String::from_utf16(&out[..count]).unwrap();
+/// assert_eq!(printed, "2024-03-02T08:48:00Z[!Europe/Paris][u-ca=hebrew]");
+/// assert_eq!(print_utf16(&record, &mut [0; 8]), Err(PrintError::TooShort));
+/// ```
+///
+/// # Errors
+///
+/// After an error, the slice is unchanged.
+///
+/// - [`PrintError::NotPrintable`]: the record has no canonical text. It has no date, or an offset without a time, or a field
+///   whose value no text has, such as a name with a code unit that is not ASCII.
+/// - [`PrintError::TooShort`]: the slice is shorter than the canonical text.
+#[inline]
+pub fn print_utf16(
+    parsed: &IxdtfParseRecord<'_, Utf16>,
+    out: &mut [u16],
+) -> Result<usize, PrintError>
+    ensures prints { PrintsOrRefuses (IsPrintable (record_of parsed.now)) (canonical_text (record_of parsed.now)) out.old out.new result }
+    ensures wide { IfOk result (λ n. wide_text (take n out.new) ≡ canonical_text (record_of parsed.now)) }
+    ensures read_back { OnOk result (IsReadBack (record_of parsed.now)) }
+{
+    let core = without_names(parsed);
+    print_bracketed(Canonical { parsed: &core }, parsed, out)
 }
 
 /// Writes the canonical text of the record to the beginning of a slice that is long enough, like [`print`]. Returns the
@@ -118,6 +170,32 @@ pub fn printed_length(parsed: &IxdtfParseRecord<'_, Utf8>) -> Option<usize>
     text::printed_length(Canonical { parsed })
 }
 
+/// Returns the number of code units of the canonical text of a record that was read from 16-bit text.
+///
+/// A slice of this length is long enough for [`print_utf16`](crate::print_utf16). Returns `None` if the record has no
+/// canonical text, or if its text is longer than any slice.
+///
+/// # Examples
+///
+/// ```rust
+/// use ixdtf::parsers::IxdtfParser;
+/// use ixdtf_print::printed_length_utf16;
+///
+/// let text: Vec<u16> = "20240302 084800z[u-ca=hebrew]".encode_utf16().collect();
+/// let record = IxdtfParser::from_utf16(&text).parse().unwrap();
+/// assert_eq!(printed_length_utf16(&record), Some("2024-03-02T08:48:00Z[u-ca=hebrew]".len()));
+/// ```
+#[inline]
+pub fn printed_length_utf16(parsed: &IxdtfParseRecord<'_, Utf16>) -> Option<usize>
+    ensures length { IfSome result (λ n. n ≡ length (canonical_text (record_of parsed.now))) }
+    ensures printable { OnSome result (IsPrintable (record_of parsed.now)) }
+    ensures none { (result ≡ None) ↔ ¬ (IsPrintable (record_of parsed.now) ×
+        (length (canonical_text (record_of parsed.now)) < 2 ^ 64)) }
+{
+    let core = without_names(parsed);
+    wide_names::printed_length(Canonical { parsed: &core }, parsed)
+}
+
 /// Returns the number of bytes of the canonical text of the record.
 // Only other crates of this repository use this item. It is not part of the public interface.
 #[doc(hidden)]
@@ -127,7 +205,7 @@ pub fn length_of(parsed: &IxdtfParseRecord<'_, Utf8>) -> u128
     text::length(Canonical { parsed })
 }
 
-/// A record that `Display` writes as its canonical text, such as `2024-03-02T08:48:00Z[u-ca=hebrew]`.
+/// A value that displays the canonical text of a record, such as `2024-03-02T08:48:00Z`.
 ///
 /// This is the text that [`print`](crate::print) writes into a slice. `Display` does not allocate, and ignores width
 /// and fill.

@@ -40,7 +40,7 @@ fn is_day_time(time: TimeRecord) -> bool
 }
 
 /// Returns whether the numbers are an offset with hours and minutes.
-fn is_minute_clock(offset: MinutePrecisionOffset) -> bool
+pub fn is_minute_clock(offset: MinutePrecisionOffset) -> bool
     ensures { IsTrue result ↔ IsMinuteClock offset }
 {
     offset.hour <= 23 && offset.minute <= 59

@@ -1,6 +1,7 @@
 //! Months and days printed as their canonical texts.
-ghost use Rattle.std.specs.Prelude.{◌≡◌, ◌↔◌, ◌<◌, ◌≤◌, ◌^◌, IsTrue, length, map, IfSome, OnSome, OnOk, None};
+ghost use Rattle.std.specs.Prelude.{◌≡◌, ◌↔◌, ◌<◌, ◌≤◌, ◌^◌, IsTrue, length, map, IfSome, OnSome, OnOk, None, take, IfOk};
 ghost use Rattle.ixdtf_grammar.specs.declared.profile.Profile.TheVariants.{Crate};
+ghost use Rattle.ixdtf.specs.Widths.{wide_text};
 ghost use Rattle.ixdtf.specs.language.Letters.{byte_letter};
 ghost use Rattle.ixdtf_print.specs.Printable.{record_of};
 ghost use Rattle.ixdtf_print.specs.Printing.{PrintsOrRefuses};
@@ -14,12 +15,13 @@ use crate::digits::put_two;
 use crate::error::PrintError;
 use crate::put::put_byte;
 use crate::text::{self, CanonicalText, Tail};
-use ixdtf::encoding::Utf8;
+use crate::wide_names::{self, print_bracketed, without_names};
+use ixdtf::encoding::{Utf8, Utf16};
 use ixdtf::parsers::days_in_month;
 use ixdtf::records::{DateRecord, IxdtfParseRecord, TimeRecord, UtcOffsetRecordOrZ};
 use std::fmt;
 
-/// Writes the canonical text of a month and a day to the beginning of the slice, such as `11-07[u-ca=hebrew]`.
+/// Writes the canonical text of a month and a day, such as `11-07[u-ca=hebrew]`, to the beginning of the slice.
 ///
 /// The record is one that [`IxdtfParser::parse_month_day`](ixdtf::parsers::IxdtfParser::parse_month_day) returns. The
 /// canonical text has the month and the day, without hyphens before them. If the record has a zone or a calendar,
@@ -58,7 +60,7 @@ use std::fmt;
 /// After an error, the slice is unchanged.
 ///
 /// - [`PrintError::NotPrintable`]: the record has no canonical text. It has no date, or another year than 0, or a time, or
-///   an offset, or a field whose value no text has.
+///   an offset, or a value that `parse_month_day` never returns, such as the month 13.
 /// - [`PrintError::TooShort`]: the slice is shorter than the canonical text.
 pub fn print_month_day(
     parsed: &IxdtfParseRecord<'_, Utf8>,
@@ -68,6 +70,46 @@ pub fn print_month_day(
     ensures read_back { OnOk result (IsMonthDayReadBack (record_of parsed.now)) }
 {
     text::print(CanonicalMonthDay { parsed }, out)
+}
+
+/// Writes the canonical text of a month and a day as 16-bit code units, like [`print_month_day`](crate::print_month_day).
+///
+/// The record is one that [`IxdtfParser::parse_month_day`](ixdtf::parsers::IxdtfParser::parse_month_day) returns for 16-bit
+/// text. Each code unit is the number of an ASCII character, so `from_utf16` makes a parser that reads the text. The number of
+/// code units is the number of bytes that `print_month_day` writes for the same fields.
+///
+/// # Examples
+///
+/// ```rust
+/// use ixdtf::parsers::IxdtfParser;
+/// use ixdtf_print::{PrintError, print_month_day_utf16};
+///
+/// let text: Vec<u16> = "--1107[!Europe/Paris]".encode_utf16().collect();
+/// let record = IxdtfParser::from_utf16(&text).parse_month_day().unwrap();
+/// let mut out = [0; 64];
+/// let count = print_month_day_utf16(&record, &mut out).unwrap();
+/// assert_eq!(String::from_utf16(&out[..count]).unwrap(), "11-07[!Europe/Paris]");
+/// assert_eq!(print_month_day_utf16(&record, &mut [0; 4]), Err(PrintError::TooShort));
+/// ```
+///
+/// # Errors
+///
+/// After an error, the slice is unchanged.
+///
+/// - [`PrintError::NotPrintable`]: the record has no canonical text. It has no date, or another year than 0, or a time, or
+///   an offset, or a field whose value no text has.
+/// - [`PrintError::TooShort`]: the slice is shorter than the canonical text.
+#[inline]
+pub fn print_month_day_utf16(
+    parsed: &IxdtfParseRecord<'_, Utf16>,
+    out: &mut [u16],
+) -> Result<usize, PrintError>
+    ensures prints { PrintsOrRefuses (IsPrintableMonthDay (record_of parsed.now)) (month_day_text (record_of parsed.now)) out.old out.new result }
+    ensures wide { IfOk result (λ n. wide_text (take n out.new) ≡ month_day_text (record_of parsed.now)) }
+    ensures read_back { OnOk result (IsMonthDayReadBack (record_of parsed.now)) }
+{
+    let core = without_names(parsed);
+    print_bracketed(CanonicalMonthDay { parsed: &core }, parsed, out)
 }
 
 /// Returns the number of bytes of the canonical text of a month and a day.
@@ -93,7 +135,33 @@ pub fn month_day_length(parsed: &IxdtfParseRecord<'_, Utf8>) -> Option<usize>
     text::printed_length(CanonicalMonthDay { parsed })
 }
 
-/// A record of a month and a day that `Display` writes as its canonical text, such as `11-07[u-ca=hebrew]`.
+/// Returns the number of code units of the canonical text of a month and a day that was read from 16-bit text.
+///
+/// A slice of this length is long enough for [`print_month_day_utf16`](crate::print_month_day_utf16). Returns `None` if the record has no
+/// canonical text, or if its text is longer than any slice.
+///
+/// # Examples
+///
+/// ```rust
+/// use ixdtf::parsers::IxdtfParser;
+/// use ixdtf_print::month_day_length_utf16;
+///
+/// let text: Vec<u16> = "--1107[u-ca=hebrew]".encode_utf16().collect();
+/// let record = IxdtfParser::from_utf16(&text).parse_month_day().unwrap();
+/// assert_eq!(month_day_length_utf16(&record), Some("11-07[u-ca=hebrew]".len()));
+/// ```
+#[inline]
+pub fn month_day_length_utf16(parsed: &IxdtfParseRecord<'_, Utf16>) -> Option<usize>
+    ensures length { IfSome result (λ n. n ≡ length (month_day_text (record_of parsed.now))) }
+    ensures printable { OnSome result (IsPrintableMonthDay (record_of parsed.now)) }
+    ensures none { (result ≡ None) ↔ ¬ (IsPrintableMonthDay (record_of parsed.now) ×
+        (length (month_day_text (record_of parsed.now)) < 2 ^ 64)) }
+{
+    let core = without_names(parsed);
+    wide_names::printed_length(CanonicalMonthDay { parsed: &core }, parsed)
+}
+
+/// A value that displays the canonical text of a month and a day, such as `11-07`.
 ///
 /// This is the text that [`print_month_day`](crate::print_month_day) writes into a slice. `Display` does not allocate, and ignores
 /// width and fill.

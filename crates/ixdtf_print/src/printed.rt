@@ -52,7 +52,7 @@ impl<const SIZE: usize> PrintedText<SIZE> {
         PrintedText { bytes, count: 0 }
     }
 
-    /// Prints the record. Its text replaces the text before.
+    /// Prints the record. Its text replaces the previous text.
     pub fn print(&mut self, parts: &IxdtfParseRecord<'_, Utf8>)
         requires { FitsArray SIZE (record_of parts.now) }
         ensures { map byte_letter self.new ≡ canonical_text (record_of parts.now) }
@@ -62,7 +62,7 @@ impl<const SIZE: usize> PrintedText<SIZE> {
         self.count = count;
     }
 
-    /// Prints a duration that a reader returned. Its text replaces the text before.
+    /// Prints a duration that a reader returned. Its text replaces the previous text.
     pub fn print_duration(&mut self, duration: &DurationParseRecord)
         requires printable { IsPrintableDuration duration.now }
         requires fits { length (duration_text duration.now) < SIZE }
@@ -74,7 +74,7 @@ impl<const SIZE: usize> PrintedText<SIZE> {
         }
     }
 
-    /// Prints an offset that a reader returned. Its text replaces the text before.
+    /// Prints an offset that a reader returned. Its text replaces the previous text.
     pub fn print_offset(&mut self, offset: &UtcOffsetRecord)
         requires printable { IsPrintableOffset offset.now }
         requires fits { length (utc_offset_text offset.now) < SIZE }
@@ -86,7 +86,7 @@ impl<const SIZE: usize> PrintedText<SIZE> {
         }
     }
 
-    /// Prints a zone that a reader returned. Its text replaces the text before.
+    /// Prints a zone that a reader returned. Its text replaces the previous text.
     pub fn print_zone(&mut self, zone: &TimeZoneRecord<'_, Utf8>)
         requires printable { IsPrintableZone (zone_in zone.now) }
         requires fits { length (zone_text (zone_in zone.now)) < SIZE }
@@ -98,7 +98,7 @@ impl<const SIZE: usize> PrintedText<SIZE> {
         }
     }
 
-    /// Prints a time that a reader returned. Its text replaces the text before.
+    /// Prints a time that a reader returned. Its text replaces the previous text.
     pub fn print_time(&mut self, parts: &IxdtfParseRecord<'_, Utf8>)
         requires printable { IsPrintableTime (record_of parts.now) }
         requires fits { length (lone_time_text (record_of parts.now)) < SIZE }
@@ -110,7 +110,7 @@ impl<const SIZE: usize> PrintedText<SIZE> {
         }
     }
 
-    /// Prints a record of a year and a month that a reader returned. Its text replaces the text before.
+    /// Prints a record of a year and a month that a reader returned. Its text replaces the previous text.
     pub fn print_year_month(&mut self, parts: &IxdtfParseRecord<'_, Utf8>)
         requires printable { IsPrintableYearMonth (record_of parts.now) }
         requires fits { length (year_month_text (record_of parts.now)) < SIZE }
@@ -122,7 +122,7 @@ impl<const SIZE: usize> PrintedText<SIZE> {
         }
     }
 
-    /// Prints a record of a month and a day that a reader returned. Its text replaces the text before.
+    /// Prints a record of a month and a day that a reader returned. Its text replaces the previous text.
     pub fn print_month_day(&mut self, parts: &IxdtfParseRecord<'_, Utf8>)
         requires printable { IsPrintableMonthDay (record_of parts.now) }
         requires fits { length (month_day_text (record_of parts.now)) < SIZE }

@@ -85,8 +85,8 @@ pub fn length<T: CanonicalText>(text: T) -> u128
 
 /// Returns the number of bytes of a core and a tail.
 ///
-/// A method of the trait calls this function, because it cannot call `length`: a call of `length` could lead back to the
-/// method.
+/// The method `is_too_short` of the trait calls this function, and not `length`. The reason is that `length` calls other methods
+/// of the trait. In an implementation, these methods could call `is_too_short`.
 #[inline(always)]
 pub fn length_of_parts(core_length: u16, tail: Tail<'_>) -> u128
     ensures { result ≡ core_length + length (tail_text tail.entry) }
@@ -148,14 +148,14 @@ pub fn print_utf16<T: CanonicalText>(text: T, out: &mut [u16]) -> Result<usize, 
 }
 
 /// Writes the core as 16-bit code units at the beginning of the slice. Returns the index after it.
-fn put_core_utf16<T: CanonicalText>(text: T, out: &mut [u16]) -> usize
+pub fn put_core_utf16<T: CanonicalText>(text: T, out: &mut [u16]) -> usize
     requires { HasRoom out.old 0 (T.core text) }
     ensures { Prints out.old out.new 0 result (T.core text) }
 {
     let count = usize::from(text.core_length());
     let mut bytes = [0; MOST_OF_CORE];
     text.put_core(&mut bytes);
-    put_wide(out, front_of(&bytes, count))
+    put_wide(out, 0, front_of(&bytes, count))
 }
 
 /// Returns the length of the canonical text, if there is one and a `usize` can hold its length.

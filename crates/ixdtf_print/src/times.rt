@@ -1,5 +1,6 @@
 //! Times printed as their canonical texts.
-ghost use Rattle.std.specs.Prelude.{◌≡◌, ◌↔◌, ◌<◌, ◌≤◌, ◌^◌, IsTrue, length, map, IfSome, OnSome, OnOk, None};
+ghost use Rattle.std.specs.Prelude.{◌≡◌, ◌↔◌, ◌<◌, ◌≤◌, ◌^◌, IsTrue, length, map, IfSome, OnSome, OnOk, None, take, IfOk};
+ghost use Rattle.ixdtf.specs.Widths.{wide_text};
 ghost use Rattle.ixdtf.specs.language.Letters.{byte_letter};
 ghost use Rattle.ixdtf_print.specs.Canonical.{seconds_text};
 ghost use Rattle.ixdtf_print.specs.Printable.{record_of};
@@ -15,16 +16,17 @@ use crate::error::PrintError;
 use crate::fields::{put_minutes, put_offset};
 use crate::length::{fraction_length, shift_length};
 use crate::text::{self, CanonicalText, Tail};
-use ixdtf::encoding::Utf8;
+use crate::wide_names::{self, print_bracketed, without_names};
+use ixdtf::encoding::{Utf8, Utf16};
 use ixdtf::records::{DateRecord, IxdtfParseRecord, TimeRecord, UtcOffsetRecordOrZ};
 use std::fmt;
 
-/// Writes the canonical text of a time to the beginning of the slice, such as `08:48:00Z[u-ca=hebrew]`.
+/// Writes the canonical text of a time, such as `08:48:00Z[u-ca=hebrew]`, to the beginning of the slice.
 ///
 /// The time is a record that [`IxdtfParser::parse_time`](ixdtf::parsers::IxdtfParser::parse_time) returns. The canonical
 /// text has the time with its seconds, and no `T`. If the record has an offset, a zone or a calendar, they follow the time,
-/// as [`print`](crate::print) writes them. `parse_time` accepts the canonical text without a `T`: it cannot begin with a
-/// month and a day, or with a year and a month, because its third byte is a colon.
+/// as [`print`](crate::print) writes them. `parse_time` accepts the canonical text, although this text has no `T`. The third
+/// byte of the text is a colon, so the text cannot begin with a month and a day, or with a year and a month.
 ///
 /// Returns the number of bytes that were written. The canonical text has at most 12 bytes more than the text that was
 /// parsed.
@@ -54,14 +56,55 @@ use std::fmt;
 ///
 /// After an error, the slice is unchanged.
 ///
-/// - [`PrintError::NotPrintable`]: the record has no canonical text. It has a date, or no time, or a field whose value no
-///   text has.
+/// - [`PrintError::NotPrintable`]: the record has no canonical text. It has a date, or no time, or a value
+///   that `parse_time` never returns, such as the hour 24.
 /// - [`PrintError::TooShort`]: the slice is shorter than the canonical text.
 pub fn print_time(parsed: &IxdtfParseRecord<'_, Utf8>, out: &mut [u8]) -> Result<usize, PrintError>
     ensures prints { PrintsOrRefuses (IsPrintableTime (record_of parsed.now)) (lone_time_text (record_of parsed.now)) out.old out.new result }
     ensures read_back { OnOk result (IsTimeReadBack (record_of parsed.now)) }
 {
     text::print(CanonicalTime { parsed }, out)
+}
+
+/// Writes the canonical text of a time as 16-bit code units, like [`print_time`](crate::print_time).
+///
+/// The record is one that [`IxdtfParser::parse_time`](ixdtf::parsers::IxdtfParser::parse_time) returns for 16-bit
+/// text. Each code unit is the number of an ASCII character, so `from_utf16` makes a parser that reads the text. The number of
+/// code units is the number of bytes that `print_time` writes for the same fields.
+///
+/// # Examples
+///
+/// ```rust
+/// use ixdtf::parsers::IxdtfParser;
+/// use ixdtf_print::{PrintError, print_time_utf16};
+///
+/// let text: Vec<u16> = "12+01[!+01][u-ca=hebrew]".encode_utf16().collect();
+/// let record = IxdtfParser::from_utf16(&text).parse_time().unwrap();
+/// let mut out = [0; 64];
+/// let count = print_time_utf16(&record, &mut out).unwrap();
+/// let printed = String::from_utf16(&out[..count]).unwrap();
+/// assert_eq!(printed, "12:00:00+01:00[!+01:00][u-ca=hebrew]");
+/// assert_eq!(print_time_utf16(&record, &mut [0; 7]), Err(PrintError::TooShort));
+/// ```
+///
+/// # Errors
+///
+/// After an error, the slice is unchanged.
+///
+/// - [`PrintError::NotPrintable`]: the record has no canonical text. It has a date, or no time, or a field whose value no
+///   text has.
+/// - [`PrintError::TooShort`]: the slice is shorter than the canonical text.
+#[inline]
+pub fn print_time_utf16(
+    parsed: &IxdtfParseRecord<'_, Utf16>,
+    out: &mut [u16],
+) -> Result<usize, PrintError>
+    ensures prints { PrintsOrRefuses (IsPrintableTime (record_of parsed.now)) (lone_time_text (record_of parsed.now)) out.old out.new result }
+    ensures wide { IfOk result (λ n. wide_text (take n out.new) ≡ lone_time_text (record_of parsed.now)) }
+    ensures read_back { OnOk result (IsTimeReadBack (record_of parsed.now)) }
+{
+    let core = without_names(parsed);
+    print_bracketed(CanonicalTime { parsed: &core }, parsed, out)
 }
 
 /// Returns the number of bytes of the canonical text of a time.
@@ -87,7 +130,33 @@ pub fn time_length(parsed: &IxdtfParseRecord<'_, Utf8>) -> Option<usize>
     text::printed_length(CanonicalTime { parsed })
 }
 
-/// A record of a time that `Display` writes as its canonical text, such as `08:48:00Z[u-ca=hebrew]`.
+/// Returns the number of code units of the canonical text of a time that was read from 16-bit text.
+///
+/// A slice of this length is long enough for [`print_time_utf16`](crate::print_time_utf16). Returns `None` if the record has no
+/// canonical text, or if its text is longer than any slice.
+///
+/// # Examples
+///
+/// ```rust
+/// use ixdtf::parsers::IxdtfParser;
+/// use ixdtf_print::time_length_utf16;
+///
+/// let text: Vec<u16> = "084800z[u-ca=hebrew]".encode_utf16().collect();
+/// let record = IxdtfParser::from_utf16(&text).parse_time().unwrap();
+/// assert_eq!(time_length_utf16(&record), Some("08:48:00Z[u-ca=hebrew]".len()));
+/// ```
+#[inline]
+pub fn time_length_utf16(parsed: &IxdtfParseRecord<'_, Utf16>) -> Option<usize>
+    ensures length { IfSome result (λ n. n ≡ length (lone_time_text (record_of parsed.now))) }
+    ensures printable { OnSome result (IsPrintableTime (record_of parsed.now)) }
+    ensures none { (result ≡ None) ↔ ¬ (IsPrintableTime (record_of parsed.now) ×
+        (length (lone_time_text (record_of parsed.now)) < 2 ^ 64)) }
+{
+    let core = without_names(parsed);
+    wide_names::printed_length(CanonicalTime { parsed: &core }, parsed)
+}
+
+/// A value that displays the canonical text of a time, such as `08:48:00Z`.
 ///
 /// This is the text that [`print_time`](crate::print_time) writes into a slice. `Display` does not allocate, and ignores
 /// width and fill.

@@ -13,7 +13,7 @@ use ixdtf::encoding::Utf8;
 use ixdtf::records::{IxdtfParseRecord, MinutePrecisionOffset, TimeZoneAnnotation, TimeZoneRecord};
 use std::fmt;
 
-/// Writes the two brackets.
+/// Writes the zone and the calendar, in their brackets.
 pub fn write_brackets<W: fmt::Write>(
     f: &mut fmt::Formatter<W>,
     parsed: &IxdtfParseRecord<'_, Utf8>,
@@ -98,7 +98,8 @@ fn write_calendar<W: fmt::Write>(f: &mut fmt::Formatter<W>, calendar: Option<&[u
     }
 }
 
-/// Writes each byte as the character with its number. If a record has a canonical text, the bytes of its names are ASCII.
+/// Writes, for each byte, the character whose code point is the value of the byte. If a record has a canonical text, the bytes of
+/// its names are ASCII.
 pub fn write_bytes<W: fmt::Write>(f: &mut fmt::Formatter<W>, bytes: &[u8]) -> fmt::Result
     ensures { WritesStyledOnOk W.write_str_gives f.old result (encode_utf8_all bytes.now) f.new }
 {

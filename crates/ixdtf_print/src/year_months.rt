@@ -1,5 +1,6 @@
 //! Years and months printed as their canonical texts.
-ghost use Rattle.std.specs.Prelude.{◌≡◌, ◌↔◌, ◌<◌, ◌≤◌, ◌^◌, IsTrue, length, map, IfSome, OnSome, OnOk, None};
+ghost use Rattle.std.specs.Prelude.{◌≡◌, ◌↔◌, ◌<◌, ◌≤◌, ◌^◌, IsTrue, length, map, IfSome, OnSome, OnOk, None, take, IfOk};
+ghost use Rattle.ixdtf.specs.Widths.{wide_text};
 ghost use Rattle.ixdtf.specs.language.Letters.{byte_letter};
 ghost use Rattle.ixdtf_print.specs.Printable.{record_of};
 ghost use Rattle.ixdtf_print.specs.Printing.{PrintsOrRefuses};
@@ -14,11 +15,12 @@ use crate::error::PrintError;
 use crate::fields::put_year;
 use crate::put::put_byte;
 use crate::text::{self, CanonicalText, Tail};
-use ixdtf::encoding::Utf8;
+use crate::wide_names::{self, print_bracketed, without_names};
+use ixdtf::encoding::{Utf8, Utf16};
 use ixdtf::records::{DateRecord, IxdtfParseRecord, TimeRecord, UtcOffsetRecordOrZ};
 use std::fmt;
 
-/// Writes the canonical text of a year and a month to the beginning of the slice, such as `2020-11[u-ca=hebrew]`.
+/// Writes the canonical text of a year and a month, such as `2020-11[u-ca=hebrew]`, to the beginning of the slice.
 ///
 /// The record is one that [`IxdtfParser::parse_year_month`](ixdtf::parsers::IxdtfParser::parse_year_month) returns. The
 /// canonical text has the year, with four digits or with a sign and six digits, and the month. If the record has a
@@ -56,7 +58,7 @@ use std::fmt;
 /// After an error, the slice is unchanged.
 ///
 /// - [`PrintError::NotPrintable`]: the record has no canonical text. It has no date, or another day than 1, or a time, or an
-///   offset, or a field whose value no text has.
+///   offset, or a value that `parse_year_month` never returns, such as the month 13.
 /// - [`PrintError::TooShort`]: the slice is shorter than the canonical text.
 pub fn print_year_month(
     parsed: &IxdtfParseRecord<'_, Utf8>,
@@ -66,6 +68,46 @@ pub fn print_year_month(
     ensures read_back { OnOk result (IsYearMonthReadBack (record_of parsed.now)) }
 {
     text::print(CanonicalYearMonth { parsed }, out)
+}
+
+/// Writes the canonical text of a year and a month as 16-bit code units, like [`print_year_month`](crate::print_year_month).
+///
+/// The record is one that [`IxdtfParser::parse_year_month`](ixdtf::parsers::IxdtfParser::parse_year_month) returns for 16-bit
+/// text. Each code unit is the number of an ASCII character, so `from_utf16` makes a parser that reads the text. The number of
+/// code units is the number of bytes that `print_year_month` writes for the same fields.
+///
+/// # Examples
+///
+/// ```rust
+/// use ixdtf::parsers::IxdtfParser;
+/// use ixdtf_print::{PrintError, print_year_month_utf16};
+///
+/// let text: Vec<u16> = "-00000112[+01]".encode_utf16().collect();
+/// let record = IxdtfParser::from_utf16(&text).parse_year_month().unwrap();
+/// let mut out = [0; 64];
+/// let count = print_year_month_utf16(&record, &mut out).unwrap();
+/// assert_eq!(String::from_utf16(&out[..count]).unwrap(), "-000001-12[+01:00]");
+/// assert_eq!(print_year_month_utf16(&record, &mut [0; 6]), Err(PrintError::TooShort));
+/// ```
+///
+/// # Errors
+///
+/// After an error, the slice is unchanged.
+///
+/// - [`PrintError::NotPrintable`]: the record has no canonical text. It has no date, or another day than 1, or a time, or an
+///   offset, or a field whose value no text has.
+/// - [`PrintError::TooShort`]: the slice is shorter than the canonical text.
+#[inline]
+pub fn print_year_month_utf16(
+    parsed: &IxdtfParseRecord<'_, Utf16>,
+    out: &mut [u16],
+) -> Result<usize, PrintError>
+    ensures prints { PrintsOrRefuses (IsPrintableYearMonth (record_of parsed.now)) (year_month_text (record_of parsed.now)) out.old out.new result }
+    ensures wide { IfOk result (λ n. wide_text (take n out.new) ≡ year_month_text (record_of parsed.now)) }
+    ensures read_back { OnOk result (IsYearMonthReadBack (record_of parsed.now)) }
+{
+    let core = without_names(parsed);
+    print_bracketed(CanonicalYearMonth { parsed: &core }, parsed, out)
 }
 
 /// Returns the number of bytes of the canonical text of a year and a month.
@@ -91,7 +133,33 @@ pub fn year_month_length(parsed: &IxdtfParseRecord<'_, Utf8>) -> Option<usize>
     text::printed_length(CanonicalYearMonth { parsed })
 }
 
-/// A record of a year and a month that `Display` writes as its canonical text, such as `2020-11[u-ca=hebrew]`.
+/// Returns the number of code units of the canonical text of a year and a month that was read from 16-bit text.
+///
+/// A slice of this length is long enough for [`print_year_month_utf16`](crate::print_year_month_utf16). Returns `None` if the record has no
+/// canonical text, or if its text is longer than any slice.
+///
+/// # Examples
+///
+/// ```rust
+/// use ixdtf::parsers::IxdtfParser;
+/// use ixdtf_print::year_month_length_utf16;
+///
+/// let text: Vec<u16> = "202011[u-ca=hebrew]".encode_utf16().collect();
+/// let record = IxdtfParser::from_utf16(&text).parse_year_month().unwrap();
+/// assert_eq!(year_month_length_utf16(&record), Some("2020-11[u-ca=hebrew]".len()));
+/// ```
+#[inline]
+pub fn year_month_length_utf16(parsed: &IxdtfParseRecord<'_, Utf16>) -> Option<usize>
+    ensures length { IfSome result (λ n. n ≡ length (year_month_text (record_of parsed.now))) }
+    ensures printable { OnSome result (IsPrintableYearMonth (record_of parsed.now)) }
+    ensures none { (result ≡ None) ↔ ¬ (IsPrintableYearMonth (record_of parsed.now) ×
+        (length (year_month_text (record_of parsed.now)) < 2 ^ 64)) }
+{
+    let core = without_names(parsed);
+    wide_names::printed_length(CanonicalYearMonth { parsed: &core }, parsed)
+}
+
+/// A value that displays the canonical text of a year and a month, such as `2020-11`.
 ///
 /// This is the text that [`print_year_month`](crate::print_year_month) writes into a slice. `Display` does not allocate, and ignores
 /// width and fill.

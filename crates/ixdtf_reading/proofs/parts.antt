@@ -1,4 +1,4 @@
--- What readings are made of.
+-- Lemmas about the parts of reading functions.
 pub mod DurationRuns
 pub mod ExactZones
 pub mod Fronts

@@ -1,4 +1,4 @@
--- What follows for every text.
+-- What is true for every text.
 pub mod Handled
 pub mod HandledAt
 pub mod Hyphens

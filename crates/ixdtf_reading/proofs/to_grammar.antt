@@ -1,4 +1,4 @@
--- From reading to the grammar and the table: what is read is derived, and each fault is that of a row that fits.
+-- From reading to the grammar and the fault table: the grammar derives what is read, and each fault is that of a row that fits.
 pub mod Cores
 pub mod DateTimes
 pub mod Dates

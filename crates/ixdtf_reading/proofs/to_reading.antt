@@ -1,4 +1,4 @@
--- From the grammar and the table to reading: what is derived is read, and each row that fits is found.
+-- From the grammar and the fault table to reading: what the grammar derives is read, and each row that fits is returned.
 pub mod ClockRows
 pub mod Cores
 pub mod DateTimes

@@ -1,3 +1,3 @@
--- A 16-bit text has the outcome of the 8-bit text of the same numbers, up to the first bad code unit.
+-- The outcome of a 16-bit text, compared with the 8-bit text of the same numbers.
 pub mod PlainBefore
 pub mod Widths

@@ -1,4 +1,4 @@
--- Reading: functions on texts in the shape of the code, which private clauses cite. No public clause cites one.
+-- The reading functions: functions on texts that have the form of the code. Private clauses refer to them, public clauses do not.
 pub mod Brackets
 pub mod Chains
 pub mod Clauses

@@ -11,16 +11,18 @@ use ixdtf_grammar::encoding::EncodingType;
 
 /// A class of code units, such as those of a key.
 pub trait Letters {
-    /// The class.
+    /// The class. It exists only in the proof.
     ghost class: { Class };
 
-    /// Returns whether the class contains the code unit.
+    /// Returns whether the class contains the code unit `byte`.
     fn has(byte: u8) -> bool
         ensures { result ≡ class byte };
 }
 
-/// Consumes code units as long as they are in the class. Returns the next code unit, which is not consumed, or `None`
-/// at the end of the input.
+/// Consumes code units as long as they are in the class.
+///
+/// Returns the next code unit, which is not consumed. Returns `None` at the end of the input, and `NonAsciiCodePoint` at
+/// a bad code unit.
 #[inline(always)]
 pub fn pass_letters<'a, T: EncodingType, S: Letters>(
     cursor: &mut Cursor<'a, T>,
@@ -32,7 +34,8 @@ pub fn pass_letters<'a, T: EncodingType, S: Letters>(
     ensures shorter { length cursor.new.rest ≤ length cursor.old.rest }
 {
     let mut here = cursor.fork();
-    // Each round has four accesses: they need only one test of the length, and the cursor moves once.
+    // Each round has up to four accesses. They need only one test of the length, and the compiled code moves the cursor
+    // once.
     let found = loop {
         if here.remaining() >= 4 {
             let first = here.look();
@@ -67,7 +70,7 @@ pub fn pass_letters<'a, T: EncodingType, S: Letters>(
     found
 }
 
-/// Returns whether the code unit that was read is in the class.
+/// Returns whether a code unit was read, and is in the class.
 #[inline(always)]
 fn goes_on<S: Letters>(found: Result<Option<u8>, Stop>) -> bool
     ensures { result ≡ found_in S.class found }

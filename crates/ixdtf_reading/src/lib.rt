@@ -1,11 +1,21 @@
-//! The tools with which a text is read: the cursor, which counts accesses, the classes of characters, keys and values,
-//! and the stops, from which errors are made.
+//! The parts that all readers share.
 //!
-//! This is a layer of the library `ixdtf`, above `ixdtf_grammar`. `specs/reading` has the *reading functions*: they do
-//! on lists of code units what the code does in memory. For every text, this crate proves that a reading function
-//! returns exactly what the grammar derives (`proofs/to_grammar`, `proofs/to_reading`), or the error of the one row of
-//! the fault table that fits (`proofs/theorems`). The result is the same for 8-bit and for 16-bit text
-//! (`proofs/widths`). So the layers above only have to prove that their functions do what the reading functions do.
+//! - `cursor` has the cursor on the remaining input. `looks` has the count of accesses to code units.
+//! - `classes` has the classes of characters. `letters` consumes the code units of one class.
+//! - `annotations` reads keys, values and annotations.
+//! - `stop` has the one-byte errors that the library uses inside.
+//!
+//! This is a layer of the library `ixdtf`, above `ixdtf_grammar`. `specs/reading` has the *reading functions*. The code
+//! reads code units in memory, and a reading function does the same with a list of code units. This crate proves three
+//! things about the reading functions:
+//!
+//! - If the grammar derives a value for a text, the reading function returns this value, and the other way round
+//!   (`proofs/to_reading`, `proofs/to_grammar`).
+//! - For any other text, the reading function returns the error of the one row of the fault table that fits
+//!   (`proofs/theorems`).
+//! - If all code units are 1 to 126, the result is the same for 8-bit and for 16-bit text (`proofs/widths`).
+//!
+//! So the layers above only have to prove that their functions do what the reading functions do.
 #![tactic(auto)]
 
 pub mod annotations;

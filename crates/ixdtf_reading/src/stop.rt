@@ -1,4 +1,4 @@
-//! The error inside the library, of one byte.
+//! `Stop`, the one-byte error code that the library uses inside.
 
 ghost use Rattle.std.specs.Prelude.{◌≡◌, ℕ};
 ghost use Rattle.ixdtf_grammar.specs.table.Faults.{Fault, fault_of};
@@ -8,7 +8,7 @@ use ixdtf_grammar::{LocatedError, ParseError};
 
 /// The reason why a function stopped: an error of a reader, with one variant for each location of `AbruptEnd`.
 ///
-/// It takes one byte. Only the public readers make a `ParseError` from it.
+/// A `Stop` has a size of one byte. Only the public readers make a `ParseError` from it.
 #[derive(Clone, Copy)]
 pub enum Stop {
     NonAsciiCodePoint,
@@ -62,7 +62,9 @@ pub enum Stop {
 }
 
 impl Stop {
-    /// Returns the error. It is inlined, so that the readers of `IxdtfParser` need no function call for it.
+    /// Returns the `ParseError` of this `Stop`.
+    ///
+    /// The function is inlined, so that the readers of `IxdtfParser` need no function call for it.
     #[inline(always)]
     pub fn error(self) -> ParseError
         ensures { fault_of result ≡ fault_of_stop self }
@@ -154,13 +156,13 @@ pub struct StopAt {
 
 /// An error that can be made from a `Stop`: `ParseError`, or `LocatedError` with the position.
 ///
-/// A function that calls a handler is generic in its error, with this bound. So its own signature does not name
-/// `'static`, as `ParseError` does.
+/// A function that calls a handler has a type parameter for its error, with this bound. So the signature of the function
+/// does not name the lifetime `'static`. `ParseError` names it, because it contains a `&'static str`.
 pub trait FromStop {
-    /// The fault of an error, as the definitions name it.
+    /// The fault of an error. `Fault` is the type of errors in the definitions.
     ghost fault: { Self → Fault };
 
-    /// The statement that the position of an error is this number of code units, if the error has a position.
+    /// The statement about a number and an error: if the error has a position, its position is the number.
     ghost stands: { ℕ → Self → Type 0 };
 
     /// Makes the error from a `Stop` with position `at`.
@@ -202,8 +204,8 @@ impl FromStop for ParseError {
 
 /// Makes the error from a `Stop` with position `at`.
 ///
-/// It is not inlined, so that a loop over a name stays small. It is generic, so that the compiler sees its body at each
-/// call, and removes a call whose error is not used.
+/// The function is not inlined, so that a loop over a name stays small. But it is generic, so the compiler knows its body
+/// when it compiles a caller. If the caller does not use the error, the compiler can remove the call.
 #[cold]
 #[inline(never)]
 pub fn error_of_stop<E: FromStop>(stop: Stop, at: usize) -> E

@@ -1,12 +1,11 @@
--- What the code's own types stand for.
+-- The meaning of the types of the code for times.
 use Rattle.ixdtf_times.specs.declared.offsets.AfterCore.TheVariants as afters
 use Rattle.ixdtf_times.specs.declared.time.Clock.TheVariants as code_clocks
 use Rattle.ixdtf_times.specs.declared.time.TimeShape.TheVariants as code_shapes
-use Rattle.std.specs.Prelude.{Bool, true, false, Some, None}
+use Rattle.std.specs.Prelude.{Bool, true, false, None}
 use Rattle.ixdtf_grammar.specs.{declared.records.TimeRecord.TimeRecord, language.Times.{Clock, TimeShape, Clock as clocks, TimeShape as shapes}}
 use Rattle.ixdtf_times.specs.declared.{time.{Clock.{Clock as CodeClock}, TimeShape.{TimeShape as CodeTimeShape}, WholeTime.WholeTime}}
-use Rattle.ixdtf_times.specs.declared.{offsets.AfterCore.AfterCore, rfc3339.DateTime.DateTime}
-use Rattle.ixdtf_grammar.specs.language.Cores.{Core, core_of}
+use Rattle.ixdtf_times.specs.declared.offsets.AfterCore.{AfterCore}
 use Rattle.ixdtf_reading.specs.reading.Times.{OpenTime, time_of}
 
 abbrev pub clock_of : CodeClock → Clock
@@ -21,19 +20,15 @@ shape_of code_shapes.ColonMinutes = shapes.colon_minutes
 shape_of code_shapes.Seconds = shapes.seconds
 shape_of code_shapes.Fractions = shapes.fractions
 
--- a time that ends with its second
+-- The record of a time that ends with its second.
 abbrev pub time_to_second : WholeTime → TimeRecord
 time_to_second time = time_of time.hour time.minute time.second None
 
--- a time that was written, and how far
+-- A time that was written, and the parts that it has.
 abbrev pub open_time_of : TimeRecord → CodeTimeShape → OpenTime
 open_time_of time shape = (shape_of shape, time)
 
--- whether a bracket stands behind a core
+-- Whether a bracket follows a core.
 abbrev pub opens_bracket : AfterCore → Bool
 opens_bracket afters.End = false
 opens_bracket afters.Bracket = true
-
--- the core of a date-time that was read
-abbrev pub core_read : DateTime → Core
-core_read read = core_of (Some read.date) (Some read.time) (Some read.offset)

@@ -17,7 +17,7 @@ use ixdtf_reading::classes::{is_ascii_sign, is_hyphen, two_digit_number};
 use ixdtf_reading::cursor::Cursor;
 use ixdtf_reading::stop::Stop;
 
-/// Reads a date: in its ten or eight fixed columns if they fit, and otherwise part by part.
+/// Reads a date: in ten or eight fixed columns if the text fits them, and otherwise part by part.
 #[inline(always)]
 pub fn parse_date<'a, T: EncodingType>(cursor: &mut Cursor<'a, T>) -> Result<DateRecord, Stop>
     ensures date { Reads T.letter (λ date. date) cursor.old result cursor.new
@@ -370,12 +370,11 @@ fn parse_day<'a, T: EncodingType>(
     check_date(year, month, day)
 }
 
-/// Consumes the hyphen after a month, if one stands before the month. Otherwise tests that a digit is next, and consumes
+/// Consumes the hyphen after a month, if a hyphen is before the month. Otherwise tests that a digit is next, and consumes
 /// nothing.
 ///
-/// Returns `NonAsciiCodePoint` at a bad code unit, and `DateSeparator` where one of the two hyphens is missing. Where no
-/// hyphen stands before the month, returns `AbruptDigit` at the end of the input, and `DateDay` at any code unit that is
-/// neither a digit nor a hyphen.
+/// Returns `NonAsciiCodePoint` at a bad code unit. If only one of the two hyphens is present, returns `DateSeparator`. If
+/// none is present, returns `AbruptDigit` at the end of the input, and `DateDay` at any code unit that is not a digit.
 #[inline(always)]
 fn take_separator<'a, T: EncodingType>(
     cursor: &mut Cursor<'a, T>,
@@ -415,7 +414,7 @@ pub fn check_month(month: u8) -> Result<u8, Stop>
     Ok(month)
 }
 
-/// Returns the date if the month has the day, and otherwise `InvalidDayRange`. The month must be 1 to 12.
+/// Returns the date if the month of the year has the day, and otherwise `InvalidDayRange`. The month is not checked.
 #[inline(always)]
 pub fn check_date(year: i32, month: u8, day: u8) -> Result<DateRecord, Stop>
     ensures { Checks (λ date. date) result (date_of year month day)

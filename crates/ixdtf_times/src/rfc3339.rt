@@ -1,25 +1,27 @@
-//! Reading date-times of RFC 3339: at their fixed places, and number by number where these do not fit, which is an error.
+//! Functions that read date-times of RFC 3339, section 5.6.
 //!
-//! What may follow a date-time depends on the reader. So only [`parse_rfc3339_text`] reads the end.
+//! The date and the time are read in fixed columns. If they do not fit these columns, the text has an error. Then it is
+//! read again, number by number, to find the first error.
+//!
+//! The readers of the library allow different things after a date-time. So only [`parse_rfc3339_text`] expects the end
+//! of the input.
 
 #![tactic(auto, unfolding(ixdtf_reading::specs::reading::DateTimes::date_time_line_readings, ixdtf_reading::specs::reading::Looks::number_by))]
 
 ghost use Rattle.std.specs.Prelude.{◌≡◌, ◌+◌, ◌<◌, ◌≤◌, map, length, Some, None, IfOk, IfSome, OnOk, IsTrue, pos};
 ghost use Rattle.ixdtf_grammar.specs.declared.records.DateRecord.{DateRecord};
 ghost use Rattle.ixdtf_grammar.specs.declared.records.TimeRecord.{TimeRecord};
-ghost use Rattle.ixdtf_grammar.specs.Views.{parsed_of};
 ghost use Rattle.ixdtf_grammar.specs.language.Languages.{parsed_with};
 ghost use Rattle.ixdtf_grammar.specs.language.Letters.{hyphen, colon, time_letter};
 ghost use Rattle.ixdtf_grammar.specs.table.Faults.Fault.{DateYear};
 ghost use Rattle.ixdtf_grammar.specs.table.DateTimeFronts.Field.{month_field, day_field};
 ghost use Rattle.ixdtf_grammar.specs.table.LineNames.LineName.{of_date_time};
-ghost use Rattle.ixdtf_grammar.specs.table.LineNames.DateTimeLine.{after_secfrac, after_utc};
+ghost use Rattle.ixdtf_grammar.specs.table.LineNames.DateTimeLine.{after_secfrac};
 ghost use Rattle.ixdtf_reading.specs.reading.Clauses.{Reads, Spends, SpendsOr, KeepsBrackets, core_in, fault_of_stop};
 ghost use Rattle.ixdtf_reading.specs.reading.Looks.{error_of, as_number, digit_look, digits_by, look_for, next_by, letter_at};
-ghost use Rattle.ixdtf_reading.specs.reading.DateTimes.{field_at, is_month, is_day, secfrac_digits_at, num_offset_at, time_offset_at, secfrac_at, after_whole_second_at};
+ghost use Rattle.ixdtf_reading.specs.reading.DateTimes.{field_at, is_month, is_day, numeric_core, secfrac_digits_at, num_offset_at, time_offset_at, secfrac_at, after_whole_second_at};
 ghost use Rattle.ixdtf_reading.specs.reading.DateTimes.{full_time_at, full_day_at, full_month_at};
-ghost use Rattle.ixdtf_reading.specs.reading.DateTimes.{open_end, date_time_by, date_time_ends, rfc_3339_at};
-ghost use Rattle.ixdtf_times.specs.TimeTypes.{core_read};
+ghost use Rattle.ixdtf_reading.specs.reading.DateTimes.{open_end, date_time_by, rfc_3339_at};
 
 use crate::date_times::take_fixed_date_time;
 use crate::dates::{check_month, has_day};
@@ -27,7 +29,7 @@ use crate::offsets::{sign_from, take_numeric_offset};
 use crate::time::{WholeTime, next_number, parse_fraction};
 use ixdtf_grammar::encoding::EncodingType;
 use ixdtf_grammar::records::{
-    DateRecord, Fraction, IxdtfParseRecord, MinutePrecisionOffset, TimeRecord, UtcOffsetRecord,
+    DateRecord, Fraction, IxdtfParseRecord, MinutePrecisionOffset, UtcOffsetRecord,
     UtcOffsetRecordOrZ,
 };
 use ixdtf_reading::classes::{
@@ -37,42 +39,8 @@ use ixdtf_reading::classes::{
 use ixdtf_reading::cursor::Cursor;
 use ixdtf_reading::stop::Stop;
 
-/// A date-time: its date, its time and its offset.
-#[derive(Clone, Copy)]
-pub struct DateTime {
-    pub date: DateRecord,
-    pub time: TimeRecord,
-    pub offset: UtcOffsetRecordOrZ,
-}
-
-impl DateTime {
-    /// Returns the record of the parts, without a zone and without a calendar.
-    #[inline(always)]
-    pub fn record<'a, T: EncodingType>(self) -> IxdtfParseRecord<'a, T>
-        ensures { parsed_of T.number result ≡ parsed_with (core_read self) None }
-    {
-        IxdtfParseRecord {
-            date: Some(self.date),
-            time: Some(self.time),
-            offset: Some(self.offset),
-            tz: None,
-            calendar: None,
-        }
-    }
-
-    /// Writes the parts into a record.
-    #[inline(always)]
-    pub fn place<'a, T: EncodingType>(self, found: &mut IxdtfParseRecord<'a, T>)
-        ensures core { core_in found.new ≡ core_read self }
-        ensures kept { KeepsBrackets found.old found.new }
-    {
-        found.date = Some(self.date);
-        found.time = Some(self.time);
-        found.offset = Some(self.offset);
-    }
-}
-
-/// Takes a colon off. The end and any other code unit are this stop.
+/// Consumes a colon. Returns `NonAsciiCodePoint` at a bad code unit, and `stop` at the end of the input and at any other
+/// code unit.
 #[inline(always)]
 fn take_colon<'a, T: EncodingType>(cursor: &mut Cursor<'a, T>, stop: Stop) -> Result<u8, Stop>
     ensures colon { Reads T.letter (λ byte. byte) cursor.old result cursor.new
@@ -88,7 +56,8 @@ fn take_colon<'a, T: EncodingType>(cursor: &mut Cursor<'a, T>, stop: Stop) -> Re
     }
 }
 
-/// Takes the hyphen of a date off. The end is this stop, and any other code unit `DateSeparator`.
+/// Consumes a hyphen of a date. Returns `at_end` at the end of the input, `NonAsciiCodePoint` at a bad code unit, and
+/// `DateSeparator` at any other code unit.
 #[inline(always)]
 fn take_date_hyphen<'a, T: EncodingType>(
     cursor: &mut Cursor<'a, T>,
@@ -108,7 +77,7 @@ fn take_date_hyphen<'a, T: EncodingType>(
     }
 }
 
-/// Takes `T` or `t` off.
+/// Consumes `T` or `t`. Returns `NonAsciiCodePoint` at a bad code unit, and otherwise `TimeSeparator`.
 #[inline(always)]
 fn take_time_letter<'a, T: EncodingType>(cursor: &mut Cursor<'a, T>) -> Result<u8, Stop>
     ensures letter { Reads T.letter (λ byte. byte) cursor.old result cursor.new
@@ -124,7 +93,7 @@ fn take_time_letter<'a, T: EncodingType>(cursor: &mut Cursor<'a, T>) -> Result<u
     }
 }
 
-/// Reads the four digits of a year, and returns their number.
+/// Reads the four digits of a year, and returns their number. Returns `DateYear` at a code unit that is not a digit.
 #[inline(always)]
 fn parse_year<'a, T: EncodingType>(cursor: &mut Cursor<'a, T>) -> Result<u16, Stop>
     ensures number { Reads T.letter (λ number. number) cursor.old result cursor.new
@@ -143,7 +112,7 @@ fn parse_year<'a, T: EncodingType>(cursor: &mut Cursor<'a, T>) -> Result<u16, St
     )
 }
 
-/// Reads a month from 01 to 12.
+/// Reads a month, 01 to 12. Any other number is `InvalidMonthRange`.
 #[inline(always)]
 fn parse_month<'a, T: EncodingType>(cursor: &mut Cursor<'a, T>) -> Result<u8, Stop>
     ensures month { Reads T.letter (λ month. month) cursor.old result cursor.new
@@ -154,7 +123,7 @@ fn parse_month<'a, T: EncodingType>(cursor: &mut Cursor<'a, T>) -> Result<u8, St
     check_month(month)
 }
 
-/// Reads a day that the month of the year has.
+/// Reads a day. If the month of the year does not have the day, returns `InvalidDayRange`.
 #[inline(always)]
 fn parse_day<'a, T: EncodingType>(
     cursor: &mut Cursor<'a, T>,
@@ -172,30 +141,33 @@ fn parse_day<'a, T: EncodingType>(
     Ok(day)
 }
 
-/// Reads a time offset after its first code unit.
+/// Reads a time offset after its first code unit `lead`, and writes it into the record.
 #[inline(always)]
 fn parse_time_offset<'a, T: EncodingType>(
     cursor: &mut Cursor<'a, T>,
-    date: DateRecord,
-    time: TimeRecord,
     lead: u8,
-) -> Result<DateTime, Stop>
-    ensures offset { Reads T.letter core_read cursor.old result cursor.new
+    found: &mut IxdtfParseRecord<'a, T>,
+) -> Result<(), Stop>
+    ensures offset { (date : DateRecord) (time : TimeRecord) → found.old.date ≡ Some date → found.old.time ≡ Some time →
+        Reads T.letter (λ _. core_in found.new) cursor.old result cursor.new
         (time_offset_at error_of open_end date time lead) }
+    ensures kept { KeepsBrackets found.old found.new }
     ensures looks { Spends 8 cursor.old cursor.new }
 {
     if is_utc_designator(lead) {
-        let offset = UtcOffsetRecordOrZ::Z;
-        return Ok(DateTime { date, time, offset });
+        found.offset = Some(UtcOffsetRecordOrZ::Z);
+        return Ok(());
     }
     if let Some(minutes) = take_numeric_offset(cursor, lead) {
-        let offset = UtcOffsetRecordOrZ::Offset(UtcOffsetRecord::MinutePrecision(minutes));
-        return Ok(DateTime { date, time, offset });
+        found.offset = Some(UtcOffsetRecordOrZ::Offset(UtcOffsetRecord::MinutePrecision(minutes)));
+        return Ok(());
     }
-    parse_offset_by_numbers(cursor, date, time, lead)
+    let minutes = parse_offset_by_numbers(cursor, lead)?;
+    found.offset = Some(UtcOffsetRecordOrZ::Offset(UtcOffsetRecord::MinutePrecision(minutes)));
+    Ok(())
 }
 
-/// Takes what a time offset begins with off, after the digits of a fraction.
+/// Consumes the first code unit of a time offset, after the digits of a fraction, and returns it.
 #[inline(always)]
 fn take_lead<'a, T: EncodingType>(cursor: &mut Cursor<'a, T>) -> Result<u8, Stop>
     ensures lead { Reads T.letter (λ byte. byte) cursor.old result cursor.new
@@ -212,7 +184,7 @@ fn take_lead<'a, T: EncodingType>(cursor: &mut Cursor<'a, T>) -> Result<u8, Stop
     }
 }
 
-/// Reads the digits of a fraction after its point.
+/// Reads the digits of a fraction after its `.`.
 #[inline(always)]
 fn parse_secfrac<'a, T: EncodingType>(cursor: &mut Cursor<'a, T>) -> Result<Fraction, Stop>
     ensures fraction { Reads T.letter (λ fraction. fraction) cursor.old result cursor.new
@@ -222,52 +194,59 @@ fn parse_secfrac<'a, T: EncodingType>(cursor: &mut Cursor<'a, T>) -> Result<Frac
     parse_fraction(cursor)
 }
 
-/// Reads a fraction after its point and an offset after it.
+/// Reads the digits of a fraction after its `.`, and the offset after the fraction. Writes the time and the offset into the
+/// record.
 #[inline(always)]
 fn parse_fractional<'a, T: EncodingType>(
     cursor: &mut Cursor<'a, T>,
-    date: DateRecord,
     whole: WholeTime,
-) -> Result<DateTime, Stop>
-    ensures rest { Reads T.letter core_read cursor.old result cursor.new
+    found: &mut IxdtfParseRecord<'a, T>,
+) -> Result<(), Stop>
+    ensures rest { (date : DateRecord) → found.old.date ≡ Some date →
+        Reads T.letter (λ _. core_in found.new) cursor.old result cursor.new
         (secfrac_at error_of open_end date whole.hour whole.minute whole.second) }
+    ensures kept { KeepsBrackets found.old found.new }
     ensures looks { Spends 11 cursor.old cursor.new }
 {
     let fraction = parse_secfrac(cursor)?;
     let lead = take_lead(cursor)?;
-    let time = whole.with_fraction(Some(fraction));
-    parse_time_offset(cursor, date, time, lead)
+    found.time = Some(whole.with_fraction(Some(fraction)));
+    parse_time_offset(cursor, lead, found)
 }
 
-/// Reads what follows the seconds: a fraction where there is one, and an offset.
+/// Reads what follows the seconds: an optional fraction, and an offset. Writes the date, the time and the offset into the
+/// record.
 #[inline(always)]
 fn parse_after_seconds<'a, T: EncodingType>(
     cursor: &mut Cursor<'a, T>,
     date: DateRecord,
     whole: WholeTime,
-) -> Result<DateTime, Stop>
-    ensures rest { Reads T.letter core_read cursor.old result cursor.new
+    found: &mut IxdtfParseRecord<'a, T>,
+) -> Result<(), Stop>
+    ensures rest { Reads T.letter (λ _. core_in found.new) cursor.old result cursor.new
         (after_whole_second_at error_of open_end date whole.hour whole.minute whole.second) }
+    ensures kept { KeepsBrackets found.old found.new }
     ensures looks { Spends 12 cursor.old cursor.new }
 {
+    found.date = Some(date);
     match cursor.look()? {
         None => Err(Stop::AbruptOffset),
         Some(byte) if byte == b'.' => {
             cursor.advance();
-            parse_fractional(cursor, date, whole)
+            parse_fractional(cursor, whole, found)
         }
         Some(byte) if is_ascii_sign(byte) || is_utc_designator(byte) => {
             cursor.advance();
-            let time = whole.with_fraction(None);
-            parse_time_offset(cursor, date, time, byte)
+            found.time = Some(whole.with_fraction(None));
+            parse_time_offset(cursor, byte, found)
         }
         Some(byte) if is_decimal_separator(byte) => Err(Stop::FractionPart),
         Some(_) => Err(Stop::OffsetNeedsSign),
     }
 }
 
-/// Takes off the date, `T` or `t` and the time that stand at the first nineteen places. It is `None`, with the rest
-/// unchanged, where they do not fit.
+/// Consumes a date, `T` or `t`, and a time in the first nineteen columns. Returns `None`, and consumes nothing, if they
+/// do not fit.
 #[inline(always)]
 fn take_fixed_rfc3339<'a, T: EncodingType>(
     cursor: &mut Cursor<'a, T>,
@@ -285,38 +264,37 @@ fn take_fixed_rfc3339<'a, T: EncodingType>(
 
 // ==== Number by number ====
 
-/// Reads an offset after its sign.
+/// Reads an offset after its sign, and returns the complete date-time.
 #[inline(always)]
 fn parse_offset_by_numbers<'a, T: EncodingType>(
     cursor: &mut Cursor<'a, T>,
-    date: DateRecord,
-    time: TimeRecord,
     sign: u8,
-) -> Result<DateTime, Stop>
-    ensures offset { Reads T.letter core_read cursor.old result cursor.new
+) -> Result<MinutePrecisionOffset, Stop>
+    ensures offset { (date : DateRecord) (time : TimeRecord) →
+        Reads T.letter (λ offset. numeric_core date time offset) cursor.old result cursor.new
         (num_offset_at error_of open_end date time sign) }
     ensures looks { Spends 3 cursor.old cursor.new }
 {
     let offset_hour = next_number(cursor, 23, Stop::TimeHour)?;
     take_colon(cursor, Stop::UtcTimeSeparator)?;
     let offset_minute = next_number(cursor, 59, Stop::TimeMinuteSecond)?;
-    let minutes = MinutePrecisionOffset {
+    Ok(MinutePrecisionOffset {
         sign: sign_from(sign),
         hour: offset_hour,
         minute: offset_minute,
-    };
-    let offset = UtcOffsetRecordOrZ::Offset(UtcOffsetRecord::MinutePrecision(minutes));
-    Ok(DateTime { date, time, offset })
+    })
 }
 
-/// Reads the time after a date and its letter.
+/// Reads the time after a date and its `T` or `t`, and what follows the time.
 #[inline(always)]
 fn parse_time_by_numbers<'a, T: EncodingType>(
     cursor: &mut Cursor<'a, T>,
     date: DateRecord,
-) -> Result<DateTime, Stop>
-    ensures time { Reads T.letter core_read cursor.old result cursor.new
+    found: &mut IxdtfParseRecord<'a, T>,
+) -> Result<(), Stop>
+    ensures time { Reads T.letter (λ _. core_in found.new) cursor.old result cursor.new
         (full_time_at error_of open_end date) }
+    ensures kept { KeepsBrackets found.old found.new }
     ensures looks { Spends 14 cursor.old cursor.new }
 {
     let hour = next_number(cursor, 23, Stop::TimeHour)?;
@@ -329,18 +307,20 @@ fn parse_time_by_numbers<'a, T: EncodingType>(
         minute,
         second,
     };
-    parse_after_seconds(cursor, date, whole)
+    parse_after_seconds(cursor, date, whole, found)
 }
 
-/// Reads the day after a month and its hyphen, and what follows.
+/// Reads the day after a month and its hyphen, and what follows the day.
 #[inline(always)]
 fn parse_day_by_numbers<'a, T: EncodingType>(
     cursor: &mut Cursor<'a, T>,
     year: u16,
     month: u8,
-) -> Result<DateTime, Stop>
-    ensures day { Reads T.letter core_read cursor.old result cursor.new
+    found: &mut IxdtfParseRecord<'a, T>,
+) -> Result<(), Stop>
+    ensures day { Reads T.letter (λ _. core_in found.new) cursor.old result cursor.new
         (full_day_at error_of open_end (pos year) month) }
+    ensures kept { KeepsBrackets found.old found.new }
     ensures looks { Spends 15 cursor.old cursor.new }
 {
     let day = parse_day(cursor, year, month)?;
@@ -350,86 +330,85 @@ fn parse_day_by_numbers<'a, T: EncodingType>(
         month,
         day,
     };
-    parse_time_by_numbers(cursor, date)
+    parse_time_by_numbers(cursor, date, found)
 }
 
-/// Reads the month after a year and its hyphen, and what follows.
+/// Reads the month after a year and its hyphen, and what follows the month.
 #[inline(always)]
 fn parse_month_by_numbers<'a, T: EncodingType>(
     cursor: &mut Cursor<'a, T>,
     year: u16,
-) -> Result<DateTime, Stop>
-    ensures month { Reads T.letter core_read cursor.old result cursor.new
+    found: &mut IxdtfParseRecord<'a, T>,
+) -> Result<(), Stop>
+    ensures month { Reads T.letter (λ _. core_in found.new) cursor.old result cursor.new
         (full_month_at error_of open_end (pos year)) }
+    ensures kept { KeepsBrackets found.old found.new }
     ensures looks { Spends 16 cursor.old cursor.new }
 {
     let month = parse_month(cursor)?;
     take_date_hyphen(cursor, Stop::DateSeparator)?;
-    parse_day_by_numbers(cursor, year, month)
+    parse_day_by_numbers(cursor, year, month, found)
 }
 
-/// Reads a date-time number by number. It is not inlined: no text is read so that has no error.
+/// Reads a date-time number by number. The function is not inlined, because it is called only for a text with an error.
 #[inline(never)]
 #[tactic(auto, using(ixdtf_reading::proofs::code::FixedDateTimes::year_then), unfolding(ixdtf_reading::specs::reading::Looks::look_readings))]
-fn parse_by_numbers<'a, T: EncodingType>(cursor: &mut Cursor<'a, T>) -> Result<DateTime, Stop>
-    ensures date_time { Reads T.letter core_read cursor.old result cursor.new
+fn parse_by_numbers<'a, T: EncodingType>(
+    cursor: &mut Cursor<'a, T>,
+    found: &mut IxdtfParseRecord<'a, T>,
+) -> Result<(), Stop>
+    ensures date_time { Reads T.letter (λ _. core_in found.new) cursor.old result cursor.new
         (date_time_by error_of open_end) }
+    ensures kept { KeepsBrackets found.old found.new }
     ensures looks { Spends 17 cursor.old cursor.new }
 {
     let year = parse_year(cursor)?;
     take_date_hyphen(cursor, Stop::AbruptDate)?;
-    parse_month_by_numbers(cursor, year)
+    parse_month_by_numbers(cursor, year, found)
 }
 
-/// Reads a date-time of RFC 3339.
+/// Reads a date-time of RFC 3339, section 5.6, into the record. Anything can follow it.
+///
+/// `parse_by_numbers` writes into a record of its own. If it wrote into `found`, the other texts would take more
+/// instructions too, if `rustc` compiles the reader (`docs/PERF.md`).
 #[inline(always)]
 pub fn parse_internet_date_time<'a, T: EncodingType>(
     cursor: &mut Cursor<'a, T>,
-) -> Result<DateTime, Stop>
-    ensures date_time { Reads T.letter core_read cursor.old result cursor.new
+    found: &mut IxdtfParseRecord<'a, T>,
+) -> Result<(), Stop>
+    ensures date_time { Reads T.letter (λ _. core_in found.new) cursor.old result cursor.new
         (date_time_by error_of open_end) }
+    ensures kept { KeepsBrackets found.old found.new }
     ensures looks { Spends 37 cursor.old cursor.new }
 {
     match take_fixed_rfc3339(cursor) {
-        Some((date, whole)) => parse_after_seconds(cursor, date, whole),
-        None => parse_by_numbers(cursor),
+        Some((date, whole)) => parse_after_seconds(cursor, date, whole, found),
+        None => {
+            let mut here = cursor.fork();
+            let mut slow = IxdtfParseRecord::default();
+            let read = parse_by_numbers(&mut here, &mut slow);
+            *cursor = here;
+            read?;
+            found.date = slow.date;
+            found.time = slow.time;
+            found.offset = slow.offset;
+            Ok(())
+        }
     }
 }
 
-/// Expects the end after a date-time, and returns its record.
-#[inline(always)]
-fn close_record<'a, T: EncodingType>(
-    cursor: &mut Cursor<'a, T>,
-    read: DateTime,
-) -> Result<IxdtfParseRecord<'a, T>, Stop>
-    ensures end { Reads T.letter (parsed_of T.number) cursor.old result cursor.new
-        (date_time_ends error_of (of_date_time after_utc) (core_read read)) }
-    ensures looks { Spends 1 cursor.old cursor.new }
-{
-    cursor.close()?;
-    Ok(read.record())
-}
-
-/// Reads a date-time of RFC 3339, and wants the end.
-///
-/// Each way to read it has an end of its own. So the record is made where its parts are read.
+/// Reads a date-time of RFC 3339, section 5.6, into the record, and expects the end of the input.
 #[inline(always)]
 #[tactic(auto, using(ixdtf_reading::proofs::code::OpenDateTimes::rfc_3339_open))]
 pub fn parse_rfc3339_text<'a, T: EncodingType>(
     cursor: &mut Cursor<'a, T>,
-) -> Result<IxdtfParseRecord<'a, T>, Stop>
-    ensures date_time { Reads T.letter (parsed_of T.number) cursor.old result cursor.new
+    found: &mut IxdtfParseRecord<'a, T>,
+) -> Result<(), Stop>
+    ensures date_time { Reads T.letter (λ _. parsed_with (core_in found.new) None) cursor.old result cursor.new
         (rfc_3339_at error_of) }
+    ensures kept { KeepsBrackets found.old found.new }
     ensures looks { Spends 38 cursor.old cursor.new }
 {
-    match take_fixed_rfc3339(cursor) {
-        Some((date, whole)) => {
-            let read = parse_after_seconds(cursor, date, whole)?;
-            close_record(cursor, read)
-        }
-        None => {
-            let read = parse_by_numbers(cursor)?;
-            close_record(cursor, read)
-        }
-    }
+    parse_internet_date_time(cursor, found)?;
+    cursor.close()
 }

@@ -36,10 +36,11 @@ typedef struct {
     int32_t last_seconds;
 } module_state;
 
+/* The garbage collector does not visit records, because a record refers only to its type and to `source`, and `source` refers to no other object. */
 typedef struct {
     PyObject_HEAD
     ixdtf_record fields; /* Its slices point into `source`. */
-    PyObject *source;    /* an ASCII str, or bytes: an object that never changes */
+    PyObject *source;    /* an ASCII str, or bytes, and not of a subclass: an object that never changes */
 } record_object;
 
 static struct PyModuleDef module_definition;
@@ -72,23 +73,29 @@ typedef struct {
     PyObject *owner;
 } text_bytes;
 
-/* Writes the bytes of a text to `out`. The text is a str, bytes, or another object with a buffer. An object that can change is copied. Returns 0, or -1
- * with an exception. */
+/* Writes the bytes of a text to `out`. The text is a str, bytes, or another object with a buffer. An object that can change is copied. An object of a
+ * subclass of str or bytes is copied too, because it can refer to the record, and then neither of them would ever be freed. Returns 0, or -1 with an
+ * exception. */
 static int take_text(PyObject *text, text_bytes *out) {
     if (PyUnicode_Check(text)) {
         if (!is_ready(text)) {
             return -1;
         }
         if (PyUnicode_IS_ASCII(text)) {
-            out->at = PyUnicode_1BYTE_DATA(text);
-            out->length = PyUnicode_GET_LENGTH(text);
-            out->owner = Py_NewRef(text);
+            out->owner = PyUnicode_FromObject(text); /* a new reference to `text`, or a copy if it is of a subclass */
+            if (out->owner == NULL) {
+                return -1;
+            }
+            out->at = PyUnicode_1BYTE_DATA(out->owner);
+            out->length = PyUnicode_GET_LENGTH(out->owner);
             return 0;
         }
         /* No reader accepts such a text, but its error needs a position. So unpaired surrogates are encoded too, with "surrogatepass". */
         out->owner = PyUnicode_AsEncodedString(text, "utf-8", "surrogatepass");
-    } else if (PyBytes_Check(text)) {
+    } else if (PyBytes_CheckExact(text)) {
         out->owner = Py_NewRef(text);
+    } else if (PyBytes_Check(text)) {
+        out->owner = PyBytes_FromStringAndSize(PyBytes_AS_STRING(text), PyBytes_GET_SIZE(text));
     } else if (PyObject_CheckBuffer(text)) {
         out->owner = PyBytes_FromObject(text);
     } else {
@@ -532,11 +539,15 @@ static PyObject *record_new(PyTypeObject *type, PyObject *arguments, PyObject *k
 
 /* ---- datetime ---- */
 
-/* Returns the microseconds of a fraction of a second. Returns -1 if the fraction has digits other than 0 after the sixth, or more than 18 digits. */
+/* Returns the microseconds of a fraction of a second. Returns -1 if the fraction has digits other than 0 after the sixth, or more than 18 digits. Also
+ * returns -1 if the result would be more than 999999. No text gives such a fraction, but Record can be called with it. */
 static long microseconds_of(uint64_t fraction, uint8_t digits) {
     unsigned known = digits < 18 ? digits : 18;
     if (known == 0) {
         return 0;
+    }
+    if (known < 6 && fraction > 999999) {
+        return -1;
     }
     for (; known < 6; known++) {
         fraction *= 10;
@@ -547,7 +558,7 @@ static long microseconds_of(uint64_t fraction, uint8_t digits) {
         }
         fraction /= 10;
     }
-    return digits > 18 ? -1 : (long)fraction;
+    return digits > 18 || fraction > 999999 ? -1 : (long)fraction;
 }
 
 /* Returns the tzinfo of Z, or of an offset of whole seconds. The last tzinfo is kept, because the texts of a list often have the same offset. */
@@ -626,14 +637,17 @@ static PyMethodDef record_methods[] = {
     { "to_datetime", (PyCFunction)(void (*)(void))record_to_datetime, METH_FASTCALL | METH_KEYWORDS,
       "to_datetime($self, /, on_conflict='error', truncate=False)\n--\n\n"
       "Returns the datetime.datetime of a record that has a date and a time.\n\n"
-      "If the record has neither an offset nor a zone, the datetime has no tzinfo. If it has only an offset, or a zone that is an\n"
-      "offset, tzinfo is a datetime.timezone. If it has a zone with a name, tzinfo is a zoneinfo.ZoneInfo. If the offset is Z or\n"
-      "-00:00, and there is a zone, the result is the same instant in the zone. If another offset and the zone disagree,\n"
-      "on_conflict decides. 'error' raises ZoneConflictError. 'offset' returns the instant that the offset gives, in the zone.\n"
-      "'zone' ignores the offset, and returns the local time in the zone.\n\n"
-      "Raises ValueError if the date or the time is missing, if the year is not 1 to 9999, or if the day is 0. Unless truncate is\n"
-      "true, also raises ValueError if the second is 60, or if a fraction has digits other than 0 after the sixth, or more than 18\n"
-      "digits. With truncate=True, the second 60 becomes 59, and digits after the sixth are dropped. Raises\n"
+      "If the record has neither an offset nor a zone, the datetime has no tzinfo. If it has an offset and no zone, tzinfo is a\n"
+      "datetime.timezone. If it has a zone with a name, tzinfo is a zoneinfo.ZoneInfo. If its zone is an offset, such as [+05:30],\n"
+      "tzinfo is a datetime.timezone.\n\n"
+      "If the record has an offset and a zone, there are two cases. If the offset is Z or -00:00, the result is the same instant in\n"
+      "the zone. If the record has any other offset, the zone should have this offset at this time. If the zone has a different one,\n"
+      "on_conflict decides. 'error' raises ZoneConflictError. 'offset' computes the instant from the offset, and returns this instant\n"
+      "in the zone. 'zone' ignores the offset, and returns the local time in the zone.\n\n"
+      "Raises ValueError if the date or the time is missing, if the year is not 1 to 9999, or if the day is 0. If the result is an\n"
+      "instant in the zone, also raises ValueError if the year of this instant is not 1 to 9999 in UTC or in the zone. With\n"
+      "truncate=True, the second 60 becomes 59, and digits after the sixth are dropped. With truncate=False, also raises ValueError if\n"
+      "the second is 60, if a fraction is not a whole number of microseconds, or if a fraction has more than 18 digits. Raises\n"
       "zoneinfo.ZoneInfoNotFoundError if the name of the zone is unknown." },
     { "__reduce__", record_reduce, METH_NOARGS, NULL },
     { NULL, NULL, 0, NULL },
@@ -1123,23 +1137,23 @@ static PyMethodDef module_methods[] = {
       "parse(text, /, *, handler=None)\n--\n\n"
       "Reads a date, or a date and a time, and returns its Record. The text may have an offset, a zone and annotations.\n\n"
       "The text is str or bytes, such as '2024-03-02T08:48:00-05:00[America/New_York][u-ca=hebrew]'. Raises IxdtfError if the text is\n"
-      "refused. handler is a function. It is called with each Annotation in order, up to the first error. It returns this\n"
-      "annotation, another annotation, or None to drop this annotation." },
+      "refused. handler is a function. parse() calls it with each Annotation in order, up to the first error. The handler returns\n"
+      "this annotation, another annotation that replaces it, or None to drop it." },
     { "parse_year_month", FAST(parse_year_month), "parse_year_month(text, /, *, handler=None)\n--\n\nReads a year and a month, such as '2020-11', and returns its Record. The day of the Record is 1." },
     { "parse_month_day", FAST(parse_month_day),
       "parse_month_day(text, /, *, strict=False, handler=None)\n--\n\nReads a month and a day, such as '11-07', and returns its Record. The year of the Record is 0.\n"
       "With strict=True, the day 00 is refused." },
     { "parse_time", FAST(parse_time),
       "parse_time(text, /, *, strict=False, handler=None)\n--\n\nReads a time, such as 'T12:30', and returns its Record.\n\n"
-      "A time without T is refused if it begins with a month and a day, or with a year and a month. '1200' is refused, because it\n"
-      "could also mean month 12, day 00. With strict=True, there is no day 00, so '1200' is accepted." },
+      "A text without T is refused if its beginning could also be a month and a day, or a year and a month. For example, '1200' is\n"
+      "refused, because it could also mean month 12, day 00. With strict=True, there is no day 00, so '1200' is accepted." },
     { "parse_rfc3339", FAST(parse_rfc3339),
       "parse_rfc3339(text, /)\n--\n\nReads a date-time of RFC 3339, section 5.6, such as '2024-03-02T08:48:00.25-05:00', and returns its Record.\n\n"
-      "Every other text is refused. parse() accepts each of these texts too, and returns an equal Record." },
+      "Every other text is refused. If parse_rfc3339() accepts a text, parse() accepts it too, and returns an equal Record." },
     { "parse_rfc9557", FAST(parse_rfc9557),
       "parse_rfc9557(text, /, *, handler=None)\n--\n\nReads a date-time-ext of RFC 9557, section 4.1, such as\n"
       "'2024-03-02T08:48:00-05:00[America/New_York][u-ca=hebrew]', and returns its Record.\n\n"
-      "Every other text is refused. parse() accepts each of these texts too, and returns an equal Record." },
+      "Every other text is refused. If parse_rfc9557() accepts a text, parse() accepts it too, and returns an equal Record." },
     { "parse_offset", parse_offset, METH_O, "parse_offset(text, /)\n--\n\nReads an offset, such as '+05:30', and returns it as an Offset. 'Z' is refused." },
     { "parse_zone", parse_zone, METH_O, "parse_zone(text, /)\n--\n\nReads a time zone, which is a name or an offset, such as 'Europe/Berlin' or '+05:30', and returns its Zone." },
     { "parse_zone_name", parse_zone_name, METH_O, "parse_zone_name(text, /)\n--\n\nReads the name of a time zone, such as 'Europe/Berlin', and returns its Zone." },
@@ -1148,13 +1162,14 @@ static PyMethodDef module_methods[] = {
       "refused, as in 'P1Y2Y'." },
     { "is_valid", FAST(is_valid),
       "is_valid(text, /, kind='date-time', *, strict=False)\n--\n\n"
-      "Returns whether a text of this kind is accepted. The kinds are date-time, year-month, month-day, time, rfc3339, rfc9557, offset, zone, zone-name and duration." },
+      "Returns whether a reader accepts the text. kind says which reader: for example, parse() for date-time, and parse_time() for\n"
+      "time. The kinds are date-time, year-month, month-day, time, rfc3339, rfc9557, offset, zone, zone-name and duration." },
     { "canonical", (PyCFunction)(void (*)(void))canonical, METH_VARARGS | METH_KEYWORDS,
       "canonical(record, /, kind='date-time')\n--\n\nReturns the canonical text of a Record, a Duration, an Offset or a Zone: the one text that the library writes for this value.\n\n"
       "kind says which function reads the text of a Record: parse() for date-time, parse_year_month() for year-month,\n"
       "parse_month_day() for month-day, and parse_time() for time. parse_duration(), parse_offset() and parse_zone() read the texts\n"
       "of the other three types. The function that reads the text returns an equal value, except that the text of a Zone does not\n"
-      "say whether the Zone is critical. Raises ValueError if there is no text for which this function returns the value." },
+      "say whether the Zone is critical. Raises ValueError if a value has no such text: for example, if the date is 30 February." },
     { "instant", instant, METH_O,
       "instant(record, /)\n--\n\nReturns the Instant of a Record: the seconds since 1970-01-01T00:00:00Z, rounded down, and the nanoseconds after them.\n\n"
       "Raises ValueError if the record has no date, no time or no offset. The time zone does not matter. The second 60 is the same\n"
@@ -1254,13 +1269,18 @@ static int clear(PyObject *module) {
     return 0;
 }
 
+/* Frees the state of a module that is freed without `clear`, such as one whose import failed. */
+static void release(void *module) {
+    clear((PyObject *)module);
+}
+
 static PyModuleDef_Slot module_slots[] = {
     { Py_mod_exec, execute },
     { 0, NULL },
 };
 
 static struct PyModuleDef module_definition = {
-    PyModuleDef_HEAD_INIT, "ixdtf._reader", "The functions that call the library for C, and the type Record.", sizeof(module_state), module_methods, module_slots, traverse, clear, NULL,
+    PyModuleDef_HEAD_INIT, "ixdtf._reader", "The functions that call the library for C, and the type Record.", sizeof(module_state), module_methods, module_slots, traverse, clear, release,
 };
 
 PyMODINIT_FUNC PyInit__reader(void) {

@@ -62,7 +62,7 @@ class Offset(NamedTuple):
 
     @property
     def is_utc(self) -> bool:
-        """False. It is True for Z."""
+        """Whether this value is Z, which says that the time is in UTC. An Offset is never Z, so this property is always False."""
         return False
 
     def to_timedelta(self) -> _datetime.timedelta:
@@ -89,8 +89,8 @@ Z = _Utc()
 
 
 class Zone(NamedTuple):
-    """A time zone. It has a name or an offset, and the other one of the two is None. If it is critical, a program must use this zone, or reject the
-    text."""
+    """A time zone. If it has a name, `offset` is None. If it has an offset, `name` is None. If it is critical, a program must use this zone, or
+    reject the text."""
 
     name: Optional[str] = None
     offset: Optional[Offset] = None
@@ -109,8 +109,9 @@ class Duration(NamedTuple):
     """A duration.
 
     sign                           1 or -1
-    years, months, weeks, days     numbers, or None for all four if the text has none of them
-    hours, minutes, seconds        numbers up to the last unit of the time that the text has, and None after it. All three are None without a time.
+    years, months, weeks, days     numbers. If the text has no years, months, weeks or days, all four are None.
+    hours, minutes, seconds        numbers or None. For "PT5M", they are 0, 5 and None: the units after the last unit in the text are None. If the
+                                   text has no time, all three are None.
     fraction                       the fraction of the last unit of the time, or None if it has none
     """
 
@@ -139,7 +140,7 @@ class Duration(NamedTuple):
 
 
 class Instant(NamedTuple):
-    """A point in time. If one instant is earlier than another, it is also less in a comparison with `<`.
+    """A point in time. You can compare instants: `a < b` is true if `a` is earlier than `b`.
 
     seconds      the seconds since 1970-01-01T00:00:00Z, rounded down; negative before 1970; leap seconds are not counted
     nanoseconds  the nanoseconds after these seconds, 0 to 999,999,999
@@ -154,7 +155,8 @@ for _part in (Fraction, Date, Time, Offset, Zone, Annotation, Duration, Instant)
 
 
 def _microseconds(fraction: Optional[Fraction], seconds: int) -> int:
-    """Returns the microseconds of a fraction of a unit with this number of seconds. Raises ValueError if the number of microseconds is not whole."""
+    """Returns the microseconds of a fraction of a duration unit. The duration unit has `seconds` seconds. Raises ValueError if the number of microseconds
+    is not whole, or if the fraction has more than 18 digits."""
     if fraction is None:
         return 0
     if fraction.digits > 18:
@@ -212,14 +214,17 @@ def make_duration(
     value: int,
 ) -> Duration:
     """Makes a Duration. `last` is the last unit of the time: 0 if there is no time, 1 for hours, 2 for minutes, and 3 for seconds."""
-    duration = Duration(
-        sign=-1 if is_negative else 1,
-        hours=hours if last > 0 else None,
-        minutes=minutes if last > 1 else None,
-        seconds=seconds if last > 2 else None,
-        fraction=_fraction(digits, value),
+    return Duration(
+        -1 if is_negative else 1,
+        years if has_date else None,
+        months if has_date else None,
+        weeks if has_date else None,
+        days if has_date else None,
+        hours if last > 0 else None,
+        minutes if last > 1 else None,
+        seconds if last > 2 else None,
+        _fraction(digits, value),
     )
-    return duration._replace(years=years, months=months, weeks=weeks, days=days) if has_date else duration
 
 
 def describe(date: Any, time: Any, offset: Any, zone: Any, calendar: Any) -> str:

@@ -1,10 +1,11 @@
-//! Prints the sum of the durations that are its arguments, in seconds and nanoseconds. The durations have no years, months, weeks or days.
+//! Adds durations, and prints their sum in seconds and nanoseconds. The arguments are the durations. An argument is left out if it has years,
+//! months, weeks or days.
 //!
 //!     cargo run --example durations -- PT1H30M -PT0.5S PT1.25M
 use ixdtf::parsers::IsoDurationParser;
 use ixdtf::records::{Fraction, Sign, TimeDurationRecord};
 
-/// Returns the nanoseconds of a fraction. It is a fraction of a duration unit that has `unit` seconds.
+/// Returns the nanoseconds of a fraction of a duration unit. The duration unit has `unit` seconds.
 ///
 /// Returns `None` if the number of nanoseconds is not a whole number. Also returns `None` if the fraction has more than 18 digits, because
 /// a record keeps only the first 18.

@@ -5,7 +5,7 @@
 use ixdtf::ParseError;
 use ixdtf::parsers::IxdtfParser;
 
-/// The values of the annotations of a text that the program uses.
+/// What the program uses of a text: the value of the annotation `x-note`, and the calendar.
 #[derive(Debug, Default, PartialEq)]
 struct Found<'a> {
     note: Option<&'a [u8]>,

@@ -1,4 +1,5 @@
-//! Writes the instant of each line of standard input: its seconds, its nanoseconds and its text. If a line has no instant, writes `none`.
+//! Reads the lines of standard input. For each line, writes its instant: the seconds, the nanoseconds, and the instant as text, such as
+//! `2024-03-02T08:48:00Z`. If a line has no instant, writes `none`.
 //! `tools/compare_instants.py` runs this example.
 
 use ixdtf::parsers::IxdtfParser;

@@ -1,5 +1,5 @@
-//! Sorts the lines of standard input by time. A line begins with a date and a time with `Z` or an offset, which end at the first space. Lines
-//! with the same time keep their order, and lines without a time come last.
+//! Sorts the lines of standard input by time. The time of a line is the text before its first space. It is a date and a time, with `Z` or an
+//! offset. Lines with the same time keep their order, and lines without a time come last.
 //!
 //!     cargo run --example sort_log < service.log
 use ixdtf::parsers::IxdtfParser;

@@ -1,6 +1,7 @@
-//! Reads texts of any code units. Each line of standard input has the name of a reader, the number of bits of a code unit, and the code units
-//! in hexadecimal. For each line, it writes `ok`, or `error` with the text of the error and its position. `tools/compare_rfc_patterns.py` runs
-//! this example.
+//! Reads texts whose code units are given as numbers. So a text can contain any code unit. Each line of standard input has the name of a
+//! reader, the number of bits of a code unit, and the code units in hexadecimal. For each line, it writes `ok`, or `error` with the text of the
+//! error and its position. The readers are `rfc3339` and `rfc9557`. For any other name, it writes `no such reader`. For a line of any other
+//! form, it writes `no such line`. `tools/compare_rfc_patterns.py` runs this example.
 //!
 //!     echo 'rfc3339 8 32 30 32 34' | cargo run --example units
 use ixdtf::encoding::{EncodingType, Utf8, Utf16};
@@ -18,7 +19,8 @@ fn answer<T: EncodingType>(reader: &str, units: &[T::CodeUnit]) -> String {
     found.map_or_else(|error| format!("error {error}"), |_| String::from("ok"))
 }
 
-/// Returns the answer to a line. Returns `None` if the line does not have this form.
+/// Returns the answer to a line of standard input. A line has a word that names the reader, then `8` or `16`, then any number of code units in
+/// hexadecimal. For every other line, returns `None`.
 fn answer_line(line: &str) -> Option<String> {
     let mut parts = line.split_ascii_whitespace();
     let (reader, bits) = (parts.next()?, parts.next()?);

@@ -1,6 +1,6 @@
 // Made by tools/to_rust.py of crates/ixdtf_instants/src/civil.rt. Do not edit.
 
-//! The date with a day number.
+//! The date that has a given day number.
 
 // A number of years. It is a multiple of 400, so that leap years stay leap years, and it is greater than the number of years
 // before year 0 of any instant.

@@ -2,8 +2,8 @@
 
 //! Classes of characters, and the values of digits.
 
-// One bit for each class: the characters of a key, of the name of a zone and of a value, and the characters with which
-// a key and the name of a zone can begin.
+// Each class has one bit. There are three classes of the characters that a key, the name of a zone and a value can
+// contain. Two other classes have the characters with which a key and the name of a zone can begin.
 const KEY_CHAR: u8 = 1;
 
 const TZ_CHAR: u8 = 2;
@@ -34,8 +34,8 @@ static CLASSES: [u8; 256] = [
     0, 0, 0, 0, 0, 0, 0, 0, 0, 0, 0, 0, 0, 0, 0, 0,
 ];
 
-// For each byte, ten times its value as a digit, and its value. For a byte that is not a digit, both are 100. Both are
-// in one table, so that one address is enough.
+// For each byte, `tens` has ten times its value as a digit, and `ones` has its value. For a byte that is not a digit,
+// both have 100. Both are in one static variable, so that the code needs only one address.
 struct DigitValues {
     tens: [u8; 256],
     ones: [u8; 256],
@@ -188,7 +188,7 @@ pub fn is_annotation_value_component(byte: u8) -> bool {
     CLASSES[byte as usize] & VALUE_CHAR != 0
 }
 
-/// Returns the value of two digits, or at least 100 if one of the bytes is not a digit.
+/// Returns the number of two digits, 0 to 99. Returns at least 100 if one of the bytes is not a digit.
 #[inline(always)]
 pub fn two_digit_number(tens: u8, ones: u8) -> u8 {
     tens_of(tens) + ones_of(ones)

@@ -3,15 +3,15 @@
 //! A cursor: the remaining code units of a source.
 //!
 //! A cursor has no index. It keeps the remaining code units as one slice, so it cannot point past the end. When a
-//! private function stops with an error, it leaves its cursor at the position of the error. A public reader puts it
-//! back (`settle`).
+//! private function returns an error, its cursor is at the position of the error. A public reader works on a second
+//! cursor. If it fails, the cursor of the parser is unchanged (`settle`).
 
 use crate::classes::two_digit_number;
 use crate::stop::{FromStop, Stop, error_of_stop};
 use crate::encoding::EncodingType;
 use core::fmt;
 
-/// The remaining code units.
+/// The remaining code units of a source, and the count of accesses to code units.
 pub struct Cursor<'a, T: EncodingType> {
     rest: &'a [T::CodeUnit],
 }
@@ -61,8 +61,9 @@ impl<'a, T: EncodingType> Cursor<'a, T> {
 
     /// Returns a second cursor at the same position. `self` keeps its remaining input.
     ///
-    /// A reader that must stand still on an error works on the second cursor. A function with a loop, or with a call that
-    /// is not inlined, does so too: a local cursor stays in registers, and is stored in `self` at the end.
+    /// A function that must consume nothing on failure works on the second cursor. A function with a loop, or with a call
+    /// that is not inlined, also works on it: a local cursor can stay in registers. At the end, the function stores the
+    /// second cursor in `self`.
     #[inline(always)]
     pub fn fork(&mut self) -> Self {
         Cursor {
@@ -70,7 +71,7 @@ impl<'a, T: EncodingType> Cursor<'a, T> {
         }
     }
 
-    /// Returns a second cursor at `rest`, a remaining input that the caller kept. `self` keeps its own.
+    /// Returns a second cursor whose remaining input is `rest`. `self` keeps its own remaining input.
     #[inline(always)]
     pub fn fork_at(&mut self, rest: &'a [T::CodeUnit]) -> Self {
         Cursor {
@@ -80,8 +81,8 @@ impl<'a, T: EncodingType> Cursor<'a, T> {
 
     /// Ends a function that worked on a second cursor, `here`.
     ///
-    /// After `Ok`, `self` continues where `here` is. After a `Stop`, `self` keeps its remaining input. The `Stop`
-    /// becomes an error, and the position of `here` becomes its position.
+    /// If `read` is `Ok`, `self` continues where `here` is. If `read` is a `Stop`, `self` keeps its remaining input. Then
+    /// the function returns the error of the `Stop`. Its position is the number of code units from `self` to `here`.
     #[inline(always)]
     pub fn settle<R, E: FromStop>(&mut self, here: Self, read: Result<R, Stop>) -> Result<R, E> {
         match read {
@@ -98,7 +99,8 @@ impl<'a, T: EncodingType> Cursor<'a, T> {
 
     /// Returns the code unit at an index of the remaining input, as a byte.
     ///
-    /// Returns `None` after the end, and `NonAsciiCodePoint` for a bad code unit. Only this function calls `get_ascii`.
+    /// Returns `None` if the input is too short, and `NonAsciiCodePoint` for a bad code unit. In the library, only this
+    /// function calls `get_ascii`.
     #[inline(always)]
     pub fn look_at(&mut self, index: usize) -> Result<Option<u8>, Stop> {
         match T::get_ascii(self.rest, index) {
@@ -107,7 +109,9 @@ impl<'a, T: EncodingType> Cursor<'a, T> {
         }
     }
 
-    /// Returns the first code unit of the remaining input, as a byte. Returns `None` at the end of the input.
+    /// Returns the first code unit of the remaining input, as a byte, without consuming it.
+    ///
+    /// Returns `None` at the end of the input, and `NonAsciiCodePoint` for a bad code unit.
     #[inline(always)]
     pub fn look(&mut self) -> Result<Option<u8>, Stop> {
         self.look_at(0)
@@ -154,7 +158,7 @@ impl<'a, T: EncodingType> Cursor<'a, T> {
     ///
     /// One test finds the end of the input, and one comparison tests both digits. Returns `AbruptDigit` at the end of the
     /// input, `NonAsciiCodePoint` at a bad code unit, and `other` at any other code unit. Then the code unit of the error
-    /// is not consumed, but a digit before it is.
+    /// is not consumed. If a digit is before it, this digit is consumed.
     #[inline(always)]
     pub fn two_digits(&mut self, other: Stop) -> Result<u8, Stop> {
         if self.rest.len() < 2 {
@@ -221,20 +225,19 @@ impl<'a, T: EncodingType> Cursor<'a, T> {
 
     /// Tests whether two slices have equal code units.
     ///
-    /// This is the only comparison of code units with each other. `is_calendar_key` compares them with the key of
-    /// calendars.
+    /// No other function compares code units of a text with each other. `is_calendar_key` compares a key with `u-ca`.
     #[inline(always)]
     pub fn has_same_units(&mut self, left: &[T::CodeUnit], right: &[T::CodeUnit]) -> bool {
         are_equal::<T>(left, right)
     }
 
-    /// Tests whether a key is `u-ca`, the key of calendars. This is the only call of `check_calendar_key`.
+    /// Tests whether a key is `u-ca`, the key of calendars. No other function calls `check_calendar_key`.
     #[inline(always)]
     pub fn is_calendar_key(&mut self, key: &[T::CodeUnit]) -> bool {
         T::check_calendar_key(key)
     }
 
-    /// Expects the end of the input. Returns `InvalidEnd` if there is a code unit.
+    /// Expects the end of the input. Returns `NonAsciiCodePoint` at a bad code unit, and `InvalidEnd` at any other one.
     #[inline(always)]
     pub fn close(&mut self) -> Result<(), Stop> {
         match self.look()? {
@@ -249,7 +252,7 @@ fn are_equal<T: EncodingType>(left: &[T::CodeUnit], right: &[T::CodeUnit]) -> bo
     left == right
 }
 
-/// Returns the code unit that was read, as an ASCII byte, or 0 if there is none.
+/// Returns the code unit that was read, as an ASCII byte. Returns 0 at the end of the input and for a bad code unit.
 #[inline(always)]
 fn byte_of(found: Result<Option<u8>, Stop>) -> u8 {
     match found {

@@ -2,8 +2,8 @@
 
 //! The encodings that a source can have.
 //!
-//! The readers are generic in the encoding. The encoding decides whether a code unit stands for a byte, or for no
-//! character. The readers see only the byte.
+//! The readers are generic in the encoding. The encoding says which byte a code unit stands for, or that the code unit
+//! stands for no character. The readers see only the bytes.
 
 use crate::{ParseError, ParserResult};
 use core::hash::Hash;
@@ -15,8 +15,8 @@ mod private {
 
 /// An encoding of a text in code units: [`Utf8`] or [`Utf16`].
 ///
-/// Each code unit is a number. It stands for the ASCII character with this number, or for a character that no reader
-/// accepts. No other crate can implement this trait.
+/// Each code unit is a number. A code unit from 1 to 126 stands for the ASCII character with this number. No reader
+/// accepts a text with another code unit. No other crate can implement this trait.
 ///
 /// # Examples
 ///

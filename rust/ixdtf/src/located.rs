@@ -32,9 +32,10 @@ pub struct LocatedError {
 impl LocatedError {
     /// Returns the text with a mark under the position of the error, so that people can see where the text is wrong.
     ///
-    /// `text` must be the complete source of a new parser, and the source must be 8-bit text: the position is used as a
-    /// number of bytes in `text`. For 16-bit text with a character outside ASCII before the position, the mark is in a
-    /// wrong column.
+    /// `text` must be the complete source of the parser. No earlier call of this parser may have returned `Ok`, because such
+    /// a call consumes the source. Otherwise the position is not counted from the beginning of `text`. The
+    /// source must be 8-bit text, because the position is used as a number of bytes in `text`. For 16-bit text with a
+    /// character outside ASCII before the position, the mark is in a wrong column.
     ///
     /// The `Display` of the result writes two lines, without a newline at the end. [`PointedText`] describes what it
     /// writes for a long text, and for control characters.

@@ -1,12 +1,12 @@
 // Made by tools/to_rust.py of crates/ixdtf_reading/src/stop.rt. Do not edit.
 
-//! The error inside the library, of one byte.
+//! `Stop`, the one-byte error code that the library uses inside.
 
 use crate::{LocatedError, ParseError};
 
 /// The reason why a function stopped: an error of a reader, with one variant for each location of `AbruptEnd`.
 ///
-/// It takes one byte. Only the public readers make a `ParseError` from it.
+/// A `Stop` has a size of one byte. Only the public readers make a `ParseError` from it.
 #[derive(Clone, Copy)]
 pub enum Stop {
     NonAsciiCodePoint,
@@ -60,7 +60,9 @@ pub enum Stop {
 }
 
 impl Stop {
-    /// Returns the error. It is inlined, so that the readers of `IxdtfParser` need no function call for it.
+    /// Returns the `ParseError` of this `Stop`.
+    ///
+    /// The function is inlined, so that the readers of `IxdtfParser` need no function call for it.
     #[inline(always)]
     pub fn error(self) -> ParseError {
         ERRORS[self as usize]
@@ -150,8 +152,8 @@ pub struct StopAt {
 
 /// An error that can be made from a `Stop`: `ParseError`, or `LocatedError` with the position.
 ///
-/// A function that calls a handler is generic in its error, with this bound. So its own signature does not name
-/// `'static`, as `ParseError` does.
+/// A function that calls a handler has a type parameter for its error, with this bound. So the signature of the function
+/// does not name the lifetime `'static`. `ParseError` names it, because it contains a `&'static str`.
 pub trait FromStop {
     /// Makes the error from a `Stop` with position `at`.
     fn of_stop(stop: Stop, at: usize) -> Self;
@@ -178,8 +180,8 @@ impl FromStop for ParseError {
 
 /// Makes the error from a `Stop` with position `at`.
 ///
-/// It is not inlined, so that a loop over a name stays small. It is generic, so that the compiler sees its body at each
-/// call, and removes a call whose error is not used.
+/// The function is not inlined, so that a loop over a name stays small. But it is generic, so the compiler knows its body
+/// when it compiles a caller. If the caller does not use the error, the compiler can remove the call.
 #[cold]
 #[inline(never)]
 pub fn error_of_stop<E: FromStop>(stop: Stop, at: usize) -> E {

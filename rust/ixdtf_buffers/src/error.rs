@@ -1,11 +1,11 @@
 // Made by tools/to_rust.py of crates/ixdtf_buffers/src/error.rt. Do not edit.
 
-//! The errors that end a run early.
+//! The errors that end a run early. A *run* is one call of `drive`, which reads a source to its end and writes to a sink.
 
 /// The error that ended a run.
 #[derive(Clone, Copy, Debug, PartialEq)]
 pub enum RunError {
-    /// A read returned an error, or the number of bytes could exceed a `u64`.
+    /// A read returned an error, or the next read could make the number of bytes in the run greater than `u64::MAX`.
     Read = 1,
     /// A write or a flush returned an error, or a write accepted no bytes.
     Write = 2,

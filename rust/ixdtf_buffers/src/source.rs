@@ -7,8 +7,8 @@ use std::io::Read;
 
 /// A source from which a run reads: any `Read`, or bytes in memory.
 pub trait Source {
-    /// Reads bytes into the beginning of `input`, and returns their number. Returns 0 at the end of the source, or if `input` is
-    /// empty.
+    /// Reads bytes into the beginning of `input`, and returns their number. This number is 0 only at the end of the source, or if
+    /// `input` is empty.
     ///
     /// Returns `RunError::Read` if the read fails.
     fn read_some(&mut self, input: &mut [u8]) -> Result<usize, RunError>;

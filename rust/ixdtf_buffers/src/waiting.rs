@@ -25,7 +25,7 @@ impl Waiting {
         WAITING_LIMIT - self.count
     }
 
-    /// Appends bytes that fit to the buffer.
+    /// Appends the bytes to the buffer. They must fit into it.
     pub fn push_all(&mut self, bytes: &[u8]) {
         let end = self.count + bytes.len();
         self.bytes[self.count..end].copy_from_slice(bytes);

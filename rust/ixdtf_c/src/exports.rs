@@ -6,12 +6,13 @@
 //! These clauses are in the contracts of the readers:
 //!
 //! - `read`: The outcome of the text determines the number that is returned and every field of the record. The outcome is a
-//!   record of the grammar, or an error with its position. A text reader returns 0 only if no other text reader accepts the
-//!   text under the same profile.
+//!   record of the grammar, or an error with its position. There are five *text readers*: `ixdtf_parse`, and the readers of
+//!   a year and a month, of a month and a day, of a time, and of a duration. If a text reader returns 0, no other text reader
+//!   accepts the text under the same profile.
 //! - `lists`: This clause is like `read`, for a reader that drops each annotation. It also says that `count` is the number of
 //!   annotations before the end of the text, or before its error. The first of these annotations are in the array, in order.
-//! - `few`: Five times the number of annotations is at most the length of the text. So the array is long enough if it has a
-//!   fifth of this length.
+//! - `few`: Five times the number of annotations is at most the length of the text. So an array of `length / 5` elements is
+//!   always long enough.
 //! - `unchanged`: After an error, the record is unchanged, also its slices, except for `location` and `place`.
 
 use crate::durations::{Duration, duration_into};
@@ -259,9 +260,10 @@ pub unsafe extern "C" fn ixdtf_parse_time_with_annotations_strict<'a>(
     narrow_annotations::list_into::<Times>(text, Profile::Strict, annotations, count, out)
 }
 
-/// Checks the reply to an annotation. Returns 0 if the reply is accepted, and otherwise the number of the error.
+/// Checks a reply. For a listed annotation, a caller replies with this annotation itself, or with another one.
 ///
-/// If the key of an accepted reply is `u-ca`, and no calendar was kept before, the reply is kept in `calendar`.
+/// Returns 0 if the reply is accepted, and otherwise the number of the error. If the key of an accepted reply is `u-ca`, and no
+/// calendar was kept before, the reply is kept in `calendar`.
 #[unsafe(no_mangle)]
 pub extern "C" fn ixdtf_reply<'a>(calendar: &mut Calendar<'a>, reply: &Annotation<'a>) -> u32 {
     take_reply::<Utf8, _, _>(calendar, reply)
@@ -507,9 +509,10 @@ pub unsafe extern "C" fn ixdtf16_parse_time_with_annotations_strict<'a>(
     wide_annotations::list_into::<Times>(text, Profile::Strict, annotations, count, out)
 }
 
-/// Checks the reply to an annotation. Returns 0 if the reply is accepted, and otherwise the number of the error.
+/// Checks a reply. For a listed annotation, a caller replies with this annotation itself, or with another one.
 ///
-/// If the key of an accepted reply is `u-ca`, and no calendar was kept before, the reply is kept in `calendar`.
+/// Returns 0 if the reply is accepted, and otherwise the number of the error. If the key of an accepted reply is `u-ca`, and no
+/// calendar was kept before, the reply is kept in `calendar`.
 #[unsafe(no_mangle)]
 pub extern "C" fn ixdtf16_reply<'a>(
     calendar: &mut wide::Calendar<'a>,

@@ -132,9 +132,10 @@ pub fn name_into<'a, T: EncodingType, R: RecordOf<'a, T>>(
     }
 }
 
-/// Checks the reply to an annotation. Returns 0 if the reply is accepted, and otherwise the number of the error.
+/// Checks a reply. For a listed annotation, a caller replies with this annotation itself, or with another one.
 ///
-/// If the key of an accepted reply is `u-ca`, and no calendar was kept before, the reply is kept in `calendar`.
+/// Returns 0 if the reply is accepted, and otherwise the number of the error. If the key of an accepted reply is `u-ca`, and no
+/// calendar was kept before, the reply is kept in `calendar`.
 #[inline(always)]
 pub fn take_reply<'a, T: EncodingType, A: AnnotationOf<'a, T>, K: CalendarOf<'a, T>>(
     calendar: &mut K,

@@ -26,21 +26,22 @@ pub trait HasText {
     fn needs(&self) -> Option<usize>;
 }
 
-/// A record that is printed as `ixdtf_parse_time` reads it: a time, and an offset, a zone and a calendar if they are present.
+/// A record that is printed as a time. Its offset, its zone and its calendar are printed too, if they are present.
+/// `ixdtf_parse_time` reads such texts.
 #[derive(Clone, Copy)]
 pub struct AsTime<'a> {
     pub record: &'a Record<'a>,
 }
 
-/// A record that is printed as `ixdtf_parse_year_month` reads it: a year and a month, and a zone and a calendar if they are
-/// present.
+/// A record that is printed as a year and a month. Its zone and its calendar are printed too, if they are present.
+/// `ixdtf_parse_year_month` reads such texts.
 #[derive(Clone, Copy)]
 pub struct AsYearMonth<'a> {
     pub record: &'a Record<'a>,
 }
 
-/// A record that is printed as `ixdtf_parse_month_day` reads it: a month and a day, and a zone and a calendar if they are
-/// present.
+/// A record that is printed as a month and a day. Its zone and its calendar are printed too, if they are present.
+/// `ixdtf_parse_month_day` reads such texts.
 #[derive(Clone, Copy)]
 pub struct AsMonthDay<'a> {
     pub record: &'a Record<'a>,

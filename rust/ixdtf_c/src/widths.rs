@@ -46,7 +46,8 @@ pub fn put_zone<'a, T: EncodingType, Z: ZoneOf<'a, T>>(
 
 /// A record whose slices have code units of the encoding `T`.
 pub trait RecordOf<'a, T: EncodingType> {
-    /// Writes every field of the record. The fields of a part that is absent, `location` and `place` become 0, false or empty.
+    /// Writes every field of the record. If a part is absent, its fields become 0, false or empty. `location` becomes empty, and
+    /// `place` becomes 0.
     ///
     /// Each part is written directly to the record of the caller, in the match arm that reads it. It took sixty instructions
     /// more to build a record first and then to copy it.

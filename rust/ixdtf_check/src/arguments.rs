@@ -150,7 +150,7 @@ enum Awaited {
     File,
 }
 
-/// Where the name of a field is among the arguments.
+/// The position of the name of a field in the arguments. The name is the value of `--field`.
 #[derive(Clone, Copy, Debug, PartialEq)]
 pub struct FieldName {
     /// The number of words before the word that contains the name.
@@ -170,7 +170,7 @@ impl FieldName {
 /// The field or the fields of a line that are its text.
 #[derive(Clone, Copy, Debug, PartialEq)]
 enum Column {
-    /// The field after this number of other fields.
+    /// The field that has this number of fields before it.
     After(usize),
     /// The field that has a given name in the first line of a file.
     Named(FieldName),
@@ -178,7 +178,7 @@ enum Column {
     Between(usize, usize),
 }
 
-/// The options that the words so far set.
+/// The options of the program. Each call of `take` applies one more word to them.
 #[derive(Clone, Copy, Debug, PartialEq)]
 pub struct Options {
     awaited: Awaited,
@@ -197,7 +197,7 @@ pub struct Options {
 }
 
 impl Options {
-    /// Creates options before the first word: none is set.
+    /// Creates options to which no word was applied yet, so that none is set.
     pub fn new() -> Options {
         Options {
             awaited: Awaited::Anything,
@@ -428,7 +428,7 @@ impl Options {
         }
     }
 
-    /// Returns where the words name the field that is read. Returns `None` if the words do not name a field.
+    /// Returns the position of the name in `--field NAME`. Returns `None` if `--field` has a number, or is missing.
     pub fn field_name(&self) -> Option<FieldName> {
         match self.column {
             Some(Column::Named(field_name)) => Some(field_name),

@@ -26,7 +26,7 @@ pub struct Checking<'n> {
     pub room: [u8; ROOM],
     /// The text of the last line in whose text two quotes became one.
     pub unquoted: [u8; LINE_LIMIT],
-    /// The instant of the last line whose text names one, if it was read for its instant.
+    /// The instant of the last line whose text names an instant. It is kept only if the task is `Task::Order`.
     pub last: Option<Instant>,
     /// The counts so far, without the bytes. `check_lines` adds the number of bytes at the end.
     pub tally: Tally,

@@ -7,8 +7,8 @@ use crate::request::Skips;
 
 /// Returns the line without the bytes that do not belong to it. Returns `None` if the line is skipped.
 ///
-/// The usual case is a later line of a file, when no option asks to skip lines. In this case, the inlined function only makes a
-/// test and removes a carriage return.
+/// Usually, no option asks to skip lines, and the line is not the first one of a file. In this case, `kept_line` only makes a test
+/// and removes a carriage return. So `kept_line` is inlined.
 #[inline(always)]
 pub fn kept_line<'a>(skips: &Option<Skips>, is_first: bool, bytes: &'a [u8]) -> Option<&'a [u8]> {
     if is_first || skips.is_some() {

@@ -2,8 +2,8 @@
 
 //! Reads texts, and prints their canonical texts. There is one function for each kind of canonical text.
 //!
-//! None of these functions is inlined. So the value that a reader returns is in the stack frame of its own function, and a line
-//! does not clear the frames of the other functions.
+//! None of these functions is inlined. So each function has a stack frame of its own, and the value that its reader returns is
+//! in this frame. For each line, the program clears at most the frames of the functions that it calls.
 
 use ixdtf::ParserResult;
 use ixdtf::encoding::Utf8;

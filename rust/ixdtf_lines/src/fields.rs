@@ -106,7 +106,8 @@ fn add_full_offset(room: &mut [u8; ROOM], at: usize, offset: FullPrecisionOffset
     add_fraction(room, point, fraction)
 }
 
-/// Adds the field of the zone up to its name, if there is a zone. If the zone is an offset, adds the complete field.
+/// Adds the part of the field of a zone that is before the name, if there is a zone. If the zone is an offset, adds the complete
+/// field.
 pub fn add_zone_field_front(
     room: &mut [u8; ROOM],
     at: usize,
@@ -118,7 +119,7 @@ pub fn add_zone_field_front(
     }
 }
 
-/// Adds the field of a zone up to its name. If the zone is an offset, adds the complete field.
+/// Adds the part of the field of a zone that is before the name. If the zone is an offset, adds the complete field.
 pub fn add_zone_front(
     room: &mut [u8; ROOM],
     at: usize,

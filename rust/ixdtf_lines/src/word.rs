@@ -2,7 +2,8 @@
 
 //! The words that can begin a line.
 
-/// A word at the beginning of a line. It names a reader, and says what the answer has.
+/// A word at the beginning of a line. It names the reader of the text. It also says whether the answer has the value that this
+/// reader returns, the canonical text of this value, or its instant.
 #[derive(Clone, Copy, Debug, PartialEq)]
 pub enum Word {
     /// `parse`: a date, or a date and a time. An offset may follow the time, and there may be a zone and a calendar.

@@ -53,8 +53,9 @@ pub fn put_four(out: &mut [u8], at: usize, number: u64) -> usize {
 
 /// Writes the last `count` digits of the number at index `at`, with leading zeros. Returns the index after them.
 ///
-/// The loop writes two digits at a time, and begins with the last two. The function is not inlined: for the number 0 the
-/// compiler would turn the inlined loop into a call of `memset`, and the library for C must not call other functions.
+/// The loop writes two digits at a time, and begins with the last two. The function is not inlined. In one of its
+/// calls, the number is the constant 0. If this call were inlined, the compiler would turn the loop into a call of `memset`. But
+/// the library for C must not call other functions.
 #[inline(never)]
 pub fn put_digits(out: &mut [u8], at: usize, count: usize, number: u64) -> usize {
     let end = at + count;

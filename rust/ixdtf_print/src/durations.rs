@@ -11,10 +11,11 @@ use crate::text::{self, CanonicalText, Tail};
 use ixdtf::records::{DateDurationRecord, DurationParseRecord, Fraction, Sign, TimeDurationRecord};
 use core::fmt;
 
-/// An upper bound of the number of bytes of a duration: 2 for its sign and its `P`, 84 for its date, and 320 for its time.
-const MOST_OF_DURATION: usize = 406;
+/// The greatest number of bytes of a duration without a fraction: 2 for its sign and its `P`, 54 for its date, and 64 for its
+/// time. In a date, only the days can have more than ten digits. No number has more than twenty digits.
+const MOST_WITHOUT_FRACTION: usize = 120;
 
-/// Writes the canonical text of a duration to the beginning of the slice, such as `P1Y2M3DT4H5.5M`.
+/// Writes the canonical text of a duration, such as `P1Y2M3DT4H5.5M`, to the beginning of the slice.
 ///
 /// The duration is a record that [`IsoDurationParser::parse`](ixdtf::parsers::IsoDurationParser::parse) returns. The
 /// canonical text begins with `-` if the duration is negative. A duration unit whose number is zero is left out, with two
@@ -31,7 +32,11 @@ const MOST_OF_DURATION: usize = 406;
 /// use ixdtf_print::{PrintError, print_duration};
 ///
 /// let mut out = [0; 64];
-/// for (text, canonical) in [("+p1y0m03dt04,50m", "P1Y3DT4.50M"), ("-P0Y", "-P0D"), ("P0WT0H0S", "P0DT0S")] {
+/// for (text, canonical) in [
+///     ("+p1y0m03dt04,50m", "P1Y3DT4.50M"),
+///     ("-P0Y", "-P0D"),
+///     ("P0WT0H0S", "P0DT0S"),
+/// ] {
 ///     let duration = IsoDurationParser::from_str(text).parse().unwrap();
 ///     let count = print_duration(&duration, &mut out).unwrap();
 ///     assert_eq!(&out[..count], canonical.as_bytes());
@@ -105,7 +110,7 @@ fn has_part(date: Option<DateDurationRecord>, time: Option<TimeDurationRecord>) 
     date.is_some() || time.is_some()
 }
 
-/// A duration that `Display` writes as its canonical text, such as `-PT1H30.5M`.
+/// A value that displays the canonical text of a duration, such as `-PT1H30.5M`.
 ///
 /// This is the text that [`print_duration`](crate::print_duration) writes into a slice. `Display` does not allocate, and
 /// ignores width and fill.
@@ -150,7 +155,9 @@ impl<'a> CanonicalText for CanonicalDuration<'a> {
     }
 
     fn is_too_short(self, room: usize) -> bool {
-        if room >= MOST_OF_DURATION {
+        let fraction = fraction_length(last_fraction(self.duration.time));
+        // A slice is usually longer than each duration with this fraction. Then the length is not counted.
+        if room >= MOST_WITHOUT_FRACTION + usize::from(fraction) {
             return false;
         }
         room < usize::from(length_of_duration(self.duration))
@@ -197,6 +204,17 @@ fn is_zero(date: DateDurationRecord) -> bool {
 /// Returns the number of bytes of the last unit of a time: its number, its fraction and its letter.
 fn last_length(number: u64, fraction: Option<Fraction>, letter: u8) -> u16 {
     digit_count(number) + fraction_length(fraction) + 1
+}
+
+/// Returns the fraction of the last duration unit of a time, if there is one.
+#[inline(always)]
+fn last_fraction(time: Option<TimeDurationRecord>) -> Option<Fraction> {
+    match time {
+        None => None,
+        Some(TimeDurationRecord::Hours { fraction, .. }) => fraction,
+        Some(TimeDurationRecord::Minutes { fraction, .. }) => fraction,
+        Some(TimeDurationRecord::Seconds { fraction, .. }) => fraction,
+    }
 }
 
 /// Returns the number of bytes of the time, with its `T`.

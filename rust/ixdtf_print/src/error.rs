@@ -5,7 +5,7 @@
 use core::error::Error;
 use core::fmt;
 
-/// The reason why [`print`](crate::print), or a printer of another kind of record, wrote nothing.
+/// The reason why [`print`](crate::print), or another function that prints, wrote nothing.
 ///
 /// `Display` writes a message.
 ///
@@ -20,8 +20,8 @@ use core::fmt;
 #[derive(Clone, Copy, Debug, PartialEq)]
 pub enum PrintError {
     /// The record has no canonical text. For [`print`](crate::print), this is a record that has no date, or an offset
-    /// without a time, or a field whose value no text has. The documentation of each other function that prints says which
-    /// records it refuses.
+    /// without a time, or a value that `parse` never returns, such as the month 13 or February 30. The documentation of
+    /// each other function that prints says which records it refuses.
     NotPrintable,
     /// The canonical text of the record is longer than the slice. For [`print`](crate::print), the function
     /// [`printed_length`](crate::printed_length) returns the length of the canonical text. If `parse` returned the record,

@@ -218,7 +218,7 @@ fn put_calendar(out: &mut [u8], at: usize, calendar: Option<&[u8]>) -> usize {
     }
 }
 
-/// Writes the two brackets at index `at`. Returns the index after them.
+/// Writes the zone and the calendar, in their brackets, at index `at`. Returns the index after them.
 #[inline(always)]
 pub fn put_brackets(out: &mut [u8], at: usize, parsed: &IxdtfParseRecord<'_, Utf8>) -> usize {
     let after_bracket = put_bracket(out, at, &parsed.tz);

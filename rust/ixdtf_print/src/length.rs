@@ -93,7 +93,7 @@ fn calendar_length(calendar: Option<&[u8]>) -> u128 {
     }
 }
 
-/// Returns the number of bytes of the two brackets.
+/// Returns the number of bytes of the zone and the calendar, with their brackets.
 #[inline(always)]
 #[must_use]
 pub fn brackets_length(parsed: &IxdtfParseRecord<'_, Utf8>) -> u128 {
@@ -106,11 +106,11 @@ pub fn core_length(parsed: &IxdtfParseRecord<'_, Utf8>) -> u16 {
     date_length(parsed.date) + time_length(parsed.time) + shift_length(parsed.offset)
 }
 
-/// Tests quickly whether the canonical text of a record that has one fits into `room` bytes.
+/// Tests quickly whether the canonical text of a record fits into `room` bytes. The record must have a canonical text.
 ///
 /// `true` means that the text fits. `false` means that the caller must count the length, because the text may fit or not.
-/// The result is `true` if `room` is at least `MOST_BESIDES_NAMES`, and the name of the zone and the calendar each have at
-/// most half of the bytes of `room` above this number.
+/// `MOST_BESIDES_NAMES` bytes of `room` are enough for everything except the name of the zone and the calendar. The result is
+/// `true` if the name and the calendar each have at most half of the remaining bytes of `room`.
 #[inline(always)]
 #[must_use]
 pub fn has_plenty(parsed: &IxdtfParseRecord<'_, Utf8>, room: usize) -> bool {

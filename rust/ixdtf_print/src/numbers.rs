@@ -5,7 +5,9 @@
 use crate::digits::{ones_digit, put_four, tens_digit};
 use crate::put::{put, put_byte};
 
-/// Returns the number of digits of the number, without leading zeros. A number of one digit needs no logarithm.
+/// Returns the number of digits of the number, without leading zeros.
+///
+/// The function computes a logarithm only if the number has more than one digit.
 #[inline(always)]
 pub fn digit_count(number: u64) -> u16 {
     if number < 10 {
@@ -16,8 +18,8 @@ pub fn digit_count(number: u64) -> u16 {
 
 /// Writes the number without leading zeros at index `at`. Returns the index after it.
 ///
-/// Most numbers are small, so numbers below 10,000 are tested first. The function is not inlined: a copy of it at each duration
-/// unit would take more instructions.
+/// Most numbers are small, so numbers below 10,000 are tested first. The function is not inlined. With a copy of it for each
+/// duration unit, the printer of durations would take more instructions.
 #[inline(never)]
 pub fn put_number(out: &mut [u8], at: usize, number: u64) -> usize {
     if number < 10_000 {

@@ -29,14 +29,14 @@ impl<const SIZE: usize> PrintedText<SIZE> {
         PrintedText { bytes, count: 0 }
     }
 
-    /// Prints the record. Its text replaces the text before.
+    /// Prints the record. Its text replaces the previous text.
     pub fn print(&mut self, parts: &IxdtfParseRecord<'_, Utf8>) {
         let count = print_with_room(parts, &mut self.bytes);
         self.bytes[count] = b'\n';
         self.count = count;
     }
 
-    /// Prints a duration that a reader returned. Its text replaces the text before.
+    /// Prints a duration that a reader returned. Its text replaces the previous text.
     pub fn print_duration(&mut self, duration: &DurationParseRecord) {
         if let Ok(count) = print_duration(duration, &mut self.bytes) {
             self.bytes[count] = b'\n';
@@ -44,7 +44,7 @@ impl<const SIZE: usize> PrintedText<SIZE> {
         }
     }
 
-    /// Prints an offset that a reader returned. Its text replaces the text before.
+    /// Prints an offset that a reader returned. Its text replaces the previous text.
     pub fn print_offset(&mut self, offset: &UtcOffsetRecord) {
         if let Ok(count) = print_offset(offset, &mut self.bytes) {
             self.bytes[count] = b'\n';
@@ -52,7 +52,7 @@ impl<const SIZE: usize> PrintedText<SIZE> {
         }
     }
 
-    /// Prints a zone that a reader returned. Its text replaces the text before.
+    /// Prints a zone that a reader returned. Its text replaces the previous text.
     pub fn print_zone(&mut self, zone: &TimeZoneRecord<'_, Utf8>) {
         if let Ok(count) = print_zone(zone, &mut self.bytes) {
             self.bytes[count] = b'\n';
@@ -60,7 +60,7 @@ impl<const SIZE: usize> PrintedText<SIZE> {
         }
     }
 
-    /// Prints a time that a reader returned. Its text replaces the text before.
+    /// Prints a time that a reader returned. Its text replaces the previous text.
     pub fn print_time(&mut self, parts: &IxdtfParseRecord<'_, Utf8>) {
         if let Ok(count) = print_time(parts, &mut self.bytes) {
             self.bytes[count] = b'\n';
@@ -68,7 +68,7 @@ impl<const SIZE: usize> PrintedText<SIZE> {
         }
     }
 
-    /// Prints a record of a year and a month that a reader returned. Its text replaces the text before.
+    /// Prints a record of a year and a month that a reader returned. Its text replaces the previous text.
     pub fn print_year_month(&mut self, parts: &IxdtfParseRecord<'_, Utf8>) {
         if let Ok(count) = print_year_month(parts, &mut self.bytes) {
             self.bytes[count] = b'\n';
@@ -76,7 +76,7 @@ impl<const SIZE: usize> PrintedText<SIZE> {
         }
     }
 
-    /// Prints a record of a month and a day that a reader returned. Its text replaces the text before.
+    /// Prints a record of a month and a day that a reader returned. Its text replaces the previous text.
     pub fn print_month_day(&mut self, parts: &IxdtfParseRecord<'_, Utf8>) {
         if let Ok(count) = print_month_day(parts, &mut self.bytes) {
             self.bytes[count] = b'\n';

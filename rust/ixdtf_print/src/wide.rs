@@ -2,17 +2,27 @@
 
 //! Functions that write 16-bit code units into a slice.
 
-/// Writes each byte as a 16-bit code unit, from the beginning of the slice on. Returns the index after them.
-pub fn put_wide(out: &mut [u16], bytes: &[u8]) -> usize {
-    let mut at = 0;
+/// Writes each byte as a 16-bit code unit, from index `at` on. Returns the index after them.
+pub fn put_wide(out: &mut [u16], at: usize, bytes: &[u8]) -> usize {
+    let mut place = at;
     for byte in bytes {
-        at = put_unit(out, at, u16::from(*byte));
+        place = put_unit(out, place, u16::from(*byte));
     }
-    at
+    place
+}
+
+/// Writes the code units from index `at` on. Returns the index after them.
+#[inline]
+pub fn put_units(out: &mut [u16], at: usize, units: &[u16]) -> usize {
+    let mut place = at;
+    for unit in units {
+        place = put_unit(out, place, *unit);
+    }
+    place
 }
 
 /// Writes the code unit at index `at`. Returns the index after it.
-fn put_unit(out: &mut [u16], at: usize, unit: u16) -> usize {
+pub fn put_unit(out: &mut [u16], at: usize, unit: u16) -> usize {
     // The index is always in the slice, as the proof shows. The compiler does not know the proof: because of this test,
     // it compiles no code for a panic.
     if at < out.len() {

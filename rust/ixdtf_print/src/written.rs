@@ -7,7 +7,7 @@ use ixdtf::encoding::Utf8;
 use ixdtf::records::{IxdtfParseRecord, MinutePrecisionOffset, TimeZoneAnnotation, TimeZoneRecord};
 use core::fmt;
 
-/// Writes the two brackets.
+/// Writes the zone and the calendar, in their brackets.
 pub fn write_brackets(
     f: &mut fmt::Formatter<'_>,
     parsed: &IxdtfParseRecord<'_, Utf8>,
@@ -75,7 +75,8 @@ fn write_calendar(f: &mut fmt::Formatter<'_>, calendar: Option<&[u8]>) -> fmt::R
     }
 }
 
-/// Writes each byte as the character with its number. If a record has a canonical text, the bytes of its names are ASCII.
+/// Writes, for each byte, the character whose code point is the value of the byte. If a record has a canonical text, the bytes of
+/// its names are ASCII.
 pub fn write_bytes(f: &mut fmt::Formatter<'_>, bytes: &[u8]) -> fmt::Result {
     for byte in bytes {
         write_byte(f, *byte)?;

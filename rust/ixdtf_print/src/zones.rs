@@ -6,11 +6,12 @@ use crate::check::is_zone;
 use crate::error::PrintError;
 use crate::length::length_of_zone;
 use crate::text::{self, CanonicalText, Tail};
-use ixdtf::encoding::Utf8;
+use crate::wide_names;
+use ixdtf::encoding::{Utf8, Utf16};
 use ixdtf::records::TimeZoneRecord;
 use core::fmt;
 
-/// Writes the canonical text of a time zone to the beginning of the slice, such as `Europe/Paris` or `+05:30`.
+/// Writes the canonical text of a time zone, such as `Europe/Paris` or `+05:30`, to the beginning of the slice.
 ///
 /// The zone is a record that [`TimeZoneParser::parse_identifier`](ixdtf::parsers::TimeZoneParser::parse_identifier)
 /// returns. A name is written as it is. An offset has a sign, an hour and a minute. The canonical text has no brackets.
@@ -28,7 +29,11 @@ use core::fmt;
 /// use ixdtf_print::{PrintError, print_zone};
 ///
 /// let mut out = [0; 16];
-/// for (text, canonical) in [("Europe/Paris", "Europe/Paris"), ("-05", "-05:00"), ("+0530", "+05:30")] {
+/// for (text, canonical) in [
+///     ("Europe/Paris", "Europe/Paris"),
+///     ("-05", "-05:00"),
+///     ("+0530", "+05:30"),
+/// ] {
 ///     let zone = TimeZoneParser::from_str(text).parse_identifier().unwrap();
 ///     let count = print_zone(&zone, &mut out).unwrap();
 ///     assert_eq!(&out[..count], canonical.as_bytes());
@@ -45,6 +50,48 @@ use core::fmt;
 /// - [`PrintError::TooShort`]: the slice is shorter than the canonical text.
 pub fn print_zone(zone: &TimeZoneRecord<'_, Utf8>, out: &mut [u8]) -> Result<usize, PrintError> {
     text::print(CanonicalZone { zone }, out)
+}
+
+/// Writes the canonical text of a time zone as 16-bit code units, like [`print_zone`](crate::print_zone).
+///
+/// The zone is a record that [`TimeZoneParser::parse_identifier`](ixdtf::parsers::TimeZoneParser::parse_identifier) returns
+/// for 16-bit text. Each code unit is the number of an ASCII character, so
+/// [`TimeZoneParser::from_utf16`](ixdtf::parsers::TimeZoneParser::from_utf16) makes a parser that reads the text. The number
+/// of code units is the number of bytes that `print_zone` writes for the same zone.
+///
+/// # Examples
+///
+/// ```rust
+/// use ixdtf::parsers::TimeZoneParser;
+/// use ixdtf::records::TimeZoneRecord;
+/// use ixdtf_print::{PrintError, print_zone_utf16};
+///
+/// let mut out = [0; 16];
+/// for (text, canonical) in [("Europe/Paris", "Europe/Paris"), ("-05", "-05:00")] {
+///     let text: Vec<u16> = text.encode_utf16().collect();
+///     let zone = TimeZoneParser::from_utf16(&text).parse_identifier().unwrap();
+///     let count = print_zone_utf16(&zone, &mut out).unwrap();
+///     assert_eq!(String::from_utf16(&out[..count]).unwrap(), canonical);
+///     assert_eq!(print_zone_utf16(&zone, &mut [0; 5]), Err(PrintError::TooShort));
+/// }
+/// let no_name: Vec<u16> = "Z\u{fc}rich".encode_utf16().collect();
+/// let zone = TimeZoneRecord::Name(&no_name);
+/// assert_eq!(print_zone_utf16(&zone, &mut out), Err(PrintError::NotPrintable));
+/// ```
+///
+/// # Errors
+///
+/// After an error, the slice is unchanged.
+///
+/// - [`PrintError::NotPrintable`]: the zone has no canonical text. Its name is one that `parse_iana_identifier` refuses,
+///   or a number of its offset is out of its range.
+/// - [`PrintError::TooShort`]: the slice is shorter than the canonical text.
+#[inline]
+pub fn print_zone_utf16(
+    zone: &TimeZoneRecord<'_, Utf16>,
+    out: &mut [u16],
+) -> Result<usize, PrintError> {
+    wide_names::print_zone(zone, out)
 }
 
 /// Returns the number of bytes of the canonical text of a time zone.
@@ -66,7 +113,27 @@ pub fn zone_length(zone: &TimeZoneRecord<'_, Utf8>) -> Option<usize> {
     Some(length_of_zone(zone) as usize)
 }
 
-/// A time zone that `Display` writes as its canonical text, such as `Europe/Paris` or `+05:30`.
+/// Returns the number of code units of the canonical text of a time zone that was read from 16-bit text.
+///
+/// A slice of this length is long enough for [`print_zone_utf16`](crate::print_zone_utf16). Returns `None` if the zone has no
+/// canonical text.
+///
+/// # Examples
+///
+/// ```rust
+/// use ixdtf::parsers::TimeZoneParser;
+/// use ixdtf_print::zone_length_utf16;
+///
+/// let text: Vec<u16> = "+0530".encode_utf16().collect();
+/// let zone = TimeZoneParser::from_utf16(&text).parse_identifier().unwrap();
+/// assert_eq!(zone_length_utf16(&zone), Some("+05:30".len()));
+/// ```
+#[inline]
+pub fn zone_length_utf16(zone: &TimeZoneRecord<'_, Utf16>) -> Option<usize> {
+    wide_names::zone_length(zone)
+}
+
+/// A value that displays the canonical text of a time zone, such as `Europe/Paris` or `+05:30`.
 ///
 /// This is the text that [`print_zone`](crate::print_zone) writes into a slice. `Display` does not allocate, and ignores
 /// width and fill.

@@ -1,15 +1,31 @@
 -- What was read of a complete text, stated for the record into which it was written.
-use Rattle.std.proofs.Common.{◌≡◌, ℕ, Bool, true, false, List, Option, None, Ok, Err}
-use Rattle.ixdtf_grammar.specs.{declared.records.IxdtfParseRecord.IxdtfParseRecord, language.{Letters.Text, Cores.Core, Brackets.Pair}}
-use Rattle.ixdtf_grammar.specs.{language.Languages.{Parsed, parsed_with}, Handlers.{Step, with_calendar, calendar_value}, Views.parsed_of}
+use Rattle.std.proofs.Common.{◌≡◌, ℕ, Bool, true, false, List, map, Option, None, Result, Ok, Err, sym, ap, ◌∙◌}
+use Rattle.ixdtf_grammar.specs.{declared.records.IxdtfParseRecord.IxdtfParseRecord, language.{Letters.{Letter, Text}, Cores.Core, Brackets.Pair}}
+use Rattle.ixdtf_grammar.specs.{language.Languages.{Parsed, parsed_with}, Handlers.{Step, with_calendar, calendar_value}}
+use Rattle.ixdtf_grammar.specs.Views.{Unread, IsEmptyRecord, parsed_of}
 use Rattle.ixdtf_reading.specs.reading.{Looks.{Placed, error_of}, Brackets.{Bracket, zone_in, pairs_in}, ExactZones.bracket_by, Chains.{PairsRead, TextReadAfter}}
-use Rattle.ixdtf_reading.specs.reading.Clauses.{core_in}
+use Rattle.ixdtf_reading.specs.{declared.stop.Stop.Stop, reading.{Clauses.{Reads, KeepsBrackets, core_in}, DateTimes.rfc_3339_at}}
 use Rattle.ixdtf.proofs.code.Tail.{core_alone, first_read}
 
 -- The record of a text without brackets.
 pub no_brackets : {T U : Type 0} (number : U → ℕ) (found : IxdtfParseRecord T U) → found.tz ≡ None → found.calendar ≡ None
     → parsed_of number found ≡ with_calendar (parsed_with (core_in found) None) None
 no_brackets number found p q = cc
+
+-- What a function returned that writes into a record, with the record.
+abbrev pub returned_with : {R E : Type 0} → R → Result (Unit {0}) E → Result R E
+returned_with found (Ok x) = Ok found
+returned_with found (Err e) = Err e
+
+-- So a date-time of RFC 3339 is read. No bracket follows it.
+pub reads_record : {T U : Type 0} (letter : ℕ → Letter) (number : U → ℕ) (old new : Unread) (found empty : IxdtfParseRecord T U) (result : Result (Unit {0}) Stop)
+    → IsEmptyRecord empty → KeepsBrackets empty found
+    → Reads letter (λ _. parsed_with (core_in found) None) old result new (rfc_3339_at error_of)
+    → Reads letter (parsed_of number) old (returned_with found result) new (rfc_3339_at error_of)
+reads_record letter number old new found empty (Ok x) e kept read =
+    let whole : parsed_of number found ≡ parsed_with (core_in found) None = no_brackets number found (kept.0 ∙ e.tz) (kept.1 ∙ e.calendar) in
+    read ∙ ap (λ p. Ok (p, map letter new.rest)) (sym whole)
+reads_record letter number old new found empty (Err stop) e kept read = read
 
 module _ {T U F : Type 0} (number : U → ℕ) (step : Step T U F) (handler : F) where
   pub placed_alone : (exact : Bool) (core : Core) (rest : Text) (found : Parsed) → found ≡ with_calendar (parsed_with core None) None

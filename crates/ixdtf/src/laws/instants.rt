@@ -9,7 +9,7 @@ ghost use Rattle.ixdtf_grammar.specs.InstantLaws.{CountsAreInOrder, CountsBeginI
 /// States that the next day, at the same time and offset, is 86,400 seconds later.
 ///
 /// - `first`: the day number of 1 January 1970 is 0.
-/// - `next`: if a date is replaced by the next day, the instant is 86,400 seconds later.
+/// - `next`: if a date of the calendar is replaced by the next day, the instant is 86,400 seconds later.
 pub fn next_day_is_a_day_later()
     ensures first { CountsBeginIn1970 }
     ensures next { NextDayIsADayLater }
@@ -17,16 +17,20 @@ pub fn next_day_is_a_day_later()
 
 /// States that dates and times, their instants and the counts of these instants have the same order.
 ///
-/// - `counts`: at the same offset, one date and time comes before another exactly if the count of its instant is smaller.
-///   Second 60 counts as second 59.
-/// - `instants`: suppose that the nanoseconds of two instants are below 1,000,000,000. Then one instant comes before the other by
-///   seconds and nanoseconds, as `Ord` compares them, exactly if its count is smaller.
+/// - `counts`: suppose that two dates are dates of the calendar, and that the hours of two times are at most 23, the
+///   minutes at most 59 and the seconds at most 60. Then, at the same offset, one date and time comes before the other
+///   exactly if the count of its instant is smaller. Second 60 counts as second 59.
+/// - `instants`: suppose that the nanoseconds of two instants are below 1,000,000,000. `Ord` compares the seconds, and
+///   then the nanoseconds. One instant is less than the other in this order exactly if its count is smaller.
 pub fn instants_are_in_order()
     ensures counts { InstantsAreInOrder }
     ensures instants { CountsAreInOrder }
 {}
 
-/// States that two dates and times at two offsets are the same instant exactly if they differ by as much as the offsets.
+/// States when two local times are the same instant. A local time here is a date and a time, and has an offset.
+///
+/// The two are the same instant exactly if the second local time minus the first is equal to the second offset minus the
+/// first. For example, on one date, `12:00+01:00` and `13:00+02:00` are the same instant: both differences are one hour.
 pub fn offsets_make_up()
     ensures { OffsetsMakeUp }
 {}
@@ -38,9 +42,10 @@ pub fn second_60_is_59()
 
 /// States that `parse` accepts the text that `Display` writes for an instant, and that the record has this instant.
 ///
-/// The law is about the instants from -999999-01-01T00:00:00Z on and before +1000000-01-01T00:00:00Z. It states the right side of
-/// the clause `ok` of [`IxdtfParser::parse`](crate::parsers::IxdtfParser::parse) for each of these texts. The record has a date, a
-/// time and `Z`, and nothing else.
+/// The law is about each instant that is not before -999999-01-01T00:00:00Z, and is before +1000000-01-01T00:00:00Z. It
+/// states that, without a handler, the text of this instant gives a record with a date, a time and `Z`, and nothing
+/// else. By the clause `ok` in the contract of [`IxdtfParser::parse`](crate::parsers::IxdtfParser::parse), `parse` then
+/// returns this record.
 pub fn text_is_read_back()
     ensures { TextIsReadBack }
 {}

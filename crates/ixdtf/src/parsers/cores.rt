@@ -34,7 +34,7 @@ use ixdtf_times::offsets::{AfterCore, offset_from, take_fixed_offset};
 use ixdtf_times::rfc3339::parse_internet_date_time;
 use ixdtf_times::time::{Clock, TimeShape, WholeTime, parse_after_second, parse_clock};
 
-/// A type that reads cores of one kind.
+/// A type that reads cores of one kind. A core is the part of a text before its first `[`.
 ///
 /// The functions that read complete texts are generic in this type. So no code tests the kind at run time.
 pub trait CoreReader {
@@ -55,7 +55,7 @@ pub trait CoreReader {
         ensures kept { KeepsBrackets found.old found.new }
         ensures looks { Spends (core_looks (exact_zones (kind profile)) (length cursor.old.rest)) cursor.old cursor.new };
 
-    /// Returns whether a zone after the core has to be exactly one of RFC 9557.
+    /// Returns whether a zone after the core must have the form of RFC 9557, section 4.1.
     fn has_exact_zones() -> bool
         ensures { (profile : Profile) → result ≡ exact_zones (kind profile) };
 }
@@ -98,8 +98,7 @@ impl CoreReader for InternetDateTimes {
         _profile: Profile,
         found: &mut IxdtfParseRecord<'a, T>,
     ) -> Result<AfterCore, Stop> {
-        let read = parse_internet_date_time(cursor)?;
-        read.place(found);
+        parse_internet_date_time(cursor, found)?;
         close_core(cursor)
     }
 

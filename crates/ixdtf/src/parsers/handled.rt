@@ -36,8 +36,8 @@ impl<'a, T: EncodingType> IxdtfParser<'a, T> {
     /// The reader then tests the reply: see the errors below. With the handler `|annotation| Some(annotation)`, the
     /// result is the same as the result of [`parse`](Self::parse).
     ///
-    /// `calendar` is the value of the first reply with the key `u-ca`. It is a slice of this reply, which need not be a
-    /// slice of the source.
+    /// `calendar` is the value of the first reply with the key `u-ca`. So the slice comes from the handler, and it need
+    /// not be a part of the source.
     ///
     /// If the call succeeds, no input remains, and a second call returns the error of the empty text. If it fails, the
     /// input is unchanged. Calls of the handler are not undone.
@@ -65,7 +65,7 @@ impl<'a, T: EncodingType> IxdtfParser<'a, T> {
     /// assert!(read.is_ok());
     /// assert_eq!(keys, [b"a", b"c", b"e"]);
     ///
-    /// // The error after the annotations comes after the calls of the handler.
+    /// // The reader calls the handler for both annotations before it reads the wrong text after them.
     /// let mut calls = 0;
     /// let read = IxdtfParser::from_str("2020-01-01[a=b][c=d]junk").parse_with_annotation_handler(|_| {
     ///     calls += 1;
@@ -96,8 +96,8 @@ impl<'a, T: EncodingType> IxdtfParser<'a, T> {
     /// # Errors
     ///
     /// Returns the errors of [`parse`](Self::parse). `CriticalDuplicateCalendar` and `UnrecognizedCritical` are about the
-    /// annotations that the handler returns, and not about those in the text. After the first of these two errors, the
-    /// rest of the text is not read.
+    /// annotations that the handler returns, and not about those in the text. After one of these two errors, the rest of
+    /// the text is not read.
     pub fn parse_with_annotation_handler<F>(
         &mut self,
         handler: F,
@@ -425,7 +425,7 @@ impl<'a, T: EncodingType> IxdtfParser<'a, T> {
         }
     }
 
-    /// Reads a text with a core of the kind, like
+    /// Reads a text with a core of the kind that `C` reads, like
     /// [`parse_with_annotation_handler`](Self::parse_with_annotation_handler).
     ///
     /// The handler is left in the state after its last call, so the caller can use it. The error is made from a `Stop`.
@@ -453,7 +453,7 @@ impl<'a, T: EncodingType> IxdtfParser<'a, T> {
         }
     }
 
-    /// Keeps the calendar of a reply, if it is the first one, as the readers do.
+    /// Writes a reply to `calendar`, as the readers do, if the reply has the key `u-ca` and `calendar` is `None`.
     ///
     /// This function is only for crates of this repository, and not a part of the public interface.
     ///

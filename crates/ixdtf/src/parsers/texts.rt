@@ -86,7 +86,7 @@ where
 }
 
 /// Reads the brackets after a core and the first `[`, up to the end of the input: the first bracket, and the
-/// annotations after it. If `is_exact`, a zone in the first bracket has to be exactly one of RFC 9557.
+/// annotations after it. If `is_exact`, a zone in the first bracket must have the form of RFC 9557, section 4.1.
 #[inline(never)]
 fn parse_brackets<'a, T: EncodingType, F>(
     cursor: &mut Cursor<'a, T>,

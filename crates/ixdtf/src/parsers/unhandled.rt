@@ -28,17 +28,17 @@ impl<'a, T: EncodingType> IxdtfParser<'a, T> {
     ///    fraction, such as `.25` or `,25`.
     /// 3. After a time, `Z`, `z` or an offset, as in [`TimeZoneParser::parse_offset`].
     /// 4. A time zone in brackets: `[`, an optional `!`, a zone as in [`TimeZoneParser::parse_identifier`], and `]`.
-    /// 5. Any number of annotations: `[`, an optional `!`, a key, `=`, a value and `]`. A key begins with a lowercase
-    ///    ASCII letter or `_`, and continues with these, digits and `-`. A value consists of groups of ASCII letters
-    ///    and digits, with a single `-` between two groups.
+    /// 5. Any number of annotations: `[`, an optional `!`, a key, `=`, a value and `]`. A key consists of lowercase
+    ///    ASCII letters, digits, `_` and `-`. Its first character is a letter or `_`. A value consists of groups of ASCII
+    ///    letters and digits, with a single `-` between two groups.
     ///
     /// The forms of dates and times come from RFC 3339, section 5.6, and from ISO 8601. The brackets come from RFC
     /// 9557, section 4.1 (`suffix`).
     ///
     /// The record has the fields `date`, `time`, `offset` and `tz` for the parts that the text has. `calendar` is the
-    /// value of the first annotation with the key `u-ca`. An annotation is *critical* if it has the `!`. All annotations
-    /// with other keys are ignored, but a critical one is refused. To decide about annotations yourself, call
-    /// [`parse_with_annotation_handler`](Self::parse_with_annotation_handler).
+    /// value of the first annotation with the key `u-ca`. An annotation is *critical* if it has the `!`. If the key of an
+    /// annotation is not `u-ca`, the annotation is refused if it is critical, and otherwise ignored. To decide about
+    /// annotations yourself, call [`parse_with_annotation_handler`](Self::parse_with_annotation_handler).
     ///
     /// If the call succeeds, no input remains, and a second call returns the error of the empty text. If it fails, the
     /// input is unchanged, and a second call returns the same error.
@@ -83,7 +83,8 @@ impl<'a, T: EncodingType> IxdtfParser<'a, T> {
     ///
     /// - `AbruptEnd`: the text ends too early. The location is `Date` if it ends after the year, and `digit` if it ends
     ///   where a digit is required. It is `AmbiguousAnnotation` if the text ends after the `[` or `[!` of the first
-    ///   bracket, or in a first bracket that begins with a lowercase letter or `_` and contains neither `=` nor `]`.
+    ///   bracket. This is also the location if a lowercase letter or `_` follows this `[` or `[!`, and the text ends
+    ///   before the first `=` or `]`.
     /// - `DateYear`: another character occurs instead of a digit of the year.
     /// - `DateExtendedYear`: another character occurs instead of a digit of a year with a sign, or the year is
     ///   `-000000`.
@@ -96,12 +97,14 @@ impl<'a, T: EncodingType> IxdtfParser<'a, T> {
     ///   59. The second of an offset has this error too.
     /// - `TimeSecond`: another character occurs instead of a digit of the second of the time, or this second is greater
     ///   than 60.
-    /// - `TimeSeparator`, `UtcTimeSeparator`: a time, or an offset, has only one of its two colons.
+    /// - `TimeSeparator`: a time has only one of its two colons.
+    /// - `UtcTimeSeparator`: an offset has only one of its two colons.
     /// - `FractionPart`: no digit follows the `.` or `,`. This is also the error if the text ends there.
     /// - `InvalidMinutePrecisionOffset`: a colon or a digit follows the minute of an offset in brackets.
     /// - `TzLeadingChar`: the first bracket begins with a character that can begin neither a zone nor a key.
     /// - `IanaChar`: the name of a zone contains a character that a name cannot contain.
-    /// - `IanaCharPostSeparator`: in the name of a zone, a `/` is not followed by a character of a name.
+    /// - `IanaCharPostSeparator`: in the name of a zone, a `/` is followed by another `/`, by a character that a name
+    ///   cannot contain, or by the end of the text.
     /// - `AnnotationKeyLeadingChar`: a bracket that is not the first one does not begin with a key.
     /// - `AnnotationKeyChar`: a key contains a character that a key cannot contain.
     /// - `AnnotationKeyValueSeparator`: the text ends in a key.
@@ -114,7 +117,8 @@ impl<'a, T: EncodingType> IxdtfParser<'a, T> {
     ///   not read.
     /// - `CriticalDuplicateCalendar`: an annotation with the key `u-ca` has a value that differs from that of the first
     ///   such annotation, and at least one of the two is critical. What follows this annotation is not read.
-    /// - `InvalidEnd`: any other character follows a date, a time, an offset or a bracket.
+    /// - `InvalidEnd`: a date, a time, an offset or a bracket is followed by a character that must not follow it, and no
+    ///   other error of this list is about this character.
     /// - `NonAsciiCodePoint`: 16-bit text has a code unit outside 1 to 126. 8-bit text never has this error.
     #[inline(always)]
     pub fn parse(&mut self) -> ParserResult<IxdtfParseRecord<'a, T>>
@@ -136,8 +140,8 @@ impl<'a, T: EncodingType> IxdtfParser<'a, T> {
     /// [`parse_rfc3339`](Self::parse_rfc3339). Brackets can follow it (`suffix`). The first bracket can have a time zone.
     /// All other brackets have annotations.
     ///
-    /// [`parse`](Self::parse) accepts each of these texts too, and returns an equal record. Each text that
-    /// [`parse_rfc3339`](Self::parse_rfc3339) accepts is one of them. The record has `date`, `time` and `offset`. The
+    /// [`parse`](Self::parse) accepts each of these texts too, and returns an equal record. `parse_rfc9557` accepts each
+    /// text that [`parse_rfc3339`](Self::parse_rfc3339) accepts. The record has `date`, `time` and `offset`. The
     /// fields `tz` and `calendar` are as in [`parse`](Self::parse). The profile does not matter.
     ///
     /// If the call succeeds, no input remains, and a second call returns the error of the empty text. If it fails, the
@@ -171,9 +175,9 @@ impl<'a, T: EncodingType> IxdtfParser<'a, T> {
     ///
     /// The first wrong part of the text decides the error. To get the position of the error, call
     /// [`parse_rfc9557_located`](Self::parse_rfc9557_located). The date-time has the errors that it has in
-    /// [`parse_rfc3339`](Self::parse_rfc3339), and `InvalidEnd` at any character after the offset other than a `[`.
-    /// Brackets have the errors that they have in [`parse`](Self::parse). If RFC 9557 does not have a zone that
-    /// [`parse`](Self::parse) accepts, the errors are these:
+    /// [`parse_rfc3339`](Self::parse_rfc3339), but a `[` can follow the offset. If any other character follows the offset,
+    /// the error is `InvalidEnd`. Brackets have the errors that they have in [`parse`](Self::parse). Two errors are also
+    /// about a zone that [`parse`](Self::parse) accepts, but RFC 9557 does not allow:
     ///
     /// - `IanaChar`: a part of the name of the zone begins with a digit, with `+` or with `-`, or is `.` or `..`.
     /// - `InvalidMinutePrecisionOffset`: the offset of the zone does not have the form `+05:30`.
@@ -231,7 +235,7 @@ impl<'a, T: EncodingType> IxdtfParser<'a, T> {
     ///   `-000000`.
     /// - `DateMonth`: another character occurs instead of a digit of the month.
     /// - `InvalidMonthRange`: the month is not 01 to 12.
-    /// - `InvalidEnd`: any other character follows the month.
+    /// - `InvalidEnd`: another character than `[` follows the month.
     /// - `NonAsciiCodePoint`: 16-bit text has a code unit outside 1 to 126. 8-bit text never has this error.
     #[inline(always)]
     pub fn parse_year_month(&mut self) -> ParserResult<IxdtfParseRecord<'a, T>>
@@ -291,7 +295,7 @@ impl<'a, T: EncodingType> IxdtfParser<'a, T> {
     /// - `DateMonth`, `DateDay`: another character occurs instead of a digit of the month, or of the day.
     /// - `InvalidMonthRange`: the month is not 01 to 12.
     /// - `InvalidMonthDay`: the month does not have this day in any year, or the day is 00 under [`Profile::Strict`].
-    /// - `InvalidEnd`: any other character follows the day.
+    /// - `InvalidEnd`: another character than `[` follows the day.
     /// - `NonAsciiCodePoint`: 16-bit text has a code unit outside 1 to 126. 8-bit text never has this error.
     #[inline(always)]
     pub fn parse_month_day(&mut self) -> ParserResult<IxdtfParseRecord<'a, T>>
@@ -354,9 +358,13 @@ impl<'a, T: EncodingType> IxdtfParser<'a, T> {
     ///
     /// The first wrong part of the text decides the error. To get the position of the error, call
     /// [`parse_time_located`](Self::parse_time_located). Times, offsets and brackets have the errors that they have in
-    /// [`parse`](Self::parse). The hour has the same errors if it is at the beginning of the text. Two more errors are about a
-    /// text without `T` or `t` that is a time, with or without an offset, up to its first `[` or its end. The brackets of
-    /// such a text are not read:
+    /// [`parse`](Self::parse). The error of the empty text is `AbruptEnd` (location `digit`). If the text begins with a
+    /// character that is neither a digit nor `T` nor `t`, the error is `TimeHour`. In 16-bit text, this character can also
+    /// have the error `NonAsciiCodePoint`.
+    ///
+    /// Two more errors are about an ambiguous text. Such a text does not begin with `T` or `t`. Its part before the first
+    /// `[`, or the complete text if it has no `[`, is a time, with or without an offset. But the text also begins like a
+    /// month and a day, or like a year and a month. The brackets of an ambiguous text are not read:
     ///
     /// - `AmbiguousTimeMonthDay`: the text begins like a month and a day.
     /// - `AmbiguousTimeYearMonth`: the text begins like a year and a month, and not like a month and a day.
@@ -421,8 +429,8 @@ impl<'a, T: EncodingType> IxdtfParser<'a, T> {
     ///
     /// The position is the number of code units before the error. It is the index of the code unit that does not fit,
     /// or the end of the input if the input ends too early. For a number out of its range, the position is after the
-    /// number. For a refused annotation, the position is after its bracket. If the zone is one that [`parse`](Self::parse)
-    /// accepts and RFC 9557 does not have, the position is after the bracket of the zone.
+    /// number. For a refused annotation, the position is after its bracket. If [`parse`](Self::parse) accepts the zone,
+    /// but RFC 9557 does not allow it, the position is after the bracket of the zone.
     ///
     /// # Examples
     ///

@@ -6,7 +6,7 @@ use Rattle.ixdtf_reading.proofs.code.LetterLoops.{first_is}
 
 module _ (letter : ℕ → Letter) (faithful : (unit n : ℕ) → letter unit ≡ Plain n → n ≡ unit) (form : PartForm) (rest : List ℕ) (c : ℕ)
     (e : seen (map letter rest) ≡ Ok (Some c)) where
-  -- a code unit goes on
+  -- The code unit continues the name.
   pub parts_go : (next : PartForm) (left : List ℕ) → form_after form c ≡ Some next → left ≡ drop 1 rest
       → has_parts form (map letter rest) ≡ has_parts next (map letter left)
   unfolding has_parts
@@ -16,14 +16,14 @@ module _ (letter : ℕ → Letter) (faithful : (unit n : ℕ) → letter unit �
       ap (has_parts form) here.2 ∙ ap (λ n. on_letter n (λ f. has_parts f (map letter here.0)) (may_end form && closing c)) is
       ∙ ap (λ t. has_parts next (map letter t)) same
 
-  -- or does not
+  -- The code unit does not continue the name.
   pub parts_stop : form_after form c ≡ None → has_parts form (map letter rest) ≡ (may_end form && closing c)
   unfolding has_parts
   parts_stop is =
       let here = first_is letter faithful rest c e in
       ap (has_parts form) here.2 ∙ ap (λ n. on_letter n (λ f. has_parts f (map letter here.0)) (may_end form && closing c)) is
 
--- no code unit follows
+-- The text ends.
 pub parts_end : (form : PartForm) (text : Text) → seen text ≡ Ok None → has_parts form text ≡ false
 unfolding has_parts look_at
 parts_end form [] e = refl

@@ -1,4 +1,4 @@
--- One pass over a first bracket that begins as a key may: the code units of a key, and then those of a name.
+-- One pass over a first bracket that can begin with a key: first the code units of a key, and then those of a name.
 use Rattle.std.proofs.Common.{◌≡◌, ℕ, ◌&&◌, Bool, true, false, IsTrue, List, [], ◌∷◌, ◌++◌, drop, Option, Some, None, Result, Ok, Err}
 use Rattle.std.proofs.{Common.{refl, sym, ap, subst, ◌∙◌, arith, if◌then◌else◌}, lemmas.Bool.{and_parts, Decides.nat_tests}}
 use Rattle.ixdtf_reading.specs.reading.Looks.{Placed, Read, ◌>>=◌, seen, next_by, error_of}
@@ -40,7 +40,7 @@ module _ {S : Type 0} (after : S → ℕ → Option S) where
     sight_goes_on state text rest taken e =
         walk_passed after (λ c read. read) (λ state text. sight text) sight_over sight_bad (λ c e. refl) state text rest taken e ∙ no_steps taken.letters (sight rest)
 
--- what the next code unit tells
+-- The result of looking ahead, by the next code unit.
 sight_at_end : (text : Text) → seen text ≡ Ok None → sight text ≡ Err (abrupt_bracket, text)
 unfolding sight_at
 sight_at_end text e = rw (nothing_is text e) refl
@@ -88,7 +88,7 @@ bracket_sighted letters text rest taken c e is =
     go true p = rw p (sight_at_equals rest c next p)
     go false p = rw p (sight_at_closing rest c next (bracket_other taken.state c stays p))
 
--- what stands before any `]`
+-- The rules about what is found before any `]`.
 pub ruleset sights = (bracket_failed, bracket_ended, bracket_sighted)
 
 -- ---- the code units of a key, and those of a name after them
@@ -111,7 +111,7 @@ bad_in_name : (letters : Unit {0}) (rest : Text) → name_run error_of true (Bad
 unfolding name_run
 bad_in_name letters rest = refl
 
--- the code units of a key are the first of a name
+-- The code units of a key are the first code units of a name.
 name_keyed : (letters : Unit {0}) (text rest : Text) (key : Taken (Unit {0})) → letters_by key_after letters text ≡ Ok (key, rest)
     → name_run error_of true text ≡ with_letters key.letters (name_run error_of true rest)
 name_keyed letters text rest key e = run_passed key_after (λ letters text. name_run error_of true text) key_in_name bad_in_name letters text rest key e
@@ -142,7 +142,7 @@ module _ (critical : Bool) (letters : Unit {0}) (text : Text) where
     key_next o is = next_shown key_after letters text rest key keys ∙ ap Ok is
 
     module _ (is : next_is equals key.next ≡ true) where
-      -- a pair, or a value that is refused
+      -- The bracket is an annotation, or its value is refused.
       pair_is : read_at critical text ≡ as_pair (
           value_run error_of AtStart (drop 1 rest) >>= λ value. Ok (record { critical = critical; key = key.letters; value = value.0 }, value.1))
       unfolding pair_at
@@ -174,11 +174,11 @@ module _ (critical : Bool) (letters : Unit {0}) (text : Text) where
       name_refused_so : more.state.may_end ≡ false → name_run error_of true text ≡ Err (IanaCharPostSeparator, after)
       name_refused_so e = name_keyed letters text rest key keys ∙ rw (name_refused rest after more mores e) (letters_err key.letters (IanaCharPostSeparator, after))
 
-      -- the text ends in the bracket
+      -- The text ends in the bracket.
       pub name_unended : more.next ≡ None → read_at critical text ≡ Err (abrupt_bracket, after)
       name_unended is = unseen critical text _ (sight_after ∙ sight_at_end after (more_next None is))
 
-      -- a name
+      -- The bracket is a name.
       pub name_read : (more.state.may_end && next_is closing more.next) ≡ true
           → read_at critical text ≡ Ok (zoned (record { critical = critical; zone = Name (key.letters ++ more.letters) }), drop 1 after)
       unfolding name_in_bracket_at next_by
@@ -209,7 +209,7 @@ module _ (critical : Bool) (letters : Unit {0}) (text : Text) where
               let next = more_next (Some c) e in
               rw (name_ends_so q, next, test, q) refl
 
-      -- neither
+      -- The bracket is neither an annotation nor a name.
       pub name_refuses : next_is equals key.next ≡ false → (more.state.may_end && next_is closing more.next) ≡ false
           → read_at critical text ≡ Err (refusal (sight_at error_of after) (name_fault more.state.may_end) rest after)
       name_refuses no_key is = go _ refl

@@ -1,4 +1,4 @@
--- The code units of a zone name, taken one by one.
+-- The code units of the name of a zone, consumed one by one.
 use Rattle.std.proofs.Common.{◌≡◌, ℕ, ◌&&◌, Bool, true, false, List, ◌∷◌, ◌++◌, map, drop, Option, Some, None, option_map, IsSome, Ok, Err, refl, ap}
 use Rattle.std.proofs.{Common.{◌∙◌, if◌then◌else◌}, Math.Bool.and-false}
 use Rattle.ixdtf_brackets.specs.{declared.zone.NameState.NameState, BracketTypes.{part_after, name_after}}
@@ -10,7 +10,7 @@ use Rattle.ixdtf_reading.proofs.code.{FirstLetter.{first_is, nothing_is}, Letter
 use Rattle.ixdtf_reading.proofs.code.LetterLoops.{goes_on, ceases, fails, goes_over, fails_over, next_shown, next_stays}
 use Rattle.ixdtf_reading.proofs.parts.Steps.{with_letters, letters_ok, letters_err}
 
--- where a name may end, and behind a slash
+-- The state in which a name can end. `name_slash` is the state after a slash.
 abbrev pub name_start : NameState
 name_start = record { may_end = true }
 
@@ -35,7 +35,7 @@ name_bad : (letters : NameState) (rest : Text) → reading letters (Bad ∷ rest
 unfolding name_run
 name_bad letters rest = refl
 
--- where no code unit of a name follows, the name ends, or may not
+-- If the next code unit cannot continue the name, the name ends here, or it is an error that it ends here.
 name_halts : (letters : NameState) (rest : Text) (next : Option ℕ) → seen rest ≡ Ok next → Stays name_after letters next
     → reading letters rest ≡ name_stops (IanaCharPostSeparator, rest) letters.may_end rest
 unfolding name_run
@@ -67,32 +67,32 @@ module _ (text rest : Text) (taken : Taken NameState) (passed : letters_by name_
 
 -- ---- parts of a name
 
--- a code unit of a part goes on where the name may end
+-- A code unit of a part continues a name that can end.
 part_within : (state next : Unit {0}) (c : ℕ) → part_after state c ≡ Some next → name_after name_start c ≡ Some name_start
 part_within state next c e = rw (test_held (zone_char c) state next e) refl
 
 part_stays : (letters : Unit {0}) (c : ℕ) → part_after letters c ≡ None → zone_char c ≡ false
 part_stays letters c e = test_failed (zone_char c) letters e
 
--- behind a part, where no slash follows, the name goes no further
+-- After a part, if no slash follows, the name does not continue.
 pub part_last : (letters : Unit {0}) (next : Option ℕ) → Stays part_after letters next → next_is slash next ≡ false → Stays name_after name_start next
 part_last letters None stays other = tt
 part_last letters (Some c) stays other = rw (part_stays letters c stays, other) refl
 
--- behind a slash, where no part follows
+-- After a slash, if no part follows, the name does not continue.
 pub slash_last : (next : Option ℕ) → next_is zone_char next ≡ false → Stays name_after name_slash next
 slash_last None other = tt
 slash_last (Some c) other = rw (other, and-false (slash c)) refl
 
--- the slash behind a part goes on
+-- A slash after a part continues the name.
 pub part_slashed : (letters : Unit {0}) (c : ℕ) → part_after letters c ≡ None → slash c ≡ true → name_after name_start c ≡ Some name_slash
 part_slashed letters c stays is = rw (part_stays letters c stays, is) refl
 
--- a code unit of a part goes on behind a slash
+-- A code unit of a part continues the name after a slash.
 pub slash_joined : (c : ℕ) → zone_char c ≡ true → name_after name_slash c ≡ Some name_start
 slash_joined c is = rw is refl
 
--- the next code unit is one of the class
+-- If the next code unit is of the class, there is one.
 pub some_next : (class : Class) (next : Option ℕ) → next_is class next ≡ true → (c : ℕ) × (next ≡ Some c) × (class c ≡ true)
 some_next class None e = absurd cc
 some_next class (Some c) e = (c, refl, e)
@@ -103,7 +103,7 @@ is_some class (Some c) e = refl
 
 module _ {letter : ℕ → Letter} (faithful : (unit n : ℕ) → letter unit ≡ Plain n → n ≡ unit) {whole rest : List ℕ}
     (far : IsSoFar name_after letter name_start whole rest name_start) (letters : Unit {0}) where
-  -- a part is refused
+  -- Reading a part failed.
   pub part_fails : (fault : Placed) → letters_by part_after letters (map letter rest) ≡ Err fault → letters_by name_after name_start (map letter whole) ≡ Err fault
   part_fails fault e = fails_over part_after name_after name_start part_within letter name_start whole rest far letters fault e
 
@@ -118,7 +118,7 @@ module _ {letter : ℕ → Letter} (faithful : (unit n : ℕ) → letter unit �
     stays_so : Stays part_after taken.state taken.next
     stays_so = next_stays part_after letters (map letter rest) (map letter left) taken passed
 
-    -- no slash follows it
+    -- No slash follows the part.
     pub part_ceases : next_is slash taken.next ≡ false
         → (all : List ℕ) × (whole ≡ all ++ left)
         × (letters_by name_after name_start (map letter whole) ≡ Ok (record { letters = all; state = name_start; next = taken.next }, map letter left))
@@ -128,7 +128,7 @@ module _ {letter : ℕ → Letter} (faithful : (unit n : ℕ) → letter unit �
       ceases name_after letter faithful name_start whole left name_start part_passed taken.next next_seen (part_last taken.state taken.next stays_so other),
     )
 
-    -- a slash follows it
+    -- A slash follows the part.
     pub part_slashes : (after : List ℕ) → next_is slash taken.next ≡ true → after ≡ drop 1 left → IsSoFar name_after letter name_start whole after name_slash
     part_slashes after is moved =
         let found = some_next slash taken.next is in
@@ -137,17 +137,17 @@ module _ {letter : ℕ → Letter} (faithful : (unit n : ℕ) → letter unit �
 
 module _ {letter : ℕ → Letter} (faithful : (unit n : ℕ) → letter unit ≡ Plain n → n ≡ unit) {whole rest : List ℕ}
     (far : IsSoFar name_after letter name_start whole rest name_slash) where
-  -- behind a slash the look failed
+  -- The code unit after a slash is bad.
   pub slash_fails : (fault : Placed) → seen (map letter rest) ≡ Err fault → letters_by name_after name_start (map letter whole) ≡ Err fault
   slash_fails fault e = fails name_after letter faithful name_start whole rest name_slash far fault e
 
-  -- no part follows it
+  -- No part follows the slash.
   pub slash_ceases : (next : Option ℕ) → seen (map letter rest) ≡ Ok next → next_is zone_char next ≡ false
       → (all : List ℕ) × (whole ≡ all ++ rest)
       × (letters_by name_after name_start (map letter whole) ≡ Ok (record { letters = all; state = name_slash; next = next }, map letter rest))
   slash_ceases next e other = (far.taken, far.units, ceases name_after letter faithful name_start whole rest name_slash far next e (slash_last next other))
 
-  -- a part follows it
+  -- A part follows the slash.
   pub slash_goes_on : (next : Option ℕ) (left : List ℕ) → seen (map letter rest) ≡ Ok next → next_is zone_char next ≡ true → left ≡ drop 1 rest
       → IsSoFar name_after letter name_start whole left name_start
   slash_goes_on next left e is moved =

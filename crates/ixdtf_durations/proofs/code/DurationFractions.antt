@@ -17,7 +17,7 @@ abbrev digits_of : Text → Read Placed Text
 digits_of text = digit_run (before NonAsciiCodePoint) text
 
 module _ (profile : Profile) (s : Sign) (dates times : List Group) (ds : Text) where
-  -- after digits of a fraction, with these before them
+  -- Reads on after more digits of a fraction. `fs` has the digits before them.
   abbrev after_digits : Text → Read Placed Text → Read Placed DurationParseRecord
   after_digits fs read = read >>= λ more. run_from profile (in_fraction s dates times ds (fs ++ more.0)) more.1
 
@@ -40,7 +40,7 @@ module _ (profile : Profile) (s : Sign) (dates times : List Group) (ds : Text) w
           let stop : digits_of (Plain c ∷ rest) ≡ Ok ([], Plain c ∷ rest) = rw is refl in
           ap (λ t. run_from profile (in_fraction s dates times ds t) (Plain c ∷ rest)) (sym (append-nil fs)) ∙ ap (after_digits fs) (sym stop)
 
--- where digits end no digit follows
+-- The next code unit is not a digit.
 abbrev NoDigitNext : Text → Type 0
 NoDigitNext text = (c : ℕ) → seen text ≡ Ok (Some c) → digit c ≡ false
 
@@ -58,7 +58,7 @@ digits_end (Plain d ∷ text) more rest is = go (digit d) refl _ refl (λ more' 
     go false e x reads ends = λ c found. let here : Plain d ∷ text ≡ rest = ap (λ p. p.1) (ok_is ([], Plain d ∷ text) (more, rest) (rw e at is)) in
         let first = rw (← here) at found in let same : d ≡ c = cc in rw (← same) e
 
--- reading, after a decimal mark, goes over the digits of this fraction
+-- After a decimal mark, reading goes over the digits of this fraction.
 pub record IsFractionOver (text : Text) (fraction : FractionParts) (rest : Text) : Type 0 where
   pub fs : Text
   pub is : fraction ≡ fraction_of fs
@@ -66,7 +66,7 @@ pub record IsFractionOver (text : Text) (fraction : FractionParts) (rest : Text)
   pub leads : (profile : Profile) (s : Sign) (dates times : List Group) (ds : Text)
       → run_from profile (at_mark s dates times ds) text ≡ run_from profile (in_fraction s dates times ds fs) rest
 
--- the fraction of a digit and more
+-- The fraction of a first digit and of the digits after it.
 abbrev with_first : ℕ → Read Placed Text → Read Placed FractionParts
 with_first c read = read >>= λ more. Ok (fraction_of (Plain c ∷ more.0), more.1)
 
@@ -85,7 +85,7 @@ first_over c rest (Ok more) reads is fraction left at =
       leads = λ profile s dates times ds. rw (is, over_digits profile s dates times ds _ rest, reads, same) refl;
     }
 
--- a fraction that was read
+-- A fraction was read.
 pub fraction_over : (text : Text) (fraction : FractionParts) (rest : Text) → fraction_at error_of Time text ≡ Ok (fraction, rest)
     → IsFractionOver text fraction rest
 unfolding fraction_at next_by look_at
@@ -97,7 +97,7 @@ fraction_over (Plain c ∷ text) fraction rest at = go (digit c) refl
     go true is = first_over c text _ refl is fraction rest (rw is at at)
     go false is = absurd (let never = rw is at at in cc)
 
--- a fraction that was refused
+-- Reading a fraction failed.
 pub fraction_fails : (text : Text) (fault : Placed) → fraction_at error_of Time text ≡ Err fault
     → (profile : Profile) (s : Sign) (dates times : List Group) (ds : Text) → run_from profile (at_mark s dates times ds) text ≡ Err fault
 unfolding fraction_at next_by look_at run step
@@ -117,7 +117,7 @@ fraction_fails (Plain c ∷ text) fault at profile s dates times ds = go (digit 
 
 module _ (text : Text) (fraction : FractionParts) (rest : Text) (over : IsFractionOver text fraction rest) (profile : Profile) (s : Sign)
     (dates times : List Group) (ds : Text) where
-  -- what is read from the decimal mark on
+  -- The result of reading from the decimal mark on.
   abbrev from_mark : Read Placed DurationParseRecord
   from_mark = run_from profile (at_mark s dates times ds) text
 

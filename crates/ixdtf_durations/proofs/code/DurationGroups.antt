@@ -1,4 +1,4 @@
--- Groups of a duration, by what the loops over them keep: their numbers, and the least rank that may follow.
+-- The groups of a duration, as the loops over them store them: their numbers, and the least rank that may follow.
 use Rattle.std.proofs.Common.{◌≡◌, ℕ, ◌+◌, ◌≤◌, Bool, true, false, [], ◌∷◌, List, None, Result, Ok, Err, refl, sym, arith, nat_le, ◌&&◌, slice_set}
 use Rattle.std.proofs.{Common.if◌then◌else◌, lemmas.Bool.Decides.nat_tests}
 use Rattle.ixdtf_grammar.specs.{declared.profile.Profile.Profile, language.Letters.{year_letter, month_letter, week_letter, hour_letter, minute_letter}}
@@ -10,23 +10,23 @@ use Rattle.ixdtf_durations.specs.{declared.{group_numbers.Number.Number, time_gr
 use Rattle.ixdtf_durations.specs.reading.DurationClauses.{date_group_of, time_group_of, date_rank_from, time_rank_from, date_read, time_read}
 use Rattle.ixdtf_durations.proofs.code.DurationRanks.{below, date_unit_index, time_unit_index}
 
--- a unit of the half may follow these groups from this rank on
+-- A duration unit of the half may follow these groups, if its rank is at least `least`.
 abbrev pub MayFollowFrom : Profile → Half → ℕ → List Group → Type 0
 MayFollowFrom profile half least groups = (c : ℕ) → in_order profile groups (unit_of half c) ≡ nat_le least (rank (unit_of half c))
 
--- years, months and weeks are in their range
+-- The numbers of years, months and weeks are in their range.
 abbrev pub AreSmall : List Group → Type 0
 AreSmall dates =
     (nat_le (number_of years dates) 4294967295 ≡ true) × (nat_le (number_of months dates) 4294967295 ≡ true)
     × (nat_le (number_of weeks dates) 4294967295 ≡ true)
 
--- these are the numbers of date groups, and the least rank that may follow
+-- The numbers of the date groups, and the least rank that may follow.
 pub record HasDates (profile : Profile) (values : List ℕ) (least : ℕ) (dates : List Group) : Type 0 where
   pub numbers : values ≡ date_numbers dates
   pub small : AreSmall dates
   pub follows : MayFollowFrom profile date least dates
 
--- the same of time groups
+-- The numbers of the time groups, and the least rank that may follow.
 pub record HasTimes (profile : Profile) (values : List ℕ) (least : ℕ) (times : List Group) : Type 0 where
   pub numbers : values ≡ time_numbers times
   pub follows : MayFollowFrom profile time least times
@@ -52,14 +52,14 @@ no_times profile = record { numbers = refl; follows = λ c. go (hour_letter c) (
 
 -- ---- one more group
 
--- a later rank stands for all before it
+-- It is enough to compare with the last rank.
 dates_absorb : (least p q step : ℕ) → least ≤ p + 1 → (nat_le (p + step) q && nat_le least (q + 1)) ≡ nat_le (p + 1 + step) (q + 1)
 dates_absorb least p q step h = grind (arith, nat_tests)
 
 times_absorb : (least p q step : ℕ) → least ≤ p → (nat_le (p + 3 + step) (q + 3) && nat_le least q) ≡ nat_le (p + step) q
 times_absorb least p q step h = grind (arith, nat_tests)
 
--- what three tests, and two, let through
+-- What follows if three tests succeed. The next lemmas are for two tests, and for tests that fail.
 three_hold : (a b c : Bool) (found r : ℕ) (x y z : Fault) → (if a then (if b then (if c then Ok found else Err z) else Err y) else Err x) ≡ Ok r
     → (a ≡ true) × (b ≡ true) × (c ≡ true) × (found ≡ r)
 three_hold true true true found r x y z is = (refl, refl, refl, cc)
@@ -107,7 +107,7 @@ module _ (profile : Profile) (values : List ℕ) (least : ℕ) (dates : List Gro
       go false false true is = (has.small.0, has.small.1, is)
       go false false false is = has.small
 
-  -- a date group may stand there, and is added
+  -- A date group may follow, and is added.
   pub date_added : (r : ℕ) → date_rank_from least n ≡ Ok r
       → (date_read profile dates n ≡ Ok tt) × HasDates profile (slice_set values r n.value) (r + least_step profile) (date_group_of n ∷ dates)
   date_added r is =
@@ -122,7 +122,7 @@ module _ (profile : Profile) (values : List ℕ) (least : ℕ) (dates : List Gro
         },
       )
 
-  -- it may not
+  -- The group may not follow.
   pub date_refused : (e : Fault) → date_rank_from least n ≡ Err e → date_read profile dates n ≡ Err e
   date_refused e is = rw (has.follows n.next) (three_fail (designator date n.next) (nat_le least (rank (unit_of date n.next)))
       (nat_le n.value (greatest (unit_of date n.next))) (rank (unit_of date n.next))
@@ -138,7 +138,7 @@ module _ (profile : Profile) (values : List ℕ) (least : ℕ) (times : List Gro
       go false true = refl
       go false false = refl
 
-  -- a time group may stand there, and is added
+  -- A time group may follow, and is added.
   pub time_added : (r : ℕ) → time_rank_from least g.letter ≡ Ok r
       → (time_read profile times g ≡ Ok tt) × (r ≡ rank (unit_of time g.letter))
       × HasTimes profile (slice_set values r g.value) (r + least_step profile) (time_group_of g ∷ times)
@@ -154,7 +154,7 @@ module _ (profile : Profile) (values : List ℕ) (least : ℕ) (times : List Gro
         },
       )
 
-  -- it may not
+  -- The group may not follow.
   pub time_refused : (e : Fault) → time_rank_from least g.letter ≡ Err e → time_read profile times g ≡ Err e
   time_refused e is = rw (has.follows g.letter) (two_fail (designator time g.letter) (nat_le least (rank (unit_of time g.letter)))
       (rank (unit_of time g.letter)) abrupt_time_designator TimeDurationPartOrder e is)

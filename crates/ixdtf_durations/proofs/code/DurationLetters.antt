@@ -19,7 +19,7 @@ mark_no_designator c is = grind (arith, nat_tests)
 
 -- ---- groups
 
--- reading goes on where both tests hold
+-- Reading continues if both tests succeed.
 both_tests : (profile : Profile) (a b : Bool) (x y : Fault) (state : State) (text : Text)
     → (((if a then (if b then Ok state else Err (x, text)) else Err (y, text)) >>= λ next. run_from profile next text))
     ≡ run_where profile (if a then (if b then Ok tt else Err x) else Err y) state text
@@ -32,7 +32,7 @@ one_test : (profile : Profile) (a : Bool) (y : Fault) (state : State) (text : Te
 one_test profile true y state text = refl
 one_test profile false y state text = refl
 
--- what comes of a group that is another
+-- The result is the same for equal groups.
 date_step : (profile : Profile) (s : Sign) (dates : List Group) (h g : Group) (text : Text) → h ≡ g
     → (add_group error_of profile text (in_dates s dates) h >>= λ next. run_from profile next text)
     ≡ run_where profile (date_group_fits profile dates g) (between (in_dates s (g ∷ dates))) text
@@ -49,7 +49,7 @@ pub end_step : (profile : Profile) (s : Sign) (dates times : List Group) (h g : 
 end_step profile s dates times h g text is = rw is (one_test profile (in_order profile times g.unit) _ _ text)
 
 module _ (letter : ℕ → Letter) (first : ℕ) (old : List ℕ) (number : Number) (new : List ℕ) (reads : IsNumber letter first old number new) where
-  -- what is read from the first digit on
+  -- The result of reading from the first digit on.
   abbrev from_first : Profile → Context → Read Placed DurationParseRecord
   from_first profile context = run_from profile (in_number context (Plain first ∷ [])) (map letter old)
 
@@ -60,7 +60,7 @@ module _ (letter : ℕ → Letter) (first : ℕ) (old : List ℕ) (number : Numb
       → ◌≡◌ {A = Group} (integer_group half reads.ds number.next) (record { unit = unit_of half number.next; value = number.value; fraction = None })
   group_is half i = record { unit = unit_of half number.next; value = sym reads.value i; fraction = None }
 
-  -- a date group ends there, or none
+  -- A date group ends at the code unit after the number, or the code unit is an error.
   pub ends_date : (profile : Profile) (s : Sign) (dates : List Group) → from_first profile (in_dates s dates)
       ≡ run_where profile (date_read profile dates number) (between (in_dates s (date_group_of number ∷ dates))) (behind_unit date number.next (map letter new))
   unfolding run step
@@ -71,7 +71,7 @@ module _ (letter : ℕ → Letter) (first : ℕ) (old : List ℕ) (number : Numb
       go true is = rw (first_is (map letter new) number.next reads.next, no_digit, is) (date_step profile s dates _ _ (drop 1 (map letter new)) (group_is date))
       go false is = rw (first_is (map letter new) number.next reads.next, no_digit, is) refl
 
-  -- a time group ends there, or none
+  -- A time group ends at the code unit after the number, or the code unit is an error.
   pub ends_time : (profile : Profile) (s : Sign) (dates times : List Group) → decimal_mark number.next ≡ false → nat_le number.value greatest_value ≡ true
       → from_first profile (in_times s dates times)
       ≡ after_time_group profile s dates times (record { value = number.value; fraction = None; letter = number.next }) (map letter new)
@@ -89,7 +89,7 @@ module _ (letter : ℕ → Letter) (first : ℕ) (old : List ℕ) (number : Numb
           (time_step profile s dates times _ _ (drop 1 (map letter new)) (group_is time) (in_range (hour_letter number.next) (minute_letter number.next)))
       go false is = rw (first_is (map letter new) number.next reads.next, no_digit, is, miss) refl
 
-  -- a decimal mark, which was taken
+  -- The code unit after the number is a decimal mark, which was consumed.
   pub at_decimal_mark : (profile : Profile) (s : Sign) (dates times : List Group) (left : Text) → left ≡ drop 1 (map letter new) → decimal_mark number.next ≡ true
       → from_first profile (in_times s dates times) ≡ run_from profile (at_mark s dates times reads.ds) left
   unfolding run step

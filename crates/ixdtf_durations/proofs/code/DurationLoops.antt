@@ -16,24 +16,24 @@ use Rattle.ixdtf_reading.specs.reading.{Looks.{Placed, Read, seen}, Durations.St
 -- ---- dates
 
 module _ (profile : Profile) (first : ℕ) (whole : Text) where
-  -- what is read from the first digit of date groups on
+  -- The result of reading from the first digit of the date groups on.
   abbrev first_dates : Sign → Read Placed DurationParseRecord
   first_dates s = run_from profile (in_number (in_dates s []) (Plain first ∷ [])) whole
 
-  -- So far date groups were read, and the first digit of one more.
+  -- The state of the loop: date groups were read, and the first digit of one more.
   pub record DatesSoFar (rest : Text) (values : List ℕ) (least c : ℕ) : Type 0 where
     pub dates : List Group
     pub has : HasDates profile values least dates
     pub leads : (s : Sign) → first_dates s ≡ run_from profile (in_number (in_dates s dates) (Plain c ∷ [])) rest
 
-  -- So far date groups were read, and at least one.
+  -- The state after a group: at least one date group was read.
   pub record DatesRead (rest : Text) (values : List ℕ) (least : ℕ) : Type 0 where
     pub last : Group
     pub earlier : List Group
     pub has : HasDates profile values least (last ∷ earlier)
     pub leads : (s : Sign) → first_dates s ≡ run_from profile (between (in_dates s (last ∷ earlier))) rest
 
-  -- the digits of one more date group, and what is left behind the letter of its unit, or at another code unit
+  -- One more date group: its digits, and the text after the letter of its unit, or at another code unit.
   module _ {rest : Text} {values : List ℕ} {least c : ℕ} (far : DatesSoFar rest values least c) (n : Number) (mid next : Text)
       (read : (s : Sign) (dates : List Group) → run_from profile (in_number (in_dates s dates) (Plain c ∷ [])) rest
       ≡ run_where profile (date_read profile dates n) (between (in_dates s (date_group_of n ∷ dates))) (behind_unit date n.next mid))
@@ -94,24 +94,24 @@ module _ (profile : Profile) (first : ℕ) (whole : Text) where
 -- ---- times
 
 module _ (profile : Profile) (first : ℕ) (whole : Text) where
-  -- what is read from the first digit of time groups on
+  -- The result of reading from the first digit of the time groups on.
   abbrev first_times : Sign → List Group → Read Placed DurationParseRecord
   first_times s dates = run_from profile (in_number (in_times s dates []) (Plain first ∷ [])) whole
 
-  -- So far time groups were read, and the first digit of one more.
+  -- The state of the loop: time groups were read, and the first digit of one more.
   pub record TimesSoFar (rest : Text) (values : List ℕ) (least c : ℕ) : Type 0 where
     pub times : List Group
     pub has : HasTimes profile values least times
     pub leads : (s : Sign) (dates : List Group) → first_times s dates ≡ run_from profile (in_number (in_times s dates times) (Plain c ∷ [])) rest
 
-  -- So far time groups were read, and this one at last.
+  -- The state after a group: time groups were read, and `g` is the last of them.
   pub record TimesRead (rest : Text) (values : List ℕ) (least : ℕ) (g : TimeGroup) (r : ℕ) : Type 0 where
     pub earlier : List Group
     pub has : HasTimes profile values least (time_group_of g ∷ earlier)
     pub ranked : r ≡ rank (unit_of time g.letter)
     pub leads : (s : Sign) (dates : List Group) → first_times s dates ≡ run_from profile (after_group g.fraction s dates earlier (time_group_of g)) rest
 
-  -- one more time group up to the letter of its unit, and what is left behind this letter, or at another code unit
+  -- One more time group up to the letter of its unit, and the text after this letter, or at another code unit.
   module _ {rest : Text} {values : List ℕ} {least c : ℕ} (far : TimesSoFar rest values least c) (g : TimeGroup) (mid next : Text)
       (read : (s : Sign) (dates times : List Group) → run_from profile (in_number (in_times s dates times) (Plain c ∷ [])) rest
       ≡ after_time_group profile s dates times g mid)

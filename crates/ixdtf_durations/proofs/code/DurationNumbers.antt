@@ -1,4 +1,4 @@
--- The digits of a number of a duration, taken one by one.
+-- The digits of a number of a duration, consumed one by one.
 use Rattle.std.proofs.Common.{◌≡◌, ℕ, ◌+◌, ◌-◌, ◌*◌, true, false, [], ◌∷◌, ◌++◌, drop, Some, None, Ok, Err, refl, sym, ◌∙◌, nat_le}
 use Rattle.ixdtf_grammar.specs.{declared.profile.Profile.Profile, language.{Letters.{Text, digit, Letter.Plain}, Digits.decimal, Durations.greatest_value}}
 use Rattle.ixdtf_grammar.specs.table.{Faults.Fault.DurationValueExceededRange, Lines.no_designator, DurationFronts.{Context, half_of}}
@@ -7,7 +7,7 @@ use Rattle.ixdtf_reading.proofs.{code.FirstLetter.{first_is, nothing_is}, parts.
 use Rattle.ixdtf_durations.specs.reading.DurationClauses.{run_from}
 use Rattle.ixdtf_durations.proofs.code.DurationSteps.{fails}
 
--- So far digits of this number were taken, and the rest remains.
+-- The state of the loop: digits of this number were consumed, and `rest` remains.
 pub record IsSoFar (first : ℕ) (whole rest : Text) (value : ℕ) : Type 0 where
   pub ds : Text
   pub number : value ≡ decimal ds
@@ -32,7 +32,7 @@ module _ (first : ℕ) (whole rest : Text) (value : ℕ) (far : IsSoFar first wh
         leads = λ profile context. far.leads profile context ∙ rw (first_is rest c found, is, ← grown, small, moved) refl;
       }
 
-      -- the number is past the greatest
+      -- The number becomes 2^64 or more.
       pub passes : (next : Text) → next ≡ drop 1 rest → nat_le (value * 10 + (c - 48)) greatest_value ≡ false → (profile : Profile) (context : Context)
           → run_from profile (in_number context (Plain first ∷ [])) whole ≡ Err (DurationValueExceededRange, next)
       unfolding run step

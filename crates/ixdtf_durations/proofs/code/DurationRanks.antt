@@ -1,4 +1,4 @@
--- The ranks of the units of durations: how great they are in their tables, and what a rank says of a code unit.
+-- The ranks of duration units: how great they are in their tables, and what a rank says about a code unit.
 use Rattle.std.proofs.Common.{◌≡◌, ℕ, ◌+◌, ◌<◌, ◌≤◌, Bool, true, false, nat_le, if◌then◌else◌, refl, arith}
 use Rattle.std.proofs.lemmas.Bool.Decides.{nat_tests}
 use Rattle.ixdtf_grammar.specs.language.{Letters.{year_letter, month_letter, week_letter, hour_letter, minute_letter}, Durations.{Half, unit_of, unit_index}}
@@ -11,14 +11,14 @@ use Rattle.ixdtf_reading.proofs.code.Tables.{agree_below, agree_at}
 pub below : (a b : ℕ) → nat_le a b ≡ true → a ≤ b
 below a b is = grind (arith, nat_tests)
 
--- every rank of a half is at most this, where a computed look at all bytes says so
+-- Every rank of a half is at most `most`, if a computation over all bytes shows it.
 pub rank_small : (half : Half) (most : ℕ) → agree_below (λ c. nat_le (rank_seen half c) most) (λ c. true) 256 ≡ true
     → (c : ℕ) → c < 256 → rank_seen half c ≤ most
 rank_small half most agrees c lt = below _ _ (agree_at (λ c. nat_le (rank_seen half c) most) (λ c. true) 256 agrees c lt)
 
 -- ---- indices
 
--- the index of a unit, by its rank
+-- The index of a duration unit, by its rank.
 pub date_unit_index : (c : ℕ) → unit_index (unit_of date c) + 1 ≡ rank (unit_of date c)
 date_unit_index c = go (year_letter c) (month_letter c) (week_letter c)
   where

@@ -1,4 +1,4 @@
--- Reading a duration from a state on, by what the first look finds.
+-- Reading a duration from a state on, by the next code unit.
 use Rattle.std.proofs.Common.{◌≡◌, ℕ, ◌≤◌, true, false, List, [], ◌∷◌, drop, length, map, Option, Some, None, Result, Ok, Err, refl, ap, ◌∙◌, arith, nat_le}
 use Rattle.std.proofs.lemmas.Bool.Decides.{nat_tests}
 use Rattle.ixdtf_grammar.specs.declared.{profile.Profile.Profile, records.{Sign.{Sign, TheVariants.Positive}, DurationParseRecord.DurationParseRecord}}
@@ -18,14 +18,14 @@ at_bad_is profile (between (in_dates s [])) text = refl
 at_bad_is profile (between (in_times s dates [])) text = refl
 at_bad_is profile s text = refl
 
--- a look failed
+-- The look failed: the next code unit is bad.
 pub fails : (profile : Profile) (s : State) (text : Text) (fault : Placed) → seen text ≡ Err fault → run_from profile s text ≡ Err fault
 unfolding look_at run
 fails profile s (Bad ∷ more) fault e = let same : (NonAsciiCodePoint, Bad ∷ more) ≡ fault = cc in rw (at_bad_is profile s, same) refl
 fails profile s text fault e = absurd cc
 
 module _ (profile : Profile) (text : Text) where
-  -- there is no code unit
+  -- The text ends.
   module _ (none : seen text ≡ Ok None) where
     pub start_at_end : run_from profile started text ≡ Err (abrupt_duration_start, text)
     unfolding run
@@ -56,7 +56,7 @@ module _ (profile : Profile) (text : Text) where
     unfolding run
     fraction_end s dates times g = rw (nothing_is text none) refl
 
-  -- this code unit is first
+  -- The next code unit is `c`.
   module _ (c : ℕ) (first : seen text ≡ Ok (Some c)) where
     pub start_at_sign : sign c ≡ true → run_from profile started text ≡ run_from profile (signed (sign_of c)) (drop 1 text)
     unfolding run step
@@ -83,7 +83,7 @@ module _ (profile : Profile) (text : Text) where
     no_digit : time_letter c ≡ true → digit c ≡ false
     no_digit is = grind (arith, nat_tests)
 
-    -- a `T` after `P` or after date groups
+    -- A `T` or `t` follows `P` or the date groups.
     pub dates_at_mark : (s : Sign) (dates : _) → time_letter c ≡ true
         → run_from profile (between (in_dates s dates)) text ≡ run_from profile (between (in_times s dates [])) (drop 1 text)
     unfolding run step
@@ -112,7 +112,7 @@ module _ (profile : Profile) (text : Text) where
     unfolding greatest_value
     one_digit is = grind (arith, nat_tests)
 
-    -- a group begins at a digit
+    -- A group begins at a digit.
     pub at_digit : (context : Context) → digit c ≡ true
         → run_from profile (between context) text ≡ run_from profile (in_number context (Plain c ∷ [])) (drop 1 text)
     unfolding run step
@@ -121,22 +121,22 @@ module _ (profile : Profile) (text : Text) where
     at_digit (in_times s dates []) is = rw (first_is text c first, is, one_digit is) refl
     at_digit (in_times s dates (g ∷ times)) is = rw (first_is text c first, is, one_digit is) refl
 
--- a group begins, and its first digit was taken
+-- A group begins, and its first digit was consumed.
 pub to_digit : (profile : Profile) (text next : Text) (c : ℕ) → seen text ≡ Ok (Some c) → digit c ≡ true → next ≡ drop 1 text
     → (context : Context) → run_from profile (between context) text ≡ run_from profile (in_number context (Plain c ∷ [])) next
 to_digit profile text next c first is moved context = at_digit profile text c first context is ∙ rw moved refl
 
--- a `T` stands behind `P` or behind date groups, and was taken
+-- A `T` or `t` follows `P` or the date groups, and was consumed.
 pub to_mark : (profile : Profile) (text next : Text) (c : ℕ) → seen text ≡ Ok (Some c) → time_letter c ≡ true → next ≡ drop 1 text
     → (s : Sign) (dates : List Group) → run_from profile (between (in_dates s dates)) text ≡ run_from profile (between (in_times s dates [])) next
 to_mark profile text next c first is moved s dates = dates_at_mark profile text c first s dates is ∙ rw moved refl
 
--- the text that is left where a unit was taken
+-- The text that is left after a code unit was consumed.
 pub letters_left : (letter : ℕ → Letter) (old new : List ℕ) → new ≡ drop 1 old → map letter new ≡ drop 1 (map letter old)
 letters_left letter [] new is = ap (map letter) is
 letters_left letter (u ∷ us) new is = ap (map letter) is
 
--- a look found this code unit first, and it is not taken
+-- A look found that the next code unit is `c`, which is not consumed.
 pub record LetterStays (letter : ℕ → Letter) (rest looked : List ℕ) (c : ℕ) : Type 0 where
   pub found : seen (map letter rest) ≡ Ok (Some c)
   pub here : seen (map letter looked) ≡ Ok (Some c)
@@ -154,7 +154,7 @@ letter_stays {letter} {rest} {looked} {saw} {c} sees is stays =
     some_unit [] found = absurd cc
     some_unit (u ∷ us) found = omega arith
 
--- what a function reads from one state is what it reads from another, where reading goes from there to here
+-- What a function reads from the state `here` is what it reads from `from`, if reading goes from `from` to `here`.
 pub reads_on_earlier : {X : Type 0} (letter : ℕ → Letter) (profile : Profile) (from here : State) (old mid new : Unread) (result : Result X Stop)
     (next : X → Text → Read Placed DurationParseRecord)
     → run_from profile from (map letter old.rest) ≡ run_from profile here (map letter mid.rest) → ReadsOn letter profile here mid result new next
@@ -162,7 +162,7 @@ pub reads_on_earlier : {X : Type 0} (letter : ℕ → Letter) (profile : Profile
 reads_on_earlier letter profile from here old mid new (Ok x) next e is = e ∙ is
 reads_on_earlier letter profile from here old mid new (Err stop) next e is = e ∙ is
 
--- a duration is read from its beginning, where reading goes from there to where a function read on
+-- A duration is read from its beginning, if reading goes from there to the state from which a function reads on.
 pub reads_whole : (letter : ℕ → Letter) (profile : Profile) (here : State) (old mid left : Unread) (read : Result DurationParseRecord Stop)
     → run_from profile started (map letter old.rest) ≡ run_from profile here (map letter mid.rest)
     → ReadsOn letter profile here mid read left (λ duration text. Ok (duration, text))
@@ -170,5 +170,5 @@ pub reads_whole : (letter : ℕ → Letter) (profile : Profile) (here : State) (
 reads_whole letter profile here old mid left (Ok x) e is = e ∙ is
 reads_whole letter profile here old mid left (Err stop) e is = e ∙ is
 
--- what stands between the parts of a duration
+-- The rules for the beginning of a duration.
 pub ruleset openings = (fails, start_at_end, signed_at_end, start_at_sign, start_at_designator, start_at_other, signed_at_designator, signed_at_other)

@@ -1,4 +1,5 @@
--- Forms of the clauses of the private functions that read durations, and what their types stand for. No public clause cites one.
+-- The statements that the clauses of private functions for durations use, and the meaning of their types.
+-- No public clause uses these statements.
 use Rattle.std.specs.Prelude.{◌≡◌, ◌≤◌, ℕ, IsFalse, IsTrue, List, [], ◌∷◌, map, Option, Some, None, Result, Ok, Err, nat_le, drop}
 use Rattle.std.specs.Prelude.{slice_index_or, if◌then◌else◌, ◌-◌, length, OnOk, IfErr}
 use Rattle.ixdtf_grammar.specs.declared.{profile.Profile.Profile, records.{Sign.Sign, DurationParseRecord.DurationParseRecord}}
@@ -12,17 +13,17 @@ use Rattle.ixdtf_reading.specs.{declared.stop.Stop.Stop, reading.{Looks.{Read, P
 use Rattle.ixdtf_reading.specs.reading.Durations.{State, run, State.{between, in_number, ended}}
 use Rattle.ixdtf_durations.specs.declared.{group_numbers.Number.Number, date_groups.Dates.Dates, time_groups.TimeGroup.TimeGroup}
 
--- reading a duration from a state on, by errors
+-- Reads a duration from a state on. A fault is an error and the text at its position.
 abbrev pub run_from : Profile → State → Text → Read Placed DurationParseRecord
 run_from profile state text = run error_of profile state text
 
--- Reading from a state on, over what the function took, is what comes of its value; or it is the fault of its stop.
+-- To read from a state on is to continue as `next` says with the value of the function, or it is the fault of its `Stop`.
 abbrev pub ReadsOn : {X : Type 0} → (ℕ → Letter) → Profile → State → Unread → Result X Stop → Unread → (X → Text → Read Placed DurationParseRecord) → Type 0
 ReadsOn letter profile from old (Ok x) new next = run_from profile from (map letter old.rest) ≡ next x (map letter new.rest)
 ReadsOn letter profile from old (Err e) new next = run_from profile from (map letter old.rest) ≡ Err (fault_of_stop e, map letter new.rest)
 
--- What a function returned that read on from a state, up to the end, and settled a cursor at `start` with that: some value or
--- stop was read, and something was left then.
+-- The result of a function that read from a state on up to the end of the text, and then settled a cursor at `start`. `read` is
+-- the value or the `Stop`, and `left` is the cursor after it.
 pub record SettlesFrom {E : Type 0} (letter : ℕ → Letter) (profile : Profile) (from : State) (named : E → Fault) (stands : ℕ → E → Type 0)
     (start : List ℕ) (old : Unread) (result : Result DurationParseRecord E) (new : List ℕ) : Type 0 where
   pub read : Result DurationParseRecord Stop
@@ -34,7 +35,7 @@ pub record SettlesFrom {E : Type 0} (letter : ℕ → Letter) (profile : Profile
 
 -- ---- numbers
 
--- reading, in a number of any context, goes over digits of this number, up to a code unit that is not a digit
+-- In every context, the digits of this number were read after the first one, up to a code unit that is not a digit.
 pub record IsNumber (letter : ℕ → Letter) (first : ℕ) (old : List ℕ) (number : Number) (new : List ℕ) : Type 0 where
   pub ds : Text
   pub value : number.value ≡ decimal ds
@@ -43,7 +44,7 @@ pub record IsNumber (letter : ℕ → Letter) (first : ℕ) (old : List ℕ) (nu
   pub leads : (profile : Profile) (context : Context) →
       run_from profile (in_number context (Plain first ∷ [])) (map letter old) ≡ run_from profile (in_number context ds) (map letter new)
 
--- a number after its first digit, where the end is this fault
+-- The result of reading a number after its first digit. `end` is the fault at the end of the text.
 abbrev pub ReadsNumber : (ℕ → Letter) → ℕ → Fault → Unread → Result Number Stop → Unread → Type 0
 ReadsNumber letter first end old (Ok number) new = IsNumber letter first old.rest number new.rest
 ReadsNumber letter first end old (Err e) new =
@@ -52,15 +53,15 @@ ReadsNumber letter first end old (Err e) new =
 
 -- ---- groups
 
--- the group of a number and the letter of a date unit after it
+-- The date group of a number and of the letter of its unit.
 abbrev pub date_group_of : Number → Group
 date_group_of n = record { unit = unit_of date n.next; value = n.value; fraction = None }
 
--- the same of times
+-- The time group of a number, its fraction, and the letter of its unit.
 abbrev pub time_group_of : TimeGroup → Group
 time_group_of g = record { unit = unit_of time g.letter; value = g.value; fraction = g.fraction }
 
--- the rank of a unit among those of its half, from the longest to the shortest
+-- The rank of a duration unit in its half (date or time). The longest unit has the least rank.
 abbrev pub rank : DurationUnit → ℕ
 rank years = 1
 rank months = 2
@@ -70,15 +71,15 @@ rank hours = 1
 rank minutes = 2
 rank seconds = 3
 
--- the rank of the unit that the code unit names, and 0 where it names none
+-- The rank of the unit that the code unit names, or 0 if it names none.
 abbrev pub rank_seen : Half → ℕ → ℕ
 rank_seen half c = if designator half c then rank (unit_of half c) else 0
 
--- what remains behind the letter of a unit of the half; another code unit is not taken
+-- The text after the letter of a unit of the half. Any other code unit is not consumed.
 abbrev pub behind_unit : Half → ℕ → Text → Text
 behind_unit half c text = if designator half c then drop 1 text else text
 
--- the rank of a group that may stand from this rank on, or why it may not
+-- The rank of a group, if it is at least `least` and the number is in the range of its unit. Otherwise the error.
 abbrev pub date_rank_from : ℕ → Number → Result ℕ Fault
 date_rank_from least n =
     let unit = unit_of date n.next in
@@ -90,7 +91,7 @@ time_rank_from least c =
     let unit = unit_of time c in
     if designator time c then (if nat_le least (rank unit) then Ok (rank unit) else Err TimeDurationPartOrder) else Err (no_designator time)
 
--- a group may stand behind these, by its unit and its number, or why it may not
+-- Whether a group may follow these groups, with its unit and its number. If it may not, the result is the error.
 abbrev pub date_group_fits : Profile → List Group → Group → Result (Unit {0}) Fault
 date_group_fits profile dates g =
     if in_order profile dates g.unit then (if nat_le g.value (greatest g.unit) then Ok tt else Err DurationValueExceededRange) else Err DateDurationPartOrder
@@ -98,44 +99,44 @@ date_group_fits profile dates g =
 abbrev pub time_group_fits : Profile → List Group → Group → Result (Unit {0}) Fault
 time_group_fits profile times g = if in_order profile times g.unit then Ok tt else Err TimeDurationPartOrder
 
--- reading from a state on, where this is so
+-- If the test succeeded, reads from a state on. Otherwise the result is the error of the test.
 abbrev pub run_where : Profile → Result (Unit {0}) Fault → State → Text → Read Placed DurationParseRecord
 run_where profile (Ok x) state text = run_from profile state text
 run_where profile (Err e) state text = Err (e, text)
 
--- after a group with a fraction only the end may follow
+-- The state after a time group. After a group with a fraction, the text must end.
 abbrev pub after_group : Option FractionParts → Sign → List Group → List Group → Group → State
 after_group None s dates times g = between (in_times s dates (g ∷ times))
 after_group (Some fraction) s dates times g = ended s dates times g
 
--- what comes of the code unit after a group, in a text behind these groups
+-- Whether the code unit after a number makes it a group that may follow these groups. If not, the result is the error.
 abbrev pub date_read : Profile → List Group → Number → Result (Unit {0}) Fault
 date_read profile dates n = if designator date n.next then date_group_fits profile dates (date_group_of n) else Err (no_designator date)
 
 abbrev pub time_read : Profile → List Group → TimeGroup → Result (Unit {0}) Fault
 time_read profile times g = if designator time g.letter then time_group_fits profile times (time_group_of g) else Err (no_designator time)
 
--- reading from the code unit after a number on, where it names a time unit and the group may stand there
+-- Reads on from the code unit after a number, if it names a time unit and the group may follow the groups before it.
 abbrev pub after_time_group : Profile → Sign → List Group → List Group → TimeGroup → Text → Read Placed DurationParseRecord
 after_time_group profile s dates times g text =
     run_where profile (time_read profile times g) (after_group g.fraction s dates times (time_group_of g)) (behind_unit time g.letter text)
 
--- the numbers of groups, by the ranks of their units
+-- The numbers of groups. The index of a number is the rank of its unit. Index 0 is not used.
 abbrev pub date_numbers : List Group → List ℕ
 date_numbers dates = 0 ∷ number_of years dates ∷ number_of months dates ∷ number_of weeks dates ∷ number_of days dates ∷ []
 
 abbrev pub time_numbers : List Group → List ℕ
 time_numbers times = 0 ∷ number_of hours times ∷ number_of minutes times ∷ number_of seconds times ∷ []
 
--- years, months and weeks are in their range
+-- The numbers of years, months and weeks are less than 2^32.
 abbrev pub HasSmallDates : List ℕ → Type 0
 HasSmallDates values = (slice_index_or values 1 0 ≤ 4294967295) × (slice_index_or values 2 0 ≤ 4294967295) × (slice_index_or values 3 0 ≤ 4294967295)
 
--- the record has these numbers
+-- The record has these numbers.
 abbrev pub IsDateRecord : List ℕ → DateDurationRecord → Type 0
 IsDateRecord values dates = (g : Group) (earlier : List Group) → values ≡ date_numbers (g ∷ earlier) → date_duration (g ∷ earlier) ≡ Some dates
 
--- the same of times, where the last group has a unit of this rank, and this fraction
+-- The record has these numbers. The last time group has a unit of the rank `last`, and this fraction.
 abbrev pub IsTimeRecord : List ℕ → ℕ → Option FractionParts → TimeDurationRecord → Type 0
 IsTimeRecord values last fraction found =
     (c : ℕ) (times : List Group) → last ≡ rank (unit_of time c) → values ≡ time_numbers times
@@ -144,7 +145,7 @@ IsTimeRecord values last fraction found =
 abbrev pub dated : Sign → Option DateDurationRecord → Option TimeDurationRecord → DurationParseRecord
 dated s dates times = record { sign = s; date = dates; time = times }
 
--- date groups, after the first digit: reading goes over them, to the end or to behind a `T`
+-- The date groups that were read after their first digit, up to the end of the text or to a `T`, which is consumed.
 pub record AreDates (profile : Profile) (letter : ℕ → Letter) (first : ℕ) (old : List ℕ) (dates : Dates) (new : List ℕ) : Type 0 where
   pub groups : List Group
   pub has : date_duration groups ≡ Some dates.record

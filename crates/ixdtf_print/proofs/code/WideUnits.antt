@@ -14,23 +14,23 @@ one_longer bytes i d more =
     ap (map spell) longer ∙ map-append spell (take i bytes) (get_or bytes i d ∷ [])
 
 -- If the slice is long enough for all bytes, it is long enough for the first ones.
-room_for_front : (out : List ℕ) (bytes : List ℕ) (i : ℕ) → HasRoom out 0 (map Plain bytes) → HasRoom out 0 (map Plain (take i bytes))
-room_for_front out bytes i room =
+room_for_front : (out : List ℕ) (from : ℕ) (bytes : List ℕ) (i : ℕ) → HasRoom out from (map Plain bytes) → HasRoom out from (map Plain (take i bytes))
+room_for_front out from bytes i room =
     let spell : ℕ → Letter = λ n. Plain n in
     let split : map spell bytes ≡ map spell (take i bytes) ++ map spell (drop i bytes) =
     ap (map spell) (sym (take-append-drop i bytes)) ∙ map-append spell (take i bytes) (drop i bytes) in
     room_first _ (rw split at room)
 
-pub room_for_next : {old mid : List ℕ} {at : ℕ} (bytes : List ℕ) (i d : ℕ) → i < length bytes → HasRoom old 0 (map Plain bytes)
-    → Prints old mid 0 at (map Plain (take i bytes)) → HasRoom mid at (Plain (get_or bytes i d) ∷ [])
-room_for_next {old = old} bytes i d more room p =
-    room_then p (rw (one_longer bytes i d more) at (room_for_front old bytes (i + 1) room))
+pub room_for_next : {old mid : List ℕ} {from at : ℕ} (bytes : List ℕ) (i d : ℕ) → i < length bytes → HasRoom old from (map Plain bytes)
+    → Prints old mid from at (map Plain (take i bytes)) → HasRoom mid at (Plain (get_or bytes i d) ∷ [])
+room_for_next {old = old} {from = from} bytes i d more room p =
+    room_then p (rw (one_longer bytes i d more) at (room_for_front old from bytes (i + 1) room))
 
-pub next_put : {old mid new : List ℕ} {at to : ℕ} (bytes : List ℕ) (i d : ℕ) → i < length bytes → HasRoom old 0 (map Plain bytes)
-    → Prints old mid 0 at (map Plain (take i bytes)) → Prints mid new at to (Plain (get_or bytes i d) ∷ [])
-    → Prints old new 0 to (map Plain (take (i + 1) bytes))
-next_put {old = old} bytes i d more room p q =
-    rw (one_longer bytes i d more) (puts_then (rw (one_longer bytes i d more) at (room_for_front old bytes (i + 1) room)) p q)
+pub next_put : {old mid new : List ℕ} {from at to : ℕ} (bytes : List ℕ) (i d : ℕ) → i < length bytes → HasRoom old from (map Plain bytes)
+    → Prints old mid from at (map Plain (take i bytes)) → Prints mid new at to (Plain (get_or bytes i d) ∷ [])
+    → Prints old new from to (map Plain (take (i + 1) bytes))
+next_put {old = old} {from = from} bytes i d more room p q =
+    rw (one_longer bytes i d more) (puts_then (rw (one_longer bytes i d more) at (room_for_front old from bytes (i + 1) room)) p q)
 
 -- The first `count` code units of the slice are the text.
 pub counted_spelled : (old new : List ℕ) (to count : ℕ) (text : Text) → Prints old new 0 to text → count ≡ length text

@@ -31,7 +31,7 @@ one_letter n = by_test (is_shared n)
     by_test true h = refl
     by_test false h = absurd cc
 
-same_letters : (units : List ℕ) → AllOf is_shared (map Plain units) → wide_text units ≡ map Plain units
+pub same_letters : (units : List ℕ) → AllOf is_shared (map Plain units) → wide_text units ≡ map Plain units
 same_letters [] h = refl
 same_letters (n ∷ units) h =
     ap (λ letter. letter ∷ wide_text units) (one_letter n h.0) ∙ ap (λ text. Plain n ∷ text) (same_letters units h.1)

@@ -29,7 +29,7 @@ is_day profile date d = (
   d.day,
 )
 
-is_core : (profile : Profile) (date : Option DateRecord) (time : Option TimeRecord) (offset : Option UtcOffsetRecordOrZ) → HasLoneDay profile date time offset
+pub is_core : (profile : Profile) (date : Option DateRecord) (time : Option TimeRecord) (offset : Option UtcOffsetRecordOrZ) → HasLoneDay profile date time offset
     → DateAlone (IsMonthDay profile) (optional_day_text date) (core_of date time offset)
 is_core profile None time offset h = absurd h
 is_core profile (Some date) None None h = (date, is_day profile date h, refl)
@@ -46,16 +46,16 @@ of_day profile text date (h, day) = (
   rw h.is (omega (arith, day_long date, digits_long 2 _ h.month.0.0, digits_long 2 _ h.day.0, length-append {A = Letter})),
 )
 
-of_core : (profile : Profile) (text : Text) (core : Core) → DateAlone (IsMonthDay profile) text core
+pub of_core : (profile : Profile) (text : Text) (core : Core) → DateAlone (IsMonthDay profile) text core
     → HasLoneDay profile core.date core.time core.offset × (length (optional_day_text core.date) ≤ length text + 1)
 of_core profile text core (date, h, has) = rw has (of_day profile text date h)
 
-is_whole : (found : Parsed) → month_day_text found ≡ optional_day_text found.date ++ brackets_text found
+pub is_whole : (found : Parsed) → month_day_text found ≡ optional_day_text found.date ++ brackets_text found
 unfolding month_day_text
 is_whole found = refl
 
 -- The cores of `parse_month_day`.
-abbrev lone_day : Profile → Written
+abbrev pub lone_day : Profile → Written
 lone_day profile = record {
   kind = month_day profile;
   any_zone = refl;
@@ -71,7 +71,7 @@ lone_day profile = record {
 pub month_day_is_read_back : MonthDayIsReadBack
 month_day_is_read_back profile = read_back (lone_day profile)
 
-month_day_reads_back : (found : Parsed) → IsPrintableMonthDay found → IsMonthDayReadBack found
+pub month_day_reads_back : (found : Parsed) → IsPrintableMonthDay found → IsMonthDayReadBack found
 month_day_reads_back found h = record {
   same = read_back (lone_day Crate) found h;
   profiles = λ profile k. read_back (lone_day profile) found k;

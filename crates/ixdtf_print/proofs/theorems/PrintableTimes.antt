@@ -19,7 +19,7 @@ has_colon : (time : TimeRecord) (more : Text) → IsTrue (colon (byte_place 2 (u
 unfolding clock_text seconds_text two_digits
 has_colon time more = refl
 
-is_core : (profile : Profile) (date : Option DateRecord) (time : Option TimeRecord) (offset : Option UtcOffsetRecordOrZ) → HasLoneTime date time offset
+pub is_core : (profile : Profile) (date : Option DateRecord) (time : Option TimeRecord) (offset : Option UtcOffsetRecordOrZ) → HasLoneTime date time offset
     → IsTimeCore profile (unmarked_time_text time ++ offset_text offset) (core_of date time offset)
 is_core profile None None offset h = absurd h
 is_core profile None (Some time) offset h = (
@@ -39,7 +39,7 @@ is_core profile None (Some time) offset h = (
 )
 is_core profile (Some date) time offset h = absurd h
 
-of_core : (profile : Profile) (text : Text) (core : Core) → IsTimeCore profile text core
+pub of_core : (profile : Profile) (text : Text) (core : Core) → IsTimeCore profile text core
     → HasLoneTime core.date core.time core.offset × (length (text_of core) ≤ length text + 9)
 of_core profile text core (h, none) =
     let time = of_time h.times h.time h.is_time in
@@ -49,12 +49,12 @@ of_core profile text core (h, none) =
       omega (arith, time.1, offset.1, length-append (unmarked_time_text (Some h.time)) (offset_text h.offset), length-append {A = Letter}),
     )
 
-is_whole : (found : Parsed) → lone_time_text found ≡ text_of (core_of found.date found.time found.offset) ++ brackets_text found
+pub is_whole : (found : Parsed) → lone_time_text found ≡ text_of (core_of found.date found.time found.offset) ++ brackets_text found
 unfolding lone_time_text time_core_text
 is_whole found = refl
 
 -- The cores of `parse_time`.
-abbrev lone_time : Profile → Written
+abbrev pub lone_time : Profile → Written
 lone_time profile = record {
   kind = time_of_day profile;
   any_zone = refl;

@@ -23,7 +23,7 @@ is_month date d = record {
   first_day = d.day;
 }
 
-is_core : (date : Option DateRecord) (time : Option TimeRecord) (offset : Option UtcOffsetRecordOrZ) → HasLoneMonth date time offset
+pub is_core : (date : Option DateRecord) (time : Option TimeRecord) (offset : Option UtcOffsetRecordOrZ) → HasLoneMonth date time offset
     → DateAlone IsYearMonth (optional_month_text date) (core_of date time offset)
 is_core None time offset h = absurd h
 is_core (Some date) None None h = (date, is_month date h, refl)
@@ -41,16 +41,16 @@ of_month text date h =
       rw h.is (omega (arith, year.1, month_long date, digits_long 2 _ h.month.0.0, length-append {A = Letter})),
     )
 
-of_core : (text : Text) (core : Core) → DateAlone IsYearMonth text core
+pub of_core : (text : Text) (core : Core) → DateAlone IsYearMonth text core
     → HasLoneMonth core.date core.time core.offset × (length (optional_month_text core.date) ≤ length text + 1)
 of_core text core (date, h, has) = rw has (of_month text date h)
 
-is_whole : (found : Parsed) → year_month_text found ≡ optional_month_text found.date ++ brackets_text found
+pub is_whole : (found : Parsed) → year_month_text found ≡ optional_month_text found.date ++ brackets_text found
 unfolding year_month_text
 is_whole found = refl
 
 -- The cores of `parse_year_month`.
-abbrev lone_month : Written
+abbrev pub lone_month : Written
 lone_month = record {
   kind = year_month;
   any_zone = refl;

@@ -21,7 +21,7 @@ spelled zone h = (of_zone h.0 zone (derived h.0 zone h.1)).0
 is_text : (zone : Zone) → IsZoneText zone → IsIdentifier (zone_text zone) zone
 is_text zone s = as_identified (is_zone zone s)
 
-printable_zone : (zone : Zone) → IsPrintableZone zone ↔ IsZoneText zone
+pub printable_zone : (zone : Zone) → IsPrintableZone zone ↔ IsZoneText zone
 printable_zone zone = (spelled zone, λ s. (zone_text zone, is_text zone s))
 
 pub zone_is_read_back : ZoneIsReadBack

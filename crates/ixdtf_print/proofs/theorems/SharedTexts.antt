@@ -18,7 +18,7 @@ use Rattle.ixdtf_print.proofs.theorems.{PrintableDurations.printable_duration, P
 shared_pair : (n : ℕ) → n < 100 → AllOf is_shared (two_digits n)
 shared_pair n small = all_digits shared_digit 2 (two_digits n) (two_are n small).0
 
-shared_minutes : (h m : ℕ) → h ≤ 23 → m ≤ 59 → AllOf is_shared (minutes_text h m)
+pub shared_minutes : (h m : ℕ) → h ≤ 23 → m ≤ 59 → AllOf is_shared (minutes_text h m)
 unfolding minutes_text
 shared_minutes h m hour minute =
     all_append is_shared (two_digits h) _ (shared_pair h (omega (arith, hour))) (refl, shared_pair m (omega (arith, minute)))
@@ -31,11 +31,11 @@ shared_clock h m s fraction at =
     let hour = all_append is_shared (two_digits h) (Plain 58 ∷ (two_digits m ++ (Plain 58 ∷ two_digits s))) (shared_pair h (omega (arith, at.hour))) (refl, minute) in
     all_append is_shared _ (fraction_text fraction) hour (shared_fraction fraction at.fraction)
 
-shared_mark : (s : Sign) → IsTrue (is_shared (mark_of s))
+pub shared_mark : (s : Sign) → IsTrue (is_shared (mark_of s))
 shared_mark Positive = refl
 shared_mark Negative = refl
 
-shared_offset : (offset : UtcOffsetRecord) → IsShift (stands.Offset offset) → AllOf is_shared (utc_offset_text offset)
+pub shared_offset : (offset : UtcOffsetRecord) → IsShift (stands.Offset offset) → AllOf is_shared (utc_offset_text offset)
 shared_offset (offsets.MinutePrecision offset) at = (shared_mark offset.sign, shared_minutes offset.hour offset.minute at.0 at.1)
 shared_offset (offsets.FullPrecisionOffset offset) at =
     let minutes = offset.minute_precision_offset in
@@ -43,7 +43,7 @@ shared_offset (offsets.FullPrecisionOffset offset) at =
 
 -- ---- the printed text
 
-on_ok : {A E : Type 0} {known : Type 0} {before after : A → Type 0} (result : Result A E) → OnOk result known → IfOk result before
+pub on_ok : {A E : Type 0} {known : Type 0} {before after : A → Type 0} (result : Result A E) → OnOk result known → IfOk result before
     → (known → (a : A) → before a → after a) → IfOk result after
 on_ok (Ok a) k h f = f k a h
 on_ok (Err e) k h f = tt

@@ -1,8 +1,8 @@
--- Which classes exclude each other.
+-- Classes of code units that exclude each other.
 use Rattle.std.proofs.{Common.{◌≡◌, ℕ, IsTrue, false, arith}, lemmas.Bool.Decides.nat_tests}
 use Rattle.ixdtf_grammar.specs.language.Letters.{digit, sign, hyphen}
 
--- a digit is no sign
+-- A digit is not a sign.
 pub digit_no_sign : (c : ℕ) → IsTrue (digit c) → sign c ≡ false
 digit_no_sign c is = grind (arith, nat_tests)
 

@@ -1,15 +1,15 @@
--- What a look found is the first code unit of the text, or there is none.
+-- A look finds the first code unit of the text, or that the text is empty.
 use Rattle.std.proofs.Common.{◌≡◌, ℕ, [], ◌∷◌, drop, Some, None, Ok, refl, ap}
 use Rattle.ixdtf_grammar.specs.language.Letters.{Text, Letter.{Plain, Bad}}
 use Rattle.ixdtf_reading.specs.reading.Looks.{look_at, seen}
 
--- a look found this code unit first
+-- A look found the code unit `c`.
 pub first_is : (text : Text) (c : ℕ) → seen text ≡ Ok (Some c) → text ≡ Plain c ∷ drop 1 text
 unfolding look_at
 first_is (Plain n ∷ more) c e = ap (λ m. Plain m ∷ more) cc
 first_is text c e = absurd cc
 
--- a look found no code unit
+-- A look found no code unit.
 pub nothing_is : (text : Text) → seen text ≡ Ok None → text ≡ []
 unfolding look_at
 nothing_is [] e = refl

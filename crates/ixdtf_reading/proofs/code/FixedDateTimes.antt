@@ -1,4 +1,4 @@
--- A date-time of RFC 3339 that begins with a date, `T` and a time at fixed places is read from its seconds on.
+-- A date-time of RFC 3339 that begins with a date, `T` or `t` and a time in fixed columns. Reading goes on after its seconds.
 use Rattle.std.proofs.Common.{◌≡◌, ℕ, IsTrue, Ok, Err, Some, pos, [], ◌∷◌, ◌++◌, refl, sym, ap, ◌∙◌, append_assoc}
 use Rattle.ixdtf_grammar.specs.declared.records.{DateRecord.DateRecord, TimeRecord.TimeRecord}
 use Rattle.ixdtf_grammar.specs.language.{Letters.{Text, hyphen, time_letter, Letter.Plain}, Digits.decimal, FixedPlaces.{FixedDate, FixedDateTime}}
@@ -13,7 +13,7 @@ full_date text date d = (
   d.in_month,
 )
 
--- the separator is the eleventh code unit
+-- The separator is the eleventh code unit.
 separator_is : (text : Text) (date : DateRecord) (time : TimeRecord) (rest : Text) (f : FixedDateTime text date time rest) → byte_place 10 text ≡ f.separator
 separator_is text date time rest f =
     let d = f.is_date in
@@ -54,7 +54,7 @@ fixed_date_time finish text date time rest letter f =
     ap (date_time_by error_of finish) is ∙ (over_through_second error_of finish (until_second ++ t.ss) through).over rest
     ∙ (λ i. after_whole_second_at error_of finish date (sym t.hour.1 i) (sym t.minute.1 i) (sym t.second.1 i) rest)
 
--- a date-time is read from the number of its year on
+-- A date-time is read as the number of its year, and then the rest.
 pub year_then : {A : Type 0} (finish : Finish Placed A) (text : Text) → date_time_by error_of finish text
     ≡ (as_number (digits_by (digit_look DateYear) 4 text) >>= λ year. next_by (look_for hyphen (Some abrupt_date) DateSeparator) year.1
     >>= λ mark. full_month_at error_of finish (pos year.0) mark.1)

@@ -1,4 +1,4 @@
--- A date and a time at fixed places: what is found there is what the grammar has, and is read so.
+-- A date and a time in fixed columns. What is found there is what the grammar derives, and what the reading functions return.
 use Rattle.std.proofs.Common.{subst, ◌≡◌, ℕ, zero, suc, ◌+◌, ◌-◌, ◌*◌, ◌<◌, ◌≤◌, Bool, true, false, IsTrue, List, [], ◌∷◌, ◌++◌, map, drop, length, Option}
 use Rattle.std.proofs.Common.{Some, None, Result, Ok, Err, refl, sym, ap, ◌∙◌, ◌&&◌, if◌then◌else◌, ℤ, pos, arith, append_assoc, inl, inr, nat_eq, eqb-true}
 use Rattle.std.proofs.lemmas.{Bool.{and_parts, and_from, le-leb, both_ways, Decides.nat_tests}, List.length-drop}
@@ -15,13 +15,13 @@ use Rattle.ixdtf_reading.specs.reading.FixedPlaces.{date_in_range, time_in_range
 use Rattle.ixdtf_reading.proofs.parts.{Looks.onto, Marks.hyphens_of, Years.year_takes}
 use Rattle.ixdtf_reading.proofs.to_reading.Dates.{month_is, month_is_none, month_or_none, month_takes, month_out, over_day}
 
--- the code unit that a look found, where it is of the class
+-- The code unit that a look found, if it is of the class.
 abbrev pub class_at_place : Class → Result (Option ℕ) Fault → Option ℕ
 class_at_place class (Ok None) = None
 class_at_place class (Ok (Some c)) = if class c then Some c else None
 class_at_place class (Err e) = None
 
--- what stands at a place of the text is what a look at this index of the source finds
+-- The code unit in a column of the text is the one that a look at this index of the source finds.
 pub place_looked : (letter : ℕ → Letter) (class : Class) (place : ℕ) (units : List ℕ)
     → letter_place class place (map letter units) ≡ class_at_place class (ascii_at letter place units)
 place_looked letter class zero [] = refl
@@ -35,19 +35,19 @@ byte_looked letter (suc place) [] = refl
 byte_looked letter zero (u ∷ more) = grind arith
 byte_looked letter (suc place) (u ∷ more) = byte_looked letter place more
 
--- ---- what stands where something was found
+-- ---- what follows if something was found
 
--- a step from what was found
+-- If two steps found a value, the first step found one too.
 pub then_some : {A B : Type 0} {Goal : Type 0} (o : Option A) (go : A → Option B) (y : B) → (o >>? go) ≡ Some y → ((x : A) → o ≡ Some x → go x ≡ Some y → Goal)
     → Goal
 then_some None go y e next = absurd cc
 then_some (Some x) go y e next = next x refl e
 
--- what passed a test
+-- If a test returned a value, the test is true.
 pub then_held : {A : Type 0} (t : Bool) (x y : A) → (if t then Some x else None) ≡ Some y → IsTrue t × (x ≡ y)
 then_held t x y e = grind (arith, e)
 
--- the code unit at a place, and the text after it
+-- The code unit at index `place`, and the text after it.
 pub letter_at_place : (class : Class) (place : ℕ) (text : Text) (c : ℕ) → letter_place class place text ≡ Some c
     → (drop place text ≡ Plain c ∷ drop (suc place) text) × IsTrue (class c)
 letter_at_place class zero (Plain n ∷ rest) c e =
@@ -55,7 +55,7 @@ letter_at_place class zero (Plain n ∷ rest) c e =
 letter_at_place class (suc place) (x ∷ rest) c e = letter_at_place class place rest c e
 letter_at_place class place text c e = absurd cc
 
--- two digits at a place and the next, and the text after them
+-- The two digits at index `place` and at the next index, and the text after them.
 pub record Number (place : ℕ) (text : Text) (n : ℕ) : Type 0 where
   pub a : ℕ
   pub b : ℕ
@@ -80,7 +80,7 @@ number_at_place place text n e =
     then_some (letter_place digit (place + 1) text) _ n next λ b eb last.
     number_of_letters place text n a b ea eb cc
 
--- a mark at a place
+-- The code unit `mark` at index `place`.
 pub mark_at_place : (mark place : ℕ) (text : Text) (c : ℕ) → letter_place (λ c. nat_eq c mark) place text ≡ Some c
     → drop place text ≡ Plain mark ∷ drop (suc place) text
 mark_at_place mark place text c e =
@@ -104,7 +104,7 @@ over_two number is = number.is ∙ ap (λ t. two number ++ t) is
 
 -- ---- dates
 
--- the year at a place, and the text after it
+-- The year in its columns, and the text after it.
 year_of_numbers : (text : Text) (year century rest : ℕ) → Number 0 text century → Number 2 text rest → 100 * century + rest ≡ year
     → (ys : Text) × (text ≡ ys ++ drop 4 text) × FourDigitYear ys (pos year)
 year_of_numbers text year century rest c y is = (
@@ -123,7 +123,7 @@ year_at_place text year e =
     then_some (number_place 2 text) _ year e0 λ rest f1 e1.
     year_of_numbers text year century rest (number_at_place 0 text century f0) (number_at_place 2 text rest f1) cc
 
--- the month and the day of a date at their places, with a hyphen before each or with none, whatever they are
+-- The month and the day of a date in their columns, with a hyphen before each or with none. Their ranges are not tested.
 record Days (b : Bool) (text after_month rest : Text) (year : ℕ) (date : DateRecord) : Type 0 where
   months : Text
   days : Text
@@ -245,7 +245,7 @@ of_parts text date c time d separator t = record {
   is_time = t.2;
 }
 
--- what is found is a date and a time of the grammar, in the first nineteen code units
+-- What is found is a date and a time of the grammar, in the first nineteen code units.
 pub date_time_at_place : (text : Text) (found : DateRecord × TimeRecord) → date_time_place text ≡ Some found → FixedDateTime text found.0 found.1 (drop 19 text)
 unfolding date_time_place
 date_time_at_place text found e =
@@ -259,7 +259,7 @@ date_time_at_place text found e =
 
 -- ---- nothing is missed
 
--- two digits and four, as code units, and their numbers
+-- The code units of two digits. The next definition is for four digits.
 abbrev two_letters : (text : Text) → digits 2 text → Text
 two_letters text h = Plain h.0 ∷ Plain h.4.0 ∷ []
 
@@ -290,7 +290,7 @@ module _ {years months days hours minutes seconds : Text} (y : digits 4 years) (
   text_there = four_letters years y ++ (Plain 45 ∷ (two_letters months m ++ (Plain 45 ∷ (two_letters days d
       ++ (Plain separator ∷ (two_letters hours h ++ (Plain 58 ∷ (two_letters minutes n ++ (Plain 58 ∷ (two_letters seconds x ++ rest))))))))))
 
-  -- the digits of a date and of a time, with the marks between them, are found at their places
+  -- The digits of a date and of a time, and the marks between them, are found in their columns.
   there : IsTrue (date_time_separator separator) → IsTrue (date_in_range date_there) → IsTrue (time_in_range time_there)
       → date_time_place text_there ≡ Some (date_there, time_there)
   unfolding date_time_place date_place year_place days_place time_place number_place
@@ -308,7 +308,7 @@ same_time time hour minute second h m s f = λ i. record { hour = h i; minute = 
 is_in_range : (date : DateRecord) → (1 ≤ date.month) × (date.month ≤ 12) → IsDayOfMonth date → IsTrue (date_in_range date)
 is_in_range date month day = grind (arith, nat_tests)
 
--- a date and a time of the grammar in the first nineteen code units are found
+-- A date and a time of the grammar in the first nineteen code units are found.
 pub date_time_stands : (text : Text) (date : DateRecord) (time : TimeRecord) (rest : Text) → FixedDateTime text date time rest
     → date_time_place text ≡ Some (date, time)
 date_time_stands text date time rest f =
@@ -330,9 +330,9 @@ date_time_stands text date time rest f =
     ∙ there y m d f.separator h n x rest f.separates in_date in_time
     ∙ (λ i. Some (is_date i, is_time i))
 
--- ---- what is found is read
+-- ---- what is found is what the reading functions return
 
--- the code unit at a place is of a class that 0 is not of
+-- If the byte at index `place` is of a class without 0, the text has this code unit there.
 pub byte_in_class : (class : Class) (place : ℕ) (text : Text) → class 0 ≡ false → IsTrue (class (byte_place place text))
     → letter_place class place text ≡ Some (byte_place place text)
 byte_in_class class place text not_zero is = go (drop place text) is
@@ -341,19 +341,19 @@ byte_in_class class place text not_zero is = go (drop place text) is
     go (Plain c ∷ rest) is = rw is refl
     go text is = absurd (both_ways (class 0) not_zero is)
 
--- so a mark is, which 0 is not
+-- So the text has a mark at index `place`, if the byte there is this mark and not 0.
 pub byte_is_mark : (mark place : ℕ) (text : Text) → nat_eq 0 mark ≡ false → IsTrue (nat_eq (byte_place place text) mark)
     → drop place text ≡ Plain mark ∷ drop (suc place) text
 byte_is_mark mark place text not_zero is = mark_at_place mark place text _ (byte_in_class (λ c. nat_eq c mark) place text not_zero is)
 
--- a year that is found is read, and the month and the day after it
+-- If a year is found, reading a date goes on with the month and the day after it.
 pub year_is_read : (text : Text) (year : ℕ) → year_place text ≡ Some year → date_at error_of text ≡ days_at error_of (pos year) (drop 4 text)
 unfolding date_at
 year_is_read text year e =
     let (ys, is, y) = year_at_place text year e in
     ap (date_at error_of) is ∙ rw (year_takes error_of ys (pos year) (drop 4 text) (inl y)) refl
 
--- and so are they, where the month and the day are found
+-- If the month and the day are found too, their ranges decide the result.
 days_are_read : (b : Bool) (text after_month rest : Text) (year : ℕ) (date : DateRecord) → Days b text after_month rest year date
     → days_at error_of (pos year) text ≡ ranged date after_month rest
 days_are_read b text after_month rest year date d = ap (days_at error_of (pos year)) d.is_month ∙ elim (month_or_none date.month) [
@@ -377,7 +377,7 @@ pub basic_is_read : (text : Text) (year : ℕ) (date : DateRecord) → year_plac
     → date_at error_of text ≡ ranged date (drop 6 text) (drop 8 text)
 basic_is_read text year date years days = year_is_read text year years ∙ days_are_read false _ _ _ year date (basic_days_at_place text year date days)
 
--- what is found has nineteen code units
+-- If a date and a time are found, the text has at least nineteen code units.
 long_enough : (text : Text) (found : DateRecord × TimeRecord) → date_time_place text ≡ Some found → 19 ≤ length text
 unfolding date_time_place time_place
 long_enough text found e =
@@ -401,14 +401,14 @@ too_short text short = none (date_time_place text) refl
     none None e = refl
     none (Some x) e = let long = long_enough text x e in absurd (omega arith)
 
--- and what the test of its numbers returned is what reading returns
+-- The result of testing the numbers is the result of the reading function.
 pub reads_tested : {X Y : Type 0} (letter : ℕ → Letter) (view : X → Y) (old new : Unread) (result : Result X Stop) (reading : Text → Read Placed Y) (tested : Read Placed Y)
     → reading (map letter old.rest) ≡ tested → YieldsAt (λ x. (view x, map letter new.rest)) result (map letter new.rest) tested
     → Reads letter view old result new reading
 reads_tested letter view old new (Ok x) reading tested read is = read ∙ is
 reads_tested letter view old new (Err stop) reading tested read is = read ∙ is
 
--- and what a reading goes on with from where another began is what it gives
+-- If reading goes on with `further` at `here`, the result of `further` is the result of the reading function.
 pub reads_on : {X Y : Type 0} (letter : ℕ → Letter) (view : X → Y) (old here new : Unread) (result : Result X Stop) (reading further : Text → Read Placed Y)
     → reading (map letter old.rest) ≡ further (map letter here.rest) → Reads letter view here result new further → Reads letter view old result new reading
 reads_on letter view old here new (Ok x) reading further same is = same ∙ is

@@ -1,4 +1,4 @@
--- The digits of a fraction, taken one by one.
+-- The digits of a fraction, consumed one by one.
 use Rattle.std.proofs.Common.{◌≡◌, ℕ, ◌+◌, true, false, List, [], ◌∷◌, ◌++◌, length, map, drop, Option, Some, None, Ok, Err, refl, sym, ap, ◌∙◌, arith}
 use Rattle.std.proofs.Common.{append_assoc, append-nil}
 use Rattle.ixdtf_grammar.specs.language.{Letters.{Letter, Text, digit, Letter.{Plain, Bad}}, Fractions.{FractionParts, fraction_of}}
@@ -6,7 +6,7 @@ use Rattle.ixdtf_grammar.specs.table.Faults.Fault.{NonAsciiCodePoint}
 use Rattle.ixdtf_reading.specs.reading.{Looks.{Placed, before, Read, ◌>>=◌, look_at, seen, digit_run}, Clauses.more_digits_at}
 use Rattle.ixdtf_reading.proofs.{code.FirstLetter.{first_is, nothing_is}, parts.GrowingDigits.{Grown, fraction_grows}}
 
--- digits that were read, with more in front of them
+-- The digits that were read, with more digits before them.
 abbrev with_front : Text → Read Placed Text → Read Placed Text
 with_front front read = read >>= λ more. Ok (front ++ more.0, more.1)
 
@@ -27,7 +27,7 @@ run_other : (c : ℕ) (rest : Text) → digit c ≡ false → run_of (Plain c �
 unfolding digit_run
 run_other c rest is = rw is refl
 
--- So far digits were taken behind the first ones: the fraction is theirs, and the rest remains.
+-- The state of the loop: digits were consumed after the first ones. `fraction` is that of all these digits, and `rest` remains.
 pub record IsSoFar (front whole rest : Text) (fraction : FractionParts) : Type 0 where
   pub ds : Text
   pub read : run_of whole ≡ with_front ds (run_of rest)
@@ -51,7 +51,7 @@ in_fraction front read = read >>= λ more. Ok (fraction_of (front ++ more.0), mo
 over : (front ds : Text) (read : Read Placed Text) → in_fraction front (with_front ds read) ≡ in_fraction (front ++ ds) read
 over front ds read = grind (arith, append_assoc {A = Letter})
 
--- what is read from here on, with these digits before it, is what is read of the whole
+-- Reading on from here, with the digits before, gives the result for the complete fraction.
 pub hands_on : (front whole rest : Text) (fraction : FractionParts) (far : IsSoFar front whole rest fraction)
     → more_digits_at front whole ≡ more_digits_at (front ++ far.ds) rest
 hands_on front whole rest fraction far = ap (in_fraction front) far.read ∙ over front far.ds (run_of rest)
@@ -75,14 +75,14 @@ unfolding look_at digit_run
 fails front whole (Bad ∷ rest) fraction fault far e = let same : (NonAsciiCodePoint, Bad ∷ rest) ≡ fault = cc in rw (far.read, same) refl
 fails front whole rest fraction fault far e = absurd cc
 
--- a look found this code unit first, and a step took it
+-- A look found the code unit `c`, and a step consumed it.
 pub record OneTaken (letter : ℕ → Letter) (rest next : List ℕ) (c : ℕ) : Type 0 where
   pub found : seen (map letter rest) ≡ Ok (Some c)
   pub moved : next ≡ drop 1 rest
   pub left : map letter next ≡ drop 1 (map letter rest)
   pub shorter : length next + 1 ≡ length rest
 
--- as the code takes it: what the look found, what it left, and what the step left
+-- As above, in the words of the code: what the look found, and what remains after the look and after the step.
 pub one_taken : {letter : ℕ → Letter} {rest looked next : List ℕ} {saw : Option ℕ} {c : ℕ}
     → seen (map letter rest) ≡ Ok saw → saw ≡ Some c → looked ≡ rest → next ≡ drop 1 looked → OneTaken letter rest next c
 unfolding look_at

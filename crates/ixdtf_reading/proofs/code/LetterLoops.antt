@@ -1,4 +1,4 @@
--- Code units that a loop takes one by one.
+-- Code units that a loop consumes one by one.
 use Rattle.std.proofs.Common.{◌≡◌, ℕ, ◌+◌, ◌-◌, Bool, true, false, if◌then◌else◌, List, [], ◌∷◌, ◌++◌, length, map, drop, take, Option, Some, None, Ok, Err, refl}
 use Rattle.std.specs.List.{slice_range}
 use Rattle.std.proofs.{Common.{sym, ap, subst, ◌∙◌, arith, append_assoc, Result}, lemmas.List.{take-map, length-map, length-append, take_all, take-append-le}}
@@ -6,14 +6,14 @@ use Rattle.ixdtf_grammar.specs.{language.Letters.{Letter, Text, Letter.{Plain, B
 use Rattle.ixdtf_reading.specs.reading.{Looks.{Placed, Read, look_at, seen}, Zones.with_letter, Runs.{Taken, one_more, nothing_taken, on_letter, letters_by}}
 use Rattle.ixdtf_reading.proofs.{code.FirstLetter.{nothing_is, first_is as letter_first}, parts.Steps.{steps, steps_both, steps_err, with_letters}}
 
--- a test holds where this has a value, and fails where it has none
+-- The test is true if the result has a value. The next lemma says that it is false if there is none.
 pub test_held : {A : Type 0} (b : Bool) (x y : A) → (if b then Some x else None) ≡ Some y → b ≡ true
 test_held b x y e = grind (arith, e)
 
 pub test_failed : {A : Type 0} (b : Bool) (x : A) → (if b then Some x else None) ≡ None → b ≡ false
 test_failed b x e = grind (arith, e)
 
--- a look found this code unit first
+-- A look found the code unit `c`.
 pub first_is : (letter : ℕ → Letter) → ((unit n : ℕ) → letter unit ≡ Plain n → n ≡ unit) → (units : List ℕ) (c : ℕ)
     → seen (map letter units) ≡ Ok (Some c) → (more : List ℕ) × (units ≡ c ∷ more) × (map letter units ≡ Plain c ∷ map letter more)
 unfolding look_at
@@ -27,9 +27,9 @@ first_is letter faithful (u ∷ more) c e = go (letter u) refl e
         (more, ap (λ m. m ∷ more) (sym (faithful u c (is ∙ ap (λ m. Plain m) same))), ap (λ l. l ∷ map letter more) (is ∙ ap (λ m. Plain m) same))
     go Bad is e = absurd cc
 
--- ---- one walk
+-- ---- a loop over code units
 
--- So far a reading took these code units, and the others remain.
+-- The state of the loop: these code units were consumed, and the others remain.
 pub record IsFar {S B : Type 0} (step : ℕ → Result B Placed → Result B Placed) (reading : S → Text → Result B Placed) (letter : ℕ → Letter) (start : S)
     (whole rest : List ℕ) (state : S) : Type 0 where
   pub taken : List ℕ
@@ -38,7 +38,7 @@ pub record IsFar {S B : Type 0} (step : ℕ → Result B Placed → Result B Pla
 
 module _ {S B : Type 0} {step : ℕ → Result B Placed → Result B Placed} {reading : S → Text → Result B Placed} {letter : ℕ → Letter} {start : S}
     {whole rest : List ℕ} {state : S} (far : IsFar step reading letter start whole rest state) where
-  -- more code units go on
+  -- More code units continue the run.
   pub more_far : (left letters : List ℕ) (next : S) → rest ≡ letters ++ left
       → reading state (map letter rest) ≡ steps step letters (reading next (map letter left)) → IsFar step reading letter start whole left next
   more_far left letters next split goes_on = record {
@@ -47,7 +47,7 @@ module _ {S B : Type 0} {step : ℕ → Result B Placed → Result B Placed} {re
     read = far.read ∙ ap (steps step far.taken) goes_on ∙ steps_both step far.taken letters (reading next (map letter left));
   }
 
-  -- one does
+  -- One code unit continues the run.
   pub one_far : ((unit n : ℕ) → letter unit ≡ Plain n → n ≡ unit) → (left : List ℕ) (next : S) (c : ℕ) → seen (map letter rest) ≡ Ok (Some c)
       → ((more : Text) → reading state (Plain c ∷ more) ≡ step c (reading next more)) → left ≡ drop 1 rest → IsFar step reading letter start whole left next
   one_far faithful left next c e goes_on moved =
@@ -60,12 +60,12 @@ module _ {S B : Type 0} {step : ℕ → Result B Placed → Result B Placed} {re
       → reading start (map letter whole) ≡ Err fault
   far_fails failed fault e = far.read ∙ ap (steps step far.taken) e ∙ steps_err step failed far.taken fault
 
--- a reading that takes each code unit that goes on
+-- A reading function that consumes each code unit that continues the run.
 module _ {S B : Type 0} (after : S → ℕ → Option S) (step : ℕ → Result B Placed → Result B Placed) (reading : S → Text → Result B Placed)
     (over : (state next : S) (c : ℕ) (rest : Text) → after state c ≡ Some next → reading state (Plain c ∷ rest) ≡ step c (reading next rest))
     (at_bad : (state : S) (rest : Text) → reading state (Bad ∷ rest) ≡ Err (NonAsciiCodePoint, Bad ∷ rest))
     (failed : (c : ℕ) (e : Placed) → step c (Err e) ≡ Err e) where
-  -- it reads on behind the code units that were taken
+  -- Reading goes on after the code units that were consumed.
   abbrev Walked : S → Text → Read Placed (Taken S) → Type 0
   Walked state text (Ok x) = reading state text ≡ steps step x.0.letters (reading x.0.state x.1)
   Walked state text (Err e) = reading state text ≡ Err e
@@ -93,7 +93,7 @@ module _ {S B : Type 0} (after : S → ℕ → Option S) (step : ℕ → Result 
       → reading state text ≡ steps step taken.letters (reading taken.state rest)
   walk_passed state text rest taken e = let w : Walked state text (Ok (taken, rest)) = subst (Walked state text) e (walked state text) in w
 
--- a reading of code units
+-- A reading function that returns code units.
 module _ {S : Type 0} (after : S → ℕ → Option S) (reading : S → Text → Read Placed (List ℕ))
     (over : (state next : S) (c : ℕ) (rest : Text) → after state c ≡ Some next → reading state (Plain c ∷ rest) ≡ with_letter c (reading next rest))
     (at_bad : (state : S) (rest : Text) → reading state (Bad ∷ rest) ≡ Err (NonAsciiCodePoint, Bad ∷ rest)) where
@@ -104,7 +104,7 @@ module _ {S : Type 0} (after : S → ℕ → Option S) (reading : S → Text →
       → reading state text ≡ with_letters taken.letters (reading taken.state rest)
   run_passed = walk_passed after with_letter reading over at_bad (λ c e. refl)
 
--- ---- the run itself
+-- ---- runs
 
 steps_taken : {S : Type 0} (letters : List ℕ) (state : S) (next : Option ℕ) (rest : Text)
     → steps one_more letters (Ok (nothing_taken state next, rest)) ≡ Ok (record { letters = letters; state = state; next = next }, rest)
@@ -125,7 +125,7 @@ module _ {S : Type 0} (after : S → ℕ → Option S) where
   run_fails state (Bad ∷ more) fault e = let same : (NonAsciiCodePoint, Bad ∷ more) ≡ fault = cc in rw same refl
   run_fails state text fault e = absurd cc
 
-  -- the code unit does not go on, or there is none
+  -- The code unit does not continue the run, or the text ends.
   abbrev pub Stays : S → Option ℕ → Type 0
   Stays state None = Unit {0}
   Stays state (Some c) = after state c ≡ None
@@ -150,7 +150,7 @@ module _ {S : Type 0} (after : S → ℕ → Option S) where
   shown state (Bad ∷ rest) = tt
   shown state (Plain c ∷ rest) = shown_on state c rest (after state c) refl (λ n. shown n rest)
 
-  -- the code unit that does not go on stands next
+  -- The code unit that does not continue the run is the next one.
   pub next_shown : (state : S) (text rest : Text) (taken : Taken S) → letters_by after state text ≡ Ok (taken, rest)
       → seen rest ≡ Ok taken.next
   next_shown state text rest taken e = let h : Shown (Ok (taken, rest)) = subst (λ read. Shown read) e (shown state text) in h.0
@@ -172,12 +172,12 @@ module _ {S : Type 0} (after : S → ℕ → Option S) where
 
   module _ (letter : ℕ → Letter) (faithful : (unit n : ℕ) → letter unit ≡ Plain n → n ≡ unit) (start : S) (whole rest : List ℕ) (state : S)
       (far : IsSoFar letter start whole rest state) where
-    -- the code unit goes on
+    -- The code unit continues the run.
     pub goes_on : (left : List ℕ) (next : S) (c : ℕ) → seen (map letter rest) ≡ Ok (Some c) → after state c ≡ Some next
         → left ≡ drop 1 rest → IsSoFar letter start whole left next
     goes_on left next c e is moved = one_far far faithful left next c e (λ more. run_more state next c more is) moved
 
-    -- it goes no further
+    -- The run ends here.
     pub ceases : (next : Option ℕ) → seen (map letter rest) ≡ Ok next → Stays state next
         → letters_by after start (map letter whole) ≡ Ok (record { letters = far.taken; state = state; next = next }, map letter rest)
     ceases next e is = far.read ∙ ap (steps one_more far.taken) (run_ceases state (map letter rest) next e is) ∙ steps_taken far.taken state next (map letter rest)
@@ -185,7 +185,7 @@ module _ {S : Type 0} (after : S → ℕ → Option S) where
     pub fails : (fault : Placed) → seen (map letter rest) ≡ Err fault → letters_by after start (map letter whole) ≡ Err fault
     fails fault e = far_fails far (λ c e. refl) fault (run_fails state (map letter rest) fault e)
 
--- the code units that were taken are the first of those before, so many as do not follow
+-- The code units that were consumed are the first ones of those before: all except those that follow.
 pub front_before : {U : Type 0} (number : U → ℕ) (start : List U) (behind : ℕ) (taken rest whole : List ℕ) → map number start ≡ whole → whole ≡ taken ++ rest
     → behind ≡ length rest → map number (take (length start - behind) start) ≡ taken
 front_before number start behind taken rest whole all split left =
@@ -198,18 +198,18 @@ pub front_is : {U : Type 0} (number : U → ℕ) (start after : List U) (taken r
 front_is number start after taken rest whole all split left =
     front_before number start (length after) taken rest whole all split (sym (length-map after number) ∙ ap length left)
 
--- a range from the front
+-- A range from index 0 on.
 pub range_is : {U : Type 0} (units : List U) (n : ℕ) → slice_range units 0 n ≡ take n units
 range_is units n = ap (λ m. take m units) (omega arith)
 
--- what follows the first of so many code units, and that one
+-- After the next code unit was consumed, one code unit fewer remains.
 pub behind_last : {U : Type 0} (number : U → ℕ) (after : List U) (rest left : List ℕ) → map number after ≡ left → left ≡ drop 1 rest
     → length (drop 1 rest) + 1 ≡ length rest → length after + 1 ≡ length rest
 behind_last number after rest left all split stays = omega (arith, stays, length-map after number, ap length all, ap length split)
 
 -- ---- code units of one kind within another
 
--- code units that leave reading of the other kind where it is
+-- Code units of one class that do not change the state of another run.
 module _ {S U : Type 0} (after : S → ℕ → Option S) (wider : U → ℕ → Option U) (here : U)
     (within : (state next : S) (c : ℕ) → after state c ≡ Some next → wider here c ≡ Some here) where
   abbrev wide : S → Text → Read Placed (Taken U)
@@ -219,7 +219,7 @@ module _ {S U : Type 0} (after : S → ℕ → Option S) (wider : U → ℕ → 
   wide_over state next c rest is = run_more wider here here c rest (within state next c is)
 
   module _ (letter : ℕ → Letter) (start : U) (whole rest : List ℕ) (far : IsSoFar wider letter start whole rest here) where
-    -- these code units were passed over
+    -- These code units were consumed.
     pub goes_over : (left letters : List ℕ) (state : S) (taken : Taken S) → rest ≡ letters ++ left
         → letters_by after state (map letter rest) ≡ Ok (taken, map letter left) → taken.letters ≡ letters → IsSoFar wider letter start whole left here
     goes_over left letters state taken split passed same = more_far far left letters here split

@@ -1,4 +1,4 @@
--- The clauses of a reader that reads no pairs and returns the places of its errors, from what its reading returns.
+-- The clauses of a reader without annotations that returns the positions of its errors. They follow from its reading function.
 use Rattle.std.proofs.{Common.{◌≡◌, ℕ, ◌-◌, ◌≤◌, List, [], length, map, Result, Ok, Err, IfErr, sym, ap, ◌∙◌, arith}, lemmas.List.{length-map, length-append}}
 use Rattle.ixdtf_grammar.specs.{declared.located.LocatedError.LocatedError, Views.Unread, language.{Languages.Found, Letters.{Letter, Text}, Readers.Reader}}
 use Rattle.ixdtf_grammar.specs.table.{Faults.{Fault, fault_of_located, stands_behind}, Lines.{Line, Line.{line, scanned, whole}}}
@@ -7,7 +7,7 @@ use Rattle.ixdtf_reading.specs.{declared.stop.Stop.Stop, reading.{Looks.{Read, P
 use Rattle.ixdtf_reading.specs.reading.Wholes.{finding, read_at}
 use Rattle.ixdtf_reading.proofs.{code.ReadersWithoutPairs.{ReadsNoPairs, error_after, Exact, exact}, parts.Looks.OnRead, theorems.OneOutcome.place_once}
 
--- where a row stops, its place has what the text has there
+-- If a row fits at a text, the place of the row has this text.
 pub left_is : (l : Line) (place : Place) (e : Fault) (rest : Text) → Stops l place e rest → left_at place ≡ rest
 left_is (line front goes_on at_end at_other) (end left) e rest h = h.2
 left_is (line front goes_on at_end at_other) (other left) e rest h = h.5
@@ -19,24 +19,24 @@ left_is (scanned front d) place e rest h = absurd h
 left_is (whole front d) (anywhere left) e rest h = h.1
 left_is (whole front d) place e rest h = absurd h
 
--- what is left is no longer than the text
+-- The text from the position of a row on is not longer than the complete text.
 pub left_fits : (reader : Reader) (row : Row) (pairs : List _) (text : Text) → Fits reader row pairs text → length (left_at row.place) ≤ length text
 left_fits reader row pairs text f =
     let left = left_is _ row.place row.error f.4.1 f.4.4 in
     omega (arith, ap (λ t. length t) left, ap (λ t. length t) f.2, ap (λ t. length t) f.4.2, length-append f.0 f.1, length-append f.4.0 f.4.1)
 
--- What a public reader returned, where its private one read so and its cursor settled with that.
+-- The result of a public reader, if the private function returned this result and the cursor was settled with it.
 module _ {U A : Type 0} (letter : ℕ → Letter) (view : U → A) (reader : Reader) (found : A → Found) (same : (x y : A) → found x ≡ found y → x ≡ y)
     (none : ReadsNoPairs reader) (reading : Text → Read Placed A) (old new : Unread)
     (reads : read_at error_after reader (map letter old.rest) ≡ finding found (reading (map letter old.rest)))
     (met : A → Text → Type 0) (gives : OnRead error_of (reading (map letter old.rest)) met (λ row. Fits reader row [] (map letter old.rest))) where
-  -- the clauses of the reader: those of one without places, and where the fault stands
+  -- The clauses of the reader: those of a reader without positions, and the position of the fault.
   pub record Located (result : Result U LocatedError) : Type 0 where
     pub plain : Exact letter view reader found same none reading old new reads fault_of_located result
     pub err : IfErr result (λ e. HasFaultAt reader (map letter old.rest) [] (fault_of_located e) e.at)
     pub place : IfErr result (λ e. OnlyPlace reader (map letter old.rest) (fault_of_located e) e.at)
 
-  -- the row of a fault fits, and so many code units stand before its place
+  -- The row of the fault fits, and `at` is the number of code units before its position.
   fault_at : (start : List ℕ) → start ≡ old.rest → (stop : Stop) (e : LocatedError) → reading (map letter old.rest) ≡ Err (fault_of_stop stop, map letter new.rest)
       → fault_of_located e ≡ fault_of_stop stop → stands_behind (length start - length new.rest) e
       → HasFaultAt reader (map letter old.rest) [] (fault_of_located e) e.at

@@ -1,4 +1,4 @@
--- A date-time whose end has one reading, at whichever line the date-time ends, is read up to its end first and then its end.
+-- If the end of a date-time is read in the same way at each of its table lines, the date-time can be read before its end.
 use Rattle.std.proofs.Common.{◌≡◌, ℕ, Bool, true, false, Ok, Err, Option, Some, None, refl, pos, if◌then◌else◌}
 use Rattle.ixdtf_grammar.specs.declared.records.{DateRecord.DateRecord, TimeRecord.TimeRecord}
 use Rattle.ixdtf_grammar.specs.language.{Letters.{Text, zulu}, Digits.decimal, Cores.Core}
@@ -13,11 +13,11 @@ use Rattle.ixdtf_reading.specs.reading.DateTimes.{whole_minute_at, full_time_at,
 module _ {A : Type 0} (finish : Finish Placed A) (last : Core → Text → Read Placed A)
     (utc : (core : Core) (text : Text) → finish (of_date_time after_utc) core text ≡ last core text)
     (numeric : (core : Core) (text : Text) → finish (of_date_time (after_field offset_minute_field)) core text ≡ last core text) where
-  -- the end after a core that was read
+  -- The end after a core that was read.
   abbrev ended : Read Placed Core → Read Placed A
   ended read = read >>= λ core. last core.0 core.1
 
-  -- a part is read first in both
+  -- Both readings read a part first.
   part : {B : Type 0} (read : Read Placed B) (whole : B × Text → Read Placed A) (opened : B × Text → Read Placed Core)
       → ((x : B × Text) → whole x ≡ ended (opened x)) → (read >>= whole) ≡ ended (read >>= opened)
   part (Ok x) whole opened same = same x
@@ -86,14 +86,14 @@ module _ {A : Type 0} (finish : Finish Placed A) (last : Core → Text → Read 
       (λ years. part (letter_at error_of (of_date_time after_four_digits) years.1) _
       (λ mark. full_month_at error_of open_end (pos (decimal years.0)) mark.1) (λ mark. month_open (pos (decimal years.0)) mark.1))
 
--- a date-time of RFC 3339, and the end of the text
+-- A date-time of RFC 3339, and the end of the text.
 pub rfc_3339_open : (text : Text) → rfc_3339_at error_of text
     ≡ (date_time_by error_of open_end text >>= λ core. peek_by end_look core.1 >>= λ next. Ok (parsed_with core.0 None, next.1))
 unfolding date_time_ends
 rfc_3339_open text = date_time_open (date_time_ends error_of) (λ core rest. peek_by end_look rest >>= λ next. Ok (parsed_with core None, next.1))
     (λ core rest. refl) (λ core rest. refl) text
 
--- a date-time of RFC 3339, and the end or a bracket
+-- A date-time of RFC 3339, and the end of the text or `[`.
 pub internet_date_time_open : (text : Text) → internet_date_time_core_at error_of text
     ≡ (date_time_by error_of open_end text >>= λ core. core_end_at error_of (of_date_time after_utc) core.0 core.1)
 unfolding core_end_at

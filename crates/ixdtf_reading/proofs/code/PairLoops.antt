@@ -1,4 +1,4 @@
--- The code units of a key and of a value, taken one by one.
+-- The code units of a key and of a value, consumed one by one.
 use Rattle.std.proofs.Common.{◌≡◌, ℕ, true, false, List, [], ◌∷◌, ◌++◌, map, drop, Option, Some, None, Ok, Err, refl, sym, ap, subst, ◌∙◌}
 use Rattle.std.proofs.{Common.{arith}, lemmas.Bool.Decides.nat_tests}
 use Rattle.ixdtf_reading.specs.reading.Pairs.{ValueState, AtStart, Inside, BeginsKey}
@@ -51,11 +51,11 @@ module _ (letters : Unit {0}) (text : Text) where
       unfolding key_run
       key_refused test = key_passed ∙ rw (key_next, key_stays, test) (letters_err taken.letters (AnnotationKeyChar, Plain c ∷ drop 1 rest))
 
--- a code unit was seen that a key begins with
+-- If the next code unit is one with which a key can begin, the text begins with it.
 pub begins_key : (text : Text) (c : ℕ) → seen text ≡ Ok (Some c) → key_lead c ≡ true → BeginsKey text
 begins_key text c e leads = rw (letter_first text c e) leads
 
--- a key goes on behind it
+-- The key continues after its first code unit.
 pub key_behind : (letter : ℕ → Letter) → ((unit n : ℕ) → letter unit ≡ Plain n → n ≡ unit) → (units left : List ℕ) → BeginsKey (map letter units)
     → left ≡ drop 1 units → (c : ℕ) × (units ≡ c ∷ left) × (key_run error_of (map letter units) ≡ with_letter c (key_run error_of (map letter left)))
 unfolding key_run
@@ -91,7 +91,7 @@ at_letter state c is = rw is refl
 no_hyphen : (c : ℕ) → closing c ≡ true → hyphen c ≡ false
 no_hyphen c is = grind (arith, nat_tests)
 
--- where no component begins
+-- No component begins.
 pub value_unstarted : (state : ValueState) (fault : Fault) → value_end state ≡ fault → value_other state ≡ fault → ((c : ℕ) → value_mark state c ≡ Stops)
     → (text : Text) (placed : Placed) → mark_by (component_look fault) value_char text ≡ Err placed → value_run error_of state text ≡ Err placed
 unfolding mark_by next_by look_at value_run
@@ -102,14 +102,14 @@ value_unstarted state fault at_end other marks (Plain c ∷ rest) placed e =
     let same : (fault, Plain c ∷ rest) ≡ placed = cc (rw out at e) in
     value_stops state c rest (rw out (marks c)) ∙ ap (λ f. Err (f, Plain c ∷ rest)) other ∙ ap Err same
 
--- the code unit that a component begins with
+-- The first code unit of a component.
 started : (fault : Fault) (text left : Text) → mark_by (component_look fault) value_char text ≡ Ok (true, left)
     → (c : ℕ) × (seen text ≡ Ok (Some c)) × (value_char c ≡ true)
 unfolding mark_by next_by look_at
 started fault (Plain c ∷ rest) left e = let is : value_char c ≡ true = grind (arith, e) in (c, refl, is)
 started fault text left e = absurd cc
 
--- a component inside a value
+-- A code unit of a component continues the value.
 component_over : (state next : Unit {0}) (c : ℕ) (rest : Text) → component_after state c ≡ Some next
     → value_run error_of Inside (Plain c ∷ rest) ≡ with_letter c (value_run error_of Inside rest)
 component_over state next c rest e = value_on Inside Inside c rest (at_letter Inside c (test_held (value_char c) state next e))
@@ -118,7 +118,7 @@ component_bad : (letters : Unit {0}) (rest : Text) → value_run error_of Inside
 unfolding value_run
 component_bad letters rest = refl
 
--- So far these code units of a value were taken, and the others remain.
+-- The state of the loop: these code units of a value were consumed, and the others remain.
 abbrev pub ValueSoFar : (ℕ → Letter) → List ℕ → List ℕ → ValueState → Type 0
 ValueSoFar letter whole rest state = IsFar with_letter (value_run error_of) letter AtStart whole rest state
 
@@ -133,7 +133,7 @@ module _ (letter : ℕ → Letter) (faithful : (unit n : ℕ) → letter unit �
     pub value_fails : (fault : Placed) → value_run error_of state (map letter rest) ≡ Err fault → value_run error_of AtStart (map letter whole) ≡ Err fault
     value_fails fault e = far_fails far (λ c e. refl) fault e
 
-    -- a component begins
+    -- A component begins.
     pub value_starts : (fault : Fault) (left : List ℕ) → mark_by (component_look fault) value_char (map letter rest) ≡ Ok (true, map letter left)
         → left ≡ drop 1 rest → Far left Inside
     value_starts fault left e moved =
@@ -141,7 +141,7 @@ module _ (letter : ℕ → Letter) (faithful : (unit n : ℕ) → letter unit �
         one_far far faithful left Inside c found (λ more. value_on state Inside c more (at_letter state c is)) moved
 
   module _ (rest : List ℕ) (far : ValueSoFar letter whole rest Inside) (letters : Unit {0}) where
-    -- a component is refused
+    -- Reading a component failed.
     pub component_fails : (fault : Placed) → letters_by component_after letters (map letter rest) ≡ Err fault
         → value_run error_of AtStart (map letter whole) ≡ Err fault
     component_fails fault e =
@@ -150,7 +150,7 @@ module _ (letter : ℕ → Letter) (faithful : (unit n : ℕ) → letter unit �
 
     module _ (left : List ℕ) (taken : Taken (Unit {0})) (passed : letters_by component_after letters (map letter rest) ≡ Ok (taken, map letter left))
         (split : rest ≡ taken.letters ++ left) where
-      -- behind a component
+      -- The state after a component.
       component_passed : Far left Inside
       component_passed = more_far far left taken.letters Inside split
           (run_passed component_after (λ letters text. value_run error_of Inside text) component_over component_bad letters (map letter rest) (map letter left) taken
@@ -164,14 +164,14 @@ module _ (letter : ℕ → Letter) (faithful : (unit n : ℕ) → letter unit �
           test_failed (value_char c) taken.state
           (subst (λ next. Stays component_after taken.state next) is (next_stays component_after letters (map letter rest) (map letter left) taken passed))
 
-      -- the text ends behind it
+      -- The text ends after the component.
       pub component_last : taken.next ≡ None → value_run error_of AtStart (map letter whole) ≡ Err (AnnotationClose, map letter left)
       unfolding value_run
       component_last is =
           let none : map letter left ≡ [] = nothing_is (map letter left) (next_is None is) in
           value_fails left Inside component_passed _ (rw none refl)
 
-      -- the bracket is closed behind it
+      -- A `]` follows the component.
       pub component_closed : (c : ℕ) → taken.next ≡ Some c → closing c ≡ true
           → (all : List ℕ) × (whole ≡ all ++ left) × (value_run error_of AtStart (map letter whole) ≡ Ok (all, drop 1 (map letter left)))
       component_closed c is test =
@@ -184,13 +184,13 @@ module _ (letter : ℕ → Letter) (faithful : (unit n : ℕ) → letter unit �
                 ∙ letters_ok all (map letter here.0)),
           )
 
-      -- a hyphen stands behind it
+      -- A hyphen follows the component.
       pub component_joined : (c : ℕ) (after : List ℕ) → taken.next ≡ Some c → hyphen c ≡ true → after ≡ drop 1 left → Far after AfterHyphen
       component_joined c after is test moved =
           one_far component_passed faithful after AfterHyphen c (next_is (Some c) is)
           (λ more. value_on Inside AfterHyphen c more (rw (no_letter c is, test) refl)) moved
 
-      -- another code unit stands behind it
+      -- Another code unit follows the component.
       pub component_refused : (c : ℕ) → taken.next ≡ Some c → closing c ≡ false → hyphen c ≡ false
           → value_run error_of AtStart (map letter whole) ≡ Err (AnnotationValueChar, map letter left)
       component_refused c is shut dash =

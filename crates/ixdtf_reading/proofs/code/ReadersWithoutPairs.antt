@@ -1,4 +1,4 @@
--- The clauses of a reader that reads no pairs, from what its reading returns.
+-- The clauses of a reader that reads no annotations. They follow from its reading function.
 use Rattle.std.proofs.Common.{refl, ◌≡◌, ℕ, List, [], map, Result, Ok, Err, sym, ap, ◌∙◌, IfErr, OnOk, IsFalse}
 use Rattle.ixdtf_grammar.specs.{declared.profile.Profile.Profile, language.{Letters.{Letter, Text}, Brackets.Pair, Readers.Reader}}
 use Rattle.ixdtf_grammar.specs.language.Readers.Reader.{bracketed, parse_rfc3339, parse_offset, parse_identifier, parse_iana_identifier, parse_duration}
@@ -19,11 +19,11 @@ done_is x y e = cc
 failed_is : {E A : Type 0} (x : A) (fault : E) → Err fault ≡ done x → ⊥
 failed_is x fault e = cc
 
--- the fault is a row's error, whatever pairs stand before it
+-- The fault is the error of a row. The annotations before it do not matter.
 abbrev pub error_after : List Pair → Row → Placed
 error_after pairs row = error_of row
 
--- the reader reads no pairs
+-- The reader reads no annotations.
 abbrev pub ReadsNoPairs : Reader → Type 0
 ReadsNoPairs (bracketed kind) = ⊥
 ReadsNoPairs parse_rfc3339 = Unit {0}
@@ -32,12 +32,12 @@ ReadsNoPairs parse_identifier = Unit {0}
 ReadsNoPairs parse_iana_identifier = Unit {0}
 ReadsNoPairs (parse_duration profile) = Unit {0}
 
--- no pairs stand before its rows
+-- There are no annotations before its rows.
 no_pairs : (reader : Reader) (row : Row) (pairs : List Pair) (text : Text) → ReadsNoPairs reader → Fits reader row pairs text → Fits reader row [] text
 no_pairs (bracketed kind) row pairs text none f = absurd none
 no_pairs reader row pairs text none f = rw f.3.1 at f
 
--- What a reader returned at a text: a kind of what readers find, told apart from each other of the kind.
+-- The result of a reader for a text. `found` makes a `Found` of a value, and different values give different ones.
 module _ {A : Type 0} (reader : Reader) (found : A → Found) (same : (x y : A) → found x ≡ found y → x ≡ y) (text : Text) (reading : Read Placed A)
     (reads : read_at error_after reader text ≡ finding found reading) where
   abbrev Returned : Read Placed (Found × List Pair) → Type 0
@@ -46,11 +46,11 @@ module _ {A : Type 0} (reader : Reader) (found : A → Found) (same : (x y : A) 
   returned_here : (read : Read Placed A) → reading ≡ read → Returned (finding found read)
   returned_here read is = rw (← (reads ∙ ap (finding found) is)) (whole_read error_after reader text)
 
-  -- all of the text was read
+  -- The complete text was read.
   nothing_left : (x : A) (rest : Text) → reading ≡ Ok (x, rest) → rest ≡ []
   nothing_left x rest is = (returned_here (Ok (x, rest)) is).0
 
-  -- `Ok` exactly where it is derived
+  -- A value is returned exactly if the grammar derives it.
   ok_where_derived : (x : A) (rest : Text) → reading ≡ Ok (x, rest) → (y : A)
       → (done {E = Fault} x ≡ done y → Derives reader text (found y) []) × (Derives reader text (found y) [] → done {E = Fault} x ≡ done y)
   ok_where_derived x rest is y = (
@@ -60,11 +60,11 @@ module _ {A : Type 0} (reader : Reader) (found : A → Found) (same : (x y : A) 
         ap done (same x y (ap (λ p. p.0.0) read)),
   )
 
-  -- what that says of the text
+  -- If a value is returned, the text is accepted.
   accepted_where_read : (x : A) (rest : Text) → reading ≡ Ok (x, rest) → Accepted reader text
   accepted_where_read x rest is = accepted reader text (found x, [], (returned_here (Ok (x, rest)) is).1)
 
-  -- nothing is derived where reading returned a fault
+  -- If reading returned a fault, the grammar derives nothing.
   err_where_refused : (fault : Fault) (left : Text) → reading ≡ Err (fault, left) → (y : A)
       → (Err fault ≡ done y → Derives reader text (found y) []) × (Derives reader text (found y) [] → Err fault ≡ done y)
   err_where_refused fault left is y = (
@@ -72,16 +72,16 @@ module _ {A : Type 0} (reader : Reader) (found : A → Found) (same : (x y : A) 
     λ d. absurd (failed_is ((found y, []), []) (fault, left) (sym (reads ∙ ap (finding found) is) ∙ takes error_after reader text (found y) [] d)),
   )
 
-  -- a fault is the error of a row that fits
+  -- A fault is the error of a row that fits.
   err_where_fits : (fault : Fault) (left : Text) → reading ≡ Err (fault, left) → ReadsNoPairs reader → HasFault reader text [] fault
   err_where_fits fault left is none =
       let row = returned_here _ is in (row.1, no_pairs reader row.1 row.0 text none row.3, ap (λ p. p.0) (sym row.2))
 
--- What a public reader returned, where its private one read so and its cursor settled with that.
+-- The result of a public reader, if the private function returned this result and the cursor was settled with it.
 module _ {U A : Type 0} (letter : ℕ → Letter) (view : U → A) (reader : Reader) (found : A → Found) (same : (x y : A) → found x ≡ found y → x ≡ y)
     (none : ReadsNoPairs reader) (reading : Text → Read Placed A) (old new : Unread)
     (reads : read_at error_after reader (map letter old.rest) ≡ finding found (reading (map letter old.rest))) where
-  -- the clauses of the reader, whose errors name faults
+  -- The clauses of the reader. `named` gives the fault of an error.
   pub record Exact {E : Type 0} (named : E → Fault) (result : Result U E) : Type 0 where
     pub ok : (y : A) → (returned_by named view result ≡ Ok y → Derives reader (map letter old.rest) (found y) [])
         × (Derives reader (map letter old.rest) (found y) [] → returned_by named view result ≡ Ok y)
@@ -116,7 +116,7 @@ module _ {U A : Type 0} (letter : ℕ → Letter) (view : U → A) (reader : Rea
         empty = λ left is. tt;
       }
 
--- what holds of each fault that was returned
+-- What is true for each fault is true for the fault that was returned.
 pub each_err : {X Y E : Type 0} (named : E → Fault) (view : X → Y) (holds : Fault → Type 0) (r : Result X E)
     → ((fault : Fault) → returned_by named view r ≡ Err fault → holds fault) → IfErr r (λ e. holds (named e))
 each_err named view holds (Ok x) h = tt

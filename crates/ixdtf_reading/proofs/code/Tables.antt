@@ -1,4 +1,4 @@
--- Tables, held against what they are tables of at each place by computing.
+-- The tables of the code. A computation compares each entry with the definition.
 use Rattle.std.proofs.Common.{◌≡◌, ℕ, zero, suc, ◌+◌, ◌<◌, ◌≤◌, Bool, true, false, ◌&&◌, nat_eq, List, [], ◌∷◌, slice_index_or, bit_and, IsTrue, arith}
 use Rattle.std.proofs.{Common.{inl, inr}, lemmas.Bool.{cases_eq, Decides.nat_tests}}
 use Rattle.std.specs.{Prelude.{not, IsFalse}, Bool.beq}
@@ -6,7 +6,7 @@ use Rattle.ixdtf_grammar.specs.language.Letters.{digit, zone_char, key_char, val
 use Rattle.ixdtf_grammar.specs.language.Letters.{Class}
 use Rattle.ixdtf_reading.specs.reading.FixedPlaces.{tens_value, ones_value}
 
--- the two tests agree below n
+-- The two tests agree for all numbers below n.
 unfoldable pub agree_below : (ℕ → Bool) → (ℕ → Bool) → ℕ → Bool
 agree_below f g zero = true
 agree_below f g (suc n) = beq (f n) (g n) && agree_below f g n
@@ -21,7 +21,7 @@ agree_at f g (suc n) h b lt =
     let both = both_of (f n) (g n) (agree_below f g n) h in
     elim (cases_eq b n) [ inl same ↦ rw same both.0 | inr other ↦ agree_at f g n both.1 b (omega arith) ]
 
--- what a table of these values has from a place on, so many places
+-- The entries of a table of these values: as many as the second number says, from the first number on.
 unfoldable pub listed_from : (ℕ → ℕ) → ℕ → ℕ → List ℕ
 listed_from value zero c = []
 listed_from value (suc n) c = value c ∷ listed_from value n (c + 1)
@@ -35,7 +35,7 @@ abbrev bit : Bool → ℕ → ℕ
 bit true n = n
 bit false n = 0
 
--- a byte's classes, one bit for each
+-- The classes of a byte. Each class has one bit.
 unfoldable pub bits : ℕ → ℕ
 bits c = bit (key_char c) 1 + bit (zone_char c) 2 + bit (value_char c) 4 + bit (key_lead c) 8 + bit (zone_lead c) 16
 
@@ -60,7 +60,7 @@ tens_small c = grind (arith, nat_tests)
 pub ones_small : (c : ℕ) → ones_value c ≤ 100
 ones_small c = grind (arith, nat_tests)
 
--- a number below 100 by the tables is one of two digits, and any other is not
+-- If the sum of the table entries is below 100, both code units are digits. The next lemma is about any other sum.
 pub are_digits : (tens ones : ℕ) → tens_value tens + ones_value ones ≤ 99 → IsTrue (digit tens) × IsTrue (digit ones)
 are_digits tens ones small = grind (arith, nat_tests)
 

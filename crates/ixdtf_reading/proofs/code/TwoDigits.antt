@@ -1,4 +1,4 @@
--- Two digits, by looks at the first two places, and their number.
+-- Two digits, read by looks at the first two indices, and their number.
 use Rattle.std.proofs.Common.{◌≡◌, ℕ, ◌+◌, ◌-◌, ◌*◌, ◌/◌, ◌%◌, ◌≤◌, ◌<◌, true, IsTrue, List, [], ◌∷◌, length, map, drop, Option, Some, None, Result, Ok, Err, refl, arith}
 use Rattle.std.proofs.lemmas.Bool.Decides.{nat_tests}
 use Rattle.std.proofs.lemmas.Nat.{div-mul-add, mod-mul-add}
@@ -11,7 +11,7 @@ use Rattle.ixdtf_reading.proofs.code.Units.{placed}
 use Rattle.ixdtf_grammar.specs.{language.Letters.{Letter, Text, digit, Letter.{Plain, Bad}}, table.{Faults.Fault, Lines.abrupt_digit}}
 use Rattle.ixdtf_grammar.specs.Views.{ascii_at, looked}
 
--- a look that found a digit
+-- A look found a digit.
 pub seen_digit : (other : Fault) (found : Result (Option ℕ) Stop) (seen : Result (Option ℕ) Fault) → Yields (λ x. x) found seen
     → IsTrue (digit (byte_of_look found)) → digit_seen other seen ≡ Ok (byte_of_look found)
 seen_digit other (Ok None) seen is digits = absurd cc
@@ -22,7 +22,7 @@ module _ (letter : ℕ → Letter) (other : Fault) where
   abbrev two : List ℕ → Read Placed Text
   two units = digits_by (digit_look other) 2 (map letter units)
 
-  -- fewer than two code units
+  -- There are fewer than two code units.
   pub too_short : (units : List ℕ) → length units < 2 → two units ≡ (placed (map letter units) (digit_seen other (ascii_at letter 0 units)) >>= λ a. Err (abrupt_digit, drop 1 (map letter units)))
   unfolding digits_by next_by look_at
   too_short [] short = refl
@@ -51,7 +51,7 @@ module _ (letter : ℕ → Letter) (other : Fault) where
   first Bad v units = refl
   first (Plain c) v units = grind (arith, second c units v)
 
-  -- two code units or more
+  -- There are at least two code units.
   pub long_enough : (units : List ℕ) → 2 ≤ length units
       → two units ≡ (placed (map letter units) (digit_seen other (ascii_at letter 0 units)) >>= λ a. placed (drop 1 (map letter units)) (digit_seen other (ascii_at letter 1 units))
       >>= λ b. Ok (Plain a ∷ Plain b ∷ [], map letter (drop 2 units)))
@@ -59,13 +59,13 @@ module _ (letter : ℕ → Letter) (other : Fault) where
   long_enough (u ∷ []) long = absurd (omega arith)
   long_enough (u ∷ v ∷ units) long = first (letter u) (letter v) units
 
--- ---- their number
+-- ---- the number of two digits
 
 pub value_is : (number : ℕ) → number < 100 → decimal (two_digits_of number) ≡ number
 unfolding two_digits_of
 value_is number small = decimal-whole 2 number small
 
--- what the tables say of two digits is the number that is written so
+-- The sum of the table entries of two digits is their number.
 pub are_written : (a b : ℕ) → IsTrue (digit a) → IsTrue (digit b) → two_digits_of (tens_value a + ones_value b) ≡ Plain a ∷ Plain b ∷ []
 unfolding two_digits_of
 are_written a b is_a is_b =

@@ -1,5 +1,5 @@
--- Durations code unit by code unit: a code unit that goes on leads to the next state, and the row of a state's line is returned
--- where it fits.
+-- Durations, code unit by code unit. A code unit that the table line of the state accepts leads to the next state. If a row of
+-- this line fits, it is returned.
 use Rattle.std.proofs.Common.{◌≡◌, ℕ, zero, suc, ◌≤◌, IsTrue, [], ◌∷◌, ◌++◌, Ok, Err, refl, ◌∙◌, arith, append_assoc, append-nil, nat_le, if◌then◌else◌}
 use Rattle.std.proofs.lemmas.Bool.{leb-true, le-leb}
 use Rattle.ixdtf_grammar.specs.{declared.profile.Profile.Profile, language.{Letters.{Text, digit, Letter.{Plain, Bad}}, Shapes.digits, Digits.decimal}}
@@ -11,7 +11,7 @@ use Rattle.ixdtf_reading.proofs.parts.GrowingDigits.{decimal_snoc}
 
 -- ---- digits
 
--- each code unit is a digit
+-- Each code unit is a digit.
 abbrev pub AllDigits : Text → Type 0
 AllDigits [] = Unit {0}
 AllDigits (Plain c ∷ rest) = IsTrue (digit c) × AllDigits rest
@@ -24,7 +24,7 @@ all_digits (suc n) ds h = rw h.2 (h.3, all_digits n h.1 h.4)
 pub some_all : (ds : Text) → SomeDigits ds → AllDigits ds
 some_all ds h = all_digits (suc h.0) ds h.1
 
--- the last of some digits, and those before it
+-- The last of some digits, and the digits before it.
 pub digits_snoc : (ds : Text) (c : ℕ) → AllDigits (ds ++ (Plain c ∷ [])) → AllDigits ds × IsTrue (digit c)
 digits_snoc [] c h = (tt, h.0)
 digits_snoc (Plain d ∷ ds) c h = let r = digits_snoc ds c h.1 in ((h.0, r.0), r.1)
@@ -46,13 +46,13 @@ decimal_grows ds (c ∷ more) =
     let all : decimal (ds ++ (c ∷ [])) ≤ decimal (ds ++ (c ∷ more)) = rw append_assoc at (decimal_grows (ds ++ (c ∷ [])) more) in
     omega (arith, decimal_snoc ds c)
 
--- digits in front of others have no greater number
+-- The number of the first digits is not greater than that of all digits.
 pub below_front : (greatest : ℕ) (ds more : Text) → IsTrue (nat_le (decimal (ds ++ more)) greatest) → IsTrue (nat_le (decimal ds) greatest)
 below_front greatest ds more h = let a = leb-true _ _ h in let b = decimal_grows ds more in le-leb _ _ (omega arith)
 
 -- ---- lines
 
--- a line at which a code unit is looked at
+-- A table line that looks at the next code unit.
 abbrev pub Asks : Line → Type 0
 Asks (line front goes_on ends at_other) = Unit {0}
 Asks (scanned front e) = ⊥
@@ -64,17 +64,17 @@ state_asks profile (between (in_times s dates [])) = tt
 state_asks profile s = tt
 
 module _ {E : Type 0} (fault : Row → E) (profile : Profile) where
-  -- ---- a code unit that goes on
+  -- ---- a code unit that the line accepts
 
   by_look : {A : Type 0} (name : LineName) (l : Line) (c : ℕ) (x y : Read E A) → Goes l c → (if (look_of fault name l).goes_on c then x else y) ≡ x
   by_look name (line front goes_on ends at_other) c x y h = rw h refl
   by_look name other_line c x y h = absurd h
 
-  -- reading goes from a state over a front to a state
+  -- Reading goes from a state over a prefix to another state.
   abbrev pub Over : State → Text → State → Type 0
   Over s front to = ReadsOver (run fault profile s) front (run fault profile to)
 
-  -- reading from a state ends at a row, over a front and at a rest
+  -- Reading from a state goes over a prefix, and ends with the fault of a row at the rest.
   abbrev pub Stays : State → Text → Text → Row → Type 0
   Stays s front rest row = Halts (run fault profile s) front rest (fault row)
 
@@ -93,7 +93,7 @@ module _ {E : Type 0} (fault : Row → E) (profile : Profile) where
 
   -- ---- the row of a state's line
 
-  -- a reading by the look of a line that asks looks at the text as the line does
+  -- A reading function that uses the look of a table line looks at the text as the line does.
   looks_as : {A : Type 0} (name : LineName) (l : Line) (read : Text → Read E A) (x : A) (next : ℕ → Text → Read E A) → Asks l
       → read [] ≡ at_end ((look_of fault name l).at_end []) x → ((rest : Text) → read (Bad ∷ rest) ≡ Err ((look_of fault name l).at_bad (Bad ∷ rest)))
       → ((c : ℕ) (rest : Text) → read (Plain c ∷ rest)

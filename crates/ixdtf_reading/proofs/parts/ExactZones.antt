@@ -1,4 +1,4 @@
--- A zone that was read in a bracket is exactly one of RFC 9557 where the test of it holds, and nowhere else.
+-- A zone that was read in a bracket has the form of RFC 9557 exactly if the test is true.
 use Rattle.std.proofs.Common.{◌≡◌, ◌≢◌, ℕ, Bool, true, false, IsTrue, IsFalse, List, [], ◌∷◌, ◌++◌, map, All, Some, None, refl, sym, ap, ◌∙◌, inl, inr, append_assoc}
 use Rattle.std.proofs.{Common.{arith, not, drop, ◌&&◌, if◌then◌else◌, Option}, lemmas.{Bool.{both_ways, eqb-true, true≢false, Decides.nat_tests}, List.Elements.{All-nil, All-cons, All-head, All-tail}}}
 use Rattle.ixdtf_grammar.specs.language.Letters.{Text, Class, slash, closing, digit, colon, zone_lead, zone_char, Letter.{Plain, Bad}}
@@ -12,11 +12,11 @@ use Rattle.ixdtf_reading.specs.reading.ExactZones.{dot, PartForm, PartForm.{part
 
 -- ---- names: what the test says
 
--- each code unit may stand in a part
+-- The code unit can be in a part of a name.
 abbrev OfPart : ℕ → Type 0
 OfPart c = IsTrue (zone_char c)
 
--- a name has no `]`
+-- The class of all code units except `]`. A name has only these.
 abbrev unclosed : Class
 unclosed c = not (closing c)
 
@@ -24,7 +24,7 @@ name_unclosed : PlainOf unclosed ZoneName
 name_unclosed = one_of (λ c h. grind (arith, nat_tests, h)) and_then
     plain_many (one_of (λ c h. grind (arith, nat_tests, h)) or_else one_of (λ c h. grind (arith, nat_tests, h)) and_then one_of (λ c h. grind (arith, nat_tests, h)))
 
--- the rest of a part, and more parts
+-- The rest of a part, and more parts.
 record Finishes (text : Text) : Type 0 where
   others : List ℕ
   rest : Text
@@ -41,7 +41,7 @@ Behind in_part text = Finishes text
 one_char : (c : ℕ) (text : Text) → IsTrue (zone_char c) → Finishes text → Finishes (Plain c ∷ text)
 one_char c text char f = record { others = c ∷ f.others; rest = f.rest; is = ap (λ t. Plain c ∷ t) f.is; chars = All-cons OfPart c f.others char f.chars; more = f.more }
 
--- a part that begins with a code unit that is no dot
+-- The name begins with a part whose first code unit is not a dot.
 from_lead : (c : ℕ) (text : Text) → IsFalse (dot c) → IsTrue (zone_lead c) → Finishes text → IsPartedName (Plain c ∷ text)
 from_lead c text no_dot leads f = (
   map Plain (c ∷ f.others),
@@ -59,7 +59,7 @@ from_lead c text no_dot leads f = (
   f.more,
 )
 
--- a part that begins with a dot
+-- The name begins with a part that begins with one dot.
 from_dot : (c : ℕ) (text : Text) → IsFalse (dot c) → IsTrue (zone_char c) → Finishes text → IsPartedName (Plain 46 ∷ (Plain c ∷ text))
 from_dot c text no_dot char f = (
   map Plain (46 ∷ (c ∷ f.others)),
@@ -77,7 +77,7 @@ from_dot c text no_dot char f = (
   f.more,
 )
 
--- a part that begins with two dots
+-- The name begins with a part that begins with two dots.
 from_dots : (c : ℕ) (text : Text) → IsTrue (zone_char c) → Finishes text → IsPartedName (Plain 46 ∷ (Plain 46 ∷ (Plain c ∷ text)))
 from_dots c text char f = (
   map Plain (46 ∷ (46 ∷ (c ∷ f.others))),
@@ -95,7 +95,7 @@ from_dots c text char f = (
   f.more,
 )
 
--- a slash, and a name behind it
+-- A slash, and a name after it, are the rest of a name.
 from_slash : (c : ℕ) (text : Text) → IsTrue (slash c) → IsPartedName text → Finishes (Plain c ∷ text)
 from_slash c text is (first, second, split, part, parts) = record {
   others = [];
@@ -105,7 +105,7 @@ from_slash c text is (first, second, split, part, parts) = record {
   more = ((Plain c ∷ first) ∷ parts.0, (second, ap (λ t. Plain c ∷ t) split, (Plain c ∷ [], first, refl, (c, refl, is), part), parts.1));
 }
 
--- what the test goes on with, where it holds
+-- If the test is true from the first code unit of a part on, the text consists of exact parts.
 started : (c : ℕ) (text : Text) (b d : Bool) → dot c ≡ b → zone_lead c ≡ d → (go : PartForm → Bool) → ((form : PartForm) → IsTrue (go form) → Behind form text)
     → IsTrue (on_letter (if b then Some one_dot else (if d then Some in_part else None)) go (false && closing c)) → IsPartedName (Plain c ∷ text)
 started c text true d is_dot is_lead go behind h =
@@ -135,7 +135,7 @@ inside_part c text true d ends is_char is_slash go behind h = one_char c text is
 inside_part c text false true ends is_char is_slash go behind h = from_slash c text is_slash (behind part_start h)
 inside_part c text false false ends is_char is_slash go behind h = absurd (both_ways (closing c) (closed_fails c ends) h)
 
--- where the test holds of a text without `]`, and `]`, the text is of such parts
+-- If the test is true for a text without `]`, followed by `]`, the text consists of exact parts.
 parts_behind : (form : PartForm) (text rest : Text) → AllOf unclosed text → IsTrue (has_parts form (text ++ (Plain 93 ∷ rest))) → Behind form text
 unfolding has_parts
 parts_behind part_start [] rest none h = absurd (true≢false (sym h))
@@ -152,14 +152,14 @@ parts_behind two_dots (Plain c ∷ text) rest none h =
 parts_behind in_part (Plain c ∷ text) rest none h =
     inside_part c text (zone_char c) (slash c) none.0 refl refl (λ next. has_parts next (text ++ (Plain 93 ∷ rest))) (λ next k. parts_behind next text rest none.1 k) h
 
--- ---- names: where the test holds
+-- ---- names: if the test is true
 
 over_chars : (others : List ℕ) (text : Text) → All OfPart others → has_parts in_part (map Plain others ++ text) ≡ has_parts in_part text
 unfolding has_parts
 over_chars [] text h = refl
 over_chars (c ∷ others) text h = rw (All-head OfPart c others h) (over_chars others text (All-tail OfPart c others h))
 
--- a part begins with a code unit that is no dot
+-- A part begins with a code unit that is not a dot.
 begun : (c : ℕ) (others : List ℕ) (text : Text) → IsFalse (dot c) → IsTrue (zone_lead c)
     → has_parts part_start (Plain c ∷ (map Plain others ++ text)) ≡ has_parts in_part (map Plain others ++ text)
 unfolding has_parts
@@ -169,7 +169,7 @@ begun c others text no_dot leads = ap (λ form. on_letter form (λ next. has_par
     goes_on true no_dot leads = rw no_dot refl
     goes_on false no_dot leads = absurd (true≢false (sym leads))
 
--- and with a dot and a code unit that is none
+-- A part begins with a dot, and then a code unit that is not a dot.
 behind_dot : (c : ℕ) (text : Text) → IsFalse (dot c) → IsTrue (zone_char c) → has_parts one_dot (Plain c ∷ text) ≡ has_parts in_part text
 unfolding has_parts
 behind_dot c text no_dot char = ap (λ form. on_letter form (λ next. has_parts next text) (false && closing c)) (goes_on (zone_char c) no_dot char)
@@ -178,7 +178,7 @@ behind_dot c text no_dot char = ap (λ form. on_letter form (λ next. has_parts 
     goes_on true no_dot char = rw no_dot refl
     goes_on false no_dot char = absurd (true≢false (sym char))
 
--- behind the first code unit of a part
+-- The test goes over the first code unit of a part.
 over_lead : (c : ℕ) (others : List ℕ) (text : Text) (b : Bool) → dot c ≡ b → IsTrue (zone_lead c) → All OfPart others
     → Plain c ∷ map Plain others ≢ Plain 46 ∷ [] → Plain c ∷ map Plain others ≢ Plain 46 ∷ (Plain 46 ∷ [])
     → has_parts part_start (Plain c ∷ (map Plain others ++ text)) ≡ has_parts in_part text
@@ -253,9 +253,9 @@ num_offset_is inside text offset o h = by_shape o.shape o.clock
     by_shape seconds b = absurd (no_seconds o.body o.time b)
     by_shape fractions b = absurd (no_seconds b.whole _ b.second)
 
--- ---- whole brackets
+-- ---- complete brackets
 
--- a zone stands behind `[` and the flag
+-- The text of a zone is after `[` and the optional `!`.
 behind : (critical : Bool) (start inside read text : Text) → Opens start critical → Plain 91 ∷ read ≡ start ++ (inside ++ (Plain 93 ∷ []))
     → behind_flag critical (read ++ text) ≡ inside ++ (Plain 93 ∷ text)
 behind true start inside read text h is =
@@ -281,11 +281,11 @@ zone_is (Offset offset) inside text (inr (other, signed, is)) h =
     let same : offset ≡ other = cc in num_offset_is inside text offset (rw same signed) h
 
 module _ (front read text : Text) (note : ZoneNote) (opens : front ≡ Plain 91 ∷ read) where
-  -- an exact bracket passes the test
+  -- If a bracket is exact, the test is true.
   pub exact_holds : IsExactBracket front note → IsTrue (is_exact note.zone (behind_flag note.critical (read ++ text)))
   exact_holds h = rw (behind note.critical h.start h.inside read text h.opens (sym opens ∙ h.is)) (zone_holds note.zone h.inside text h.zone)
 
-  -- a bracket that passes the test is exact
+  -- If the test is true for a bracket, it is exact.
   pub exact_is : IsZoneBracket front note → IsTrue (is_exact note.zone (behind_flag note.critical (read ++ text))) → IsExactBracket front note
   exact_is h test =
       let there = behind note.critical h.start h.inside read text h.opens (sym opens ∙ h.is) in

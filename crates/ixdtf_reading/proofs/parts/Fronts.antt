@@ -1,5 +1,5 @@
--- The test of a time's front: reading a month-day, or a year-month, from the start of a text succeeds exactly where one
--- stands in front, and where a core stands before the end or a bracket, it is one in front of the core.
+-- The test of the beginning of a time. Reading a month-day or a year-month succeeds exactly if the text begins with one. If the
+-- end of the text or a bracket follows the core, the core begins with it too.
 use Rattle.std.proofs.Common.{◌≡◌, ℕ, Bool, false, IsTrue, IsFalse, ◌++◌, Ok, Err, inl, inr, refl, ap, ◌∙◌, append_assoc, arith}
 use Rattle.std.proofs.lemmas.Bool.{both_ways, false_from_ne_true, Decides.nat_tests}
 use Rattle.ixdtf_grammar.specs.{declared.{profile.Profile.Profile, records.DateRecord.DateRecord}, language.{Letters.{Text, digit, hyphen, colon}, Shapes.{Shape, some}}}
@@ -12,9 +12,9 @@ use Rattle.ixdtf_reading.specs.reading.{Months.{year_month_at, month_day_at, lef
 use Rattle.ixdtf_reading.proofs.{parts.Looks.{OnRead, read_if}, to_reading.Months.{year_month_takes, month_day_takes}}
 use Rattle.ixdtf_reading.proofs.to_grammar.Months.{FrontIs, year_month_read, month_day_read}
 
--- ---- what is read from the start
+-- ---- reading from the beginning
 
--- true exactly where it holds
+-- The test is true exactly if the statement is true.
 abbrev pub Exact : Bool → Type 0 → Type 0
 Exact test holds = (IsTrue test → holds) × (holds → IsTrue test)
 
@@ -24,11 +24,11 @@ not_there test holds h none = false_from_ne_true test (λ yes. none (h.0 yes))
 none_there : (test : Bool) (holds : Type 0) → Exact test holds → IsFalse test → ¬ holds
 none_there test holds h fails there = both_ways test fails (h.1 there)
 
--- a front of the part, and what the text has after it
+-- The text begins with the part, and `left` is the text after it.
 abbrev pub Fronted : (Text → DateRecord → Type 0) → Text → Text → Type 0
 Fronted part text left = (front : Text) × (text ≡ front ++ left) × some part front
 
--- a reading that takes each front of the part, and returns nothing else, tells whether one stands in front, and what is left
+-- A reading function that reads exactly the prefixes of this kind tells whether the text begins with one, and what is left.
 tells : (part : Text → DateRecord → Type 0) (text : Text) (read : Read Placed DateRecord) (stopped : Row → Type 0)
     → OnRead error_of read (FrontIs part text) stopped
     → ((front : Text) (date : DateRecord) (rest : Text) → text ≡ front ++ rest → part front date → read ≡ Ok (date, rest))
@@ -38,7 +38,7 @@ tells part text (Ok x) stopped gives takes =
 tells part text (Err e) stopped gives takes =
     (((λ h. absurd (both_ways false refl h)), λ h. ap is_read (takes h.0 h.3.0 h.1 h.2 h.3.1)), λ left h. ap left_by (takes h.0 h.2.0 left h.1 h.2.1))
 
--- the front of a month-day, and of a year-month
+-- The tests for a month-day and for a year-month.
 month_day_tells : (profile : Profile) (text : Text)
     → Exact (month_day_begins profile text) (BeginsWith (some (IsMonthDay profile)) text)
     × ((left : Text) → Fronted (IsMonthDay profile) text left → left_by (month_day_at error_of profile text) ≡ left)
@@ -50,13 +50,13 @@ year_month_tells : (text : Text) → Exact (year_month_begins text) (BeginsWith 
 year_month_tells text = tells IsYearMonth text _ _ (year_month_read error_of text)
     (λ front date rest is h. ap (year_month_at error_of) is ∙ year_month_takes error_of front date rest h)
 
--- ---- fronts of a core, and of the text with what stands after the core
+-- ---- prefixes of a core, and of the text with what follows the core
 
 front_in_core : (shape : Shape) → ((text : Text) → shape text → AllInside text) → (cores rest : Text) → CoreEnds rest → BeginsWith shape (cores ++ rest)
     → BeginsWith shape cores
 front_in_core shape inside cores rest ends h = let more = in_core h.0 h.1 cores rest (inside h.0 h.3) ends h.2 in (h.0, more.0, more.1, h.3, tt)
 
--- what stands after a core makes no front of the text
+-- If the core does not begin with a date of this kind, neither does the core with what follows it.
 pub no_front_after : (profile : Profile) (cores rest : Text) → CoreEnds rest → HasNoDateFront profile cores → HasNoDateFront profile (cores ++ rest)
 no_front_after profile cores rest ends none = (
   (λ h. none.0 (front_in_core _ (λ t front. in_month_day t front.0 front.1.0) cores rest ends h)),
@@ -66,18 +66,18 @@ no_front_after profile cores rest ends none = (
 longer_front : (shape : Shape) (cores rest : Text) → BeginsWith shape cores → BeginsWith shape (cores ++ rest)
 longer_front shape cores rest h = (h.0, h.1 ++ rest, ap (λ t. t ++ rest) h.2 ∙ append_assoc h.0 h.1 rest, h.3, tt)
 
--- a month-day in front of a core and what stands after it is one whatever stands after
+-- If a core with what follows it begins with a month-day, the core begins with it, whatever follows.
 pub month_day_front_stays : (profile : Profile) (cores rest other_rest : Text) → CoreEnds rest → BeginsWith (some (IsMonthDay profile)) (cores ++ rest)
     → BeginsWith (some (IsMonthDay profile)) (cores ++ other_rest)
 month_day_front_stays profile cores rest other_rest ends h =
     longer_front _ cores other_rest (front_in_core _ (λ t front. in_month_day t front.0 front.1.0) cores rest ends h)
 
--- a front of the core is one of the text
+-- A prefix of the core is a prefix of the text.
 pub no_front_of : (profile : Profile) (cores rest : Text) → HasNoDateFront profile (cores ++ rest) → HasNoDateFront profile cores
 no_front_of profile cores rest none =
     ((λ h. none.0 (longer_front (some (IsMonthDay profile)) cores rest h)), λ h. none.1 (longer_front (some IsYearMonth) cores rest h))
 
--- ---- a colon at the third place
+-- ---- a colon at index 2
 
 digit_no_colon : (c : ℕ) → IsTrue (digit c) → IsFalse (colon c)
 digit_no_colon c h = grind (arith, nat_tests, h)
@@ -105,7 +105,7 @@ third_of_year_month text left front date split h = elim h.year [
   | inr year ↦ rw (split, h.is, year.is, year.digits.2, year.digits.4.2) (digit_no_colon year.digits.4.0 year.digits.4.3)
 ]
 
--- no month-day and no year-month stands in front
+-- A text with a colon at index 2 does not begin with a month-day or a year-month.
 pub no_front_at_colon : (profile : Profile) (text : Text) → IsTrue (colon (byte_place 2 text)) → HasNoDateFront profile text
 no_front_at_colon profile text is = (
   (λ h. both_ways _ (third_of_month_day text h.1 h.0 h.3.0 h.2 h.3.1.0) is),
@@ -125,7 +125,7 @@ module _ (profile : Profile) (text : Text) where
   MonthDayBegins = BeginsWith (some (IsMonthDay profile)) text
 
   module _ {E A : Type 0} (fault : Row → E) (read : Read E A) where
-    -- each row of a time's front is returned
+    -- Each row for the beginning of a time is returned.
     pub month_day_stops : (left : Text) → Fronted (IsMonthDay profile) text left
         → unfronted fault profile text read ≡ Err (fault (month_day_front profile left))
     month_day_stops left h = rw ((month_day_tells profile text).0.1 (h.0, left, h.1, h.2, tt), (month_day_tells profile text).1 left h) refl
@@ -138,14 +138,14 @@ module _ (profile : Profile) (text : Text) where
       (year_month_tells text).1 left h,
     ) refl
 
-    -- without such a front reading goes on
+    -- If the text does not begin with one of the two, reading continues.
     pub unfronted_goes : HasNoDateFront profile text → unfronted fault profile text read ≡ read
     unfronted_goes none =
         let no_month_day = not_there _ _ (month_day_tells profile text).0 none.0 in
         let no_year_month = not_there _ _ (year_month_tells text).0 none.1 in
         rw (no_month_day, no_year_month) refl
 
-    -- and back
+    -- The other direction: what the result says about the text.
     pub unfronted_read : (found : A → Text → Type 0) (stopped : Row → Type 0)
         → ((left : Text) → Fronted (IsMonthDay profile) text left → stopped (month_day_front profile left))
         → ((left : Text) → Fronted IsYearMonth text left → ¬ MonthDayBegins → stopped (year_month_front left))

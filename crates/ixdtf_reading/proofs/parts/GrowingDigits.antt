@@ -1,4 +1,4 @@
--- The number of digits that grow at their end.
+-- The number of digits to which one more digit is appended.
 use Rattle.std.proofs.Common.{◌≡◌, ℕ, suc, ◌+◌, ◌-◌, ◌*◌, ◌^◌, ◌≤◌, ◌<◌, [], ◌∷◌, ◌++◌, length, take, min, refl, ap, ◌∙◌, arith, take_all}
 use Rattle.std.proofs.{Common.{inl, inr}, lemmas.{Bool.cases_lt, List.{length-append, take-append-le}}, Math.Nat.pow-succ'}
 use Rattle.ixdtf_grammar.specs.language.{Letters.{Letter, Text, Letter.Plain}, Digits.{decimal, digit_value}}
@@ -23,13 +23,13 @@ value_grows ds c short =
 value_stays : (ds : Text) (c : ℕ) → 18 ≤ length ds → value_of (ds ++ (Plain c ∷ [])) ≡ value_of ds
 value_stays ds c long = rw (take-append-le 18 ds _ long) refl
 
--- what one more digit makes of a fraction
+-- A fraction before and after one more digit.
 pub record Grown (before after : FractionParts) (c : ℕ) : Type 0 where
   pub count : after.count ≡ min (before.count + 1) 255
   pub grows : before.count < 18 → after.value ≡ before.value * 10 + (c - 48)
   pub stays : 18 ≤ before.count → after.value ≡ before.value
 
--- what a digit makes of a fraction of fewer than 18, and of one of 18 or more
+-- One more digit of a fraction with fewer than 18 digits. The next lemma is for at least 18 digits.
 pub grown_by_digit : (before after : FractionParts) (c : ℕ) → before.count < 18
     → after ≡ record { count = before.count + 1; value = before.value * 10 + (c - 48) } → Grown before after c
 grown_by_digit before after c short is = record {
@@ -49,7 +49,7 @@ grown_by_count before after c long is = record {
 same_fraction : (f g : FractionParts) → f.count ≡ g.count → f.value ≡ g.value → f ≡ g
 same_fraction f g p q = λ i. record { count = p i; value = q i }
 
--- the fraction of digits and one more
+-- The fraction of some digits and one more.
 pub fraction_grows : (ds : Text) (before after : FractionParts) (c : ℕ) → before ≡ fraction_of ds → Grown before after c
     → after ≡ fraction_of (ds ++ (Plain c ∷ []))
 fraction_grows ds before after c is g =

@@ -1,4 +1,4 @@
--- Looking ahead in a bracket: what holds of a text decides what `sight_at` returns, and back.
+-- Looking ahead in a bracket: the text decides what `sight_at` returns, and its result says what the text has.
 use Rattle.std.proofs.Common.{◌≡◌, ℕ, Bool, true, false, IsTrue, IsFalse, List, [], ◌∷◌, ◌++◌, Result, Ok, Err, refl, ap, ◌∙◌, inl, inr, arith, append_assoc}
 use Rattle.std.proofs.{Common.if◌then◌else◌, lemmas.Bool.{eqb-true, Decides.nat_tests}}
 use Rattle.ixdtf_grammar.specs.language.Letters.{Text, Class, equals, closing, slash, zone_char, key_lead, key_char, Letter.{Plain, Bad}}
@@ -8,7 +8,7 @@ use Rattle.ixdtf_grammar.specs.table.{LineNames.{LineName.of_bracket, BracketLin
 use Rattle.ixdtf_grammar.specs.table.Rows.{Row, Place, Stops, Place.{end, bad}}
 use Rattle.ixdtf_reading.{specs.reading.{Looks.row_of, Brackets.sight_at}, proofs.parts.Looks.row_here}
 
--- ---- code units that are passed
+-- ---- code units that are skipped
 
 neither_skipped : (c : ℕ) → IsFalse (equals c) → IsFalse (closing c) → IsTrue (skipped c)
 neither_skipped c no_equals no_closing = rw (no_equals, no_closing) refl
@@ -38,7 +38,7 @@ module _ {E : Type 0} (fault : Row → E) where
   over_joined [] text rest h = rw h refl
   over_joined (part ∷ parts) text rest h = rw (h.1, h.2.1) (over_letter h.2.0 _ h.2.2 ∙ over_joined parts h.0 rest h.3)
 
-  -- the code units of the line of the sight
+  -- The code units that the table line of `sight_at` accepts are skipped.
   pub over_scanned : (text rest : Text) → LetterOfKey text → sight_at fault (text ++ rest) ≡ sight_at fault rest
   over_scanned text rest h =
       rw (h.2, h.3.1) (over_letter h.3.0 _ (key_lead_skipped h.3.0 h.3.2) ∙ over_joined h.4.0 h.1 rest h.4.1)
@@ -48,7 +48,7 @@ module _ {E : Type 0} (fault : Row → E) where
   unfolding sight_at
   sight_stops = row_here fault (of_bracket first_bracket_scan) (sight_at fault) (bracket_line first_bracket_scan) (refl, λ rest. refl)
 
-  -- a code unit of the class comes first, and decides
+  -- A code unit of the class comes first, and decides.
   sight_first : (class : Class) (b : Bool) → ((c : ℕ) (rest : Text) → IsTrue (class c) → sight_at fault (Plain c ∷ rest) ≡ Ok b)
       → (text : Text) → (one key_lead then FirstIs class) text → sight_at fault text ≡ Ok b
   sight_first class b decides text h =
@@ -66,7 +66,7 @@ module _ {E : Type 0} (fault : Row → E) where
 
 -- ---- what was seen
 
--- what is known of what the sight returned, and of the line where it stopped
+-- What the result of `sight_at` says about the text, or the row of its fault.
 abbrev pub OnSight : {E : Type 0} → (Row → E) → Text → Result Bool E → Type 0
 OnSight fault text (Ok true) = FirstIs equals text
 OnSight fault text (Ok false) = FirstIs closing text
@@ -102,13 +102,13 @@ item_skipped part rest (inl h) m = rw h.1 (one_more h.0 rest (zone_char_skipped 
 item_skipped part rest (inr h) m =
     rw (h.2, h.3.1, h.4.1) (one_more h.3.0 (Plain h.4.0 ∷ rest) (slash_skipped h.3.0 h.3.2) (one_more h.4.0 rest (zone_char_skipped h.4.0 h.4.2) m))
 
--- parts in a row, each of which may stand in front of what is passed
+-- Parts one after the other, each of which can be put before code units that are skipped.
 joined_skipped : {shape : Shape} → ((part rest : Text) → shape part → many (one skipped) rest → many (one skipped) (part ++ rest))
     → (parts : List Text) (text : Text) → Joined shape parts text → many (one skipped) text
 joined_skipped each [] text h = ([], h)
 joined_skipped each (part ∷ parts) text h = rw h.1 (each part h.0 h.2 (joined_skipped each parts h.0 h.3))
 
--- a whole name, and `]`
+-- A complete name, and `]`.
 pub name_reads : (text rest : Text) → ZoneName text → ReadsAsName (text ++ (Plain 93 ∷ rest))
 name_reads text rest h = rw (h.2, h.3.1) (by_lead (key_lead h.3.0) refl)
   where
@@ -124,7 +124,7 @@ name_reads text rest h = rw (h.2, h.3.1) (by_lead (key_lead h.3.0) refl)
 
 -- ---- keys read as keys
 
--- a whole key, and `=`
+-- A complete key, and `=`.
 pub key_reads : (text rest : Text) → Key text → ReadsAsPair (text ++ (Plain 61 ∷ rest))
 key_reads text rest h =
     let passed = joined_skipped (λ part more g m. rw g.1 (one_more g.0 more (key_char_skipped g.0 g.2) m)) h.4.0 h.1 h.4.1 in

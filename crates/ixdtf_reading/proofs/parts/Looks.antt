@@ -1,4 +1,5 @@
--- One look at a line: a code unit that goes on is read further, a row that fits is returned; and back.
+-- One look for a table line. If the line accepts the code unit, reading continues. If a row fits, it is returned.
+-- The other direction is also proved.
 use Rattle.std.proofs.Common.{◌≡◌, ℕ, zero, suc, ◌<◌, ◌⊎◌, Bool, true, false, IsTrue, IsFalse, [], ◌∷◌, ◌++◌, Ok, Err, Option, Some, None, refl, sym, ap, ◌∙◌}
 use Rattle.std.proofs.Common.{inl, inr, arith, append_assoc, Result, if◌then◌else◌, List}
 use Rattle.ixdtf_grammar.specs.language.{Letters.{Text, Class, digit, Letter.{Plain, Bad}}, Shapes.{Shape, one, digits}, Readers.{Reader, has_brackets}}
@@ -8,11 +9,11 @@ use Rattle.ixdtf_grammar.specs.table.Rows.{Fits, Place.{end, other, bad, anywher
 use Rattle.ixdtf_reading.specs.reading.Looks.{Read, Look, ◌>>=◌, row_of, look_of, look_at, next_by, letter_at, digits_by, digits_at, peek_by, on_next}
 use Rattle.ixdtf_reading.specs.reading.Looks.{digit_run}
 
--- the fault is that of a row of which something is known
+-- The fault is that of a row for which a statement is true.
 abbrev pub IsRowFault : {E : Type 0} → (Row → E) → E → (Row → Type 0) → Type 0
 IsRowFault fault e stopped = (row : Row) × (e ≡ fault row) × stopped row
 
--- what is known of the value and the rest that a reading returned, or of the row of its fault
+-- What is true for the value and the rest that reading returned, or for the row of its fault.
 abbrev pub OnRead : {E A : Type 0} → (Row → E) → Read E A → (A → Text → Type 0) → (Row → Type 0) → Type 0
 OnRead fault (Ok x) found stopped = found x.0 x.1
 OnRead fault (Err e) found stopped = (row : Row) × (e ≡ fault row) × stopped row
@@ -24,7 +25,7 @@ onto c e = ap (λ t. Plain c ∷ t) e
 
 -- ---- from reading to reading
 
--- from a reading to the reading after it
+-- From one reading function to the next one.
 pub then_read : {E A B : Type 0} (fault : Row → E) (r : Read E A) (f : A × Text → Read E B) (found : A → Text → Type 0) (stopped : Row → Type 0)
     (found' : B → Text → Type 0) (stopped' : Row → Type 0) → OnRead fault r found stopped
     → ((x : A) (rest : Text) → found x rest → OnRead fault (f (x, rest)) found' stopped') → ((row : Row) → stopped row → stopped' row)
@@ -38,13 +39,13 @@ pub read_weaker : {E A : Type 0} (fault : Row → E) (r : Read E A) (found found
 read_weaker fault (Ok x) found found' stopped stopped' h next lifts = next x.0 x.1 h
 read_weaker fault (Err e) found found' stopped stopped' h next lifts = (h.0, h.1, lifts h.0 h.2)
 
--- a choice between two readings
+-- A choice between two reading functions.
 pub read_if : {E A : Type 0} (fault : Row → E) (b : Bool) (x y : Read E A) (found : A → Text → Type 0) (stopped : Row → Type 0)
     → (IsTrue b → OnRead fault x found stopped) → (IsFalse b → OnRead fault y found stopped) → OnRead fault (if b then x else y) found stopped
 read_if fault true x y found stopped yes_case no_case = yes_case refl
 read_if fault false x y found stopped yes_case no_case = no_case refl
 
--- reading goes over a front from a stage to a stage
+-- Reading goes over a prefix, from one stage to another.
 pub record ReadsOver {E A : Type 0} (start : Text → Read E A) (front : Text) (stage : Text → Read E A) : Type 0 where
   pub over : (rest : Text) → start (front ++ rest) ≡ stage rest
 
@@ -53,7 +54,7 @@ pub ◌before◌ : {E A : Type 0} {start middle stage : Text → Read E A} {firs
     → ReadsOver start (first ++ second) stage
 (to before from) = record { over = λ rest. rw append_assoc (to.over _ ∙ from.over rest) }
 
--- reading returns so, over a front and at a rest
+-- Reading goes over a prefix, and returns this result at the rest.
 pub record ReadsTo {E A : Type 0} (start : Text → Read E A) (front rest : Text) (given : Read E A) : Type 0 where
   pub reads_to : start (front ++ rest) ≡ given
 
@@ -62,32 +63,32 @@ pub ◌upto◌ : {E A : Type 0} {start middle : Text → Read E A} {first second
     → ReadsTo middle second rest given → ReadsTo start (first ++ second) rest given
 ◌upto◌ {second} {rest} to from = record { reads_to = rw append_assoc (to.over _ ∙ from.reads_to) }
 
--- reading halts at a fault, over a front and at a rest
+-- Reading goes over a prefix, and returns a fault at the rest.
 abbrev pub Halts : {E A : Type 0} → (Text → Read E A) → Text → Text → E → Type 0
 Halts start front rest e = ReadsTo start front rest (Err e)
 
--- and so does what would be read after it
+-- A function that reads more after it returns the same fault.
 pub halts_then : {E A B : Type 0} {start : Text → Read E A} {front rest : Text} {e : E} (next : A × Text → Read E B) → Halts start front rest e
     → Halts (λ text. start text >>= next) front rest e
 halts_then next h = record { reads_to = rw h.reads_to refl }
 
 -- ---- rows
 
--- where a row of the line fits, reading returns it
+-- If a row of the table line fits, reading returns it.
 abbrev pub RowsRead : {E A : Type 0} → (Row → E) → Bool → (Text → Read E A) → LineName → Type 0
 RowsRead fault brackets read name = (place : Place) (e : Fault) (front rest : Text) → front_of (line_of brackets name) front
     → Stops (line_of brackets name) place e rest → read (front ++ rest) ≡ Err (fault (row_of name place e))
 
--- the same where what stands before the line's front, and from its front on, is so
+-- As above, with a condition for the text before the prefix of the line and for the text from the prefix on.
 abbrev pub RowsWhere : {E A : Type 0} → (Row → E) → Bool → (Text → Read E A) → LineName → (Text → Text → Type 0) → Type 0
 RowsWhere fault brackets read name stands = (place : Place) (e : Fault) (prior front rest : Text) → stands prior (front ++ rest)
     → front_of (line_of brackets name) front → Stops (line_of brackets name) place e rest → read (prior ++ (front ++ rest)) ≡ Err (fault (row_of name place e))
 
--- each row of the reader's lines is returned
+-- Each row of the table lines of the reader is returned.
 abbrev pub ReadsAllRows : {E A : Type 0} → (Row → E) → Reader → (Text → Read E A) → Type 0
 ReadsAllRows fault reader read = (name : LineName) (pairs : List Pair) → RowsWhere fault (has_brackets reader) read name (Before reader name pairs)
 
--- the row is of a line of a part, and fits here
+-- The row is of a table line of a part, and fits here.
 abbrev pub FitsIn : {L : Type 0} → (L → LineName) → Bool → Row → Text → Type 0
 FitsIn {L} part brackets row text = (l : L) × (row.name ≡ part l) × FitsHere brackets row text
 
@@ -96,18 +97,18 @@ pub fits_in : {L : Type 0} (part : L → LineName) (brackets : Bool) (l : L) (ro
 fits_in part brackets l row text front rest is split shape stops =
     (l, is, rw is (front, rest, split, shape, stops))
 
--- the row fits the text, where it fits what stands after the parts before it
+-- If a row fits the text after the parts before it, it fits the complete text.
 pub lift : {L : Type 0} (part : L → LineName) (reader : Reader) (row : Row) (text prior body : Text) → text ≡ prior ++ body
     → ((l : L) → Before reader (part l) [] prior body) → FitsIn part (has_brackets reader) row body → Fits reader row [] text
 lift part reader row text prior body is at h = (prior, body, is, rw h.1 (at h.0), h.2)
 
--- the row of a whole line
+-- The row of a whole line.
 pub fits_whole_in : {E L : Type 0} (fault : Row → E) (part : L → LineName) (brackets : Bool) (l : L) (e : Fault) (text front rest : Text) → text ≡ front ++ rest
     → front_of (line_of brackets (part l)) front → Stops (line_of brackets (part l)) (anywhere rest) e rest
     → IsRowFault fault (fault (row_of (part l) (anywhere rest) e)) (λ row. FitsIn part brackets row text)
 fits_whole_in fault part brackets l e text front rest split shape at = (row_of (part l) (anywhere rest) e, refl, (l, refl, (front, rest, split, shape, at)))
 
--- ---- a reading that looks at the text as a line does
+-- ---- a reading function that looks at the text as a table line does
 
 module _ {E B : Type 0} (fault : Row → E) (name : LineName) (read : Text → Result B E) where
   abbrev AtEnd : Ending → Type 0
@@ -117,7 +118,7 @@ module _ {E B : Type 0} (fault : Row → E) (name : LineName) (read : Text → R
   abbrev AtBad : Type 0
   AtBad = (rest : Text) → read (Bad ∷ rest) ≡ Err (fault (row_of name (bad (Bad ∷ rest)) NonAsciiCodePoint))
 
-  -- at the end, at Bad and at each other code unit that does not go on it returns the line's fault
+  -- At the end of the text, at `Bad`, and at each code unit that the line does not accept, reading returns the fault of the line.
   abbrev pub LooksAs : Line → Type 0
   LooksAs (line front goes_on at_end at_other) =
       AtEnd at_end × AtBad
@@ -129,7 +130,7 @@ module _ {E B : Type 0} (fault : Row → E) (name : LineName) (read : Text → R
   ended ok e is h = absurd cc
   ended (error d) e is h = let same : d ≡ e = cc in rw same at h
 
-  -- it returns the row that fits
+  -- Reading returns the row that fits.
   pub row_here : (l : Line) → LooksAs l → (place : Place) (e : Fault) (rest : Text) → Stops l place e rest → read rest ≡ Err (fault (row_of name place e))
   row_here (line front goes_on at_end at_other) h (end left) e rest at = rw (at.2, at.0) (ended at_end e at.1 h.0)
   row_here (line front goes_on at_end at_other) h (other left) e rest at = rw (at.5, at.2, at.4) (h.2 at.0 at.1 at.3)
@@ -140,7 +141,7 @@ module _ {E B : Type 0} (fault : Row → E) (name : LineName) (read : Text → R
   row_here (scanned front d) h place e rest at = absurd at
   row_here (whole front d) h place e rest at = absurd h
 
--- ---- a line at which the text may not end
+-- ---- a line at which the text must not end
 
 abbrev pub Looks : Line → Type 0
 Looks (line front goes_on (error e) at_other) = Unit {0}
@@ -153,7 +154,7 @@ Goes (line front goes_on at_end at_other) c = IsTrue (goes_on c)
 Goes (scanned front e) c = ⊥
 Goes (whole front e) c = ⊥
 
--- the line goes on with the code units of the class
+-- The line accepts the code units of the class.
 abbrev pub LooksFor : Class → Line → Type 0
 LooksFor class (line front goes_on (error e) at_other) = (c : ℕ) → goes_on c ≡ class c
 LooksFor class (line front goes_on ok at_other) = ⊥
@@ -173,11 +174,11 @@ module _ (class : Class) where
   looks_for (line front goes_on (error e) at_other) same = tt
   looks_for other_line same = absurd same
 
--- the row is the line's, and fits at this rest
+-- The row is of this line, and fits at this rest.
 abbrev pub StopsHere : LineName → Text → Row → Type 0
 StopsHere name rest row = (row.name ≡ name) × Stops (line_of true name) row.place row.error rest
 
--- fewer digits than wanted, and the line's row after them
+-- There are fewer digits than `n`, and the row of the line fits after them.
 abbrev pub DigitsStop : LineName → ℕ → Text → Row → Type 0
 DigitsStop name n text row = (k : ℕ) × (k < n) × (ds rest : Text) × (text ≡ ds ++ rest) × digits k ds × StopsHere name rest row
 
@@ -254,7 +255,7 @@ module _ {E : Type 0} (fault : Row → E) (name : LineName) where
         (λ r g. (suc g.0, omega (arith, g.1), Plain c ∷ g.2, g.3, h.0 ∙ onto c g.4, (c, g.2, refl, went_with digit _ c asks h.1, g.5), g.6)))
         (λ r h. (zero, omega arith, [], text, refl, refl, h))
 
--- where one digit is wanted, the row fits at once
+-- If one digit is expected, the row fits at the beginning.
 pub no_digit : (name : LineName) (text : Text) (row : Row) → DigitsStop name 1 text row → StopsHere name text row
 no_digit name text row g = go g.0 g.1 g.5
   where
@@ -270,9 +271,9 @@ none_or_one (suc (suc k)) ds less h = absurd (omega arith)
 pub one_as_digits : (t : Text) → one digit t → digits 1 t
 one_as_digits t h = (h.0, [], h.1, h.2, refl)
 
--- ---- looks where the text may end
+-- ---- looks where the text can end
 
--- the text ends, or goes on with a code unit of the class
+-- The text ends, or the next code unit is of the class.
 abbrev pub Peeked : Class → Text → Option ℕ → Text → Type 0
 Peeked class text None rest = (text ≡ []) × (rest ≡ [])
 Peeked class text (Some c) rest = (text ≡ Plain c ∷ rest) × IsTrue (class c)
@@ -298,7 +299,7 @@ module _ {E : Type 0} (l : Look E) where
   peek_read fault (Bad ∷ rest) stopped at_other at_bad = at_bad rest refl
   peek_read fault (Plain c ∷ rest) stopped at_other at_bad = read_if fault (l.goes_on c) _ _ _ _ (λ h. (refl, h)) (λ h. at_other c rest refl h)
 
--- the look of a line at which the text may end
+-- The look of a table line at which the text can end.
 module _ {E : Type 0} (fault : Row → E) (name : LineName) (front : Shape) (goes_on : Class) (at_other : ℕ → Fault) where
   abbrev ends : Line
   ends = line front goes_on ok at_other
@@ -314,9 +315,9 @@ module _ {E : Type 0} (fault : Row → E) (name : LineName) (front : Shape) (goe
       (λ c rest next out. (row_of name (other text) (at_other c), refl, (refl, (c, rest, next, out, refl, refl))))
       (λ rest next. (row_of name (bad text) NonAsciiCodePoint, refl, (refl, (rest, next, refl, refl))))
 
--- ---- going on, or staying
+-- ---- continuing, or consuming nothing
 
--- the text ends, or another code unit than one of the class stands next, and not Bad
+-- The text ends, or the next code unit is not of the class, and is not `Bad`.
 abbrev pub NotNext : Class → Text → Type 0
 NotNext class [] = Unit {0}
 NotNext class (Bad ∷ rest) = ⊥
@@ -333,7 +334,7 @@ module _ {E A : Type 0} (at_bad : Text → E) (class : Class) (go : ℕ → Text
   next_read fault (Plain c ∷ rest) found stopped bad_case goes_case stays_case =
       read_if fault (class c) _ _ _ _ (λ h. goes_case c rest refl h) (λ h. stays_case h)
 
--- the digits in front, and no digit and not Bad after them; or digits, and Bad after them
+-- The text begins with digits. After them, there is no digit and no `Bad`; or `Bad` follows, which is the fault.
 abbrev pub OnRun : {E : Type 0} → (Text → E) → Text → Read E Text → Type 0
 OnRun at_bad text (Ok x) = (text ≡ x.0 ++ x.1) × ((n : ℕ) × digits n x.0) × NotNext digit x.1
 OnRun at_bad text (Err e) = (ds rest : Text) × (e ≡ at_bad (Bad ∷ rest)) × (text ≡ ds ++ (Bad ∷ rest)) × (n : ℕ) × digits n ds
@@ -369,6 +370,6 @@ module _ {E : Type 0} (at_bad : Text → E) where
 
 -- ---- texts
 
--- a longer front
+-- A longer prefix.
 pub further : (text front rest second more : Text) → text ≡ front ++ rest → rest ≡ second ++ more → text ≡ (front ++ second) ++ more
 further text front rest second more is next = rw append_assoc (is ∙ ap (λ t. front ++ t) next)

@@ -1,4 +1,4 @@
--- A hyphen that may stand before digits: where one stands it is taken, and where a digit stands it stays; and back.
+-- An optional hyphen before digits. A hyphen is consumed, and a digit is not. The other direction is also proved.
 use Rattle.std.proofs.Common.{◌≡◌, ℕ, zero, suc, ◌<◌, ◌⊎◌, Bool, true, false, IsTrue, IsFalse, [], ◌∷◌, ◌++◌, Ok, Err, refl, sym, ◌∙◌, inl, inr, arith}
 use Rattle.std.proofs.{Common.{append_assoc, if◌then◌else◌}, lemmas.Bool.{or_right, both_ways, eqb-true, Decides.nat_tests}}
 use Rattle.ixdtf_grammar.specs.{language.{Letters.{Text, ◌or◌, digit, hyphen, Letter.Plain}, Shapes.{one, digits}, Months.OptionalHyphen}, table.Faults.Fault}
@@ -8,22 +8,22 @@ use Rattle.ixdtf_reading.specs.reading.Looks.{Read, ◌>>=◌, row_of, mark_by, 
 use Rattle.ixdtf_reading.proofs.parts.Looks.{OnRead, Looks, Goes, LooksFor, goes_with, went_with, looks_for, StopsHere, DigitsStop, then_read, read_weaker}
 use Rattle.ixdtf_reading.proofs.parts.Looks.{goes, stops, read_letter, ReadsOver, Halts, digits_go, digits_stop, one_as_digits}
 
--- a hyphen, or nothing
+-- A hyphen, or nothing.
 abbrev pub hyphens_of : Bool → Text
 hyphens_of true = Plain 45 ∷ []
 hyphens_of false = []
 
--- where no hyphen stands, a digit does
+-- If there is no hyphen, a digit is next.
 abbrev pub Starts : Bool → Text → Type 0
 Starts true text = Unit {0}
 Starts false text = (c : ℕ) × (rest : Text) × (text ≡ Plain c ∷ rest) × IsTrue (digit c)
 
--- one digit of two, or none where a hyphen stands before it
+-- One digit of two. After a hyphen, there can also be no digit.
 abbrev pub Begun : Bool → Text → Type 0
 Begun true ds = (ds ≡ []) ⊎ one digit ds
 Begun false ds = one digit ds
 
--- the line goes on so
+-- The line accepts a hyphen, or each digit.
 abbrev pub GoesOver : Line → Bool → Type 0
 GoesOver l true = Goes l 45
 GoesOver l false = (c : ℕ) → IsTrue (digit c) → Goes l c
@@ -48,13 +48,13 @@ pub digits_start : (b : Bool) (n : ℕ) (ds rest : Text) → digits (suc n) ds �
 digits_start true n ds rest h = tt
 digits_start false n ds rest h = (h.0, h.1 ++ rest, rw h.2 refl, h.3)
 
--- ---- lines that go on with a hyphen or a digit
+-- ---- lines that accept a hyphen or a digit
 
 goes_over : (l : Line) (b : Bool) → LooksFor (hyphen or digit) l → GoesOver l b
 goes_over l true asks = goes_with (hyphen or digit) l 45 asks refl
 goes_over l false asks = λ c h. goes_with (hyphen or digit) l c asks (or_right _ _ h)
 
--- ---- what a line that goes on with digits does not stop at
+-- ---- a line that accepts digits has no row at a digit
 
 no_stop : (l : Line) (c : ℕ) (place : Place) (e : Fault) (text rest : Text) → LooksFor digit l → text ≡ Plain c ∷ rest → IsTrue (digit c)
     → Stops l place e text → ⊥
@@ -65,7 +65,7 @@ no_stop (line front goes_on (error d) at_other) c (bad left) e text rest same is
 no_stop (line front goes_on (error d) at_other) c (anywhere left) e text rest same is h at = at
 no_stop other_line c place e text rest same is h at = absurd same
 
--- where two digits are wanted and the first stands, the row fits after it
+-- If two digits are expected and the first is present, the row fits after it.
 pub stops_after : (b : Bool) (name : LineName) (text : Text) (row : Row) → LooksFor digit (line_of true name) → Starts b text → DigitsStop name 2 text row
     → (ds rest : Text) × (text ≡ ds ++ rest) × Begun b ds × StopsHere name rest row
 stops_after b name text row asks starts g = go b g.0 g.1 g.5 starts
@@ -96,7 +96,7 @@ module _ {E : Type 0} (fault : Row → E) (name : LineName) where
   unfolding mark_by
   mark_stops place e rest looks at = rw (stops fault name place e rest looks at) refl
 
-  -- what stood at the line, and what stands after it
+  -- The text before and after the mark was read: a hyphen, or another code unit that the line accepts.
   abbrev pub Stood : Text → Bool → Text → Type 0
   Stood text true rest = (text ≡ Plain 45 ∷ rest) × Goes (line_of true name) 45
   Stood text false rest = (text ≡ rest) × (c : ℕ) × (more : Text) × (rest ≡ Plain c ∷ more) × Goes (line_of true name) c × IsFalse (hyphen c)
@@ -112,7 +112,7 @@ module _ {E : Type 0} (fault : Row → E) (name : LineName) where
       by_letter c rest is h true same = let letter : c ≡ 45 = eqb-true c 45 same in (is ∙ rw letter refl, rw letter at h)
       by_letter c rest is h false same = (refl, c, rest, is, h, same)
 
-  -- a hyphen or none, where the line goes on with a hyphen or a digit
+  -- A hyphen or none was read, if the line accepts a hyphen or a digit.
   pub hyphen_read : (text : Text) → LooksFor (hyphen or digit) (line_of true name)
       → OnRead fault (mark_at fault name hyphen text) (λ b rest. (text ≡ hyphens_of b ++ rest) × Starts b rest) (StopsHere name text)
   hyphen_read text asks = read_weaker fault _ _ _ _ _ (mark_read text (looks_for (hyphen or digit) (line_of true name) asks)) by_mark
@@ -123,7 +123,7 @@ module _ {E : Type 0} (fault : Row → E) (name : LineName) where
       by_mark false rest h =
           let went = went_with (hyphen or digit) (line_of true name) h.1 asks h.4 in (h.0, (h.1, h.2, h.3, grind (arith, nat_tests, went, h.5)))
 
-  -- fewer digits than two after it
+  -- Fewer than two digits follow the mark.
   pub digits_stop_after : (b : Bool) (ds rest : Text) (place : Place) (e : Fault) → LooksFor digit (line_of true name) → Begun b ds
       → Stops (line_of true name) place e rest → digits_at fault name 2 (ds ++ rest) ≡ Err (fault (row_of name place e))
   digits_stop_after true ds rest place e asks (inl h) at = digits_stop fault name asks 2 0 ds rest place e (omega arith) h at
@@ -134,7 +134,7 @@ module _ {E : Type 0} (fault : Row → E) (name : LineName) where
 
 module _ {E A : Type 0} (fault : Row → E) (mark : Text → Read E Bool) (name : LineName) (asks : LooksFor digit (line_of true name))
     (go : Bool → Text × Text → Read E A) where
-  -- a mark, two digits, and what is read of them
+  -- Reads a mark, two digits, and what follows from them.
   abbrev marked : Text → Read E A
   marked text = mark text >>= λ b. digits_at fault name 2 b.1 >>= go b.0
 

@@ -1,11 +1,11 @@
--- What stands behind `[`, and behind `!` where there is one, is read by its first code unit.
+-- The content of a bracket after `[` and the optional `!`. Its first code unit decides how it is read.
 use Rattle.std.proofs.{Common.{◌≡◌, ℕ, Bool, true, false, IsTrue, IsFalse, [], ◌∷◌, ◌++◌, Err, refl, ap, ◌∙◌, append_assoc, if◌then◌else◌}, lemmas.Bool.eqb-true}
 use Rattle.ixdtf_grammar.specs.language.{Letters.{Text, Class, opening, exclamation, Letter.Plain}, Shapes.{one, ◌then◌}, Brackets.Opens}
 use Rattle.ixdtf_grammar.specs.table.{Faults.Fault, LineNames.LineName, Lines.line_of, Rows.{Row, Place, Stops}}
 use Rattle.ixdtf_reading.specs.reading.Looks.{Read, ◌>>=◌, row_of, letter_at}
 use Rattle.ixdtf_reading.proofs.parts.Looks.{Looks, Goes, goes, stops}
 
--- the text is `[` and more, behind which reading returns this at the rest
+-- The text is `[` and more. Reading after the `[` returns this result at the rest.
 abbrev pub Returned : {E A : Type 0} → (Text → Read E A) → Text → Text → Read E A → Type 0
 Returned read text rest given = (inner : Text) × (text ≡ Plain 91 ∷ inner) × (read (inner ++ rest) ≡ given)
 
@@ -16,14 +16,14 @@ module _ {E A : Type 0} (fault : Row → E) (start critical_start : LineName) (f
   abbrev critical_at : Text → Read E A
   critical_at text = letter_at fault critical_start text >>= λ lead. inside true lead.0 text
 
-  -- behind `[`
+  -- Reads a bracket after its `[`.
   abbrev opened_at : Text → Read E A
   opened_at text = letter_at fault start text >>= λ lead. if exclamation lead.0 then critical_at lead.1 else inside false lead.0 text
 
   at_exclamation : (c : ℕ) (text : Text) → IsTrue (exclamation c) → opened_at (Plain c ∷ text) ≡ critical_at text
   at_exclamation c text h = rw (eqb-true c 33 h, goes fault start 33 text looks may_be_critical) refl
 
-  -- what is read inside is what the bracket is read as
+  -- The result of reading the content is the result of reading the bracket.
   pub opened : (front : Text) (critical : Bool) → Opens front critical → (body rest : Text) (given : Read E A)
       → ((c : ℕ) × (more : Text) × (body ++ rest ≡ Plain c ∷ more) × IsTrue (first c) × (inside critical c (body ++ rest) ≡ given))
       → Returned opened_at (front ++ body) rest given
@@ -39,7 +39,7 @@ module _ {E A : Type 0} (fault : Row → E) (start critical_start : LineName) (f
     rw (ap (letter_at fault start) z.2 ∙ goes fault start z.0 z.1 looks (may_start z.0 z.3).0, (may_start z.0 z.3).2) z.4,
   )
 
-  -- the row behind `[`, and behind `!`
+  -- The row after `[`. The next lemma is for the row after `!`.
   pub start_row : (place : Place) (e : Fault) (front rest : Text) → one opening front → Stops (line_of true start) place e rest
       → Returned opened_at front rest (Err (fault (row_of start place e)))
   start_row place e front rest f at = ([], rw (f.1, eqb-true f.0 91 f.2) refl, rw (stops fault start place e rest looks at) refl)

@@ -1,4 +1,4 @@
--- Code units in front of what is read behind them, each with its step.
+-- Code units before the rest that is read after them. Each has its own step.
 use Rattle.std.proofs.{Common.{◌≡◌, ℕ, List, [], ◌∷◌, ◌++◌, map, Result, Ok, Err, refl, sym, ap, ◌∙◌, append_assoc}, lemmas.List.map-append}
 use Rattle.ixdtf_grammar.specs.language.{Letters.{Text, Letter.Plain}, Shapes.{Shape, Joined}}
 use Rattle.ixdtf_reading.specs.reading.{Looks.Read, Zones.with_letter}
@@ -16,7 +16,7 @@ pub steps_err : {E B : Type 0} (step : ℕ → Result B E → Result B E) → ((
 steps_err step fails [] e = refl
 steps_err step fails (c ∷ letters) e = ap (step c) (steps_err step fails letters e) ∙ fails c e
 
--- the letters of what is read
+-- Puts code units before those that were read.
 abbrev pub with_letters : {E : Type 0} → List ℕ → Read E (List ℕ) → Read E (List ℕ)
 with_letters letters read = steps with_letter letters read
 
@@ -31,7 +31,7 @@ pub letters_ok : {E : Type 0} (letters : List ℕ) (rest : Text) → with_letter
 letters_ok [] rest = refl
 letters_ok {E} (c ∷ letters) rest = rw (letters_ok {E = E} letters rest) refl
 
--- ---- code units that are read over
+-- ---- code units that reading goes over
 
 plain_faithful : (xs ys : List ℕ) → map Plain xs ≡ map Plain ys → xs ≡ ys
 plain_faithful [] [] h = refl
@@ -40,7 +40,7 @@ plain_faithful (x ∷ xs) [] h = absurd cc
 plain_faithful (x ∷ xs) (y ∷ ys) h = let e : xs ≡ ys = plain_faithful xs ys cc in cc
 
 module _ {E : Type 0} where
-  -- the text is code units that lead from a run to a run
+  -- The code units of the text lead from one run to another.
   pub record IsOver (run next : Text → Read E (List ℕ)) (text : Text) : Type 0 where
     pub letters : List ℕ
     pub is : text ≡ map Plain letters
@@ -62,7 +62,7 @@ module _ {E : Type 0} where
   over_many each [] text h = record { letters = []; is = h; over = λ rest. rw h refl }
   over_many each (part ∷ parts) text h = rw h.1 (over_both _ (each part h.2) (over_many each parts h.0 h.3))
 
-  -- a whole run is read, and a fault after it is returned
+  -- A complete run is read. The next lemma says that a fault after it is returned.
   pub over_ok : {run next : Text → Read E (List ℕ)} {text : Text} (letters : List ℕ) (rest more : Text) → IsOver run next text → text ≡ map Plain letters
       → next rest ≡ Ok ([], more) → run (text ++ rest) ≡ Ok (letters, more)
   over_ok letters rest more o is h = rw (o.over rest, h, letters_ok {E = E} o.letters more, plain_faithful o.letters letters (sym o.is ∙ is))

@@ -1,4 +1,5 @@
--- A year is read exactly: for a year its number and the rest are returned, and a row of a year's lines is returned; and back.
+-- Reading a year returns its number and the rest. If a row of the table lines of a year fits, it is returned.
+-- The other direction is also proved.
 use Rattle.std.proofs.Common.{◌≡◌, ◌≢◌, ℕ, Bool, true, false, IsTrue, IsFalse, [], ◌∷◌, ◌++◌, Ok, refl, ◌∙◌, inl, inr, arith, ℤ, nat_eq, ◌&&◌}
 use Rattle.std.proofs.lemmas.Bool.{and_parts, and_from, both_ways, eqb-true, eq-eqb, ne_eqb, Decides.nat_tests}
 use Rattle.ixdtf_grammar.specs.language.{Letters.{Text, digit, sign, hyphen, Letter.Plain}, Digits.decimal, Dates.Year, Readers.CoreKind.year_month}
@@ -8,7 +9,7 @@ use Rattle.ixdtf_reading.specs.reading.{Looks.{letter_at, digits_at}, Dates.{yea
 use Rattle.ixdtf_reading.proofs.parts.Looks.{OnRead, RowsRead, FitsIn, fits_in, fits_whole_in, then_read, read_if, goes, stops, read_letter, digits_go}
 use Rattle.ixdtf_reading.proofs.parts.Looks.{digits_stop, digits_read, onto}
 
--- a digit is no sign
+-- A digit is not a sign.
 digit_no_sign : (c : ℕ) → IsTrue (digit c) → IsFalse (sign c)
 digit_no_sign c h = grind (arith, nat_tests)
 
@@ -19,19 +20,19 @@ no_minus_zero c n h = go _ refl
     go true is = ne_eqb n 0 (h is)
     go false is = refl
 
--- a line of a year or of a month after it
+-- A table line of a year, or of a month after it.
 abbrev pub YearOrMonthLine : Type 0
 YearOrMonthLine = (l : DateLine) × BeforeDate year_month l []
 
 abbrev pub in_year_or_month : YearOrMonthLine → LineName
 in_year_or_month l = of_date l.0
 
--- what reading a year gave
+-- What is true if reading a year returned this result.
 abbrev pub YearFront : Text → ℤ → Text → Type 0
 YearFront text year rest = (years : Text) × (text ≡ years ++ rest) × Year years year
 
 module _ {E : Type 0} (fault : Row → E) where
-  -- a first code unit that is a digit leads to a year of four digits, a sign to an extended one
+  -- If the first code unit is a digit, a year of four digits is read. If it is a sign, an extended year is read.
   four_digit_start : (c : ℕ) (text : Text) → IsTrue (digit c) → year_at fault (Plain c ∷ text) ≡ four_digit_year_at fault c text
   unfolding year_at
   four_digit_start c text h = rw (goes fault (of_date year_start) c text tt (grind (arith, nat_tests)), digit_no_sign c h) refl

@@ -1,4 +1,4 @@
--- From what the code replied for a chain of calls to what a handler's clauses say.
+-- The clauses of the readers with a handler, from the result of the code for a chain of calls.
 use Rattle.std.proofs.Common.{◌≡◌, ◌≢◌, ◌↔◌, ℕ, IsFalse, List, [], ◌∷◌, Option, Some, None, Result, Ok, Err, IfOk, refl, sym, ◌∙◌, ap, subst, inl, inr}
 use Rattle.std.proofs.{Common.{map, option_map}, lemmas.Simd.map-map}
 use Rattle.ixdtf_grammar.specs.{declared.records.{Annotation.Annotation, IxdtfParseRecord.IxdtfParseRecord}, Views.{returned_by, parsed_of}}
@@ -13,21 +13,21 @@ use Rattle.ixdtf_reading.proofs.theorems.OnlyOutcome.{Accepted, accepted, gives_
 use Rattle.ixdtf_reading.proofs.theorems.{Replies.{refused_split, each_is_none}, OneUnhandledOutcome.one_unhandled_result, OneChain.one_result}
 use Rattle.ixdtf_reading.proofs.theorems.Replies.{first_calendar-nones}
 
--- each reply is so made of the annotation
+-- Each reply is the value of `reply` for the annotation.
 abbrev RepliesBy : {T U F : Type 0} → Step T U F → (Annotation T U → Option (Annotation T U)) → Type 0
 RepliesBy {T} {U} {F} step reply =
     (state : F) (annotation : Annotation T U) (given : Option (Annotation T U)) (next : F) → step state annotation given next → given ≡ reply annotation
 
--- each reply is the annotation itself
+-- Each reply is the annotation itself.
 abbrev pub OwnReplies : {T U F : Type 0} → Step T U F → Type 0
 OwnReplies step = RepliesBy step (λ annotation. Some annotation)
 
--- each reply is none
+-- Each reply is `None`.
 abbrev pub NoReplies : {T U F : Type 0} → Step T U F → Type 0
 NoReplies step = RepliesBy step (λ annotation. None)
 
 module _ {T U F : Type 0} (number : U → ℕ) (step : Step T U F) (handler : F) (reader : Reader) (text : Text) (result : Result Parsed Fault) where
-  -- what the form that takes the handler by reference promises
+  -- The promise of the function that takes the handler by reference.
   abbrev pub handled_to_of : (calls : Calls T U) (last : F) → IsChain step handler calls last
       → GivesResult reader text (handed number calls) (replies_of number calls) result → HandledTo number step handler last reader text result
   handled_to_of calls last chain gives =
@@ -41,7 +41,7 @@ module _ {T U F : Type 0} (number : U → ℕ) (step : Step T U F) (handler : F)
         only = λ fault is. gives_only reader text _ _ fault (given (Err fault) is);
       }
 
-  -- and one that takes it by value
+  -- The promise of a function that takes the handler by value.
   abbrev pub by_value : (last : F) → HandledTo number step handler last reader text result → Handled number step handler reader text result
   by_value last h = record { calls = h.calls; last = last; chain = h.chain; ok = h.ok; err = h.err; only = h.only }
 
@@ -49,11 +49,11 @@ module _ {T U F : Type 0} (number : U → ℕ) (step : Step T U F) (handler : F)
       → Handled number step handler reader text result
   handled_of calls last chain gives = by_value last (handled_to_of calls last chain gives)
 
-  -- what a record that was returned says of the text
+  -- If a record was returned, the text is accepted.
   pub handled_accepted : Handled number step handler reader text result → (found : Parsed) → result ≡ Ok found → Accepted reader text
   handled_accepted h found is = let gives = (h.ok found).0 is in accepted reader text (parsed gives.read, handed number h.calls, gives.whole)
 
-  -- the replies, made of what was handed
+  -- The replies are the values of `reply` for the annotations that the handler got.
   replies_by : (reply : Annotation T U → Option (Annotation T U)) → RepliesBy step reply → (calls : Calls T U) (state last : F) → IsChain step state calls last
       → replies_of number calls ≡ map (λ call. option_map (pair_of number) (reply call.0)) calls
   replies_by reply by [] state last chain = refl
@@ -61,7 +61,7 @@ module _ {T U F : Type 0} (number : U → ℕ) (step : Step T U F) (handler : F)
       let head = by state call.0 call.1 next stepped in
       let tail = replies_by reply by calls next last chain in λ i. option_map (pair_of number) (head i) ∷ tail i
 
-  -- each call's reply is the pair that it was called with
+  -- The reply of each call is the annotation with which the handler was called.
   pub replies_own : OwnReplies step → (calls : Calls T U) (state last : F) → IsChain step state calls last
       → replies_of number calls ≡ own_replies (handed number calls)
   replies_own own calls state last chain = replies_by _ own calls state last chain ∙ sym (map-map (λ pair. Some pair) _ calls)
@@ -71,12 +71,12 @@ module _ {T U F : Type 0} (number : U → ℕ) (step : Step T U F) (handler : F)
   gives_of (Ok found) h = (h.ok found).0 refl
   gives_of (Err fault) h = h.err fault refl
 
-  -- the text, whose pairs are their own replies, gives the result
+  -- The text gives the result, if the reply to each annotation is the annotation itself.
   given : OwnReplies step → Handled number step handler reader text result
       → (pairs : List Pair) × GivesResult reader text pairs (own_replies pairs) result
   given own h = (handed number h.calls, rw (← (replies_own own h.calls handler h.last h.chain)) (gives_of result h))
 
-  -- what the form without a handler promises
+  -- The promise of a variant without a handler.
   pub unhandled_ok : OwnReplies step → Handled number step handler reader text result → (found : Parsed)
       → (result ≡ Ok found) ↔ UnhandledRecord reader text found
   unhandled_ok own h found = let (pairs, gives) = given own h in (
@@ -87,7 +87,7 @@ module _ {T U F : Type 0} (number : U → ℕ) (step : Step T U F) (handler : F)
   pub unhandled_err : OwnReplies step → Handled number step handler reader text result → (fault : Fault) → result ≡ Err fault → UnhandledFault reader text fault
   unhandled_err own h fault is = let (pairs, gives) = given own h in (pairs, subst (GivesResult reader text pairs (own_replies pairs)) is gives)
 
-  -- without a reply there is no calendar
+  -- If each reply is `None`, the record has no calendar.
   pub ignored : NoReplies step → Handled number step handler reader text result → (found : Parsed) → result ≡ Ok found → found.calendar ≡ None
   ignored none h found is =
       let gives = (h.ok found).0 is in
@@ -95,7 +95,7 @@ module _ {T U F : Type 0} (number : U → ℕ) (step : Step T U F) (handler : F)
       ∙ ap (λ replies. calendar_value (first_calendar replies)) (replies_by _ none h.calls handler h.last h.chain)
       ∙ ap calendar_value (first_calendar-nones h.calls)
 
-  -- without a reply none is refused
+  -- If each reply is `None`, no reply is refused.
   pub ignored_err : NoReplies step → Handled number step handler reader text result → (fault : Fault) → result ≡ Err fault
       → (fault ≢ UnrecognizedCritical) × (fault ≢ CriticalDuplicateCalendar)
   ignored_err none h fault is = elim (h.err fault is) [
@@ -106,7 +106,7 @@ module _ {T U F : Type 0} (number : U → ℕ) (step : Step T U F) (handler : F)
     | inr p ↦ row_is_no_refusal reader text _ fault p.0
   ]
 
-  -- the error of a handler's form is one that comes
+  -- The error of a variant with a handler is one of the errors that can be returned.
   pub handled_comes : Handled number step handler reader text result → (fault : Fault) → result ≡ Err fault → IsFalse (never_comes fault)
   handled_comes h fault is = elim (h.err fault is) [
     | inl p ↦ elim (refused_split _ _ fault p.1.refused) [
@@ -116,9 +116,9 @@ module _ {T U F : Type 0} (number : U → ℕ) (step : Step T U F) (handler : F)
     | inr p ↦ fault_comes reader text _ fault p.0
   ]
 
--- ---- with and without the place
+-- ---- with and without the position
 
--- what was returned, without the place of a fault
+-- The result, without the position of a fault.
 abbrev pub unplaced : {A : Type 0} → Result A Placed → Result A Fault
 unplaced (Ok x) = Ok x
 unplaced (Err placed) = Err placed.0
@@ -138,7 +138,7 @@ module _ {T U F : Type 0} (number : U → ℕ) (step : Step T U F) (handler : F)
   abbrev pub handled_to : (last : F) → TextRead number step handler last reader text placed → HandledTo number step handler last reader text (unplaced placed)
   handled_to last read = handled_to_of number step handler reader text (unplaced placed) read.calls last read.chain (gives_result reader text _ _ placed read.gives)
 
--- what a form without a handler promises, where the handler returns each annotation
+-- The promise of a variant without a handler, from the result with a handler that returns each annotation.
 pub unhandled_form : {T U F : Type 0} {number : U → ℕ} {step : Step T U F} {handler : F} {reader : Reader} {text : Text} {result : Result Parsed Fault}
     → Handled number step handler reader text result → OwnReplies step → UnhandledForm reader text result
 unhandled_form {number} {step} {handler} {reader} {text} {result = Ok found} h own = let whole =
@@ -158,13 +158,13 @@ unhandled_form {number} {step} {handler} {reader} {text} {result = Err fault} h 
       only = (gives.0, gives_only reader text gives.0 _ fault gives.1);
     }
 
--- ---- a handler that replies none
+-- ---- a handler that returns `None`
 
 none_seen : {X Y : Type 0} (view : X → Y) (x : Option X) → option_map view x ≡ None → x ≡ None
 none_seen view None e = refl
 none_seen view (Some x) e = absurd cc
 
--- its record has no calendar
+-- With this handler, the record has no calendar.
 pub no_calendar : {T U F E : Type 0} (named : E → Fault) (number : U → ℕ) (step : Step T U F) (handler : F) (reader : Reader) (text : Text)
     (result : Result (IxdtfParseRecord T U) E)
     → NoReplies step → Handled number step handler reader text (returned_by named (parsed_of number) result) → IfOk result (λ found. found.calendar ≡ None)

@@ -1,4 +1,4 @@
--- From what the code replied for a chain of calls to where a fault stands, by a handler's clauses.
+-- The position of a fault in the clauses of the readers with a handler, from the result of the code for a chain of calls.
 use Rattle.std.proofs.{Common.{◌≡◌, ℕ, ◌+◌, ◌≤◌, length, arith, List, Ok, Err, sym, ◌∙◌, ap, inl, inr, Result}, lemmas.List.{length-append, length-map}}
 use Rattle.ixdtf_grammar.specs.{language.{Letters.Text, Brackets.Pair, Languages.Parsed, Readers.Reader}, table.Faults.Fault, Views.returned_by}
 use Rattle.ixdtf_grammar.specs.{Handlers.{Reply, Calls, handed, replies_of, Step}, Places.{GivesFaultAt, HandledAt, HandledToAt, UnhandledFaultAt}}
@@ -6,11 +6,11 @@ use Rattle.ixdtf_reading.specs.{declared.stop.StopAt.StopAt, reading.{Chains.{Te
 use Rattle.ixdtf_reading.proofs.code.Located.{left_fits as row_left_fits}
 use Rattle.ixdtf_reading.proofs.theorems.{Handled.{OwnReplies, replies_own, handled_to, handled_to_of}, OnePlace.{one_place, without_place}}
 
--- as many replies as pairs
+-- There are as many replies as annotations.
 pub as_many : {T U : Type 0} (number : U → ℕ) (calls : Calls T U) → length (replies_of number calls) ≡ length (handed number calls)
 as_many number calls = length-map calls _ ∙ sym (length-map calls _)
 
--- a fault stands where so many code units are before it
+-- The position of a fault is the number of code units before it.
 pub stands_at : (reader : Reader) (text : Text) (pairs : List Pair) (replies : List Reply) (fault : Fault) (left : Text) (at : ℕ) → at + length left ≡ length text
     → TextGives reader text pairs replies (Err (fault, left)) → GivesFaultAt reader text pairs replies fault at
 stands_at reader text pairs replies fault left at is gives = elim gives [
@@ -18,10 +18,10 @@ stands_at reader text pairs replies fault left at is gives = elim gives [
   | inr p ↦ inr ((p.0.0, p.0.1, ap (λ q. q.0) p.0.2, rw (ap (λ q. q.1) p.0.2) is), p.1)
 ]
 
--- a form with a handler whose errors tell their places
+-- A variant with a handler whose errors have a position.
 module _ {T U F X E : Type 0} (number : U → ℕ) (step : Step T U F) (handler last : F) (reader : Reader) (text : Text) (named : E → Fault) (stands : ℕ → E → Type 0)
     (view : X → Parsed) where
-  -- one that takes the handler by reference
+  -- The function takes the handler by reference.
   unfoldable pub handled_to_at_ok : (x : X) → TextRead number step handler last reader text (Ok (view x)) → HandledToAt number step handler last reader text named stands view (Ok x)
   handled_to_at_ok x read = record {
     plain = handled_to number step handler reader text (Ok (view x)) last read;
@@ -42,7 +42,7 @@ module _ {T U F X E : Type 0} (number : U → ℕ) (step : Step T U F) (handler 
         place = λ e' is. let same : e ≡ e' = cc in rw (← same) (why.at, is_there, is_only);
       }
 
-  -- and one that takes it by value
+  -- The promise of a function that takes the handler by value.
   abbrev pub by_value : (result : Result X E) → HandledToAt number step handler last reader text named stands view result
       → HandledAt number step handler reader text named stands view result
   by_value result h = record {
@@ -63,7 +63,7 @@ module _ {T U F X E : Type 0} (number : U → ℕ) (step : Step T U F) (handler 
       → HandledAt number step handler reader text named stands view (Err e)
   handled_at_err why e is_named is_there read = by_value (Err e) (handled_to_at_err why e is_named is_there read)
 
--- the place of a text whose pairs reply for themselves
+-- The position of the fault, if the reply to each annotation is the annotation itself.
 pub unhandled_at : {T U F : Type 0} (number : U → ℕ) (step : Step T U F) (handler last : F) (reader : Reader) (text : Text) → OwnReplies step → (why : StopAt)
     → (left : Text) × (why.at + length left ≡ length text) × TextRead number step handler last reader text (Err (fault_of_stop why.stop, left))
     → UnhandledFaultAt reader text (fault_of_stop why.stop) why.at
@@ -73,7 +73,7 @@ unhandled_at number step handler last reader text own why (left, lengths, read) 
       (stands_at reader text _ _ (fault_of_stop why.stop) left why.at lengths read.gives),
 )
 
--- what is left behind a fault is no longer than the text
+-- The text from the position of a fault on is not longer than the complete text.
 pub left_fits : (reader : Reader) (text : Text) (pairs : List Pair) (replies : List Reply) (fault : Fault) (left : Text)
     → TextGives reader text pairs replies (Err (fault, left)) → length left ≤ length text
 left_fits reader text pairs replies fault left gives = elim gives [

@@ -1,4 +1,4 @@
--- A date's hyphens say nothing where both stand, and are refused where one does.
+-- Both hyphens of a date can be present or absent without a difference. If only one of them is present, the text is refused.
 use Rattle.std.proofs.Common.{◌≡◌, ◌∷◌, ◌++◌, [], refl, sym, ◌∙◌, ap, inl, inr, append_assoc}
 use Rattle.ixdtf_grammar.specs.{declared.records.DateRecord.DateRecord, Laws.{HyphensSayNothing, OneHyphenIsRefused, IsDateParts}}
 use Rattle.ixdtf_grammar.specs.{Widths.{UnhandledOutcome, HasUnhandledOutcome, UnhandledOutcome.faulted}, language.{Dates.DateText, Digits.decimal}}
@@ -9,7 +9,7 @@ use Rattle.ixdtf_reading.specs.reading.{Cores.date_time_core_at, Dates.date_of, 
 use Rattle.ixdtf_reading.proofs.{theorems.{OneOutcome.outcome_holds, OneUnhandledOutcome.same_plain, Replies.NoneRefused-nothing}, to_reading.Dates.over_date}
 use Rattle.ixdtf_reading.proofs.code.DigitClasses.{digit_no_hyphen}
 
--- the date of these parts
+-- The date of these parts.
 abbrev date_with : (years months days : Text) → IsDateParts years months days → DateRecord
 date_with years months days h = date_of h.0.0 h.1.0 (decimal days)
 
@@ -22,7 +22,7 @@ hyphened_shape : (years months days : Text) (h : IsDateParts years months days)
 hyphened_shape years months days h =
     inr (record { years = years; months = months; days = days; is = refl; year = h.0.1; month = h.1.1; day = (h.2, refl) })
 
--- reading goes alike over two shapes of first date
+-- Reading gives the same result after two texts of the same date.
 alike_read : (first second rest : Text) (date : DateRecord) → DateText first date → DateText second date
     → outcome parse (first ++ rest) ≡ outcome parse (second ++ rest)
 unfolding bracketed_text_at date_time_core_at
@@ -41,7 +41,7 @@ hyphens_say_nothing years months days rest h x =
     let same = ap (outcome parse) (sym plain) ∙ alike ∙ ap (outcome parse) hyphened in
     (alike_plain _ _ same x, alike_plain _ _ (sym same) x)
 
--- the row of a line of dates, before any pair, is what comes
+-- The row of a table line of dates, before any annotation, is the outcome.
 refused_at : (l : DateLine) (front rest text : Text) → BeforeDate date_time l [] → text ≡ front ++ rest → front_of (date_line l) front
     → Stops (date_line l) (other rest) DateSeparator rest → HasUnhandledOutcome parse text (faulted DateSeparator)
 refused_at l front rest text first is f at =

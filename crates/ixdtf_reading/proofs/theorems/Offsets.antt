@@ -1,4 +1,4 @@
--- An offset and a zone that are derived from one text are one.
+-- An offset and a zone that the grammar derives from the same text are equal.
 use Rattle.std.proofs.{Common.{◌≡◌, ℕ, IsTrue, List, [], ◌∷◌, inl, inr, refl, sym, ◌∙◌, true≢false}, lemmas.Bool.both_ways}
 use Rattle.ixdtf_grammar.specs.{declared.records.{TimeRecord.TimeRecord, UtcOffsetRecord.{UtcOffsetRecord, TheVariants.MinutePrecision}}, Laws.OffsetsAgree}
 use Rattle.ixdtf_grammar.specs.language.{Languages.{Derives.{as_shifted, as_identified}, Found.shifted}, Letters.{Text, sign, Letter.Plain}}
@@ -7,7 +7,7 @@ use Rattle.ixdtf_grammar.specs.{language.{Times.TimeShape.{seconds, fractions}, 
 use Rattle.ixdtf_reading.proofs.{to_reading.ZonesAlone.{lead_no_sign, first_letter}, theorems.OneOutcome.same_outcome}
 use Rattle.ixdtf_grammar.proofs.parts.Texts.{signed_text}
 
--- a name does not begin as an offset
+-- A name does not begin with a sign. So no text is an offset and a name.
 no_name : (text : Text) (offset : UtcOffsetRecord) (name : List ℕ) → IsOffset text offset → ¬ (IsZoneName text name)
 no_name text offset name h g =
     let lead = first_letter text g.0 in
@@ -15,12 +15,12 @@ no_name text offset name h g =
     let letters : lead.0 ≡ h.c = cc in
     both_ways _ (rw (← letters) (lead_no_sign lead.0 lead.3)) h.sign
 
--- no seconds are written there
+-- An offset without seconds has no text of a second.
 no_second : (text : Text) (time : TimeRecord) → ¬ (SecondText clocks.MinuteOffset text time)
 no_second text time (inl h) = true≢false (sym h.may)
 no_second text time (inr h) = true≢false (sym h.may)
 
--- so an offset without seconds is an offset
+-- So an offset without seconds is an offset.
 minutes_alone : (c : ℕ) (shape : TimeShape) (body : Text) (time : TimeRecord) → IsTrue (sign c) → ClockOf clocks.MinuteOffset shape body time
     → IsOffset (Plain c ∷ body) (MinutePrecision (minutes_of c time))
 minutes_alone c seconds body time signed clock = absurd (no_second body time clock)

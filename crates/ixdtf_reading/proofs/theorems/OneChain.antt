@@ -1,4 +1,4 @@
--- A handler that replies to the pairs of a text is called with one list of them, and there is one result.
+-- For given replies to the annotations of a text, the list of calls of the handler and the result are unique.
 use Rattle.std.proofs.Common.{◌≡◌, ◌≢◌, ◌⊎◌, ℕ, Bool, true, false, List, [], ◌∷◌, ◌++◌, Option, Some, None, Result, Ok, Err, IsTrue, refl, sym, ap, subst}
 use Rattle.std.proofs.{Common.{◌∙◌, inl, inr, append_assoc, true≢false}, lemmas.{List.append-nil, Slice.Eq.bytes_eq-Decides, Bool.{cases_Bool, both_ways}}}
 use Rattle.ixdtf_grammar.specs.Handlers.{Reply, calendar_key, first_calendar, calendar_value, with_calendar, RefusedBeside, NoneRefused, LastRefused}
@@ -14,7 +14,7 @@ use Rattle.ixdtf_reading.proofs.theorems.{Replies.{nothing_split, NoneRefused-no
 use Rattle.ixdtf_reading.proofs.theorems.{OneOutcome.{one_outcome, no_row_fits, fault_once, derived_begins, fault_begins}, Replies.NoneRefused-more}
 use Rattle.ixdtf_reading.proofs.theorems.Replies.{refused_last, refused_split, neither_refused}
 
--- ---- a refused reply, or none
+-- ---- a reply that is refused, or not
 
 pub same_bytes : (xs ys : List ℕ) → (xs ≡ ys) ⊎ (xs ≢ ys)
 same_bytes xs ys = elim (cases_Bool _) [
@@ -26,7 +26,7 @@ holds_or_not : (test : Bool) → IsTrue test ⊎ ¬ (IsTrue test)
 holds_or_not true = inl refl
 holds_or_not false = inr (λ h. true≢false (sym h))
 
--- the reply is refused with some fault beside this calendar, or with none
+-- The reply is refused with some fault, given this calendar, or it is not refused.
 abbrev Decided : Option Pair → Reply → Type 0
 Decided calendar reply = ((fault : Fault) × RefusedBeside calendar reply fault) ⊎ ((fault : Fault) → ¬ (RefusedBeside calendar reply fault))
 
@@ -57,7 +57,7 @@ decided calendar (Some pair) = elim (same_bytes pair.key _) [
   ]
 ]
 
--- it is refused with one fault
+-- A reply is refused with at most one fault.
 not_both : (calendar : Option Pair) (reply : Reply) → RefusedBeside calendar reply UnrecognizedCritical
     → ¬ (RefusedBeside calendar reply CriticalDuplicateCalendar)
 not_both calendar None h g = h
@@ -76,9 +76,9 @@ refused_once calendar reply x y h g = elim (refused_split calendar reply x h) [
   ]
 ]
 
--- ---- replies to pairs
+-- ---- replies to annotations
 
--- a list is empty, or has a last element
+-- A list is empty, or it has a last element.
 last_of : {A : Type 0} (xs : List A) → (xs ≡ []) ⊎ ((front : List A) × (x : A) × (xs ≡ front ++ x ∷ []))
 last_of [] = inl refl
 last_of (x ∷ xs) = elim (last_of xs) [
@@ -86,7 +86,7 @@ last_of (x ∷ xs) = elim (last_of xs) [
   | inr p ↦ inr (x ∷ p.0, p.1, ap (λ t. x ∷ t) p.2)
 ]
 
--- the last of these replies is refused with one fault
+-- The last of these replies is refused with at most one fault.
 pub last_once : (replies : List Reply) (x y : Fault) → LastRefused replies x → LastRefused replies y → x ≡ y
 last_once replies x y h g =
     let same = same_last g.earlier h.earlier g.reply h.reply (sym g.split ∙ h.split) in
@@ -94,7 +94,7 @@ last_once replies x y h g =
 
 -- ---- one result
 
--- a text is derived in one way
+-- The grammar derives at most one record and one list of annotations from a text.
 derived_once : (reader : Reader) (text : Text) (x y : Parsed) (xs ys : List Pair) → Derives reader text (parsed x) xs → Derives reader text (parsed y) ys
     → (x ≡ y) × (xs ≡ ys)
 derived_once reader text x y xs ys dx dy =
@@ -102,13 +102,13 @@ derived_once reader text x y xs ys dx dy =
     let found : parsed x ≡ parsed y = cc in
     (cc, cc)
 
--- one record for the same replies
+-- The same replies give the same record.
 record_once : (reader : Reader) (text : Text) (xs ys : List Pair) (replies : List Reply) (x y : Parsed) → GivesRecord reader text xs replies x
     → GivesRecord reader text ys replies y → x ≡ y
 record_once reader text xs ys replies x y gx gy =
     gx.has ∙ ap (λ read. with_calendar read _) (derived_once reader text gx.read gy.read xs ys gx.whole gy.whole).0 ∙ sym gy.has
 
--- no record and fault for the same replies
+-- The same replies do not give both a record and a fault.
 no_record_and_fault : (reader : Reader) (text : Text) (pairs : List Pair) (replies : List Reply) (found : Parsed) (fault : Fault)
     → GivesRecord reader text pairs replies found → ¬ (GivesFault reader text pairs replies fault)
 no_record_and_fault reader text pairs replies found fault gives other = elim other [
@@ -125,17 +125,17 @@ one_result reader text pairs replies (Err x) (Err y) (inl h) (inr g) = absurd (r
 one_result reader text pairs replies (Err x) (Err y) (inr h) (inl g) = absurd (refused_last replies [] y g.1 (rw (append-nil replies) h.1))
 one_result reader text pairs replies (Err x) (Err y) (inr h) (inr g) = ap Err (fault_once reader text pairs pairs x y h.0 g.0).0
 
--- one reply to each pair, by the pairs so far
+-- One reply to each annotation. It depends on the annotations up to this one.
 pub record Replying (replies : List Pair → List Reply) : Type 0 where
   pub nothing : replies [] ≡ []
   pub more : (pairs : List Pair) (pair : Pair) → (reply : Reply) × (replies (pairs ++ pair ∷ []) ≡ replies pairs ++ reply ∷ [])
 
--- what comes of these pairs
+-- A list of annotations, and the result.
 abbrev Chain : Type 0
 Chain = List Pair × Result Parsed Fault
 
 module _ (replies : List Pair → List Reply) (by : Replying replies) where
-  -- the replies to the first pairs are the first replies
+  -- The replies to the first annotations are the first replies.
   begin : (pairs more : List Pair) → (others : List Reply) × (replies (pairs ++ more) ≡ replies pairs ++ others)
   begin pairs [] = ([], ap replies (append-nil pairs) ∙ sym (append-nil (replies pairs)))
   begin pairs (pair ∷ more) =
@@ -145,13 +145,13 @@ module _ (replies : List Pair → List Reply) (by : Replying replies) where
         ap replies (sym (append_assoc pairs (pair ∷ []) more)) ∙ rest.1 ∙ ap (λ all. all ++ rest.0) one.1 ∙ append_assoc (replies pairs) (one.0 ∷ []) rest.0,
       )
 
-  -- behind a refused reply not all stand
+  -- If a reply is refused, it is not true that no reply is refused, whatever follows.
   never_after : (pairs more all : List Pair) (fault : Fault) → all ≡ pairs ++ more → LastRefused (replies pairs) fault → ¬ (NoneRefused (replies all))
   never_after pairs more all fault is last none =
       let others = begin pairs more in
       refused_last (replies pairs) others.0 fault last (subst NoneRefused (ap replies is ∙ others.1) none)
 
-  -- the reply to the last of these pairs is refused, and none before it
+  -- The reply to the last of these annotations is refused, and no reply before it.
   record RefusedAt (pairs : List Pair) : Type 0 where
     earlier : List Pair
     pair : Pair
@@ -169,7 +169,7 @@ module _ (replies : List Pair → List Reply) (by : Replying replies) where
 
   -- ---- one chain
 
-  -- it ends at a refused reply to the last of its pairs, which are the first of all
+  -- The chain ends at a refused reply to its last annotation. Its annotations are the first ones of all.
   abbrev Early : List Pair → Chain → Type 0
   Early all x = (more : List Pair) × (fault : Fault) × (all ≡ x.0 ++ more) × (x.1 ≡ Err fault) × LastRefused (replies x.0) fault
 
@@ -192,7 +192,7 @@ module _ (replies : List Pair → List Reply) (by : Replying replies) where
         | inr (inr p) ↦ absurd (never_after ys p.0 x.earlier b (p.1 ∙ sym (append_assoc y.earlier _ p.0) ∙ ap (λ t. t ++ p.0) (sym y.is)) g x.none)
       ]
 
-  -- it is all pairs and the result that the text has, or ends before
+  -- The chain has all annotations and the result of the text, or it ends earlier.
   abbrev Settled : Chain → Chain → Type 0
   Settled whole x = ((x ≡ whole) × NoneRefused (replies whole.0)) ⊎ Early whole.0 x
 
@@ -206,14 +206,14 @@ module _ (replies : List Pair → List Reply) (by : Replying replies) where
   settled_once whole x y (inr p) (inr q) = early_once whole.0 x y p q
 
   module _ (kind : CoreKind) where
-    -- the text, whose pairs get these replies, gives it
+    -- The text gives this chain, if its annotations get these replies.
     abbrev pub GivesChain : Text → Chain → Type 0
     GivesChain text x = GivesResult (bracketed kind) text x.0 (replies x.0) x.1
 
     abbrev record_at : Parsed → List Pair → Chain
     record_at read pairs = (pairs, Ok (with_calendar read (calendar_value (first_calendar (replies pairs)))))
 
-    -- where the text is derived
+    -- The grammar derives the text.
     when_derived : (text : Text) (read : Parsed) (all : List Pair) → Derives (bracketed kind) text (parsed read) all → (x : Chain) → GivesChain text x
         → Settled (record_at read all) x
     when_derived text read all d (pairs, Ok found) gives =
@@ -230,7 +230,7 @@ module _ (replies : List Pair → List Reply) (by : Replying replies) where
         inr (more.0, fault, more.1, refl, h.1)
     when_derived text read all d (pairs, Err fault) (inr h) = absurd (no_row_fits (bracketed kind) text (parsed read, all, d) h.0.0 pairs h.0.1)
 
-    -- where a row fits
+    -- A row fits the text.
     when_refused : (text : Text) (row : Row) (all : List Pair) → Fits (bracketed kind) row all text → (x : Chain) → GivesChain text x
         → Settled (all, Err row.error) x
     when_refused text row all f (pairs, Ok found) gives = absurd (no_row_fits (bracketed kind) text (parsed gives.read, pairs, gives.whole) row all f)
@@ -243,13 +243,13 @@ module _ (replies : List Pair → List Reply) (by : Replying replies) where
         let alls = same.1 in
         inl (ap (λ e. (pairs, Err e)) same.0 ∙ ap (λ ps. (ps, Err row.error)) alls, rw (← alls) h.1)
 
-    -- texts with one outcome give one chain
+    -- Texts with the same outcome give the same chain.
     pub alike : (one other : Text) (outcome : Outcome) → Holds (bracketed kind) one outcome → Holds (bracketed kind) other outcome
         → (x y : Chain) → GivesChain one x → GivesChain other y → x ≡ y
     alike one other (derived found all) (as_parsed h) g x y p q = settled_once _ x y (when_derived one _ all (as_parsed h) x p) (when_derived other _ all g y q)
     alike one other (refused row all) h g x y p q = settled_once _ x y (when_refused one row all h x p) (when_refused other row all g y q)
 
--- ---- fronts of a text, with fewer pairs
+-- ---- prefixes of a text, with fewer annotations
 
 pairs_front : (text : Text) (xs ys : List Pair) → ArePairs text (xs ++ ys) → (a b : Text) × (text ≡ a ++ b) × ArePairs a xs
 pairs_front text [] ys h = ([], text, refl, refl)
@@ -272,7 +272,7 @@ whole_front kind cores brackets more core zone xs ys is_core (first, rest, is, o
       as_parsed (bracketed_text cores (first ++ a) core zone xs refl is_core (first, a, refl, one, are)),
     )
 
--- what stands before a row, begins with the brackets of the pairs, or there are none
+-- The text before a row begins with the brackets of the annotations, or there are no annotations.
 abbrev NoneOrBracketed : CoreKind → List Pair → Text → Type 0
 NoneOrBracketed kind pairs before = (pairs ≡ []) ⊎ ((front more : Text) × (before ≡ front ++ more) × Bracketed kind pairs front)
 
@@ -292,7 +292,7 @@ before_row kind (of_pair line) pairs before rest (inr p) = inr (p.0, p.1, p.2, p
 before_row kind (of_duration profile name) pairs before rest h = absurd h
 before_row kind name pairs before rest h = inl h.1
 
--- the first pairs of a text that is derived
+-- The first annotations of a text that the grammar derives.
 pub derived_front : (kind : CoreKind) (text : Text) (read : Parsed) (pairs xs ys : List Pair) → Derives (bracketed kind) text (parsed read) pairs
     → pairs ≡ xs ++ ys
     → HasFront (bracketed kind) text xs
@@ -300,7 +300,7 @@ derived_front kind text read pairs xs ys (as_parsed d) is =
     let has : HasFront (bracketed kind) ((d.cores ++ d.brackets) ++ []) xs =
     whole_front kind d.cores d.brackets [] d.core d.zone xs ys d.is_core (rw (← is) d.is_tail) in rw (← (append-nil _ ∙ sym d.is)) has
 
--- the first pairs before a row, where there are some
+-- The first annotations before a row, if there are any.
 pub row_front : (kind : CoreKind) (row : Row) (pairs xs ys : List Pair) (text : Text) → Fits (bracketed kind) row pairs text → pairs ≡ xs ++ ys
     → xs ++ ys ≢ [] → HasFront (bracketed kind) text xs
 row_front kind row pairs xs ys text fits is some_pair = elim (before_row kind row.name pairs fits.0 fits.1 fits.3) [
@@ -315,7 +315,7 @@ row_front kind row pairs xs ys text fits is some_pair = elim (before_row kind ro
 -- ---- each text gives a chain
 
 module _ (replies : List Pair → List Reply) (by : Replying replies) where
-  -- the reply to the last of some first pairs is refused, and none before it
+  -- The reply to the last of these first annotations is refused, and no reply before it.
   abbrev Stopped : List Pair → Type 0
   Stopped pairs = (front back : List Pair) × (pairs ≡ front ++ back) × (fault : Fault) × LastRefused (replies front) fault
 
@@ -338,7 +338,7 @@ module _ (replies : List Pair → List Reply) (by : Replying replies) where
   whole_or_stopped : (pairs : List Pair) → NoneRefused (replies pairs) ⊎ Stopped pairs
   whole_or_stopped pairs = all_or_refused [] pairs (rw by.nothing NoneRefused-nothing)
 
-  -- replies that have a last one are some
+  -- If the last reply is refused, there is at least one annotation.
   some_pair : (xs ys : List Pair) (fault : Fault) → LastRefused (replies xs) fault → xs ++ ys ≡ [] → ⊥
   some_pair [] ys fault last none = nothing_split last.earlier [] last.reply (sym by.nothing ∙ last.split)
   some_pair (x ∷ xs) ys fault last none = cc
@@ -363,7 +363,7 @@ module _ (replies : List Pair → List Reply) (by : Replying replies) where
       let x = chain_of kind text one.0 one.1 in
       (x.0, x.1, λ y h. alike replies by kind text text one.0 one.1 one.1 y x.0 h x.1)
 
--- each reply by the pairs so far
+-- Each reply depends on the annotations up to this one.
 replies_more : (reply : List Pair → Reply) (pairs : List Pair) (pair : Pair)
     → replies_to reply (pairs ++ pair ∷ []) ≡ replies_to reply pairs ++ reply (pairs ++ pair ∷ []) ∷ []
 replies_more reply [] pair = refl

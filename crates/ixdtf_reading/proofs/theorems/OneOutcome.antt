@@ -1,4 +1,4 @@
--- Each text has exactly one outcome, and the pairs of a front begin those of the text.
+-- Each text has exactly one outcome. The annotations of a prefix are the first ones of the text.
 use Rattle.std.proofs.Common.{◌≡◌, ℕ, length, arith, ◌⊎◌, List, [], ◌++◌, Option, Ok, Err, refl, sym, ap, ◌∙◌, subst, inl, inr, append_assoc, ◌≢◌}
 use Rattle.ixdtf_grammar.specs.language.{Letters.Text, Brackets.{ZoneNote, Pair}, Cores.Core, Readers.{Reader, has_exact_zones}, Languages.{Parsed, parsed_with, Found, Derives}}
 use Rattle.ixdtf_grammar.specs.{language.Languages.{Derives.{as_parsed, as_dated, as_shifted, as_identified, as_named, as_lasting}, Found.parsed}, table.Faults.Fault}
@@ -9,12 +9,12 @@ use Rattle.ixdtf_reading.specs.reading.Wholes.{bracketed_text_at, with_pairs, re
 use Rattle.ixdtf_reading.proofs.to_grammar.{MorePairs.{OnPairs, pairs_read}, Wholes.{OnWhole, whole_read}}
 use Rattle.ixdtf_reading.proofs.to_reading.Wholes.{NoBrackets, Brackets, brackets_of, over_brackets, takes, row_read}
 
--- what holds of a text is what reading returns
+-- An outcome that is true for a text is the one that reading returns.
 decides : (reader : Reader) (text : Text) (x : Outcome) → Holds reader text x → x ≡ outcome reader text
 decides reader text (derived found pairs) h = sym (ap outcome_of (takes row_behind reader text found pairs h))
 decides reader text (refused row pairs) h = sym (ap outcome_of (row_read row_behind reader text row pairs h))
 
--- what reading returns holds
+-- The outcome that reading returns is true for the text.
 pub outcome_holds : (reader : Reader) (text : Text) → Holds reader text (outcome reader text)
 outcome_holds reader text = go _ (whole_read row_behind reader text)
   where
@@ -28,18 +28,18 @@ one_outcome reader text = (outcome reader text, outcome_holds reader text, decid
 pub same_outcome : (reader : Reader) (text : Text) (x y : Outcome) → Holds reader text x → Holds reader text y → x ≡ y
 same_outcome reader text x y h g = decides reader text x h ∙ sym (decides reader text y g)
 
--- where something is derived from a text, no row fits it
+-- If the grammar derives something from a text, no row fits it.
 pub no_row_fits : (reader : Reader) (text : Text) → InLanguage reader text → NoRowFits reader text
 no_row_fits reader text h row pairs fits = let same : derived h.0 h.1 ≡ refused row pairs = same_outcome reader text _ _ h.2 fits in absurd cc
 
--- the faults of a text are one, with the same pairs before them
+-- A text has at most one fault, with one list of annotations before it.
 pub fault_once : (reader : Reader) (text : Text) (xs ys : List Pair) (x y : Fault) → HasFault reader text xs x → HasFault reader text ys y → (x ≡ y) × (xs ≡ ys)
 fault_once reader text xs ys x y h g =
     let same : refused h.0 xs ≡ refused g.0 ys = same_outcome reader text (refused h.0 xs) (refused g.0 ys) h.1 g.1 in
     let rows : h.0 ≡ g.0 = cc in
     (sym h.2 ∙ ap (λ r. r.error) rows ∙ g.2, cc)
 
--- and so are their places
+-- The fault of a text has at most one position.
 pub place_once : (reader : Reader) (text : Text) (pairs : List Pair) (fault : Fault) (at : ℕ) → HasFaultAt reader text pairs fault at
     → OnlyPlace reader text fault at
 place_once reader text pairs fault at h other ys there g =
@@ -47,7 +47,7 @@ place_once reader text pairs fault at h other ys there g =
     let rows : g.0 ≡ h.0 = cc in
     (sym g.2 ∙ ap (λ r. r.error) rows ∙ h.2, omega (arith, g.3, h.3, ap (λ r. length (left_at r.place)) rows))
 
--- the pairs of the front begin those that reading returned, and where there are any, the others are of the rest
+-- The annotations of the prefix are the first ones that reading returned. If there are any, the others are those of the rest.
 abbrev OnBegins : List Pair → Text → Read RowBehind (Found × List Pair) → Type 0
 OnBegins pairs rest (Ok x) = (more : List Pair) × (x.0.1 ≡ pairs ++ more) × (pairs ≢ [] → ArePairs rest more)
 OnBegins pairs rest (Err stop) = Begins pairs stop.0
@@ -61,7 +61,7 @@ more_begins : (core : Core) (first_zone : Option ZoneNote) (pairs : List Pair) (
 more_begins core first_zone pairs rest (Ok x) h = (h.1, h.2, λ some. h.3)
 more_begins core first_zone pairs rest (Err stop) h = (h.0, ap (λ s. s.0) h.4)
 
--- reading goes over the front to the pairs after it
+-- Reading goes over the prefix, and continues with the annotations after it.
 front_begins : (reader : Reader) (front rest : Text) (read : Parsed) (pairs : List Pair) → Derives reader front (parsed read) pairs
     → OnBegins pairs rest (read_at row_behind reader (front ++ rest))
 front_begins reader front rest read pairs (as_parsed {kind = kind} d) = go (brackets_of (has_exact_zones kind) d.brackets d.zone pairs d.is_tail)
@@ -75,7 +75,7 @@ front_begins reader front rest read pairs (as_parsed {kind = kind} d) = go (brac
         ap (bracketed_text_at row_behind kind) (rw d.is (simp append_assoc)) ∙ over.2 in
         rw is (more_begins d.core d.zone pairs rest _ (pairs_read row_behind over.0 pairs rest over.1))
 
--- the pairs of a front that is derived begin those of the text, whether it is derived or has a fault
+-- The annotations of a prefix that the grammar derives are the first ones of the text, which is derived or has a fault.
 pub derived_goes_on : (reader : Reader) (front rest : Text) (read whole : Parsed) (pairs all : List Pair) → Derives reader front (parsed read) pairs
     → Derives reader (front ++ rest) (parsed whole) all → (more : List Pair) × (all ≡ pairs ++ more) × (pairs ≢ [] → ArePairs rest more)
 derived_goes_on reader front rest read whole pairs all d h =

@@ -1,4 +1,4 @@
--- The place of a fault that a text and the replies to its pairs give is one.
+-- A fault that a text and the replies to its annotations give has only one position.
 use Rattle.std.proofs.Common.{◌≡◌, ◌≢◌, ◌⊎◌, ℕ, List, [], ◌∷◌, ◌++◌, Result, Err, length, refl, sym, ap, ◌∙◌, subst, inl, inr, arith}
 use Rattle.std.proofs.lemmas.List.{length-append, length-map, append-nil, append_cancel_left}
 use Rattle.ixdtf_grammar.specs.{Handlers.{Reply, LastRefused, GivesFault, own_replies}, Laws.OnePlace}
@@ -7,14 +7,14 @@ use Rattle.ixdtf_grammar.specs.{language.{Readers.{Reader, Reader.bracketed, Cor
 use Rattle.ixdtf_reading.proofs.theorems.{OneChain.{last_once, alike}, OneOutcome.{one_outcome, place_once, derived_goes_on}, Replies.refused_last}
 use Rattle.ixdtf_reading.proofs.theorems.OneUnhandledOutcome.{own}
 
--- a front that is derived with pairs is the whole of a text that is derived with the same
+-- If the grammar derives the same annotations, at least one, from a prefix and from the text, nothing follows the prefix.
 same_front : (reader : Reader) (front rest : Text) (read whole : Parsed) (pairs : List Pair) → pairs ≢ [] → Derives reader front (parsed read) pairs
     → Derives reader (front ++ rest) (parsed whole) pairs → rest ≡ []
 same_front reader front rest read whole pairs some d h =
     let (more, is, are) = derived_goes_on reader front rest read whole pairs pairs d h in
     subst (λ others. ArePairs rest others) (append_cancel_left pairs more [] (sym is ∙ sym (append-nil pairs))) (are some)
 
--- of two fronts of a text, one goes on to the other
+-- Of two prefixes of a text, one continues the other.
 front_of_other : (front rest front' rest' : Text) → front ++ rest ≡ front' ++ rest'
     → ((more : Text) × (front' ≡ front ++ more)) ⊎ ((more : Text) × (front ≡ front' ++ more))
 front_of_other [] rest front' rest' e = inl (front', refl)
@@ -30,7 +30,7 @@ front_of_other (x ∷ front) rest (y ∷ front') rest' e =
 whole_length : (front more : Text) → more ≡ [] → length (front ++ more) ≡ length front
 whole_length front more none = omega (arith, length-append front more, ap (λ t. length t) none)
 
--- fronts of a text that are derived with the same pairs are as long
+-- Two prefixes of a text from which the same annotations are derived, at least one, have the same length.
 pub fronts_alike : (reader : Reader) (front rest front' rest' : Text) (read read' : Parsed) (pairs : List Pair) → front ++ rest ≡ front' ++ rest' → pairs ≢ []
     → Derives reader front (parsed read) pairs → Derives reader front' (parsed read') pairs → length front ≡ length front'
 fronts_alike reader front rest front' rest' read read' pairs e some d d' = elim (front_of_other front rest front' rest' e) [
@@ -40,7 +40,7 @@ fronts_alike reader front rest front' rest' read read' pairs e some d d' = elim 
 
 -- ---- faults
 
--- there are pairs, where the last of as many replies is refused
+-- If there are as many replies as annotations, and the last one is refused, there is an annotation.
 some_pairs : (pairs : List Pair) (replies : List Reply) (fault : Fault) → length replies ≡ length pairs → LastRefused replies fault → pairs ≢ []
 some_pairs pairs replies fault lengths last none = absurd
     (omega (arith, lengths, ap length none, ap length last.split, length-append last.earlier (last.reply ∷ [])))
@@ -55,13 +55,13 @@ one_place reader text pairs replies fault at lengths (inl h) other there (inr g)
 one_place reader text pairs replies fault at lengths (inr h) other there (inl g) = absurd (refused_last replies [] other g.1 (rw (append-nil replies) h.1))
 one_place reader text pairs replies fault at lengths (inr h) other there (inr g) = place_once reader text pairs fault at h.0 other pairs there g.0
 
--- a fault without its place
+-- A fault without its position.
 pub without_place : (reader : Reader) (text : Text) (pairs : List Pair) (replies : List Reply) (fault : Fault) (at : ℕ)
     → GivesFaultAt reader text pairs replies fault at → GivesFault reader text pairs replies fault
 without_place reader text pairs replies fault at (inl h) = inl ((h.0.0, h.0.1, h.0.2, h.0.4, h.0.5), h.1)
 without_place reader text pairs replies fault at (inr h) = inr ((h.0.0, h.0.1, h.0.2), h.1)
 
--- where each pair replies for itself, the pairs of two faults are the same
+-- If the reply to each annotation is the annotation itself, two faults have the same annotations before them.
 pub one_unhandled_place : (kind : CoreKind) (text : Text) (fault : Fault) (at : ℕ) → UnhandledFaultAt (bracketed kind) text fault at
     → UnhandledOnlyPlace (bracketed kind) text fault at
 one_unhandled_place kind text fault at (pairs, h) other there (others, g) =

@@ -1,4 +1,4 @@
--- Each text has exactly one outcome in each reader without a handler.
+-- For each reader without a handler, each text has exactly one outcome.
 use Rattle.std.proofs.{Common.{◌≡◌, List, [], Some, Result, Ok, Err, refl, sym, ◌∙◌, ap}, lemmas.List.map-append}
 use Rattle.ixdtf_grammar.specs.{Handlers.own_replies, Widths.{UnhandledOutcome, HasWithPairs, HasAlone, HasUnhandledOutcome, OneUnhandledOutcome}}
 use Rattle.ixdtf_grammar.specs.{Widths.UnhandledOutcome.{read_as, faulted}, language.{Brackets.Pair, Languages.{Parsed, Found, Derives}}, Laws.GivesResult}
@@ -10,11 +10,11 @@ use Rattle.ixdtf_reading.proofs.theorems.OneOutcome.{one_outcome, same_outcome, 
 
 -- ---- readers with brackets
 
--- each pair is its own reply
+-- The reply to each annotation is the annotation itself.
 pub own : Replying own_replies
 own = record { nothing = refl; more = λ pairs pair. (Some pair, map-append (λ pair. Some pair) pairs _) }
 
--- what a reader returned, as an outcome
+-- The result of a reader, as an outcome.
 abbrev outcome_of : Result Parsed Fault → UnhandledOutcome
 outcome_of (Ok found) = read_as (parsed found)
 outcome_of (Err fault) = faulted fault
@@ -23,7 +23,7 @@ module _ (kind : CoreKind) where
   abbrev GivesOwn : Text → List Pair × Result Parsed Fault → Type 0
   GivesOwn text x = GivesChain own_replies own kind text x
 
-  -- the chain of an outcome
+  -- The chain of an outcome.
   chain_of : (text : Text) (x : UnhandledOutcome) → HasWithPairs kind text x → (c : List Pair × Result Parsed Fault) × (x ≡ outcome_of c.1) × GivesOwn text c
   chain_of text (read_as (parsed found)) h = ((h.0, Ok found), refl, h.1)
   chain_of text (faulted fault) h = ((h.0, Err fault), refl, h.1)
@@ -33,7 +33,7 @@ module _ (kind : CoreKind) where
   of_chain text (pairs, Ok found) h = (pairs, h)
   of_chain text (pairs, Err fault) h = (pairs, h)
 
-  -- texts with one outcome have one without a handler
+  -- Texts with the same outcome have the same outcome without a handler.
   alike_with_pairs : (one other : Text) (outcome : Outcome) → Holds (bracketed kind) one outcome → Holds (bracketed kind) other outcome
       → (x y : UnhandledOutcome) → HasWithPairs kind one x → HasWithPairs kind other y → x ≡ y
   alike_with_pairs one other outcome h g x y p q =
@@ -87,14 +87,14 @@ pub one_unhandled_outcome : OneUnhandledOutcome
 one_unhandled_outcome reader text = let outcome = unhandled_outcome reader text in
     (outcome.0, outcome.1, λ x h. unhandled_once reader text x outcome.0 h outcome.1)
 
--- texts with one outcome in a reader with brackets have one without a handler
+-- Texts with the same outcome for a reader with brackets have the same outcome without a handler.
 pub same_plain : (kind : CoreKind) (one other : Text) (outcome : Outcome) → Holds (bracketed kind) one outcome → Holds (bracketed kind) other outcome
     → (x : UnhandledOutcome) → HasUnhandledOutcome (bracketed kind) one x → HasUnhandledOutcome (bracketed kind) other x
 same_plain kind one other outcome h g x p =
     let (y, q) = unhandled_outcome (bracketed kind) other in
     let same = alike_with_pairs kind one other outcome h g x y p q in rw same q
 
--- what pairs that reply for themselves give is one result, where it is a record
+-- If the reply to each annotation is the annotation itself, a text that gives a record gives no other result.
 pub one_unhandled_result : (reader : Reader) (text : Text) (xs ys : List Pair) (result : Result Parsed Fault) (found read : Parsed)
     → Derives reader text (parsed read) ys → GivesResult reader text xs (own_replies xs) result → GivesRecord reader text ys (own_replies ys) found → result ≡ Ok found
 one_unhandled_result reader text xs ys result found read (as_parsed {kind = kind} d) gives other =

@@ -1,4 +1,4 @@
--- What the one outcome of a text says of what a reader returned: beside a value no row fits, and a row that fits is the only one.
+-- The result of a reader and the only outcome of a text. With a value, no row fits. A row that fits is the only one.
 use Rattle.std.proofs.{Common.{◌≡◌, List, ap, inl, inr}, lemmas.Bool.both_ways}
 use Rattle.ixdtf_grammar.specs.{declared.profile.Profile.Profile, language.{Letters.Text, Brackets.Pair, Readers.Reader}, table.Faults.{Fault, is_refusal}}
 use Rattle.ixdtf_grammar.specs.{table.Outcomes.{HasFault, NoRowFits, OnlyFault, Outcome.refused}, Handlers.{Reply, GivesFault, GivesOnlyFault}}
@@ -6,7 +6,7 @@ use Rattle.ixdtf_grammar.specs.Laws.{InLanguage, InNoOther}
 use Rattle.ixdtf_grammar.proofs.theorems.{NoRow.fault_refuses_none, Disjoint.in_no_other}
 use Rattle.ixdtf_reading.proofs.theorems.{OneOutcome.{same_outcome, no_row_fits}, Replies.refused_split}
 
--- what holds besides where something is derived from the text
+-- What else is true if the grammar derives something from the text.
 pub record Accepted (reader : Reader) (text : Text) : Type 0 where
   pub no_row : NoRowFits reader text
   pub no_other_reader : (profile : Profile) → InNoOther profile reader text
@@ -17,7 +17,7 @@ accepted reader text h = record {
   no_other_reader = λ profile. in_no_other profile reader text h;
 }
 
--- a row that fits is the only one, and nothing is derived
+-- A row that fits is the only one, and the grammar derives nothing.
 pub only_fault : (reader : Reader) (text : Text) (pairs : List Pair) (fault : Fault) → HasFault reader text pairs fault → OnlyFault reader text pairs fault
 only_fault reader text pairs fault h = record {
   row = h.0;
@@ -27,7 +27,7 @@ only_fault reader text pairs fault h = record {
   underived = λ found all whole. no_row_fits reader text (found, all, whole) h.0 pairs h.1;
 }
 
--- so a fault that a text and replies give is the only one
+-- So a fault that a text and the replies give is the only one.
 pub gives_only : (reader : Reader) (text : Text) (pairs : List Pair) (replies : List Reply) (fault : Fault) → GivesFault reader text pairs replies fault
     → GivesOnlyFault reader text pairs replies fault
 gives_only reader text pairs replies fault (inl p) = record {

@@ -1,16 +1,16 @@
--- Lists of replies: one more at the end, replies of none, and which of them is refused.
+-- Lists of replies: one more reply at the end, replies that are `None`, and which reply is refused.
 use Rattle.std.proofs.Common.{◌≡◌, ◌⊎◌, List, [], ◌∷◌, ◌++◌, Option, Some, None, refl, ◌∙◌, ap, inl, inr, append_assoc, length, arith, length-append, map}
 use Rattle.std.proofs.lemmas.List.{Elements.filter_map-append, Folds.find-append}
 use Rattle.std.specs.{Prelude.{find, filter_map}, Option.option_or}
 use Rattle.ixdtf_grammar.specs.{table.Faults.{Fault, Fault.{UnrecognizedCritical, CriticalDuplicateCalendar}}, language.Brackets.Pair}
 use Rattle.ixdtf_grammar.specs.Handlers.{Reply, is_calendar, first_calendar, RefusedBeside, IsRefused, NoneRefused, LastRefused}
 
--- no element stands in the empty list
+-- The empty list has no element.
 pub nothing_split : {A : Type 0} (earlier later : List A) (x : A) → [] ≡ earlier ++ x ∷ later → ⊥
 nothing_split [] later x e = cc
 nothing_split (y ∷ earlier) later x e = cc
 
--- of two elements of a list one stands before the other, or they are one
+-- Of two elements of a list, one is before the other, or they are at the same index.
 pub two_places : {A : Type 0} (xs ys xs' ys' : List A) (a b : A) → xs ++ a ∷ ys ≡ xs' ++ b ∷ ys'
     → ((xs ≡ xs') × (a ≡ b)) ⊎ (((rest : List A) × (xs' ≡ xs ++ a ∷ rest)) ⊎ ((rest : List A) × (xs ≡ xs' ++ b ∷ rest)))
 two_places [] ys [] ys' a b e = inl (refl, cc)
@@ -25,7 +25,7 @@ two_places {A} (x ∷ xs) ys (x' ∷ xs') ys' a b e =
       | inr (inr p) ↦ let same = p.1 in inr (inr (p.0, cc))
     ]
 
--- an element of a list with one more at the end is that one, or stands in the list
+-- An element of a list with one more element at the end is this element, or it is in the list.
 split_more : {A : Type 0} (xs : List A) (a : A) (earlier later : List A) (x : A) → xs ++ a ∷ [] ≡ earlier ++ x ∷ later
     → ((xs ≡ earlier) × (a ≡ x)) ⊎ ((rest : List A) × (xs ≡ earlier ++ x ∷ rest))
 split_more {A} xs a earlier later x e = elim (two_places xs [] earlier later a x e) [
@@ -59,14 +59,14 @@ NoneRefused-more replies reply accepted more = record {
       ];
 }
 
--- where the last reply is refused, not every reply stands, nor with more replies behind
+-- If the last reply is refused, it is not true that no reply is refused, also with more replies after it.
 pub refused_last : (replies more : List Reply) (fault : Fault) → LastRefused replies fault → ¬ (NoneRefused (replies ++ more))
 refused_last replies more fault last none =
     none.none last.earlier more last.reply fault (ap (λ all. all ++ more) last.split ∙ append_assoc last.earlier _ more) last.refused
 
 -- ---- one reply
 
--- an reply is refused with one of two errors
+-- A reply is refused with one of two errors.
 pub refused_split : (calendar : Option Pair) (reply : Reply) (fault : Fault) → RefusedBeside calendar reply fault
     → ((fault ≡ UnrecognizedCritical) × RefusedBeside calendar reply UnrecognizedCritical)
     ⊎ ((fault ≡ CriticalDuplicateCalendar) × RefusedBeside calendar reply CriticalDuplicateCalendar)
@@ -76,7 +76,7 @@ refused_split None (Some pair) CriticalDuplicateCalendar h = absurd h
 refused_split (Some first) (Some pair) CriticalDuplicateCalendar h = inr (refl, h)
 refused_split calendar (Some pair) fault h = absurd h
 
--- an reply that is refused with neither is not refused
+-- A reply that is refused with neither of the two errors is not refused.
 pub neither_refused : (calendar : Option Pair) (reply : Reply) → ¬ (RefusedBeside calendar reply UnrecognizedCritical)
     → ¬ (RefusedBeside calendar reply CriticalDuplicateCalendar)
     → (fault : Fault) → ¬ (RefusedBeside calendar reply fault)
@@ -85,9 +85,9 @@ neither_refused calendar reply a b fault h = elim (refused_split calendar reply 
   | inr p ↦ b p.1
 ]
 
--- ---- replies of none
+-- ---- replies that are `None`
 
--- as many replies as these, each of them none
+-- A list of the same length in which each reply is `None`.
 abbrev pub nones : {A : Type 0} → List A → List Reply
 nones calls = map (λ call. None) calls
 

@@ -1,4 +1,4 @@
--- `parse` derives a record from every date-time of RFC 3339 section 5.6.
+-- The grammar of `parse` derives a record from every date-time of RFC 3339 section 5.6.
 use Rattle.ixdtf_grammar.specs.language.{Readers.parse, Times.{Clock as clocks, IsTime, SecondText, ColonMinuteText}}
 use Rattle.ixdtf_grammar.specs.language.{Times.TimeShape.{colon_minutes, seconds, fractions}, Letters.{Text, time_letter, date_time_separator}}
 use Rattle.ixdtf_grammar.specs.language.{Shapes.{nothing, ◌either◌}, Digits.decimal, Fractions.{FractionParts, fraction_of}, Dates.IsDate}
@@ -25,7 +25,7 @@ full_date text d = (
 separates : (c : ℕ) → IsTrue (time_letter c) → IsTrue (date_time_separator c)
 separates c h = grind (arith, nat_tests, h)
 
--- the time of its hour, minute and second
+-- The text of an hour, a minute and a second is that of a time.
 whole_time : (text : Text) (t : WholeTime text) → SecondText clocks.Time text (time_of t.3.0 t.4.4.3.0 t.4.4.4.4.0 None)
 whole_time text t =
     inr (colon_seconds_text t.0 t.4.4.0 t.4.4.4.1 (t.2 ∙ rw (t.4.2, t.4.3, t.4.4.2, t.4.4.4.2, t.4.4.4.3) refl) refl t.3.1 t.4.4.3.1 t.4.4.4.4.1 refl)
@@ -61,7 +61,7 @@ is_offset text (inr o) =
       inl (offset_of sign.0 false time, signed_text sign.0 o.1 colon_minutes time (o.2 ∙ rw sign.1 refl) sign.2 minutes, refl),
     )
 
--- every one is derived, with no pairs
+-- Every date-time is derived, without annotations.
 pub rfc_3339_derives : (text : Text) → IsRfcDateTime text → (found : Parsed) × Derives parse text (parsed found) []
 rfc_3339_derives text d =
     let date = full_date d.0 d.3 in
@@ -74,7 +74,7 @@ rfc_3339_derives text d =
     (d.2 ∙ rw (d.4.2, after.2, after.4.2) (simp append_assoc)) date.1 (separator.0, separator.1, separates separator.0 separator.2) time.1 offset.1) in
     (parsed_with core None, as_parsed (bracketed_text text [] core None [] (sym (append-nil text)) is_core ([], [], refl, refl, refl)))
 
--- without pairs nothing is refused, and there is no calendar
+-- Without annotations, no reply is refused, and there is no calendar.
 unhandled : (text : Text) (found : Parsed) → Derives parse text (parsed found) [] → UnhandledRecord parse text found
 unhandled text found (as_parsed d) = ([], record { read = found; whole = as_parsed d; accepted = NoneRefused-nothing; has = rw d.has refl })
 

@@ -1,4 +1,4 @@
--- The texts of the reader of date-times of RFC 3339 are those of the section's own productions, and `parse` reads them alike.
+-- The texts of `parse_rfc3339` are those of the productions of RFC 3339 section 5.6. `parse` reads them with the same result.
 use Rattle.std.proofs.Common.{◌≡◌, ℕ, IsTrue, [], ◌∷◌, ◌++◌, Option, Some, None, pos, refl, sym, ◌∙◌, inl, inr, arith, append_assoc, append-nil}
 use Rattle.std.proofs.lemmas.Bool.{eqb-true, Decides.nat_tests}
 use Rattle.ixdtf_grammar.specs.declared.records.{DateRecord.DateRecord, TimeRecord.TimeRecord, MinutePrecisionOffset.MinutePrecisionOffset}
@@ -15,7 +15,7 @@ use Rattle.ixdtf_grammar.proofs.parts.Texts.{signed_text, colon_minutes_text, co
 use Rattle.ixdtf_reading.specs.reading.{Dates.date_of, Times.time_of, DateTimes.num_offset}
 use Rattle.ixdtf_reading.proofs.theorems.Replies.{NoneRefused-nothing}
 
--- ---- by the section's own productions
+-- ---- from the productions of the section to the reader
 
 full_date : (text : Text) (d : FullDate text) → IsFullDate text (date_of (pos (decimal d.years)) d.month d.day)
 full_date text d = (
@@ -94,7 +94,7 @@ date_time text d =
       },
     )
 
--- ---- and back
+-- ---- from the reader to the productions of the section
 
 full_date_back : (text : Text) (date : DateRecord) → IsFullDate text date → FullDate text
 full_date_back text date (d, h) = record {

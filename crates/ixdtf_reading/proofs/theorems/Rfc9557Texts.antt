@@ -1,4 +1,4 @@
--- What the reader of the texts of RFC 9557 reads, beside that of RFC 3339 and beside `parse`.
+-- The texts that `parse_rfc9557` accepts, compared with those of `parse_rfc3339` and of `parse`.
 use Rattle.std.proofs.Common.{List, [], Option, Some, None, true, false, refl, sym, append-nil}
 use Rattle.ixdtf_grammar.specs.language.{Letters.Text, Brackets.{Pair, ZoneNote, IsTail}, Readers.{parse, parse_rfc9557}}
 use Rattle.ixdtf_grammar.specs.language.Languages.{Parsed, parsed_with, Derives, Derives.{as_parsed, as_dated}, Found.parsed}
@@ -12,7 +12,7 @@ rfc_9557_reads_the_same text found (as_dated (core, d, is)) =
     as_parsed (bracketed_text text [] core None [] (sym (append-nil text)) d ([], [], refl, refl, refl)) in
     ([], record { read = parsed_with core None; whole = derived; accepted = NoneRefused-nothing; has = rw is refl })
 
--- an exact zone is a zone
+-- An exact zone is also a zone.
 any_tail : (text : Text) (zone : Option ZoneNote) (pairs : List Pair) → IsTail true text zone pairs → IsTail false text zone pairs
 any_tail text None pairs h = h
 any_tail text (Some note) pairs h = (h.0, h.1, h.2, (h.3.0, tt), h.4)

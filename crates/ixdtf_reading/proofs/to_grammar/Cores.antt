@@ -1,4 +1,4 @@
--- What reading a core returns is a core, with the end or a bracket after it, or a row that fits.
+-- Reading a core returns a core, with the end of the text or a bracket after it, or the fault of a row that fits.
 use Rattle.std.proofs.Common.{◌≡◌, ℕ, Bool, true, false, IsTrue, IsFalse, [], ◌∷◌, ◌++◌, Ok, Option, Some, None, is_some, refl, sym, ap, ◌∙◌, subst, inl, inr}
 use Rattle.std.proofs.{Common.{append_assoc, append-nil}, lemmas.Bool.{or_from, eqb-true}}
 use Rattle.ixdtf_grammar.specs.declared.{profile.Profile.Profile, records.{DateRecord.DateRecord, TimeRecord.TimeRecord, UtcOffsetRecord.UtcOffsetRecord}}
@@ -28,7 +28,7 @@ use Rattle.ixdtf_reading.proofs.to_grammar.DateTimes.{FitsDateTime, date_time_re
 use Rattle.ixdtf_reading.proofs.{to_reading.Times.{Closed, IsLater}, to_grammar.Dates.{DateFront, date_read}}
 use Rattle.ixdtf_reading.proofs.to_grammar.{Months.{FrontIs, year_month_read, month_day_read}, Times.{later, TimeFront, hour_read, clock_read, clock_stops}}
 
--- Bad does not stand where a time is closed
+-- If a time ends here, the next code unit is not `Bad`.
 closed_not_bad : (clock : Clock) (shape : TimeShape) (rest more : Text) → Closed clock shape rest → rest ≡ Bad ∷ more → ⊥
 closed_not_bad clock seconds rest more closed is = rw is at closed
 closed_not_bad clock fractions rest more closed is = rw is at closed
@@ -40,24 +40,24 @@ not_bad class rest more closed is = rw is at closed
 not_next : (class : Class) (rest : Text) (c : ℕ) (more : Text) → NotNext class rest → rest ≡ Plain c ∷ more → IsFalse (class c)
 not_next class rest c more closed is = rw is at closed
 
--- the text is the front, and `[` and the rest where a bracket follows
+-- The text is the prefix and the rest. If a bracket follows, `[` is between them.
 abbrev pub Splits : Text → Text → Bool → Text → Type 0
 Splits text front true rest = text ≡ front ++ (Plain 91 ∷ rest)
 Splits text front false rest = (text ≡ front) × (rest ≡ [])
 
--- what reading a core, or a thing like a core, gave
+-- What is true if reading a core, or something like a core, returned this result.
 abbrev pub FrontOf : (Text → Core → Type 0) → Text → ClosedCore → Text → Type 0
 FrontOf is_core text x rest = (front : Text) × Splits text front x.1 rest × is_core front x.0
 
 abbrev pub CoreFront : CoreKind → Text → ClosedCore → Text → Type 0
 CoreFront kind text x rest = FrontOf (IsCore kind) text x rest
 
--- the row fits a core of the kind, or what follows it
+-- The row fits a core of this kind, or what follows the core.
 abbrev FitsCore : CoreKind → Text → Row → Type 0
 FitsCore kind text row = Fits (bracketed kind) row [] text
 
 module _ {E : Type 0} (fault : Row → E) (kind : CoreKind) (text : Text) where
-  -- what is known of reading a core, or a thing like a core
+  -- What is true for the result of reading a core, or something like a core.
   abbrev ReadsAs : (Text → Core → Type 0) → Read E ClosedCore → Type 0
   ReadsAs is_core read = OnRead fault read (FrontOf is_core text) (FitsCore kind text)
 
@@ -70,7 +70,7 @@ module _ {E : Type 0} (fault : Row → E) (kind : CoreKind) (text : Text) (is_co
 
   -- ---- the end of a core
 
-  -- a core was read, which stops at the line
+  -- A core was read. `name` is the table line after it.
   module _ (name : LineName) (core : Core) (front rest : Text) (is : text ≡ front ++ rest) (core_here : is_core front core) where
     at_next : (next : Option ℕ) (more : Text) → Peeked opening rest next more → FrontOf is_core text (core, is_some next) more
     at_next None more h = (front, (is ∙ rw h.0 (append-nil front), h.1), core_here)
@@ -86,14 +86,14 @@ module _ {E : Type 0} (fault : Row → E) (kind : CoreKind) (text : Text) (is_co
         at_next
         (λ row f. f)
 
-    -- the same, where nothing but a bracket may follow at the line
+    -- As above, for a line after which only a bracket can follow.
     closing_read : (shown : Shape)
         → ((place : Place) (e : Fault) → Stops (line shown opening ok (always InvalidEnd)) place e rest → FitsCore kind text (row_of name place e))
         → CoreOrRow (core_end_at fault name core rest)
     closing_read shown fits =
         end_read (λ c more next out. fits (other rest) InvalidEnd (c, more, next, out, refl, refl)) (λ more next. fits (bad rest) NonAsciiCodePoint (more, next, refl, refl))
 
-  -- ---- what follows a time, behind what stands before the time
+  -- ---- what follows a time, with the text before the time
 
   module _ (date : Option DateRecord) (prior body : Text) (is : text ≡ prior ++ body) (stands : (l : ClockLine) → IsLater l → BeforeTime kind l prior)
       (core_of_parts : (ts offsets : Text) (t : TimeRecord) (offset : Option UtcOffsetRecordOrZ) → IsTime ts t → OptionalOffset offsets offset
@@ -116,7 +116,7 @@ module _ {E : Type 0} (fault : Row → E) (kind : CoreKind) (text : Text) (is_co
     signed : (s : ℕ) → IsTrue (sign s) → (BeforeOffset kind then one sign) ((prior ++ h.0) ++ (Plain s ∷ []))
     signed s signs = (prior ++ h.0, Plain s ∷ [], refl, timed, (s, refl, signs))
 
-    -- an offset was read after its sign
+    -- An offset was read after its sign.
     after_offset_read : (s : ℕ) (more : Text) → rest ≡ Plain s ∷ more → IsTrue (sign s) → (o : OpenTime) (left : Text) → TimeFront Clock.Offset more o left
         → CoreOrRow (core_end_at fault (line_after Clock.Offset o.0) (with_offset date x.1 (offset_of s (writes_seconds o.0) o.1)) left)
     after_offset_read s more next signs o left g =
@@ -129,7 +129,7 @@ module _ {E : Type 0} (fault : Row → E) (kind : CoreKind) (text : Text) (is_co
         (clock_stops fault true Clock.Offset more o (other left) InvalidEnd left g (c, after, ends, out, refl, refl)))
         (λ after ends. absurd (closed_not_bad Clock.Offset o.0 left after g.3 ends))
 
-    -- an offset after its sign
+    -- Reading an offset after its sign.
     offset_read : (s : ℕ) (more : Text) → rest ≡ Plain s ∷ more → IsTrue (sign s) → CoreOrRow (offset_core_at fault date x.1 s more)
     unfolding offset_core_at
     offset_read s more next signs = then_read fault _ _ _ _ _ _ (clock_read fault true Clock.Offset more)
@@ -137,7 +137,7 @@ module _ {E : Type 0} (fault : Row → E) (kind : CoreKind) (text : Text) (is_co
         (λ row f. lift (of_clock Clock.Offset) (bracketed kind) row text ((prior ++ h.0) ++ (Plain s ∷ [])) more (time_text ∙ rw next (simp append_assoc))
         (λ l. (signed s signs, refl)) f)
 
-    -- `Z` or `z`
+    -- The next code unit is `Z` or `z`.
     zulu_read : (z : ℕ) (more : Text) → rest ≡ Plain z ∷ more → IsTrue (zulu z)
         → CoreOrRow (core_end_at fault (of_offset after_zulu) (core_of date (Some x.1) (Some Z)) more)
     zulu_read z more next is_zulu = closing_read (of_offset after_zulu) (core_of date (Some x.1) (Some Z)) (prior ++ (h.0 ++ (Plain z ∷ []))) more
@@ -146,7 +146,7 @@ module _ {E : Type 0} (fault : Row → E) (kind : CoreKind) (text : Text) (is_co
         (one zulu)
         (λ place e at. (prior ++ h.0, Plain z ∷ more, time_text ∙ rw next, (timed, refl), (Plain z ∷ [], more, refl, (z, refl, is_zulu), at)))
 
-    -- nothing of an offset
+    -- No offset follows.
     no_offset_read : NotNext sign rest → NotNext zulu rest → CoreOrRow (core_end_at fault (line_after Clock.Time x.0) (core_of date (Some x.1) None) rest)
     no_offset_read no_sign no_zulu = end_read (line_after Clock.Time x.0) (core_of date (Some x.1) None) (prior ++ (h.0 ++ [])) rest
         (is_text [] rest refl)
@@ -171,13 +171,13 @@ module _ {E : Type 0} (fault : Row → E) (kind : CoreKind) (text : Text) (is_co
 
 -- ---- dates and times
 
--- a line of dates that a text begins with
+-- A table line of dates, at the beginning of a text.
 before_date : (l : DateLine) → BeforeDate date_time l []
 before_date year_start = refl
 before_date l = refl
 
 module _ {E : Type 0} (fault : Row → E) (text : Text) where
-  -- a date and a separator were read
+  -- A date and a separator were read.
   time_core_read : (ds separator body : Text) (date : DateRecord) → text ≡ (ds ++ separator) ++ body → IsDate ds date → one date_time_separator separator
       → ReadsCore fault date_time text (time_core_at fault date body)
   unfolding time_core_at
@@ -190,13 +190,13 @@ module _ {E : Type 0} (fault : Row → E) (text : Text) where
       (λ ts t is_time. (ds ++ separator, ts, refl, before, (t, is_time))))
       (λ row f. lift (of_clock Clock.Time) (bracketed date_time) row text (ds ++ separator) body is (λ l. (before, refl)) f)
 
-  -- the row of what follows a date
+  -- The row for what follows a date.
   after_date_fits : (place : Place) (e : Fault) (front rest : Text) → text ≡ front ++ rest → some IsDate front
       → Stops (line_of true (of_date after_date)) place e rest
       → FitsCore date_time text (row_of (of_date after_date) place e)
   after_date_fits place e front rest is date at = ([], text, refl, (refl, refl), (front, rest, is, date, at))
 
-  -- a date and no separator
+  -- A date was read, and no separator follows.
   no_time_read : (date : DateRecord) (rest : Text) → DateFront text date rest → NotNext date_time_separator rest
       → ReadsCore fault date_time text (core_end_at fault (of_date after_date) (core_of (Some date) None None) rest)
   no_time_read date rest h closed = end_read fault date_time text IsDateTimeCore (of_date after_date) (core_of (Some date) None None) h.0 rest h.1
@@ -219,10 +219,10 @@ module _ {E : Type 0} (fault : Row → E) (text : Text) where
       after_date_read
       (λ row f. lift of_date (bracketed date_time) row text [] text refl (λ l. (before_date l, refl)) f)
 
--- ---- a date of a part, alone
+-- ---- cores that are only a date
 
 module _ {E : Type 0} (fault : Row → E) (kind : CoreKind) (text : Text) (part : Text → DateRecord → Type 0) (name : LineName) where
-  -- the row of what follows it
+  -- The row for what follows the date.
   abbrev AfterFits : Type 0
   AfterFits = (place : Place) (e : Fault) (front rest : Text) → text ≡ front ++ rest → some part front
       → Stops (line (some part) opening ok (always InvalidEnd)) place e rest
@@ -236,25 +236,25 @@ module _ {E : Type 0} (fault : Row → E) (kind : CoreKind) (text : Text) (part 
       (λ place e at. fits place e h.0 rest h.1 (date, h.2) at))
       (λ row f. f)
 
--- ---- times that stand alone
+-- ---- times without a date
 
--- what stands before a line after the first digit of the hour
+-- The text before a table line that comes after the first digit of the hour.
 marked_line : (profile : Profile) (l : ClockLine) (prior : Text) → IsLater l → TimeMark prior → BeforeTime (time_of_day profile) l prior
 marked_line profile hour_start prior is_later mark = absurd is_later
 marked_line profile l prior is_later mark = mark
 
--- and before any line of a time, where `T` or `t` stands
+-- The text before any table line of a time, if it is `T` or `t`.
 lettered_line : (profile : Profile) (l : ClockLine) (prior : Text) → one time_letter prior → BeforeTime (time_of_day profile) l prior
 lettered_line profile hour_start prior letter = letter
 lettered_line profile l prior letter = inr letter
 
--- the end or a bracket stands after what was read
+-- The end of the text or a bracket follows what was read.
 split_ends : (text front : Text) (has_bracket : Bool) (rest : Text) → Splits text front has_bracket rest
     → (after : Text) × (text ≡ front ++ after) × AtCoreEnd after
 split_ends text front true rest is = (Plain 91 ∷ rest, is, inr (Plain 91 ∷ [], rest, refl, (91, refl, refl), tt))
 split_ends text front false rest is = ([], is.0 ∙ sym (append-nil front), inl refl)
 
--- what reading a time gave, behind `T` or `t` or neither
+-- What is true if reading an optional `T` or `t` and a time returned this result.
 abbrev MarkedFront : Text → OpenTime → Text → Type 0
 MarkedFront text x rest = (marks body : Text) × (text ≡ marks ++ body) × TimeMark marks × TimeFront Clock.Time body x rest
 
@@ -309,7 +309,7 @@ module _ {E : Type 0} (fault : Row → E) (profile : Profile) (text : Text) wher
       x rest h.4)
       (λ row f. f)
 
-  -- the test of the front, after the time
+  -- The test of the beginning of the text, after the time was read.
   tested_read : (x : ClosedCore) (rest : Text) → FrontOf MarkedTime text x rest
       → ReadsCore fault (time_of_day profile) text (unfronted fault profile text (Ok (x, rest)))
   tested_read x rest h =
@@ -327,7 +327,7 @@ module _ {E : Type 0} (fault : Row → E) (profile : Profile) (text : Text) wher
 -- ---- date-times of RFC 3339
 
 module _ {E : Type 0} (fault : Row → E) (text : Text) where
-  -- the end of a date-time, at one of its lines
+  -- The end of a date-time, at one of its table lines.
   date_time_ended : (name : DateTimeLine) (shape : Shape) (prior rest : Text) (core : Core) → text ≡ prior ++ rest → IsDateTime prior core
       → ((row : Row) → (row.name ≡ of_date_time name) × Stops (line shape opening ok (always InvalidEnd)) row.place row.error rest → FitsDateTime fault true text row)
       → OnRead fault (core_end_at fault (of_date_time name) core rest) (FrontOf IsDateTime text) (FitsDateTime fault true text)
@@ -346,7 +346,7 @@ module _ {E : Type 0} (fault : Row → E) (text : Text) where
       (λ x rest h. h)
       (λ row h. lift of_date_time (bracketed internet_date_time) row text [] text refl (λ l. (refl, refl)) h)
 
--- a core of any kind
+-- Reading a core of any kind.
 pub core_read : {E : Type 0} (fault : Row → E) (text : Text) (kind : CoreKind) → ReadsCore fault kind text (core_at fault kind text)
 core_read fault text date_time = date_time_read fault text
 core_read fault text internet_date_time = internet_date_time_read fault text

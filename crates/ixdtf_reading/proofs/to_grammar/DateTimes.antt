@@ -1,4 +1,4 @@
--- What reading a date-time of RFC 3339 returns is one, or a row that fits.
+-- Reading a date-time of RFC 3339 returns a date-time, or the fault of a row that fits.
 use Rattle.std.proofs.Common.{◌≡◌, ℕ, suc, ◌<◌, ◌≤◌, ◌⊎◌, Bool, true, false, IsTrue, IsFalse, [], ◌∷◌, ◌++◌, Ok, Err, Option, Some, None, refl, sym, ap, ◌∙◌}
 use Rattle.std.proofs.{Common.{inl, inr, arith, append_assoc, append-nil, pos, ℤ, nat_le, ◌&&◌}, lemmas.Bool.{both_ways, and_parts, and_from, leb-true, le-leb}}
 use Rattle.std.proofs.lemmas.Bool.{or_from, eqb-true, true≢false, Decides.nat_tests}
@@ -29,7 +29,7 @@ use Rattle.ixdtf_reading.proofs.to_reading.DateTimes.{Leads, written_fraction, t
 
 -- ---- ranges
 
--- the number of two digits is at most the greatest
+-- The number of two digits is at most `greatest`.
 within : (greatest : ℕ) (ds : Text) → digits 2 ds → IsTrue (at_most greatest (decimal ds)) → UpTo greatest ds (decimal ds)
 within greatest ds two test = (two, refl, leb-true (decimal ds) greatest test)
 
@@ -45,7 +45,7 @@ no_month_of n test = grind (arith, nat_tests, test)
 up_to_written : (greatest : ℕ) (ds : Text) (n : ℕ) → UpTo greatest ds n → UpTo greatest ds (decimal ds)
 up_to_written greatest ds n h = (h.0, refl, rw h.1 at h.2)
 
--- what an offset begins with, by what it is not
+-- If the first code unit of an offset is not `Z` or `z`, it is a sign.
 sign_of_lead : (c : ℕ) → Leads c → IsFalse (zulu c) → IsTrue (sign c)
 sign_of_lead c (inl h) no_utc = h
 sign_of_lead c (inr h) no_utc = absurd (both_ways (zulu c) no_utc h)
@@ -64,14 +64,14 @@ lead_past_point c may no_point = by_sign (sign c) refl
     by_sign true is = inl is
     by_sign false is = inr (grind (arith, nat_tests, may, no_point, is))
 
--- a fraction or none, as the record of a time has it
+-- A fraction or none, as in the record of a time.
 part_of : (part : Text) (h : (nothing either SecondFraction) part) → OptionalSecfrac part (written_fraction part h)
 part_of part (inl empty) = empty
 part_of part (inr h) = record { ds = h.0; is = h.2; some = (h.1, h.3); value = refl }
 
 -- ---- what was read up to the end of a time
 
--- the parts of a date-time before its offset
+-- The parts of a date-time before its offset.
 record Parts (prior : Text) (date : DateRecord) (time : TimeRecord) : Type 0 where
   dates : Text
   letters : Text
@@ -110,7 +110,7 @@ parts_of prior h =
       };
     }
 
--- a date-time with this offset
+-- A date-time with this offset.
 with_offset : {prior : Text} {date : DateRecord} {time : TimeRecord} (offsets : Text) (offset : UtcOffsetRecordOrZ) → Parts prior date time
     → IsTimeOffset offsets offset → IsDateTime (prior ++ offsets) (core_of (Some date) (Some time) (Some offset))
 with_offset {date} {time} offsets offset p o = record {
@@ -130,7 +130,7 @@ with_offset {date} {time} offsets offset p o = record {
 }
 
 module _ {E : Type 0} (fault : Row → E) (brackets : Bool) (text : Text) where
-  -- a row of a date-time's lines fits the text
+  -- A row of the table lines of a date-time fits the text.
   abbrev pub FitsDateTime : Row → Type 0
   FitsDateTime row = FitsIn of_date_time brackets row text
 
@@ -141,18 +141,18 @@ module _ {E : Type 0} (fault : Row → E) (brackets : Bool) (text : Text) where
     longer_front : (ds rest : Text) → body ≡ ds ++ rest → text ≡ (prior ++ ds) ++ rest
     longer_front ds rest next = is ∙ rw next (simp append_assoc)
 
-    -- digits are missing
+    -- There are fewer than two digits.
     digits_fit : (row : Row) → DigitsStop (of_date_time (field_digits field)) 2 body row → FitsDateTime row
     digits_fit row g =
         fits_in of_date_time brackets (field_digits field) row text (prior ++ g.2) g.3 g.6.0 (longer_front g.2 g.3 g.4) (prior, g.2, refl, until, (g.0, g.1, g.5)) g.6.1
 
-    -- the number is out of its range
+    -- The number is not in its range.
     range_fits : (ds rest : Text) → body ≡ ds ++ rest → digits 2 ds → IsFalse (test (decimal ds))
         → FitsDateTime (row_of (of_date_time (field_range field)) (anywhere rest) (range_fault field))
     range_fits ds rest next two fails =
         fits_in of_date_time brackets (field_range field) (row_of (of_date_time (field_range field)) (anywhere rest) (range_fault field)) text (prior ++ ds) rest refl (longer_front ds rest next) (out ds two fails) (refl, refl)
 
-    -- the digits of a number in its range were read
+    -- The digits of a number in its range were read.
     abbrev Numbered : ℕ → Text → Type 0
     Numbered n rest = (ds : Text) × (body ≡ ds ++ rest) × digits 2 ds × IsTrue (test (decimal ds)) × (n ≡ decimal ds)
 
@@ -246,7 +246,7 @@ module _ {E : Type 0} (fault : Row → E) (brackets : Bool) (text : Text) where
         (λ ds c rest next two holds may. offset_minute_read (prior ++ (ds ++ (Plain c ∷ []))) rest (split prior ds rest body c is next)
         (prior, ds ++ (Plain c ∷ []), refl, h, (ds, Plain c ∷ [], refl, (decimal ds, within 23 ds two holds), (c, refl, may))))
 
-    -- after a time and the first code unit of an offset
+    -- Reading after a time and the first code unit of an offset.
     time_offset_read : (prior body : Text) (c : ℕ) → text ≡ (prior ++ (Plain c ∷ [])) ++ body → Leads c → (h : ThroughTime prior)
         → Found (time_offset_at fault finish h.3.3.3.3.3.0 (time_to prior h) c body)
     unfolding time_offset_at
@@ -266,7 +266,7 @@ module _ {E : Type 0} (fault : Row → E) (brackets : Bool) (text : Text) where
         (λ fraction rest g. rw g.4 (after_run g.0 rest g.1 g.2 g.3.0 g.3.1))
         (λ row g. g)
       where
-        -- the digits of a fraction were read
+        -- The digits of a fraction were read.
         Fractional : FractionParts → Text → Type 0
         Fractional fraction rest = (ds : Text) × (n : ℕ) × (body ≡ ds ++ rest) × (digits (suc n) ds × NotNext digit rest) × (fraction ≡ fraction_of ds)
 
@@ -394,7 +394,7 @@ module _ {E : Type 0} (fault : Row → E) (text : Text) where
   abbrev WholeDateTime : Parsed → Text → Type 0
   WholeDateTime found rest = (rest ≡ []) × IsRfc3339 text found
 
-  -- the end of the text, at a line at which nothing goes on
+  -- The end of the text, at a table line that accepts no code unit.
   ended : (name : DateTimeLine) (shape : Shape) (prior rest : Text) (core : Core) → text ≡ prior ++ rest → IsDateTime prior core
       → ((row : Row) → (row.name ≡ of_date_time name) × Stops (line shape none ok (always InvalidEnd)) row.place row.error rest → FitsDateTime fault false text row)
       → OnRead fault (peek_by (look_of fault (of_date_time name) (line shape none ok (always InvalidEnd))) rest >>= λ next. Ok (parsed_with core None, next.1))

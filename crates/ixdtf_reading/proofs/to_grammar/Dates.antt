@@ -1,4 +1,4 @@
--- What reading a date returns is a date, or is a row that fits.
+-- Reading a date returns a date, or the fault of a row that fits.
 use Rattle.std.proofs.Common.{◌≡◌, ℕ, ◌<◌, ◌≤◌, ◌⊎◌, Bool, true, false, [], ◌∷◌, ◌++◌, refl, ◌∙◌, inl, inr, arith, append_assoc, ℤ, nat_le, ◌&&◌}
 use Rattle.std.proofs.lemmas.Bool.{and_parts, and_from, both_ways, leb-true, le-leb, Decides.nat_tests}
 use Rattle.ixdtf_grammar.specs.{declared.records.DateRecord.DateRecord, language.{Letters.{Text, ◌or◌, digit, hyphen, Letter.Plain}, Shapes.{◌either◌, fewer_digits_than}}}
@@ -15,11 +15,11 @@ use Rattle.ixdtf_reading.proofs.parts.{Looks.{further, LooksFor}, Marks.{hyphens
 use Rattle.ixdtf_reading.proofs.{parts.Years.{in_year_or_month, year_read}, to_reading.Dates.no_month}
 use Rattle.ixdtf_reading.proofs.parts.Looks.{Looks}
 
--- what reading a date gave
+-- What is true if reading a date returned this result.
 abbrev pub DateFront : Text → DateRecord → Text → Type 0
 DateFront text date rest = (front : Text) × (text ≡ front ++ rest) × IsDate front date
 
--- what stands of a month, by whether a hyphen does
+-- The beginning of a month, with a hyphen before it or without.
 begins_month : (b : Bool) (ds : Text) → Begun b ds → HyphenOrDigit (hyphens_of b ++ ds)
 begins_month true ds (inl h) = inl (45, rw h, refl)
 begins_month true ds (inr h) = inr (inl (Plain 45 ∷ [], ds, refl, (45, refl, refl), h))
@@ -29,7 +29,7 @@ fewer_than_two : (ds : Text) → Begun true ds → fewer_digits_than 2 ds
 fewer_than_two ds (inl h) = (0, omega arith, h)
 fewer_than_two ds (inr h) = (1, omega arith, one_as_digits ds h)
 
--- a date's text, with a hyphen before its month and before its day, or with none
+-- The text of a date, with a hyphen before its month and one before its day, or with none.
 abbrev dated : Bool → Text → Text → Text → Text
 dated b ys ms ds = ys ++ ((hyphens_of b ++ ms) ++ (hyphens_of b ++ ds))
 
@@ -44,7 +44,7 @@ begins_day true ys ms ds y m year month h =
     let day : (one hyphen then fewer_digits_than 2) (Plain 45 ∷ ds) = (Plain 45 ∷ [], ds, refl, (45, refl, refl), fewer_than_two ds h) in
     inr (ys, _, refl, (y, year), (Plain 45 ∷ [], _, refl, (45, refl, refl), (ms, _, refl, (m, month), day)))
 
--- the row is that of two digits that are no month
+-- The row is that of two digits that are not a month.
 abbrev pub NoMonthRow : (Text → Row) → Text → Text → Row → Type 0
 NoMonthRow wanted ds left row = (row ≡ wanted left) × ((decimal ds ≡ 0) ⊎ (12 < decimal ds))
 
@@ -58,17 +58,17 @@ month_range_read fault wanted ds rest = read_if fault (nat_le 1 (decimal ds) && 
 module _ {E : Type 0} (fault : Row → E) where
   -- ---- a year and a month
 
-  -- what reading a month after a year gave
+  -- What is true if reading a month after a year returned this result.
   abbrev MonthFront : Text → ℕ × Bool → Text → Type 0
   MonthFront text month rest = (ms : Text) × (text ≡ (hyphens_of month.1 ++ ms) ++ rest) × Month ms month.0
 
-  -- the row is of a line of a month, at digits of this month
+  -- The row is of a table line of a month, at the digits of this month.
   abbrev StopsInMonth : Text → Row → Type 0
   StopsInMonth text row =
       (b : Bool) × (ds rest : Text) × (text ≡ (hyphens_of b ++ ds) ++ rest)
       × ((Begun b ds × StopsHere (of_date month_digits) rest row) ⊎ (NoMonth ds × (row ≡ no_month rest)))
 
-  -- the year stops at this line
+  -- `name` is the table line after the year.
   module _ (name : LineName) (asks : LooksFor (hyphen or digit) (line_of true name)) where
     month_read : (text : Text) → OnRead fault (month_at fault name text) (MonthFront text) (λ row. StopsHere name text row ⊎ StopsInMonth text row)
     unfolding month_by month_in_range
@@ -104,7 +104,7 @@ module _ {E : Type 0} (fault : Row → E) where
             ),
           )
 
-      -- a year and a month, and what is read with them from there
+      -- A year and a month, and what `go` reads after them.
       pub from_year_read : {A : Type 0} (go : ℤ → (ℕ × Bool) × Text → Read E A) (found : A → Text → Type 0) (stopped : Row → Type 0)
           → ((ys : Text) (y : ℤ) (b : Bool) (ms : Text) (m : ℕ) (rest : Text) → text ≡ (ys ++ (hyphens_of b ++ ms)) ++ rest → Year ys y → Month ms m
           → OnRead fault (go y ((m, b), rest)) found stopped)
@@ -124,7 +124,7 @@ module _ {E : Type 0} (fault : Row → E) where
 
   -- ---- the day after them
 
-  -- what stands between a month and a day
+  -- The text between a month and a day.
   separator_read : (b : Bool) (text : Text)
       → OnRead fault (mark_at fault (line_after_month b) hyphen text) (λ s rest. (text ≡ hyphens_of b ++ rest) × Starts b rest)
       (StopsHere (line_after_month b) text)
@@ -141,7 +141,7 @@ module _ {E : Type 0} (fault : Row → E) where
       by_mark false false rest h = (h.0, (h.1, h.2, h.3, h.4))
 
   module _ (brackets : Bool) where
-    -- what is known of reading a date, or a part of it
+    -- What is true for the result of reading a date, or a part of it.
     abbrev DateOrRow : Text → Read E DateRecord → Type 0
     DateOrRow text r = OnRead fault r (DateFront text) (λ row. FitsIn of_date brackets row text)
 
@@ -153,7 +153,7 @@ module _ {E : Type 0} (fault : Row → E) where
         (λ test. fits_whole_in fault of_date brackets day_range InvalidDayRange text front rest is
         (date, (shape, λ good. both_ways _ test (and_from _ _ (le-leb 1 date.day good.0) (le-leb date.day _ good.1)))) (refl, refl))
 
-    -- a year and a month were read
+    -- A year and a month were read.
     module _ (text ys : Text) (y : ℤ) (ms : Text) (m : ℕ) (year : Year ys y) (month : Month ms m) where
       month_stops : (b : Bool) (rest : Text) (row : Row) → text ≡ (ys ++ (hyphens_of b ++ ms)) ++ rest → StopsHere (line_after_month b) rest row
           → FitsIn of_date brackets row text

@@ -1,4 +1,4 @@
--- What reading a duration returns is a duration, or the fault of a row that fits.
+-- Reading a duration returns a duration, or the fault of a row that fits.
 use Rattle.std.proofs.Common.{◌≡◌, ℕ, ◌≤◌, ◌<◌, ◌||◌, Bool, true, false, IsTrue, IsFalse, List, [], ◌∷◌, ◌++◌, Result, Ok, Err, refl, inl, inr, arith}
 use Rattle.std.proofs.{Common.{append_assoc, append-nil, nat_le, if◌then◌else◌}, lemmas.Bool.{or_from, both_ways, leb-true, leb-false}}
 use Rattle.ixdtf_grammar.specs.declared.{profile.Profile.Profile, records.{DurationParseRecord.DurationParseRecord, Sign.Sign}}
@@ -15,9 +15,9 @@ use Rattle.ixdtf_reading.specs.reading.Durations.{grow, add_in_range, in_its_ord
 use Rattle.ixdtf_reading.specs.reading.Durations.State.{started, signed, between, in_number, at_mark, in_fraction, ended}
 use Rattle.ixdtf_reading.proofs.parts.{Looks.{IsRowFault, OnRead, read_if, Goes}, DurationRuns.{Asks, state_asks, one_digit, digits_longer}}
 
--- ---- what a state says of the text that was read
+-- ---- what a state says about the text that was read
 
--- digits of a group, whose number is in range
+-- The digits of a group, whose number is in its range.
 abbrev InRange : Text → Type 0
 InRange ds = SomeDigits ds × (decimal ds ≤ greatest_value)
 
@@ -36,7 +36,7 @@ Here profile (ended s dates times g) front =
     (prior last : Text) × (front ≡ prior ++ last) × IsContext profile prior (in_times s dates times) × FractionGroup last g
     × IsTrue (in_order profile times g.unit)
 
--- the row fits at this front, before this text
+-- The row fits after this prefix, and before this text.
 abbrev FitsAnywhere : Profile → Text → Text → Row → Type 0
 FitsAnywhere profile left front row =
     InDuration profile row.name [] × front_of (line_of false row.name) front × Stops (line_of false row.name) row.place row.error left
@@ -54,7 +54,7 @@ any_integer date text g h = h
 any_integer time text g h = inl h
 
 module _ {E : Type 0} (fault : Row → E) (profile : Profile) where
-  -- what is known of the state after a code unit, or of the row of its fault
+  -- What is true for the state after a code unit, or for the row of its fault.
   abbrev OnState : Result State E → (State → Type 0) → (Row → Type 0) → Type 0
   OnState (Ok to) found stopped = found to
   OnState (Err e) found stopped = IsRowFault fault e stopped
@@ -64,9 +64,9 @@ module _ {E : Type 0} (fault : Row → E) (profile : Profile) where
   state_if true x y found stopped yes_case no_case = yes_case refl
   state_if false x y found stopped yes_case no_case = no_case refl
 
-  -- ---- one code unit more
+  -- ---- one more code unit
 
-  -- a state that says so of the front, or a row that fits at it, before this text
+  -- The state describes the prefix, or a row fits after the prefix and before this text.
   abbrev Kept : Text → Text → Result State E → Type 0
   Kept left front r = OnState r (λ to. Here profile to front) (FitsAnywhere profile left front)
 
@@ -84,7 +84,7 @@ module _ {E : Type 0} (fault : Row → E) (profile : Profile) where
   after_between (in_times s dates []) c front b g misses = absurd (both_ways _ misses g)
   after_between (in_times s dates (h ∷ earlier)) c front b g misses = absurd (both_ways _ misses g)
 
-  -- a number past the greatest of its unit is one of dates
+  -- A number that is too great for its unit is that of a date group.
   unit_kept : (left : Text) (context : Context) (prior last : Text) (g : Group) (c : ℕ) → IsContext profile prior context → IntegerGroup (half_of context) last g
       → g.unit ≡ unit_of (half_of context) c → g.value ≤ greatest_value → IsTrue (in_order profile (groups_of context) g.unit) → greatest g.unit < g.value
       → FitsAnywhere profile left (prior ++ last) (unit_past profile left)
@@ -118,7 +118,7 @@ module _ {E : Type 0} (fault : Row → E) (profile : Profile) where
         go
         (λ order. (_, refl, ((refl, refl), (context, prior, last, refl, refl, b, (g, h, order)), (refl, refl))))
 
-    -- the letter of a unit behind the digits of a group
+    -- The letter of a unit after the digits of a group.
     group_kept : (ds : Text) (c : ℕ) → InRange ds → IsTrue (designator (half_of context) c)
         → Kept left (prior ++ (ds ++ (Plain c ∷ []))) (in_its_order fault profile left context (integer_group (half_of context) ds c)
         (add_in_range fault profile left context (integer_group (half_of context) ds c)))
@@ -166,7 +166,7 @@ module _ {E : Type 0} (fault : Row → E) (profile : Profile) where
       order_kept left (in_times s dates times) h.0 h.3 _ (fraction_group ds fs c) _ (inr last) (λ order. (h.0, _, refl, h.3, last, order))))
   kept left (ended s dates times g) c front h goes = absurd (both_ways _ refl goes)
 
--- ---- a state shows the front of its line, and a duration where the text may end
+-- ---- a state describes the prefix of its line, and a duration if the text can end
 
 shown : (profile : Profile) (s : State) (front : Text) → Here profile s front → front_of (duration_line profile (line_of_state s)) front
 shown profile started front h = h
@@ -197,7 +197,7 @@ least_time : (dates : List Group) (g : Group) (times : List Group) → AtLeastOn
 least_time [] g times = tt
 least_time (d ∷ dates) g times = tt
 
--- a duration of its groups
+-- A duration from its groups.
 of_groups : {profile : Profile} {text : Text} (start date_text time_text : Text) (s : Sign) (dates times : List Group) → text ≡ start ++ (date_text ++ time_text)
     → SignedDesignator start s → Groups profile date date_text dates → TimePart profile time_text times → AtLeastOne dates times
     → IsDuration profile text (duration_of s dates times)
@@ -258,7 +258,7 @@ module _ {E : Type 0} (fault : Row → E) (profile : Profile) where
   then_state (Ok to) go to_found at_row found stopped h next lifts = next to h
   then_state (Err e) go to_found at_row found stopped h next lifts = (h.0, h.1, lifts h.0 h.2)
 
-  -- a front of the line of the state, and what its row asks for
+  -- A prefix of the table line of the state, and the condition of its row.
   abbrev FitsThere : Text → Row → Type 0
   FitsThere text row = Fits (parse_duration profile) row [] text
 

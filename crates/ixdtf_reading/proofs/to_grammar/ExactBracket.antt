@@ -1,4 +1,4 @@
--- What reading a first bracket returns, where its zone may have to be exact, is a zone bracket or a pair, or a row that fits.
+-- Reading a first bracket whose zone can have to be exact returns a zone or an annotation, or the fault of a row that fits.
 use Rattle.std.proofs.Common.{◌≡◌, ◌⊎◌, ℕ, List, Bool, true, false, IsTrue, IsFalse, Ok, Err, [], ◌∷◌, ◌++◌, refl, sym, ap, ◌∙◌, inl, inr, if◌then◌else◌}
 use Rattle.std.proofs.{Common.append_assoc, lemmas.Bool.both_ways}
 use Rattle.ixdtf_grammar.specs.table.{Faults.Fault.IanaChar, Rows.Place.anywhere}
@@ -9,18 +9,18 @@ use Rattle.ixdtf_reading.specs.reading.ExactZones.{is_exact, behind_flag, name_l
 use Rattle.ixdtf_reading.proofs.{parts.{Looks.{OnRead, then_read, read_if, read_weaker}, ExactZones.{exact_holds, exact_is}}, to_reading.ExactBracket.IsBracketBy}
 use Rattle.ixdtf_reading.proofs.{to_reading.FirstBracket.bracket_takes, to_grammar.FirstBracket.{FitsAfterCore, IsBracket, bracket_read}}
 
--- what reading a first bracket gave
+-- What is true if reading a first bracket returned this result.
 abbrev pub BracketFront : Bool → Text → Bracket → Text → Type 0
 BracketFront exact body bracket rest = (front : Text) × (body ≡ front ++ rest) × IsBracketBy exact front bracket
 
--- the lines of a zone that is not exact
+-- The table lines of a zone that is not exact.
 abbrev pub IsForm : LineName → Type 0
 IsForm (of_bracket first_dots_form) = Unit {0}
 IsForm (of_bracket first_name_form) = Unit {0}
 IsForm (of_bracket first_offset_form) = Unit {0}
 IsForm name = ⊥
 
--- the row fits what stands after a core
+-- The row fits the text after a core.
 abbrev pub FitsBracket : Bool → Row → Text → Type 0
 FitsBracket exact row body = FitsAfterCore row body ⊎ (IsTrue exact × IsForm row.name × FitsHere true row body)
 
@@ -32,7 +32,7 @@ module _ {E : Type 0} (fault : Row → E) where
   abbrev OnBracket : Bool → Text → Read E Bracket → Type 0
   OnBracket exact inner read = OnRead fault read (BracketFront exact (Plain 91 ∷ inner)) (λ row. FitsBracket exact row (Plain 91 ∷ inner))
 
-  -- the row of a name that is not exact
+  -- The row of a name that is not exact.
   refused_name : (inner front rest : Text) (critical : Bool) (name : List ℕ) (dots : Bool) → has_dots name ≡ dots → Plain 91 ∷ inner ≡ front ++ rest
       → IsZoneBracket front (record { critical = critical; zone = Name name })
       → ¬ (IsExactBracket front (record { critical = critical; zone = Name name }))
@@ -42,7 +42,7 @@ module _ {E : Type 0} (fault : Row → E) where
   refused_name inner front rest critical name false has is b none =
       (row_of (of_bracket first_name_form) (anywhere rest) IanaChar, refl, inr (refl, tt, (front, rest, is, (critical, name, (b, none), has), (refl, refl))))
 
-  -- the row of a zone that is not exact
+  -- The row of a zone that is not exact.
   refused : (inner front rest : Text) (critical : Bool) (zone : Zone) → Plain 91 ∷ inner ≡ front ++ rest
       → IsZoneBracket front (record { critical = critical; zone = zone }) → ¬ (IsExactBracket front (record { critical = critical; zone = zone }))
       → OnBracket true inner (Err (fault (form_row zone rest)))

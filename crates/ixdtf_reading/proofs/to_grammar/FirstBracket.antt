@@ -1,4 +1,4 @@
--- What reading a first bracket returns is a zone bracket or a pair, or a row that fits.
+-- Reading a first bracket returns a zone or an annotation, or the fault of a row that fits.
 use Rattle.std.proofs.Common.{◌≡◌, ℕ, Bool, true, false, IsTrue, IsFalse, List, Result, Ok, Err, [], ◌∷◌, ◌++◌, drop, refl, sym, ap, ◌∙◌, subst, inl, inr}
 use Rattle.std.proofs.{Common.{arith, append_assoc, if◌then◌else◌}, lemmas.Bool.{eqb-true, Decides.nat_tests}}
 use Rattle.ixdtf_grammar.specs.language.{Times.Clock.MinuteOffset, Letters.{Text, ◌or◌, sign, closing, exclamation, slash, zone_lead, zone_char, key_lead}}
@@ -18,7 +18,7 @@ use Rattle.ixdtf_reading.proofs.to_grammar.{ZoneNames.{NameFront, name_read, nam
 use Rattle.ixdtf_reading.proofs.to_reading.Pair.{InPair}
 use Rattle.ixdtf_grammar.proofs.parts.Texts.{signed_text}
 
--- what stands between a core and the front of a line of a first bracket, and what the text has from the front on
+-- The text between a core and the prefix of a table line of a first bracket, and the text from the prefix on.
 abbrev pub InBracket : LineName → Text → Text → Type 0
 InBracket (of_clock MinuteOffset name) before rest = (some Opens then one sign) before
 InBracket (of_zone in_zone_name) before rest = some Opens before × ReadsAsName rest
@@ -32,30 +32,30 @@ InBracket (of_pair in_value) before rest = some Opens before × ReadsAsPair rest
 InBracket (of_pair after_value_hyphen) before rest = some Opens before × ReadsAsPair rest
 InBracket name before rest = ⊥
 
--- the row fits what stands after a core
+-- The row fits the text after a core.
 abbrev pub FitsAfterCore : Row → Text → Type 0
 FitsAfterCore row body = (before rest : Text) × (body ≡ before ++ rest) × InBracket row.name before rest × FitsHere true row rest
 
--- a first bracket of either kind
+-- A first bracket: a zone or an annotation.
 abbrev pub IsBracket : Text → Bracket → Type 0
 IsBracket text (zoned note) = IsZoneBracket text note
 IsBracket text (paired pair) = IsPair text pair
 
--- the row fits a zone's text, wherever the zone's bracket opens
+-- The row fits the text of a zone, after `[` or after `[!`.
 abbrev FitsInside : Text → Row → Type 0
 FitsInside text row = (start : Text) → some Opens start → FitsAfterCore row (start ++ text)
 
--- a name and `]` were read
+-- A name and `]` were read.
 abbrev NameClosed : Text → List ℕ → Text → Type 0
 NameClosed text name rest = (inside : Text) × (text ≡ inside ++ (Plain 93 ∷ rest)) × IsZoneName inside name
 
--- a zone and `]` were read
+-- A zone and `]` were read.
 abbrev ZoneFront : Text → Zone → Text → Type 0
 ZoneFront text zone rest = (inside : Text) × (text ≡ inside ++ (Plain 93 ∷ rest)) × IsZone inside zone
 
 -- ---- rows
 
--- a row of a name fits in a bracket
+-- A row of a name fits in a bracket.
 of_name : (row : Row) (text : Text) → ReadsAsName text → FitsIn name_line true row text → FitsInside text row
 of_name row text reads h start opens = (start, text, refl, rw h.1 (at h.0), h.2)
   where
@@ -63,13 +63,13 @@ of_name row text reads h start opens = (start, text, refl, rw h.1 (at h.0), h.2)
     at true = (opens, reads)
     at false = (opens, reads)
 
--- a row of an offset fits in a bracket
+-- A row of an offset fits in a bracket.
 of_minutes : (row : Row) (c : ℕ) (text more : Text) → text ≡ Plain c ∷ more → IsTrue (sign c) → FitsIn (of_clock MinuteOffset) true row more
     → FitsInside text row
 of_minutes row c text more is signs h start opens =
     (start ++ (Plain c ∷ []), more, rw is (simp append_assoc), rw h.1 (start, Plain c ∷ [], refl, opens, (c, refl, signs)), h.2)
 
--- a row of a pair fits in a bracket
+-- A row of an annotation fits in a bracket.
 of_pairs : (row : Row) (text : Text) → ReadsAsPair text → FitsInPair text row → FitsInside text row
 of_pairs row text reads h start opens = (start, text, refl, rw h.2 (by_line h.0 h.1), h.3)
   where
@@ -81,7 +81,7 @@ of_pairs row text reads h start opens = (start, text, refl, rw h.2 (by_line h.0 
 module _ {E : Type 0} (fault : Row → E) where
   -- ---- names
 
-  -- a name's code units were read
+  -- The code units of a name were read.
   after_name_read : (text : Text) (name : List ℕ) (rest : Text) → NameFront text name rest
       → OnRead fault (next_by (name_look fault true closing) rest) (λ d left. rest ≡ Plain 93 ∷ left) (λ row. FitsIn name_line true row text)
   unfolding next_by look_at
@@ -99,7 +99,7 @@ module _ {E : Type 0} (fault : Row → E) where
       neither : (d : ℕ) → IsFalse (zone_char d) → IsFalse (slash d) → IsFalse (closing d) → IsFalse (zone_letters true d)
       neither d no_char no_slash no_closing = grind (arith, nat_tests)
 
-  -- a name and `]`, where it reads as a name
+  -- Reading a name and `]`, if the bracket reads as a name.
   name_in_bracket_read : (c : ℕ) (text more : Text) → text ≡ Plain c ∷ more → IsTrue (zone_lead c) → ReadsAsName text
       → OnRead fault (name_in_bracket_at fault text) (NameClosed text) (FitsInside text)
   unfolding name_in_bracket_at
@@ -116,7 +116,7 @@ module _ {E : Type 0} (fault : Row → E) where
 
   -- ---- offsets
 
-  -- an offset and `]`, after its sign
+  -- Reading an offset after its sign, and `]`.
   minutes_read : (c : ℕ) (text more : Text) → text ≡ Plain c ∷ more → IsTrue (sign c)
       → OnRead fault (offset_in_bracket_at fault c more) (ZoneFront text) (FitsInside text)
   unfolding offset_in_bracket_at
@@ -133,25 +133,25 @@ module _ {E : Type 0} (fault : Row → E) where
 
   -- ---- brackets
 
-  -- what reading a bracket returns, from `[` on
+  -- What is true for the result of reading a bracket from its `[` on.
   abbrev BracketRead : Text → Read E Bracket → Type 0
   BracketRead body r = OnRead fault r (λ bracket rest. (front : Text) × (body ≡ front ++ rest) × IsBracket front bracket) (λ row. FitsAfterCore row body)
 
-  -- after what opens the bracket
+  -- The text after `[` or `[!`.
   module _ (start : Text) (critical : Bool) (opens : Opens start critical) where
-    -- a zone
+    -- A zone was read.
     noted_read : (text : Text) (r : Read E Zone) → OnRead fault r (ZoneFront text) (FitsInside text) → BracketRead (start ++ text) (noted critical r)
     noted_read text (Ok x) h =
         (start ++ (h.0 ++ (Plain 93 ∷ [])), rw h.1 (simp append_assoc), record { start = start; inside = h.0; is = refl; opens = opens; zone = h.2 })
     noted_read text (Err e) h = (h.0, h.1, h.2 start (critical, opens))
 
-    -- a pair, where it reads as a pair
+    -- An annotation was read, if the bracket reads as an annotation.
     paired_read : (text : Text) → ReadsAsPair text → (r : Read E Pair) → OnRead fault r (PairFront critical text) (FitsInPair text)
         → BracketRead (start ++ text) (as_pair r)
     paired_read text reads (Ok x) h = (start ++ h.0, rw h.1 (simp append_assoc), opened_pair start h.0 critical x.0 opens h.2 h.3)
     paired_read text reads (Err e) h = (h.0, h.1, of_pairs h.0 text reads h.2 start (critical, opens))
 
-    -- what the sight saw decides
+    -- The result of looking ahead decides.
     sighted : (c : ℕ) (text more : Text) → text ≡ Plain c ∷ more → IsTrue (zone_lead c) → IsTrue (key_lead c) → (s : Result Bool E) → OnSight fault more s
         → BracketRead (start ++ text) (s >>= λ pair. if pair then as_pair (pair_at fault critical text) else noted critical
         (as_zone (name_in_bracket_at fault text)))
@@ -164,7 +164,7 @@ module _ {E : Type 0} (fault : Row → E) where
       (start, text, refl, (critical, opens), (Plain c ∷ h.0, h.1, is ∙ ap (λ t. Plain c ∷ t) h.2, (Plain c ∷ [], h.0, refl, (c, refl, key), h.3), h.7)),
     )
 
-    -- where a key may begin
+    -- The first code unit is one with which a key can begin.
     key_read : (c : ℕ) (text more : Text) → text ≡ Plain c ∷ more → IsTrue (zone_lead c) → IsTrue (key_lead c)
         → BracketRead (start ++ text) (name_or_pair_at fault critical text)
     unfolding name_or_pair_at
@@ -172,7 +172,7 @@ module _ {E : Type 0} (fault : Row → E) where
         sighted c text more is lead key (sight_at fault text) (subst (OnSight fault more)
         (sym (ap (sight_at fault) is ∙ over_letter fault c more (key_lead_skipped c key))) (sight_read fault more))
 
-    -- from the first code unit on
+    -- Reading the content from its first code unit on.
     inside_read : (c : ℕ) (text more : Text) → text ≡ Plain c ∷ more → IsTrue ((zone_lead or sign) c)
         → BracketRead (start ++ text) (inside_at fault critical c text)
     unfolding inside_at
@@ -185,12 +185,12 @@ module _ {E : Type 0} (fault : Row → E) where
         (λ no_key. noted_read text _ (as_zone_read text _ (name_in_bracket_read c text more is lead
         (inl (Plain c ∷ [], more, is, (c, refl, rw (lead, no_key)), tt))))))
 
-  -- a row of a line with nothing before it
+  -- A row of a table line without any text before it.
   at_start : (l : BracketLine) (row : Row) (body front rest : Text) → row.name ≡ of_bracket l → InBracket (of_bracket l) [] body → body ≡ front ++ rest
       → front_of (line_of true (of_bracket l)) front → Stops (line_of true (of_bracket l)) row.place row.error rest → FitsAfterCore row body
   at_start l row body front rest name inside is shape at = ([], body, refl, rw name inside, rw name (front, rest, is, shape, at))
 
-  -- after `[` and `!`
+  -- Reading after `[!`.
   critical_read : (text : Text) → BracketRead (Plain 91 ∷ (Plain 33 ∷ text)) (critical_bracket_at fault text)
   unfolding critical_bracket_at
   critical_read text =
@@ -198,7 +198,7 @@ module _ {E : Type 0} (fault : Row → E) where
       (λ c rest h. inside_read (Plain 91 ∷ (Plain 33 ∷ [])) true critical_start c text rest h.0 h.1)
       (λ r h. at_start first_critical_start r (Plain 91 ∷ (Plain 33 ∷ text)) (Plain 91 ∷ (Plain 33 ∷ [])) text h.0 refl refl critical_start h.1)
 
-  -- after `[`
+  -- Reading after `[`.
   pub bracket_read : (body text : Text) → body ≡ Plain 91 ∷ text
       → OnRead fault (bracket_at fault text) (λ bracket rest. (front : Text) × (body ≡ front ++ rest) × IsBracket front bracket) (λ row. FitsAfterCore row body)
   unfolding bracket_at

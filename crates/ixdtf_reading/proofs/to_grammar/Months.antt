@@ -1,4 +1,4 @@
--- What reading a year-month or a month-day returns is one, or is a row that fits.
+-- Reading a year-month or a month-day returns one, or the fault of a row that fits.
 use Rattle.std.proofs.Common.{◌≡◌, ℕ, Bool, true, false, [], ◌∷◌, ◌++◌, Ok, refl, ◌∙◌, inl, inr, append_assoc, pos, nat_le, ◌&&◌}
 use Rattle.std.proofs.{Common.if◌then◌else◌, lemmas.Bool.{and_parts, and_from, both_ways, leb-true, le-leb}}
 use Rattle.ixdtf_grammar.specs.{declared.{profile.Profile.Profile, records.DateRecord.DateRecord}, language.Letters.{Text, digit, hyphen, Letter.Plain}}
@@ -16,7 +16,7 @@ use Rattle.ixdtf_reading.proofs.parts.Looks.{OnRead, FitsIn, fits_in, fits_whole
 use Rattle.ixdtf_reading.proofs.parts.{Marks.{hyphens_of, Starts, Begun, Stood, optional, mark_read, hyphen_read, stops_after}, Years.in_year_or_month}
 use Rattle.ixdtf_reading.proofs.{to_reading.Months.{no_lone_month, marks_of}, to_grammar.Dates.{from_year_read, NoMonthRow, month_range_read}}
 
--- a front of the text is of the kind, and the rest stands after it
+-- A prefix of the text is of this kind, and the rest follows it.
 abbrev pub FrontIs : (Text → DateRecord → Type 0) → Text → DateRecord → Text → Type 0
 FrontIs kind text date rest = (front : Text) × (text ≡ front ++ rest) × kind front date
 
@@ -38,27 +38,27 @@ some_marks : (b : Bool) → Marks (marks_of b)
 some_marks true = inr (Plain 45 ∷ [], Plain 45 ∷ [], refl, (45, refl, refl), (45, refl, refl))
 some_marks false = inl refl
 
--- what stands of a month, by whether two hyphens do
+-- The beginning of a month, with two hyphens before it or without.
 begins_month : (b : Bool) (ds : Text) → Begun b ds → MonthDayMonthDigits (marks_of b ++ ds)
 begins_month true ds (inl h) = inl (Plain 45 ∷ [], Plain 45 ∷ [], rw h, (45, refl, refl), (45, refl, refl))
 begins_month true ds (inr h) = inr (marks_of true, ds, refl, some_marks true, h)
 begins_month false ds h = inr ([], ds, refl, inl refl, h)
 
--- what stands of a day, by whether a hyphen does
+-- The beginning of a day, with a hyphen before it or without.
 begins_day : (b : Bool) (ds : Text) → Begun b ds → (one hyphen either (OptionalHyphen then one digit)) (hyphens_of b ++ ds)
 begins_day true ds (inl h) = inl (45, rw h, refl)
 begins_day true ds (inr h) = inr (hyphens_of true, ds, refl, optional true, h)
 begins_day false ds h = inr ([], ds, refl, inl refl, h)
 
 module _ {E : Type 0} (fault : Row → E) (profile : Profile) where
-  -- the lines of month-days under the profile
+  -- The table lines of month-days under the profile.
   abbrev LineUnder : Type 0
   LineUnder = (l : MonthDayLine) × InMonthDay profile l []
 
   abbrev line_under : LineUnder → LineName
   line_under l = of_month_day l.0
 
-  -- what is known of reading a month-day, or a part of it
+  -- What is true for the result of reading a month-day, or a part of it.
   abbrev MonthDayOrRow : Text → Read E DateRecord → Type 0
   MonthDayOrRow text r = OnRead fault r (FrontIs (IsMonthDay profile) text) (λ row. FitsIn line_under true row text)
 
@@ -92,9 +92,9 @@ module _ {E : Type 0} (fault : Row → E) (profile : Profile) where
         (λ test. fits_whole_in fault line_under true (month_day_range profile, (refl, refl)) InvalidMonthDay text front rest is
         (date_of (pos 0) month day, (shape, λ good. both_ways _ test (and_from _ _ (le-leb (least_day profile) day good.0) (le-leb day _ good.1)))) (refl, refl))
 
-    -- marks and a month were read
+    -- The optional hyphens and a month were read.
     module _ (b : Bool) (ms : Text) (m : ℕ) (month : Month ms m) where
-      -- a month-day's text, with a hyphen before its day or with none
+      -- The text of a month-day, with a hyphen before its day or without.
       abbrev dated : Bool → Text → Text
       dated s ds = marks_of b ++ (ms ++ (hyphens_of s ++ ds))
 

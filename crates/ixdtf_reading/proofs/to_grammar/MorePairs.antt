@@ -1,4 +1,4 @@
--- What reading the pairs after whole brackets returns is pairs of the whole text, or a row behind whole pairs.
+-- Reading the annotations after complete brackets returns the annotations of the text, or the fault of a row after complete ones.
 use Rattle.std.proofs.Common.{◌≡◌, ℕ, zero, suc, ◌<◌, List, [], ◌∷◌, ◌++◌, length, Ok, Err, Option, Some, None, refl, sym, ap, ◌∙◌, subst, arith}
 use Rattle.std.proofs.{Common.{append_assoc, append-nil}, lemmas.Bool.eqb-true}
 use Rattle.ixdtf_grammar.specs.{language.{Letters.{Text, opening}, Shapes.nothing, Brackets.{Pair, IsPair, ArePairs}}, table.Faults.Fault.InvalidEnd}
@@ -8,7 +8,7 @@ use Rattle.ixdtf_reading.specs.reading.Chains.{FitsAfterBrackets, PairsUpTo}
 use Rattle.ixdtf_reading.proofs.{parts.Looks.{OnRead, Peeked, peek_line_read, then_read}, to_reading.{Pair.later_pair_takes, MorePairs.shorter}}
 use Rattle.ixdtf_reading.proofs.to_grammar.Pair.{later_pair_read}
 
--- what reading the next pair gave
+-- What is true if reading the next annotation returned this result.
 abbrev pub NextPair : Text → Option Pair → Text → Type 0
 NextPair text None rest = (text ≡ []) × (rest ≡ [])
 NextPair text (Some pair) rest = (bracket : Text) × (text ≡ bracket ++ rest) × IsPair bracket pair
@@ -32,7 +32,7 @@ module _ {E : Type 0} (fault : Row → E) (text : Text) where
       at_next
       (λ row g. ([], text, refl, rw g.0, ([], text, refl, rw g.0, rw g.0 g.1)))
 
--- what the code read of the next pair
+-- What is true if the code read the next annotation.
 pub next_is : (text rest : Text) (found : Option Pair) → next_pair_at error_of text ≡ Ok (found, rest) → NextPair text found rest
 next_is text rest found is = subst (OnNext error_of text) is (next_read error_of text)
 
@@ -40,17 +40,17 @@ pub next_fault : (text : Text) (fault : Placed) → next_pair_at error_of text �
 next_fault text fault is = let found = subst (OnNext error_of text) is (next_read error_of text) in (found.0, found.2, sym found.1)
 
 module _ {E : Type 0} (fault : List Pair → Row → E) where
-  -- what reading the pairs after these pairs gave
+  -- What is true for the result of reading the annotations after these ones.
   abbrev pub OnPairs : List Pair → Text → Read E (List Pair) → Type 0
   OnPairs pairs text (Ok x) = (x.1 ≡ []) × (more : List Pair) × (x.0 ≡ pairs ++ more) × ArePairs text more
   OnPairs pairs text (Err e) =
       (more : List Pair) × (rest : Text) × PairsUpTo text more rest × (row : Row) × (e ≡ fault (pairs ++ more) row) × FitsAfterBrackets row rest
 
-  -- a row at once
+  -- A row fits before any further annotation.
   at_once : (pairs : List Pair) (text : Text) (e : E) (row : Row) → e ≡ fault pairs row → FitsAfterBrackets row text → OnPairs pairs text (Err e)
   at_once pairs text e row is f = ([], text, ([], refl, refl), row, rw (append-nil pairs) is, f)
 
-  -- a pair, and then pairs
+  -- An annotation, and then more annotations.
   one_before : (pairs : List Pair) (pair : Pair) (text front rest : Text) → text ≡ front ++ rest → IsPair front pair → (r : Read E (List Pair))
       → OnPairs (pairs ++ (pair ∷ [])) rest r → OnPairs pairs text r
   one_before pairs pair text front rest is is_pair (Ok x) h = (h.0, pair ∷ h.1, h.2 ∙ append_assoc pairs (pair ∷ []) h.1, (front, rest, is, is_pair, h.3))

@@ -1,4 +1,4 @@
--- What reading a pair returns is a pair, or a row that fits.
+-- Reading an annotation returns an annotation, or the fault of a row that fits.
 use Rattle.std.proofs.Common.{◌≡◌, ℕ, Bool, true, false, IsTrue, IsFalse, List, [], ◌∷◌, ◌++◌, map, Ok, Err, refl, sym, ap, ◌∙◌, subst, inl, inr, arith}
 use Rattle.std.proofs.{Common.append_assoc, lemmas.Bool.{eqb-true, Decides.nat_tests}}
 use Rattle.ixdtf_grammar.specs.language.Letters.{Text, ◌or◌, hyphen, equals, opening, closing, exclamation, key_lead, key_char, value_char}
@@ -12,20 +12,20 @@ use Rattle.ixdtf_reading.specs.reading.Pairs.{value_run, pair_at, critical_pair_
 use Rattle.ixdtf_reading.specs.reading.{Pairs.{GoesOn, Ends, ValueStep as steps}, Chains.{AfterBrackets, FitsAfterBrackets}}
 use Rattle.ixdtf_reading.proofs.{parts.Looks.{OnRead, then_read, read_if, read_letter, onto}, to_reading.Pair.{InPair, PairText, stepped, by_step}}
 
--- what reading a pair gave, from its key on
+-- What is true if reading an annotation from its key on returned this result.
 abbrev pub PairFront : Bool → Text → Pair → Text → Type 0
 PairFront critical text pair rest = (front : Text) × (text ≡ front ++ rest) × PairText front pair × (pair.critical ≡ critical)
 
--- the row is of a line from the key on, and fits here
+-- The row is of a table line from the key on, and fits here.
 abbrev pub FitsInPair : Text → Row → Type 0
 FitsInPair text row = (l : PairLine) × InPair l × (row.name ≡ of_pair l) × FitsHere true row text
 
--- ---- shapes that grow in front
+-- ---- shapes with one more code unit before them
 
 one_more : (shape : Shape) (c : ℕ) (text : Text) → shape (Plain c ∷ []) → many shape text → many shape (Plain c ∷ text)
 one_more shape c text h m = ((Plain c ∷ []) ∷ m.0, (text, refl, h, m.1))
 
--- what a value has after its first code unit
+-- The code units of a value after its first one.
 abbrev Tail : Shape
 Tail = many (one value_char) then many (one hyphen then ValueRun)
 
@@ -47,7 +47,7 @@ grow_then a b last c grow text h = (Plain c ∷ h.0, h.1, onto c h.2, grow h.0 h
 
 -- ---- from state to state
 
--- the texts that lead from a state to a state
+-- The texts that lead from one state to another.
 abbrev Reach : ValueState → ValueState → Shape
 Reach AtStart AtStart = nothing
 Reach AtStart Inside = Value
@@ -64,7 +64,7 @@ stays AtStart = refl
 stays Inside = no_tail
 stays AfterHyphen = inl refl
 
--- a code unit leads so from a state to the next
+-- A code unit leads from one state to the next.
 abbrev Grows : ℕ → ValueState → ValueState → Type 0
 Grows c state next = (last : ValueState) (text : Text) → Reach next last text → Reach state last (Plain c ∷ text)
 
@@ -95,29 +95,29 @@ starts_key c h g = grind (arith, nat_tests)
 
 -- ---- rows
 
--- the row is the line's, after a front and at what stands there
+-- The row is of this table line, after a prefix of this shape.
 abbrev At : PairLine → Shape → Text → Row → Type 0
 At l shape text row = (part rest : Text) × (text ≡ part ++ rest) × shape part × (row.name ≡ of_pair l) × Stops (pair_line l) row.place row.error rest
 
 fits_here : (l : PairLine) (row : Row) (text : Text) → At l (front_of (pair_line l)) text row → FitsHere true row text
 fits_here l row text h = rw h.4 (h.0, h.1, h.2, h.3, h.5)
 
--- what reading a key of the shape gave
+-- What is true if reading a key of this shape returned this result.
 abbrev KeyFront : Shape → Text → List ℕ → Text → Type 0
 KeyFront shape text key rest = (part : Text) × (text ≡ part ++ (Plain 61 ∷ rest)) × shape part × (part ≡ map Plain key)
 
--- what reading a value gave from a state on, and where it stopped
+-- What is true if reading a value from a state on returned this result. The next definition is for a row.
 abbrev ValueFront : ValueState → Text → List ℕ → Text → Type 0
 ValueFront state text value rest = (part : Text) × (text ≡ part ++ (Plain 93 ∷ rest)) × Reach state Inside part × (part ≡ map Plain value)
 
 abbrev ValueHalts : ValueState → Text → Row → Type 0
 ValueHalts state text row = (last : ValueState) × At (value_line last) (Reach state last) text row
 
--- `[` and `!`
+-- The text `[!`.
 pub critical_start : (one opening then one exclamation) (Plain 91 ∷ (Plain 33 ∷ []))
 critical_start = (Plain 91 ∷ [], Plain 33 ∷ [], refl, (91, refl, refl), (33, refl, refl))
 
--- a pair's text, after what opens its bracket
+-- The text of an annotation, after `[` or `[!`.
 pub opened_pair : (start text : Text) (critical : Bool) (pair : Pair) → Opens start critical → PairText text pair → pair.critical ≡ critical
     → IsPair (start ++ text) pair
 opened_pair start text critical pair opens h flag =
@@ -139,7 +139,7 @@ module _ {E : Type 0} (fault : Row → E) where
   abbrev ReadsKey : Shape → Text → Read E (List ℕ) → Type 0
   ReadsKey shape text r = OnRead fault r (KeyFront shape text) (At in_key shape text)
 
-  -- a code unit in front
+  -- One more code unit before a key.
   key_more : (shape grown : Shape) (c : ℕ) (rest : Text) → ((part : Text) → shape part → grown (Plain c ∷ part)) → (r : Read E (List ℕ)) → ReadsKey shape rest r
       → ReadsKey grown (Plain c ∷ rest) (with_letter c r)
   key_more shape grown c rest grows (Ok x) h = (Plain c ∷ h.0, onto c h.1, grows h.0 h.2, onto c h.3)
@@ -159,7 +159,7 @@ module _ {E : Type 0} (fault : Row → E) where
         ([], Plain c ∷ rest, refl, ([], refl), refl, (c, rest, refl, rw (no_key, no_equals), refl, refl)),
       )))
 
-  -- from its first code unit on
+  -- Reading from the first code unit on.
   whole_key_read : (c : ℕ) (text more : Text) → text ≡ Plain c ∷ more → IsTrue (key_lead c) → ReadsKey Key text (key_run fault text)
   unfolding key_run
   whole_key_read c text more is lead =
@@ -177,16 +177,16 @@ module _ {E : Type 0} (fault : Row → E) where
   value_more state next c rest grows (Err e) h =
       (h.0, h.1, (h.2.0, (Plain c ∷ h.2.1.0, h.2.1.1, onto c h.2.1.2, grows h.2.0 h.2.1.0 h.2.1.3, h.2.1.4, h.2.1.5)))
 
-  -- another code unit
+  -- A code unit that the value does not accept.
   value_out : (state : ValueState) (c : ℕ) (rest : Text) → Stops (pair_line (value_line state)) (other (Plain c ∷ rest)) (value_other state) (Plain c ∷ rest)
       → ReadsValue state (Plain c ∷ rest) (stepped fault state c rest steps.Stops)
   value_out state c rest at = (row_of (of_pair (value_line state)) (other (Plain c ∷ rest)) (value_other state), refl, (state, ([], Plain c ∷ rest, refl, stays state, refl, at)))
 
-  -- the rest of a value is read from each of its states
+  -- The rest of a value is read from each of its states.
   abbrev ReadsRest : Text → Type 0
   ReadsRest rest = (state : ValueState) → ReadsValue state rest (value_run fault state rest)
 
-  -- at a code unit that takes this step
+  -- The next code unit makes this step.
   at_letter : (state : ValueState) (c : ℕ) (rest : Text) (step : ValueStep) → value_step state c ≡ step
       → ReadsValue state (Plain c ∷ rest) (stepped fault state c rest step) → ReadsValue state (Plain c ∷ rest) (value_run fault state (Plain c ∷ rest))
   at_letter state c rest step is h = subst (ReadsValue state (Plain c ∷ rest)) (sym (by_step fault state c rest step is)) h
@@ -224,9 +224,9 @@ module _ {E : Type 0} (fault : Row → E) where
       (row_of (of_pair (value_line state)) (bad (Bad ∷ rest)) NonAsciiCodePoint, refl, (state, ([], Bad ∷ rest, refl, stays state, refl, at_bad state rest)))
   value_read (Plain c ∷ rest) state = any_letter c rest (value_read rest) state
 
-  -- ---- pairs from the key on
+  -- ---- annotations from the key on
 
-  -- a row after a key and `=`
+  -- A row after a key and `=`.
   after_key : (text middle : Text) (row : Row) (keys : Text) → text ≡ keys ++ (Plain 61 ∷ middle) → Key keys → ValueHalts AtStart middle row
       → FitsInPair text row
   after_key text middle row keys is key (last, (part, rest, split, reached, name, at)) =
@@ -256,13 +256,13 @@ module _ {E : Type 0} (fault : Row → E) where
       (λ row g. after_key text middle row h.0 h.1 h.2 g))
       (λ row h. (in_key, tt, h.4, fits_here in_key row text h))
 
-  -- ---- pairs after their `[`
+  -- ---- annotations after their `[`
 
-  -- what reading a pair returns, from `[` on
+  -- What is true for the result of reading an annotation from its `[` on.
   abbrev LaterRead : Text → Read E Pair → Type 0
   LaterRead body r = OnRead fault r (λ pair rest. (front : Text) × (body ≡ front ++ rest) × IsPair front pair) (λ row. FitsAfterBrackets row body)
 
-  -- a row of a line from the key on, after what opens the bracket
+  -- A row of a table line from the key on, after `[` or `[!`.
   opened_row : (start text : Text) (row : Row) → some Opens start → FitsInPair text row → FitsAfterBrackets row (start ++ text)
   opened_row start text row opens h = (start, text, refl, subst (λ n. AfterBrackets n start) (sym h.2) (by_line h.0 h.1), h.3)
     where
@@ -271,13 +271,13 @@ module _ {E : Type 0} (fault : Row → E) where
       by_line critical_key_start within = absurd within
       by_line l within = opens
 
-  -- a pair's text, after what opens its bracket
+  -- The text of an annotation, after `[` or `[!`.
   opened_read : (start text : Text) (critical : Bool) → Opens start critical → (r : Read E Pair) → OnRead fault r (PairFront critical text) (FitsInPair text)
       → LaterRead (start ++ text) r
   opened_read start text critical opens (Ok x) h = (start ++ h.0, rw h.1 (simp append_assoc), opened_pair start h.0 critical x.0 opens h.2 h.3)
   opened_read start text critical opens (Err e) h = (h.0, h.1, opened_row start text h.0 (critical, opens) h.2)
 
-  -- a row of a line with nothing before it
+  -- A row of a table line without any text before it.
   first_row : (l : PairLine) (row : Row) (body : Text) → AfterBrackets (of_pair l) [] → At l (front_of (pair_line l)) body row → FitsAfterBrackets row body
   first_row l row body b h = ([], body, refl, subst (λ n. AfterBrackets n []) (sym h.4) b, fits_here l row body h)
 
@@ -287,7 +287,7 @@ module _ {E : Type 0} (fault : Row → E) where
       (λ c rest h. opened_read (Plain 91 ∷ (Plain 33 ∷ [])) text true critical_start _ (pair_read true c text rest h.0 h.1))
       (λ r h. first_row critical_key_start r (Plain 91 ∷ (Plain 33 ∷ text)) refl (Plain 91 ∷ (Plain 33 ∷ []), text, refl, critical_start, h.0, h.1))
 
-  -- after `[`
+  -- Reading after `[`.
   pub later_pair_read : (body text : Text) → body ≡ Plain 91 ∷ text
       → OnRead fault (later_pair_at fault text) (λ pair rest. (front : Text) × (body ≡ front ++ rest) × IsPair front pair) (λ row. FitsAfterBrackets row body)
   unfolding later_pair_at

@@ -1,4 +1,4 @@
--- What reading a time returns is a time as far as it goes, or a row that fits.
+-- Reading a time returns a time that the next code unit does not continue, or the fault of a row that fits.
 use Rattle.std.proofs.Common.{◌≡◌, ℕ, ◌<◌, ◌≤◌, ◌⊎◌, IsTrue, IsFalse, [], ◌∷◌, ◌++◌, Ok, Err, Some, None, refl, ◌∙◌, subst, inl, inr, arith, append_assoc}
 use Rattle.std.proofs.{Common.{nat_le, Bool, true, false, if◌then◌else◌}, lemmas.Bool.{eqb-true, leb-true, leb-false, and_parts, or_from, Decides.nat_tests}}
 use Rattle.ixdtf_grammar.specs.declared.records.TimeRecord.{TimeRecord}
@@ -22,29 +22,29 @@ use Rattle.ixdtf_reading.proofs.parts.Looks.{LooksFor, goes_with, looks_for, Dig
 use Rattle.ixdtf_reading.proofs.parts.Looks.{next_read, run_read, further, onto, NotNext}
 use Rattle.ixdtf_reading.proofs.to_reading.Times.{Closed, IsLater, StopsAfter, closed_minutes, with_fraction}
 
--- what reading a time gave
+-- What is true if reading a time returned this result.
 abbrev pub TimeFront : Clock → Text → OpenTime → Text → Type 0
 TimeFront clock text x rest = (front : Text) × (text ≡ front ++ rest) × ClockOf clock x.0 front x.1 × Closed clock x.0 rest
 
--- a line after the first digit of an hour
+-- A table line after the first digit of an hour.
 abbrev pub later : Clock → (l : ClockLine) × IsLater l → LineName
 later clock l = of_clock clock l.0
 
--- a colon or a digit does not follow a time
+-- A colon or a digit cannot follow a time.
 mixed_no_follow : (brackets : Bool) (clock : Clock) (c : ℕ) → IsTrue ((colon or digit) c) → IsFalse ((follow_of brackets clock).letters c)
 mixed_no_follow brackets clock c h = grind (arith, h, nat_tests)
 
--- what stands before the digits of a minute and of a second, with colons and without
+-- The text before the digits of a minute or a second: a colon, or nothing.
 abbrev marks : Bool → Text
 marks true = Plain 58 ∷ []
 marks false = []
 
--- a digit stands next where no colon was taken
+-- If no colon was consumed, a digit is next.
 abbrev Starts : Bool → Text → Type 0
 Starts true rest = Unit {0}
 Starts false rest = (c : ℕ) × (more : Text) × (rest ≡ Plain c ∷ more) × IsTrue (digit c)
 
--- fewer than two digits, and not none where no colon stands before them
+-- Fewer than two digits. Without a colon before them, there is at least one.
 abbrev Begun : Bool → Shape
 Begun true = fewer_digits_than 2
 Begun false = one digit
@@ -66,7 +66,7 @@ minute_text : (clock : Clock) (colons : Bool) (h m : ℕ) (front ds : Text) → 
 minute_text clock true h m front ds x u = record { hs = front; ms = ds; is = refl; hour = x; minute = u; no_second = refl; no_fraction = refl }
 minute_text clock false h m front ds x u = record { hs = front; ms = ds; is = refl; hour = x; minute = u; no_second = refl; no_fraction = refl }
 
--- what stands after a minute where a second is
+-- The text after a minute, if there is a second.
 after_minute_text : (clock : Clock) (shape : Bool → Shape) (colons : Bool) (t : TimeRecord) (front ds : Text)
     → ClockOf clock (minutes_shape colons) front t → shape colons ds
     → ((some BasicMinuteText then shape false) either (some ColonMinuteText then one colon then shape true)) (front ++ (marks colons ++ ds))
@@ -103,12 +103,12 @@ is_fraction_text clock h m s c front ds fraction x mark some same = record {
   value = refl;
 }
 
--- what reading a fraction after its mark gave
+-- What is true if reading a fraction after its mark returned this result.
 abbrev FractionFront : Text → FractionParts → Text → Type 0
 FractionFront text fraction rest = (ds : Text) × (text ≡ ds ++ rest) × SomeDigits ds × (fraction ≡ fraction_of ds) × NotNext digit rest
 
 module _ {E : Type 0} (fault : Row → E) where
-  -- the row is that of a number past the greatest
+  -- The row is that of a number that is too great.
   abbrev PastRow : Row → ℕ → Text → Row → Type 0
   PastRow wanted greatest ds row = (row ≡ wanted) × (greatest < decimal ds)
 
@@ -132,7 +132,7 @@ module _ {E : Type 0} (fault : Row → E) where
       some_digit (inr d) = d
 
   module _ (brackets : Bool) (clock : Clock) (text : Text) where
-    -- the row is of a line after the first digit of an hour, and fits
+    -- The row is of a table line after the first digit of an hour, and fits.
     abbrev Fitting : Row → Type 0
     Fitting row = FitsIn (later clock) brackets row text
 
@@ -141,15 +141,15 @@ module _ {E : Type 0} (fault : Row → E) where
         → Fitting (row_of (of_clock clock l) place e)
     fits l is_later place e front rest is shown at = ((l, is_later), refl, (front, rest, is, shown, at))
 
-    -- ---- the lines at which a time may stop
+    -- ---- the table lines after a complete time
 
     module _ (front rest : Text) (is : text ≡ front ++ rest) where
-      -- the row of the line, which fits here
+      -- The row of this table line fits here.
       at_line : (l : ClockLine) (is_later : IsLater l) (place : Place) (e : Fault) → front_of (line_of brackets (of_clock clock l)) front
           → Stops (line_of brackets (of_clock clock l)) place e rest → IsRowFault fault (fault (row_of (of_clock clock l) place e)) Fitting
       at_line l is_later place e shown at = (row_of (of_clock clock l) place e, refl, fits l is_later place e front rest is shown at)
 
-      -- at Bad
+      -- The next code unit is `Bad`.
       open_bad : (shape : TimeShape) (t : TimeRecord) (more : Text) → ClockOf clock shape front t → rest ≡ Bad ∷ more
           → IsRowFault fault (bad_after fault clock shape rest) Fitting
       open_bad hours t more x next = at_line after_hour tt (bad rest) NonAsciiCodePoint (t, x) (more, next, refl, refl)
@@ -158,7 +158,7 @@ module _ {E : Type 0} (fault : Row → E) where
       open_bad seconds t more x next = at_line after_second tt (bad rest) NonAsciiCodePoint (t, x) (more, next, refl, refl)
       open_bad fractions t more x next = at_line after_fraction tt (bad rest) NonAsciiCodePoint (t, x) (more, next, refl, refl)
 
-      -- at a colon or a digit that does not go on
+      -- The next code unit is a colon or a digit that cannot follow the time.
       mixed_read : (colons : Bool) (t : TimeRecord) (c : ℕ) (more : Text) → ClockOf clock (minutes_shape colons) front t → rest ≡ Plain c ∷ more
           → IsFalse (seconds_after clock (second_start colons) c) → IsTrue ((colon or digit) c)
           → IsRowFault fault (mixed_after fault clock (minutes_shape colons) rest) Fitting
@@ -167,7 +167,7 @@ module _ {E : Type 0} (fault : Row → E) where
       mixed_read false t c more x next out h =
           at_line after_basic_minute tt (other rest) (mixed clock) (t, x) (c, more, next, or_from _ _ out (mixed_no_follow brackets clock c h), rw h, refl)
 
-      -- at the end, where it is an error
+      -- The text ends, and this is an error.
       open_end : (shape : TimeShape) (t : TimeRecord) (e : Fault) → ClockOf clock shape front t → rest ≡ [] → (follow_of brackets clock).at_end ≡ error e
           → Fitting (row_of (line_after clock shape) (end rest) e)
       open_end hours t e x next ends = fits after_hour tt (end rest) e front rest is (t, x) (next, ends, refl)
@@ -176,7 +176,7 @@ module _ {E : Type 0} (fault : Row → E) where
       open_end seconds t e x next ends = fits after_second tt (end rest) e front rest is (t, x) (next, ends, refl)
       open_end fractions t e x next ends = fits after_fraction tt (end rest) e front rest is (t, x) (next, ends, refl)
 
-      -- at a code unit that may not follow
+      -- The next code unit must not follow the time.
       open_other : (shape : TimeShape) (t : TimeRecord) (c : ℕ) (more : Text) (e : Fault) → ClockOf clock shape front t → rest ≡ Plain c ∷ more
           → IsFalse ((follow_of brackets clock).letters c) → e ≡ (follow_of brackets clock).at_other → Closed clock shape (Plain c ∷ more)
           → Fitting (row_of (line_after clock shape) (other rest) e)
@@ -191,14 +191,14 @@ module _ {E : Type 0} (fault : Row → E) where
       open_other fractions t c more e x next out same closed =
           fits after_fraction tt (other rest) e front rest is (t, x) (c, more, next, or_from _ _ closed out, same, refl)
 
-    -- what is known of reading a time, or a part of it
+    -- What is true for the result of reading a time, or a part of it.
     abbrev TimeOrRow : Read E OpenTime → Type 0
     TimeOrRow r = OnRead fault r (TimeFront clock text) Fitting
 
     -- ---- from stage to stage
 
     module _ (h m s c : ℕ) (front : Text) (x : SecondText clock front (time_of h m s None)) (mark : IsTrue (decimal_mark c)) where
-      -- after the first digit of a fraction
+      -- Reading after the first digit of a fraction.
       more_digits_read : (d : ℕ) (more : Text) → text ≡ front ++ (Plain c ∷ (Plain d ∷ more)) → IsTrue (digit d) → (r : Read E Text)
           → OnRun (bad_after fault clock fractions) more r
           → OnRead fault (r >>= λ ds. Ok (fraction_of (Plain d ∷ ds.0), ds.1)) (FractionFront (Plain d ∷ more)) Fitting
@@ -233,7 +233,7 @@ module _ {E : Type 0} (fault : Row → E) where
         (λ c more next mark. with_fraction_read h m s c front x mark more (is ∙ rw next))
         (λ closed. (front, is, x, closed))
 
-    -- the number of a minute or a second: its digits and its range each have a line
+    -- The number of a minute or a second. There is a table line for its digits and one for its range.
     module _ (at_digits at_range : (l : ClockLine) × IsLater l) (greatest : ℕ) (e : Fault) (asks : LooksFor digit (line_of true (later clock at_digits)))
         (same : line_of true (later clock at_digits) ≡ line_of brackets (later clock at_digits))
         (whole : (t : Text) → Stops (line_of brackets (later clock at_range)) (anywhere t) e t) where
@@ -318,7 +318,7 @@ module _ {E : Type 0} (fault : Row → E) where
         (λ r g. let at = no_digit (of_clock clock hour_digit) rest r g in
         fits_in (later clock) brackets (hour_digit, tt) r text (Plain c ∷ []) rest at.0 is (c, refl, d) at.1)
 
-    -- a time with nothing before it
+    -- Reading a time at the beginning of the text.
     pub clock_read : OnRead fault (clock_at fault clock text) (TimeFront clock text) (λ row. FitsIn (of_clock clock) brackets row text)
     unfolding clock_at
     clock_read = then_read fault (letter_at fault (of_clock clock hour_start) text) _ _ _ _ _ (read_letter fault (of_clock clock hour_start) text tt)
@@ -327,25 +327,25 @@ module _ {E : Type 0} (fault : Row → E) where
 
     -- ---- what follows a time
 
-    -- the row where a whole time stops
+    -- The row after a complete time.
     pub clock_stops : (x : OpenTime) (place : Place) (e : Fault) (rest : Text) → TimeFront clock text x rest
         → StopsAfter (follow_of brackets clock) place e rest → Fitting (row_of (line_after clock x.0) place e)
     clock_stops x (end left) e rest h at = rw at.2 (open_end h.0 rest h.1 x.0 x.1 e h.2 at.0 at.1)
     clock_stops x (other left) e rest h at = rw at.5 (open_other h.0 rest h.1 x.0 x.1 at.0 at.1 e h.2 at.2 at.3 at.4 (rw at.2 at h.3))
     clock_stops x place e rest h at = absurd at
 
-    -- at a code unit that may not follow
+    -- The next code unit must not follow the time.
     other_read : (x : OpenTime) (rest : Text) → TimeFront clock text x rest → (c : ℕ) (more : Text) → rest ≡ Plain c ∷ more
         → IsFalse ((follow_of brackets clock).letters c) → IsRowFault fault ((follow_look fault brackets clock x).at_other c rest) Fitting
     other_read x rest h c more next out =
         let e = (follow_of brackets clock).at_other in
         (row_of (line_after clock x.0) (other rest) e, refl, clock_stops x (other rest) e rest h (c, more, next, out, refl, refl))
 
-    -- a line after the first digit is one of the clock's lines
+    -- A table line after the first digit is one of the lines of the clock.
     in_clock : (e : E) → IsRowFault fault e Fitting → IsRowFault fault e (λ row. FitsIn (of_clock clock) brackets row text)
     in_clock e h = (h.0, h.1, (h.2.0.0, h.2.1, h.2.2))
 
-    -- the look at what follows: where the text may end, and where it may not
+    -- The look at what follows a time, if the text can end there. The next lemma is for a time after which it must not end.
     pub clock_peek_read : (x : OpenTime) (rest : Text) → TimeFront clock text x rest → (follow_of brackets clock).at_end ≡ ok
         → OnRead fault (peek_by (follow_look fault brackets clock x) rest) (Peeked (follow_of brackets clock).letters rest)
         (λ row. FitsIn (of_clock clock) brackets row text)

@@ -1,4 +1,4 @@
--- What reading a whole text returns is derived, or is a row that fits.
+-- Reading a complete text returns what the grammar derives, or the fault of a row that fits.
 use Rattle.std.proofs.Common.{◌≡◌, ◌≢◌, suc, List, [], ◌∷◌, ◌++◌, length, Ok, Err, None, refl, ap, ◌∙◌, sym, inl, inr, arith, append_assoc, append-nil, false}
 use Rattle.std.proofs.Common.{Bool, true, IsTrue}
 use Rattle.ixdtf_grammar.specs.language.{Times.Clock, Letters.{Text, Letter.Plain}, Shapes.some, Brackets.{Pair, ArePairs, IsTail}, Cores.{Core, IsCore}}
@@ -23,7 +23,7 @@ use Rattle.ixdtf_reading.proofs.to_grammar.{Cores.{CoreFront, ReadsCore, core_re
 use Rattle.ixdtf_reading.proofs.to_grammar.ExactBracket.{BracketFront, IsForm, FitsBracket, bracket_by_read}
 use Rattle.ixdtf_reading.proofs.{to_grammar.{MorePairs.{OnPairs, pairs_read}, Durations.duration_read}, to_reading.ExactBracket.{IsBracketBy, bracket_by_takes}}
 
--- what stands before a line of a first bracket, where a core stands before it
+-- The text before a table line of a first bracket, if a core is before the bracket.
 in_first : (kind : CoreKind) (name : LineName) (cores prior rest : Text) → some (IsCore kind) cores → InBracket name prior rest
     → Before (bracketed kind) name [] (cores ++ prior) rest
 in_first kind (of_clock Clock.MinuteOffset name) cores prior rest core b =
@@ -38,7 +38,7 @@ in_first kind (of_pair critical_key_start) cores prior rest core b = absurd b
 in_first kind (of_pair l) cores prior rest core b = inl ((cores, prior, refl, core, b.0), b.1, refl)
 in_first kind name cores prior rest core b = absurd b
 
--- what stands before the line of a zone that is not exact
+-- The text before the table line of a zone that is not exact.
 of_form : (kind : CoreKind) (name : LineName) (cores rest : Text) → some (IsCore kind) cores → IsTrue (has_exact_zones kind) → IsForm name
     → Before (bracketed kind) name [] cores rest
 of_form kind (of_bracket first_dots_form) cores rest core exact h = ((core, exact), refl)
@@ -46,18 +46,18 @@ of_form kind (of_bracket first_name_form) cores rest core exact h = ((core, exac
 of_form kind (of_bracket first_offset_form) cores rest core exact h = ((core, exact), refl)
 of_form kind name cores rest core exact h = absurd h
 
--- the row fits the text, where it fits what stands after the core
+-- If a row fits the text after the core, it fits the complete text.
 pub after_core : (kind : CoreKind) (row : Row) (text cores body : Text) → text ≡ cores ++ body → some (IsCore kind) cores → FitsAfterCore row body
     → Fits (bracketed kind) row [] text
 after_core kind row text cores body is core f = (cores ++ f.0, f.1, is ∙ rw f.2 (simp append_assoc), in_first kind row.name cores f.0 f.1 core f.3, f.4)
 
--- the same of a row of a zone that is not exact
+-- As above, for a row of a zone that is not exact.
 pub after_core_by : (kind : CoreKind) (row : Row) (text cores body : Text) → text ≡ cores ++ body → some (IsCore kind) cores
     → FitsBracket (has_exact_zones kind) row body → Fits (bracketed kind) row [] text
 after_core_by kind row text cores body is core (inl f) = after_core kind row text cores body is core f
 after_core_by kind row text cores body is core (inr f) = (cores, body, is, of_form kind row.name cores body core f.0 f.1, f.2)
 
--- the same where whole brackets stand before the line
+-- As above, if complete brackets are before the table line.
 in_later : (kind : CoreKind) (name : LineName) (pairs : List Pair) (whole prior rest : Text) → Bracketed kind pairs whole → AfterBrackets name prior
     → Before (bracketed kind) name pairs (whole ++ prior) rest
 in_later kind (of_bracket after_bracket) pairs whole prior rest h b = rw (b, append-nil whole) h
@@ -71,34 +71,34 @@ pub after_brackets : (kind : CoreKind) (row : Row) (pairs : List Pair) (text who
 after_brackets kind row pairs text whole rest is h f =
     (whole ++ f.0, f.1, is ∙ rw f.2 (simp append_assoc), in_later kind row.name pairs whole f.0 f.1 h f.3, f.4)
 
--- a first bracket and pairs after it
+-- A first bracket, and annotations after it.
 pub tail_of : (exact : Bool) (bracket : Bracket) (first rest : Text) (more : List Pair) → IsBracketBy exact first bracket → ArePairs rest more
     → IsTail exact (first ++ rest) (zone_in bracket) (pairs_in bracket ++ more)
 tail_of exact (zoned note) first rest more b h = (first, rest, refl, b, h)
 tail_of exact (paired pair) first rest more b h = ([], first ++ rest, refl, refl, (first, rest, refl, b, h))
 
--- brackets begin with a first one
+-- A text that begins with a first bracket is not empty.
 pub bracket_stands : (exact : Bool) (first rest : Text) (bracket : Bracket) → IsBracketBy exact first bracket → first ++ rest ≢ []
 bracket_stands exact first rest bracket b none =
     let start = bracket_by_takes error_of exact first [] bracket b in
     let bad : Plain 91 ∷ (start.0 ++ rest) ≡ [] = ap (λ t. t ++ rest) (sym start.1) ∙ none in absurd cc
 
--- what reading a whole text gave
+-- What is true for the result of reading a complete text.
 abbrev pub OnWhole : {E : Type 0} → (List Pair → Row → E) → Reader → Text → Read E (Found × List Pair) → Type 0
 OnWhole fault reader text (Ok x) = (x.1 ≡ []) × Derives reader text x.0.0 x.0.1
 OnWhole fault reader text (Err e) = (pairs : List Pair) × (row : Row) × (e ≡ fault pairs row) × Fits reader row pairs text
 
 module _ {E : Type 0} (fault : List Pair → Row → E) (kind : CoreKind) where
-  -- whether a zone has to be exact
+  -- Whether a zone must be exact.
   abbrev exact : Bool
   exact = has_exact_zones kind
 
-  -- what reading a core and brackets gave
+  -- What is true for the result of reading a core and brackets.
   abbrev OnBracketed : Text → Read E (Parsed × List Pair) → Type 0
   OnBracketed text (Ok x) = (x.1 ≡ []) × IsBracketed kind text x.0.0 x.0.1
   OnBracketed text (Err e) = (pairs : List Pair) × (row : Row) × (e ≡ fault pairs row) × Fits (bracketed kind) row pairs text
 
-  -- after a core and a first bracket
+  -- Reading after a core and a first bracket.
   bracketed_read : (text cores first rest : Text) (core : Core) (bracket : Bracket) → text ≡ cores ++ (first ++ rest) → IsCore kind cores core
       → IsBracketBy exact first bracket → OnBracketed text (bracketed_at fault core bracket rest)
   unfolding bracketed_at
@@ -117,7 +117,7 @@ module _ {E : Type 0} (fault : List Pair → Row → E) (kind : CoreKind) where
             (cores, first ++ h.2.0, refl, (core, is_core), zone_in bracket, tail_of exact bracket first h.2.0 h.0 b h.2.2, bracket_stands exact first h.2.0 bracket b) h.5,
       )
 
-  -- after a core and `[`
+  -- Reading after a core and `[`.
   annotated_read : (text cores inner : Text) (core : Core) → text ≡ cores ++ (Plain 91 ∷ inner) → IsCore kind cores core
       → OnBracketed text (annotated_at fault exact core inner)
   unfolding annotated_at
@@ -151,7 +151,7 @@ module _ {E : Type 0} (fault : List Pair → Row → E) where
   found_read reader text found (Ok x) language h derives = (h.0, derives x.0 h.1)
   found_read reader text found (Err e) language h derives = ([], h.0, h.1, h.2)
 
-  -- What reading returns is derived and nothing is left, or is the fault of a row that fits.
+  -- Reading returns what the grammar derives, and nothing is left; or it returns the fault of a row that fits.
   pub whole_read : (reader : Reader) (text : Text) → OnWhole fault reader text (read_at fault reader text)
   whole_read (bracketed kind) text = with_pairs_read fault kind text (bracketed_text_at fault kind text) (text_read fault kind text)
   whole_read parse_rfc3339 text = found_read parse_rfc3339 text dated (rfc_3339_at (fault []) text) _ (rfc_3339_read (fault []) text) (λ x d. as_dated d)

@@ -1,4 +1,4 @@
--- What reading a zone name returns is a name as far as it goes, or a row that fits.
+-- Reading the name of a zone returns a name that the next code unit does not continue, or the fault of a row that fits.
 use Rattle.std.proofs.Common.{◌≡◌, ℕ, Bool, true, false, IsTrue, IsFalse, List, [], ◌∷◌, ◌++◌, map, Ok, Err, refl, sym, ◌∙◌, inl, inr}
 use Rattle.std.proofs.{Common.{append_assoc, append-nil, ◌&&◌}, lemmas.Bool.{and_parts, true≢false}}
 use Rattle.ixdtf_grammar.specs.language.Letters.{Text, zone_lead, zone_char, slash, Letter.{Plain, Bad}}
@@ -11,7 +11,7 @@ use Rattle.ixdtf_reading.proofs.{parts.Looks.{OnRead, FitsIn, read_if, onto}, to
 use Rattle.std.proofs.Common.{arith}
 use Rattle.ixdtf_reading.specs.reading.Zones.{name_line}
 
--- what reading a name gave
+-- What is true if reading a name returned this result.
 abbrev pub NameFront : Text → List ℕ → Text → Type 0
 NameFront text name rest = (front : Text) × (text ≡ front ++ rest) × ZoneName front × (front ≡ map Plain name) × NameEnds rest
 
@@ -25,11 +25,11 @@ joined_more (first ∷ parts) text part h item =
 longer : (front part : Text) → ZoneName front → NameItem part → ZoneName (front ++ part)
 longer front part h item = (h.0, h.1 ++ part, rw (h.2, append_assoc), h.3, joined_more h.4.0 h.1 part h.4.1 item)
 
--- a test that fails where the other one holds
+-- If `b && true` is false, `b` is false.
 by_slash : (b : Bool) → IsFalse (b && true) → IsFalse b
 by_slash b h = grind (arith, h)
 
--- a name, or a name and a slash, by whether it may end
+-- A name if it can end here, and otherwise a name and a slash.
 abbrev Begun : Bool → Shape
 Begun true = ZoneName
 Begun false = ZoneName then one slash
@@ -38,7 +38,7 @@ with_char : (may_end : Bool) (front : Text) (c : ℕ) → Begun may_end front �
 with_char true front c h is = longer front (Plain c ∷ []) h (inl (c, refl, is))
 with_char false front c h is = rw (h.2, append_assoc) (longer h.0 (h.1 ++ (Plain c ∷ [])) h.3 (inr (h.1, Plain c ∷ [], refl, h.4, (c, refl, is))))
 
--- what the rest of a name gave, after a front
+-- What is true if reading the rest of a name after a prefix returned this result.
 abbrev More : Text → Text → List ℕ → Text → Type 0
 More front text name rest = (part : Text) × (text ≡ part ++ rest) × ZoneName (front ++ part) × (part ≡ map Plain name) × NameEnds rest
 
@@ -49,12 +49,12 @@ module _ {E : Type 0} (fault : Row → E) where
   letter_read c (Err e) front text stopped h = h
 
   module _ (brackets : Bool) where
-    -- the row where a name stops
+    -- The row after a name.
     pub name_stops_here : (place : Place) (e : Fault) (text front rest : Text) → text ≡ front ++ rest → ZoneName front
         → Stops (line_of brackets (of_zone in_zone_name)) place e rest → FitsIn name_line brackets (row_of (of_zone in_zone_name) place e) text
     name_stops_here place e text front rest is name at = (true, refl, (front, rest, is, name, at))
 
-    -- what is known of reading the rest of a name, after a front
+    -- What is true for the result of reading the rest of a name after a prefix.
     abbrev ReadsMore : Text → Text → Text → Read E (List ℕ) → Type 0
     ReadsMore whole front text r = OnRead fault r (More front text) (λ row. FitsIn name_line brackets row whole)
 
@@ -72,7 +72,7 @@ module _ {E : Type 0} (fault : Row → E) where
     bad_read false whole front rest is h =
         (row_of (of_zone after_zone_slash) (bad (Bad ∷ rest)) NonAsciiCodePoint, refl, (false, refl, (front, Bad ∷ rest, is, h, (rest, refl, refl, refl))))
 
-    -- a slash where the name may not end is another code unit
+    -- If the name cannot end here, a slash is like any other code unit.
     out_read : (may_end : Bool) (c : ℕ) (whole front rest : Text) → whole ≡ front ++ (Plain c ∷ rest) → Begun may_end front → IsFalse (zone_char c)
         → IsFalse (slash c && may_end) → ReadsMore whole front (Plain c ∷ rest)
         (name_stops (fault (row_of (of_zone after_zone_slash) (other (Plain c ∷ rest)) IanaCharPostSeparator)) may_end (Plain c ∷ rest))
@@ -102,7 +102,7 @@ module _ {E : Type 0} (fault : Row → E) where
         (run_read rest false whole (front ++ (Plain c ∷ [])) next (slash_may may_end front c h slashed)))
         (out_read may_end c whole front rest is h no_char))
 
-    -- from its first code unit on
+    -- Reading from the first code unit on.
     pub name_read : (c : ℕ) (text more : Text) → text ≡ Plain c ∷ more → IsTrue (zone_lead c)
         → OnRead fault (name_run fault true text) (NameFront text) (λ row. FitsIn name_line brackets row text)
     unfolding name_run

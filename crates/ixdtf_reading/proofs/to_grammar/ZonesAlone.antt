@@ -1,4 +1,5 @@
--- The readers of an offset, of a zone and of a zone's name: what is read is derived, and each fault is that of a row that fits.
+-- The readers of an offset, of a zone and of the name of a zone.
+-- The grammar derives what they read, and each fault is that of a row that fits.
 use Rattle.std.proofs.Common.{◌≡◌, ℕ, IsTrue, List, [], ◌∷◌, Option, Some, None, Ok, Err, refl, sym, ◌∙◌, inl, inr, arith, append-nil, false, true, Bool}
 use Rattle.std.proofs.lemmas.Bool.{or_from, true≢false}
 use Rattle.std.proofs.lemmas.Bool.Decides.{nat_tests}
@@ -28,7 +29,7 @@ use Rattle.ixdtf_reading.proofs.to_grammar.ZoneNames.{NameFront, name_read, name
 use Rattle.ixdtf_reading.proofs.to_grammar.Times.{TimeFront, clock_read, clock_peek_read}
 use Rattle.ixdtf_reading.proofs.to_reading.ZonesAlone.{offset_record, zone_record}
 
--- the same for the row where a name stops
+-- As above, for the row after a name.
 lift_name : (reader : Reader) (row : Row) (text : Text) → Before reader (of_zone in_zone_name) [] [] text → Before reader (of_zone after_zone_slash) [] [] text
     → FitsIn name_line (has_brackets reader) row text → Fits reader row [] text
 lift_name reader row text inside slashed f = ([], text, refl, rw f.1 (at f.0), f.2)
@@ -37,7 +38,7 @@ lift_name reader row text inside slashed f = ([], text, refl, rw f.1 (at f.0), f
     at true = inside
     at false = slashed
 
--- the row at which the first code unit is looked for
+-- The row for the first code unit.
 lift_start : (reader : Reader) (name : LineName) (row : Row) (text : Text) → row.name ≡ name → Before reader name [] [] text → front_of (table reader name) []
     → Stops (table reader name) row.place row.error text → Fits reader row [] text
 lift_start reader name row text is stands shape at = ([], text, refl, rw is stands, ([], text, refl, rw is shape, rw is at))
@@ -74,7 +75,7 @@ module _ {E : Type 0} (fault : Row → E) where
 
   -- ---- names
 
-  -- from its first code unit on
+  -- Reading from the first code unit on.
   alone_read : (c : ℕ) (text more : Text) → text ≡ Plain c ∷ more → IsTrue (zone_lead c)
       → OnRead fault (name_alone_at fault text) (λ name rest. (rest ≡ []) × IsZoneName text name) (λ row. FitsIn name_line false row text)
   unfolding name_alone_at
@@ -104,11 +105,11 @@ module _ {E : Type 0} (fault : Row → E) where
 
   -- ---- zones
 
-  -- an offset that was read is a zone
+  -- An offset that was read is a zone.
   offset_is_zone : (text : Text) (zone : Zone) → IsSigned clocks.MinuteOffset zone_record text zone → IsZone text zone
   offset_is_zone text zone h = inr (minutes_of h.c h.time, signed_text h.c h.body h.shape h.time h.is h.sign h.clock, h.value)
 
-  -- a name that was read is a zone
+  -- A name that was read is a zone.
   zone_of_name : (text : Text) (stopped : Row → Type 0) (r : Read E (List ℕ)) → OnRead fault r (λ name rest. (rest ≡ []) × IsZoneName text name) stopped
       → OnRead fault (as_zone r) (λ zone rest. (rest ≡ []) × IsZone text zone) stopped
   zone_of_name text stopped (Ok x) h = (h.0, inl (x.0, h.1, refl))

@@ -1,4 +1,5 @@
--- A reading that has gone over what stands before a time or an offset, and goes on after it, returns each row of their lines.
+-- Reading functions that read something, then a time or an offset, and then more.
+-- They return each row of the table lines of the time or the offset.
 use Rattle.std.proofs.Common.{◌≡◌, ℕ, IsTrue, [], ◌∷◌, ◌++◌, Err, refl, ◌∙◌, inl, inr, Bool}
 use Rattle.ixdtf_grammar.specs.{declared.records.TimeRecord.TimeRecord, language.{Shapes.some, Times.{Clock, TimeShape, ClockOf, TimeShape.hours}}}
 use Rattle.ixdtf_grammar.specs.language.{Times.TimeShape.{basic_minutes, colon_minutes, seconds, fractions}, Letters.{Text, digit, Letter.Plain}}
@@ -9,24 +10,24 @@ use Rattle.ixdtf_reading.specs.reading.{Looks.{Read, ◌>>=◌, row_of}, Times.{
 use Rattle.ixdtf_reading.proofs.{parts.Looks.{ReadsOver, RowsRead, goes, stops}, to_reading.Times.{Closed, IsLater, StopsAfter, OpenRow, time_takes, open_row}}
 use Rattle.ixdtf_reading.proofs.to_reading.Times.{inner_rows}
 
--- each row of the line is returned, behind what stands before it
+-- Each row of the table line is returned, after the text `prior`.
 abbrev pub RowsBehind : {E A : Type 0} → (Row → E) → Bool → (Text → Read E A) → Text → LineName → Type 0
 RowsBehind fault brackets whole_at prior name = RowsRead fault brackets (λ body. whole_at (prior ++ body)) name
 
--- what follows a time refuses, by each row of the line at which the time stops
+-- The function that reads what follows a time returns each row of the table line after the time.
 abbrev pub Refuses : {E A : Type 0} → (Row → E) → Bool → Clock → (OpenTime × Text → Read E A) → Type 0
 Refuses fault brackets clock after = (shape : TimeShape) (t : TimeRecord) (place : Place) (e : Fault) (rest : Text)
     → StopsAfter (follow_of brackets clock) place e rest
     → after ((shape, t), rest) ≡ Err (fault (row_of (line_after clock shape) place e))
 
--- over what stands before a time reading goes on to the time, which starts in any way, and then to what follows it
+-- Reading goes over the text before a time, then reads the time by `start`, and then what follows the time.
 pub record TimeLead {E A : Type 0} (fault : Row → E) (clock : Clock) (whole_at : Text → Read E A) (after : OpenTime × Text → Read E A)
     (prior : Text) : Type 0 where
   pub start : Text → Read E OpenTime
   pub starts : (c : ℕ) → IsTrue (digit c) → ReadsOver start (Plain c ∷ []) (hour_from fault clock c)
   pub over : (body : Text) → whole_at (prior ++ body) ≡ (start body >>= after)
 
--- ---- a time that starts with its hour
+-- ---- a time that begins with its hour
 
 module _ {E : Type 0} (fault : Row → E) (clock : Clock) where
   pub clock_starts : (c : ℕ) → IsTrue (digit c) → ReadsOver (clock_at fault clock) (Plain c ∷ []) (hour_from fault clock c)
@@ -41,21 +42,21 @@ module _ {E : Type 0} (fault : Row → E) (clock : Clock) where
       → ((body : Text) → whole_at (prior ++ body) ≡ (clock_at fault clock body >>= after)) → TimeLead fault clock whole_at after prior
   clock_lead whole_at after prior over = record { start = clock_at fault clock; starts = clock_starts; over = over }
 
--- ---- a reading that goes on after a time
+-- ---- a reading function that continues after a time
 
 module _ {E A : Type 0} (fault : Row → E) (clock : Clock) (whole_at : Text → Read E A) (after : OpenTime × Text → Read E A) (prior : Text)
     (lead : TimeLead fault clock whole_at after prior) where
-  -- a time is read as far as it goes
+  -- A time is read, if the next code unit does not continue it.
   pub over_time : (shape : TimeShape) (ts : Text) (t : TimeRecord) (rest : Text) → ClockOf clock shape ts t → Closed clock shape rest
       → whole_at (prior ++ (ts ++ rest)) ≡ after ((shape, t), rest)
   over_time shape ts t rest x closed = lead.over (ts ++ rest) ∙ rw (time_takes fault clock lead.start lead.starts shape ts t rest x closed)
 
-  -- a fault in the time is returned
+  -- A fault in the time is returned.
   in_time : (body : Text) (e : E) → lead.start body ≡ Err e → whole_at (prior ++ body) ≡ Err e
   in_time body e h = lead.over body ∙ rw h
 
   module _ (brackets : Bool) where
-    -- a row of the start is returned
+    -- A row of `start` is returned.
     pub start_rows : (name : LineName) → RowsRead fault brackets lead.start name → RowsBehind fault brackets whole_at prior name
     start_rows name h place e front rest f at = in_time (front ++ rest) _ (h place e front rest f at)
 
@@ -70,7 +71,7 @@ module _ {E A : Type 0} (fault : Row → E) (clock : Clock) (whole_at : Text →
           by_row (inl h) = in_time (front ++ rest) _ h
           by_row (inr h) = over_time shape front t rest x h.0 ∙ refuses shape t place e rest h.1
 
-      -- every row of a time's lines but that of the first digit
+      -- Every row of the table lines of a time, except that of the first digit.
       pub later_rows : (l : ClockLine) → IsLater l → RowsBehind fault brackets whole_at prior (of_clock clock l)
       later_rows hour_start is_later place e front rest f at = absurd is_later
       later_rows after_hour is_later place e front rest f at = open_rows hours place e front rest f at
@@ -81,7 +82,7 @@ module _ {E A : Type 0} (fault : Row → E) (clock : Clock) (whole_at : Text →
       later_rows l is_later place e front rest f at =
           in_time (front ++ rest) _ (inner_rows fault clock lead.start lead.starts brackets l tt place e front rest f at)
 
--- ---- a reading that goes on after a time which starts with its hour
+-- ---- a reading function that continues after a time that begins with its hour
 
 module _ {E A : Type 0} (fault : Row → E) (brackets : Bool) (clock : Clock) (whole_at : Text → Read E A) (after : OpenTime × Text → Read E A) (prior : Text)
     (over : (body : Text) → whole_at (prior ++ body) ≡ (clock_at fault clock body >>= after)) where
@@ -92,7 +93,7 @@ module _ {E A : Type 0} (fault : Row → E) (brackets : Bool) (clock : Clock) (w
       → whole_at (prior ++ (ts ++ rest)) ≡ after ((shape, t), rest)
   over_clock = over_time fault clock whole_at after prior lead
 
-  -- every row of a time's lines
+  -- Every row of the table lines of a time.
   pub clock_rows : Refuses fault brackets clock after → (l : ClockLine) → RowsBehind fault brackets whole_at prior (of_clock clock l)
   clock_rows refuses hour_start = start_rows fault clock whole_at after prior lead brackets (of_clock clock hour_start) (hour_start_row fault clock brackets)
   clock_rows refuses l = later_rows fault clock whole_at after prior lead brackets refuses l tt

@@ -1,4 +1,4 @@
--- A core is read, with the end or the bracket after it, and each row of a core's lines is returned.
+-- A core is read, with the end of the text or the bracket after it. Each row of the table lines of a core is returned.
 use Rattle.std.proofs.Common.{◌≡◌, ℕ, true, false, IsTrue, IsFalse, [], ◌∷◌, ◌++◌, Ok, Err, Option, Some, None, refl, sym, ap, ◌∙◌, subst, inl, inr, ◌||◌}
 use Rattle.std.proofs.{Common.{arith, append_assoc}, lemmas.Bool.{or_parts, Decides.nat_tests, or_left, or_right}}
 use Rattle.ixdtf_grammar.specs.declared.{profile.Profile.Profile, records.{DateRecord.DateRecord, TimeRecord.TimeRecord, UtcOffsetRecordOrZ.UtcOffsetRecordOrZ}}
@@ -28,7 +28,7 @@ use Rattle.ixdtf_grammar.specs.table.DateTimeFronts.{Through, ThroughTime, Field
 use Rattle.ixdtf_grammar.specs.table.LineNames.DateTimeLine.{after_field, after_utc}
 use Rattle.ixdtf_reading.proofs.to_reading.ClockRows.{over_time, start_rows, later_rows, over_clock, clock_rows}
 
--- what may follow a time does not go on in it
+-- A code unit that can follow a time does not continue it.
 closed_before : (clock : Clock) (shape : TimeShape) (c : ℕ) (rest : Text) → IsTrue ((sign or zulu or opening) c) → Closed clock shape (Plain c ∷ rest)
 closed_before clock hours c rest h = (grind (arith, nat_tests), grind (arith, nat_tests))
 closed_before clock seconds c rest h = grind (arith, nat_tests)
@@ -42,11 +42,11 @@ closed_at_core_end clock shape rest (inr h) = rw h.1 (closed_before clock shape 
 module _ {E : Type 0} (fault : Row → E) where
   -- ---- the end of a core
 
-  -- what is left where a core stands before the end or a bracket
+  -- The result of reading a core before the end of the text or before a bracket.
   abbrev pub Closes : Core → Text → Read E ClosedCore → Type 0
   Closes core rest read = (rest ≡ [] → read ≡ Ok ((core, false), [])) × ((more : Text) → rest ≡ Plain 91 ∷ more → read ≡ Ok ((core, true), more))
 
-  -- the end of what was read closes the core
+  -- If the end of the core is read next, the core ends here.
   end_closes : (name : LineName) (core : Core) (rest : Text) (read : Read E ClosedCore) → read ≡ core_end_at fault name core rest → Closes core rest read
   unfolding core_end_at
   end_closes name core rest read same =
@@ -57,14 +57,14 @@ module _ {E : Type 0} (fault : Row → E) where
   unfolding core_end_at
   end_other name core c rest out = rw (peek_other (core_look fault name) c rest out)
 
-  -- each row of what may follow a core
+  -- Each row for what follows a core.
   end_rows : (name : LineName) (core : Core) (shown : Shape) (place : Place) (e : Fault) (rest : Text)
       → Stops (line shown opening ok (always InvalidEnd)) place e rest
       → core_end_at fault name core rest ≡ Err (fault (row_of name place e))
   unfolding core_end_at
   end_rows name core shown place e rest at = rw (peek_stops fault name shown opening (always InvalidEnd) place e rest at)
 
-  -- ---- a time and what follows it, after what leads to them
+  -- ---- a time and what follows it, after the text before them
 
   module _ (date : Option DateRecord) where
     abbrev after_time : OpenTime × Text → Read E ClosedCore
@@ -83,7 +83,7 @@ module _ {E : Type 0} (fault : Row → E) where
             let no_offset = or_parts (sign c) (zulu c) parts.0 in
             rw (no_offset.0, no_offset.1) (end_other (line_after Clock.Time shape) (core_of date (Some t) None) c rest parts.1)
 
-    -- after an offset
+    -- Reads what follows an offset.
     abbrev after_offset : TimeRecord → ℕ → OpenTime × Text → Read E ClosedCore
     after_offset time c offset =
         core_end_at fault (line_after Clock.Offset offset.0.0) (with_offset date time (offset_of c (writes_seconds offset.0.0) offset.0.1)) offset.1
@@ -93,12 +93,12 @@ module _ {E : Type 0} (fault : Row → E) where
         end_rows (line_after Clock.Offset shape) _ nothing place e rest (stops_behind _ place e rest s)
 
     module _ (whole_at : Text → Read E ClosedCore) (prior : Text) (lead : TimeLead fault Clock.Time whole_at after_time prior) where
-      -- a time was read
+      -- A time was read.
       module _ (ts : Text) (shape : TimeShape) (t : TimeRecord) (x : ClockOf Clock.Time shape ts t) where
         timed_over : (rest : Text) → Closed Clock.Time shape rest → whole_at (prior ++ (ts ++ rest)) ≡ after_time ((shape, t), rest)
         timed_over rest closed = over_time fault Clock.Time whole_at after_time prior lead shape ts t rest x closed
 
-        -- what stands before an offset's body
+        -- The text before the digits of an offset.
         abbrev signed : ℕ → Text
         signed c = (prior ++ ts) ++ (Plain c ∷ [])
 
@@ -128,7 +128,7 @@ module _ {E : Type 0} (fault : Row → E) where
         zulu_row place e front rest f at =
             rw f.1 (zulu_over f.0 f.2 rest ∙ end_rows (of_offset after_zulu) (core_of date (Some t) (Some Z)) (one zulu) place e rest at)
 
-        -- a time, and an offset or `Z` where there is one, before the end or a bracket
+        -- A time, and an optional offset or `Z`, before the end of the text or a bracket.
         timed_takes : (offsets : Text) (offset : Option UtcOffsetRecordOrZ) (rest : Text) → OptionalOffset offsets offset → CoreEnds rest
             → (name : LineName) × (whole_at (prior ++ (ts ++ (offsets ++ rest))) ≡ core_end_at fault name (core_of date (Some t) offset) rest)
         timed_takes offsets None rest none ends = rw none (line_after Clock.Time shape, without_offset_over rest ends)
@@ -142,11 +142,11 @@ module _ {E : Type 0} (fault : Row → E) where
         timed_takes offsets (Some o) rest (inr h) ends =
             rw (h.1, h.0.1) (of_offset after_zulu, ap whole_at (simp append_assoc) ∙ zulu_over h.0.0 h.0.2 rest)
 
-  -- ---- the same behind anything that leads to a time, with the date in it
+  -- ---- as above, after any text that leads to a time, with its date
 
   module _ (before : Shape) (date_in : (prior : Text) → before prior → Option DateRecord) (whole_at : Text → Read E ClosedCore)
       (lead_of : (prior : Text) (b : before prior) → TimeLead fault Clock.Time whole_at (after_time (date_in prior b)) prior) where
-    -- the row of the line at which the time starts
+    -- The row of the table line at which the time begins.
     first_rows : (prior : Text) (b : before prior) (name : LineName) → RowsRead fault true (lead_of prior b).start name
         → RowsBehind fault true whole_at prior name
     first_rows prior b = start_rows fault Clock.Time whole_at (after_time (date_in prior b)) prior (lead_of prior b) true
@@ -169,7 +169,7 @@ module _ {E : Type 0} (fault : Row → E) where
         let time = b.4 in
         rw b.2 (zulu_row (date_in b.0 b.3) whole_at b.0 (lead_of b.0 b.3) b.1 time.1.0 time.0 time.1.1 place e front rest f at)
 
-    -- a time, and an offset where there is one
+    -- A time, and an optional offset.
     timed_closes : (prior ts offsets : Text) (b : before prior) (t : TimeRecord) (offset : Option UtcOffsetRecordOrZ) (rest : Text)
         → IsTime ts t → OptionalOffset offsets offset → CoreEnds rest
         → Closes (core_of (date_in prior b) (Some t) offset) rest (whole_at ((prior ++ (ts ++ offsets)) ++ rest))
@@ -215,19 +215,19 @@ module _ {E : Type 0} (fault : Row → E) where
       rw (d.is, d.has, ← append_assoc d.dates d.separator (d.times ++ d.offsets))
       (timed_closes _ _ _ date_time_lead (d.dates ++ d.separator) d.times d.offsets before d.time d.offset rest d.is_time d.is_offset ends)
 
-  -- ---- a date of a part, alone
+  -- ---- cores that are only a date
 
   module _ (part : Text → DateRecord → Type 0) (name : LineName) (part_at : Text → Read E DateRecord)
       (takes : (front : Text) (date : DateRecord) (rest : Text) → part front date → part_at (front ++ rest) ≡ Ok (date, rest)) where
     alone_takes : (front : Text) (core : Core) (rest : Text) → DateAlone part front core → Closes core rest (date_alone_at fault name (part_at (front ++ rest)))
     alone_takes front core rest d = rw d.2 (end_closes name (core_of (Some d.0) None None) rest _ (rw (takes front d.0 rest d.1)))
 
-    -- each row of what may follow it
+    -- Each row for what follows the date.
     after_alone_rows : (place : Place) (e : Fault) (front rest : Text) → some part front → Stops (line (some part) opening ok (always InvalidEnd)) place e rest
         → date_alone_at fault name (part_at (front ++ rest)) ≡ Err (fault (row_of name place e))
     after_alone_rows place e front rest f at = rw (takes front f.0 rest f.1) (end_rows name (core_of (Some f.0) None None) (some part) place e rest at)
 
-  -- ---- times that stand alone
+  -- ---- times without a date
 
   abbrev no_date : (prior : Text) → TimeMark prior → Option DateRecord
   no_date prior mark = None
@@ -245,7 +245,7 @@ module _ {E : Type 0} (fault : Row → E) where
   unfolding marked_core_at
   over_nothing prior none body = rw none
 
-  -- behind `T` or `t` a time starts with its hour, and else in its own way
+  -- After `T` or `t`, a time begins with its hour. Without them, the look at its first digit is a different one.
   abbrev mark_lead : (prior : Text) → TimeMark prior → TimeLead fault Clock.Time (marked_core_at fault) (after_time None) prior
   mark_lead prior (inl none) = record { start = marked_time_at fault; starts = lone_starts; over = over_nothing prior none }
   mark_lead prior (inr letter) = clock_lead fault Clock.Time (marked_core_at fault) (after_time None) prior (over_letter prior letter)
@@ -260,13 +260,13 @@ module _ {E : Type 0} (fault : Row → E) where
   marked_takes front core rest d ends =
       rw (d.is, d.has) (timed_closes _ _ _ mark_lead d.marks d.times d.offsets d.mark d.time d.offset rest d.is_time d.is_offset ends)
 
-  -- a fault in the time comes before the test of its front
+  -- A fault in the time is returned before the beginning of the text is tested.
   in_marked : (profile : Profile) (name : LineName) (prior : Text) → RowsBehind fault true (marked_core_at fault) prior name
       → RowsBehind fault true (time_alone_core_at fault profile) prior name
   unfolding time_alone_core_at
   in_marked profile name prior h place e front rest f at = rw (h place e front rest f at)
 
-  -- a time is read as a whole, and then the test of its front refuses it
+  -- A complete time is read. Then the test of the beginning of the text returns a fault.
   front_refuses : (profile : Profile) (text : Text) (e : E) → ReadsAsTime text → ((x : ClosedCore × Text) → unfronted fault profile text (Ok x) ≡ Err e)
       → time_alone_core_at fault profile text ≡ Err e
   unfolding time_alone_core_at
@@ -277,7 +277,7 @@ module _ {E : Type 0} (fault : Row → E) where
       go (inl is) closes = rw (closes.0 is) (refuses ((h.3.0, false), []))
       go (inr bracket) closes = rw (closes.1 bracket.0 bracket.1) (refuses ((h.3.0, true), bracket.0))
 
-  -- the rows of a time's lines but those of its clock
+  -- The rows of the table lines of a time, except those inside the time.
   time_line_rows : (profile : Profile) (l : TimeLine) → RowsWhere fault true (time_alone_core_at fault profile) (of_time l) (InTimeAlone profile l)
   time_line_rows profile time_start place e prior front rest b f at =
       in_marked profile (of_time time_start) prior (first_rows _ _ _ mark_lead prior (inl b) (of_time time_start) time_start_row) place e front rest f at
@@ -307,7 +307,7 @@ module _ {E : Type 0} (fault : Row → E) where
 
   -- ---- a core of any kind
 
-  -- a core is read where the end or a bracket follows it
+  -- A core is read if the end of the text or a bracket follows it.
   pub core_takes : (kind : CoreKind) (front : Text) (core : Core) (rest : Text) → IsCore kind front core → CoreEnds rest
       → Closes core rest (core_at fault kind (front ++ rest))
   unfolding time_alone_core_at
@@ -324,7 +324,7 @@ module _ {E : Type 0} (fault : Row → E) where
       λ x. unfronted_goes profile (front ++ rest) fault (Ok x) none in
       ((λ is. rw (closes.0 is) (goes _)), λ more is. rw (closes.1 more is) (goes _))
 
-  -- each row of a core's lines is returned
+  -- Each row of the table lines of a core is returned.
   pub core_line_rows : (kind : CoreKind) (l : CoreLine) → RowsWhere fault true (core_at fault kind) (of_core l) (BeforeCore kind l)
   unfolding date_time_core_at
   core_line_rows date_time (dates after_date) place e prior front rest b f at = rw b (after_date_row place e front rest f at)

@@ -1,4 +1,4 @@
--- A date-time of RFC 3339 is read up to its end, and each row of its lines is returned.
+-- A date-time of RFC 3339 is read up to its end. Each row of its table lines is returned.
 use Rattle.std.proofs.Common.{◌≡◌, ℕ, suc, ◌<◌, ◌≤◌, Bool, true, false, IsTrue, IsFalse, [], ◌∷◌, ◌++◌, Ok, Err, Option, Some, None, refl, sym, ap, ◌∙◌, subst}
 use Rattle.std.proofs.{Common.{◌⊎◌, inl, inr, arith, append_assoc, append-nil, pos, ℤ, nat_le, ◌&&◌}, lemmas.Bool.{and_parts, and_from, or_parts, leb-true, le-leb}}
 use Rattle.std.proofs.lemmas.Bool.{false_from_ne_true, eqb-true, Decides.nat_tests}
@@ -40,7 +40,7 @@ no_month_fails ds h = false_from_ne_true _ (λ test. let both = and_parts _ _ te
     out (inl zero) least most = omega (arith, zero, least)
     out (inr past) least most = omega (arith, past, most)
 
--- the date of the numbers that are written
+-- The date of the numbers that are written.
 abbrev pub date_written : {text : Text} {date : DateRecord} → FullDateText text date → DateRecord
 date_written d = date_of (pos (decimal d.years)) (decimal d.months) (decimal d.days)
 
@@ -58,11 +58,11 @@ no_day_fails : {text : Text} {date : DateRecord} (d : FullDateText text date) �
 no_day_fails d none = false_from_ne_true _ (λ test.
     let both = and_parts _ _ test in none (subst IsDayOfMonth (date_written_is d) (leb-true _ _ both.0, leb-true _ _ both.1)))
 
--- what an offset begins with
+-- The code unit is one with which an offset begins.
 abbrev pub Leads : ℕ → Type 0
 Leads c = IsTrue (sign c) ⊎ IsTrue (zulu c)
 
--- it is no digit and no point, and lines go on with it
+-- This code unit is not a digit and not a `.`. Table lines before an offset accept it.
 lead_not_digit : (c : ℕ) (rest : Text) → Leads c → NotNext digit (Plain c ∷ rest)
 lead_not_digit c rest (inl h) = grind (arith, nat_tests, h)
 lead_not_digit c rest (inr h) = grind (arith, nat_tests, h)
@@ -79,12 +79,12 @@ lead_may_too : (c : ℕ) → Leads c → IsTrue ((digit or sign or zulu) c)
 lead_may_too c (inl h) = grind (arith, nat_tests, h)
 lead_may_too c (inr h) = grind (arith, nat_tests, h)
 
--- the fraction that is written
+-- The fraction that is written.
 abbrev pub written_fraction : (part : Text) → (nothing either SecondFraction) part → Option FractionParts
 written_fraction part (inl empty) = None
 written_fraction part (inr h) = Some (fraction_of h.0)
 
--- the time of what is written up to its end
+-- The time of the text up to its end.
 abbrev pub time_to : (prior : Text) → ThroughTime prior → TimeRecord
 time_to prior h = time_of (decimal h.3.3.3.4.0) (decimal h.3.3.4.0) (decimal h.3.1) (written_fraction h.1 h.4)
 
@@ -119,7 +119,7 @@ module _ {E : Type 0} (fault : Row → E) where
     marked_stops ds rest place e two holds looks at =
         rw (field_takes ds rest two holds, stops fault (of_date_time (after_field field)) place e rest looks at) refl
 
-    -- a fault in the number is the fault of what begins with it
+    -- A fault in the number is the fault of a part that begins with it.
     marked_halts : (text : Text) (e : E) → field_at fault field test text ≡ Err e → marked_field_at fault field test text ≡ Err e
     unfolding marked_field_at
     marked_halts text e h = rw h refl
@@ -152,7 +152,7 @@ module _ {E : Type 0} (fault : Row → E) where
     over_until_day prior h =
         rw (h.2, h.4.2, h.4.4.1) (over_until_month h.0 h.3 before over_month (pos (decimal h.3.0)) h.4.0 h.4.4.0 h.4.3.0 h.4.3.1 h.4.4.2)
 
-    -- up to the day of a full date, whatever its day
+    -- Reading goes up to the day of a full date. The day is not tested.
     day_reached : {dates : Text} {date : DateRecord} (d : FullDateText dates date) (rest : Text)
         → whole (dates ++ rest) ≡ full_day_at fault finish (pos (decimal d.years)) (decimal d.months) (d.days ++ rest)
     day_reached d rest =
@@ -205,7 +205,7 @@ module _ {E : Type 0} (fault : Row → E) where
     over_through_second prior h =
         rw h.2 (over_until_second h.0 h.3 before over_second h.3.3.3.3.0 (decimal h.3.3.4.0) (decimal h.3.4.0) h.1 h.4.0 h.4.1)
 
-    -- ---- behind the seconds
+    -- ---- after the seconds
 
     module _ (date : DateRecord) (hour minute second : ℕ) where
       over_point : (c : ℕ) → IsTrue (point c) → ReadsOver (after_whole_second_at fault finish date hour minute second) (Plain c ∷ [])
@@ -227,7 +227,7 @@ module _ {E : Type 0} (fault : Row → E) where
             rw (goes fault (of_date_time (after_field second_field)) c rest tt may, no_point) refl;
       }
 
-      -- a fraction, and what an offset begins with
+      -- A fraction, and the first code unit of an offset.
       over_secfrac : (ds : Text) (n c : ℕ) → digits (suc n) ds → Leads c → ReadsOver (secfrac_at fault finish date hour minute second) (ds ++ (Plain c ∷ []))
           (time_offset_at fault finish date (time_of hour minute second (Some (fraction_of ds))) c)
       unfolding secfrac_at secfrac_digits_at
@@ -243,7 +243,7 @@ module _ {E : Type 0} (fault : Row → E) where
             ) refl;
       }
 
-      -- a fraction or none, and what an offset begins with
+      -- A fraction or none, and the first code unit of an offset.
       over_part : (part : Text) (h : (nothing either SecondFraction) part) (c : ℕ) → Leads c
           → ReadsOver (after_whole_second_at fault finish date hour minute second) (part ++ (Plain c ∷ []))
           (time_offset_at fault finish date (time_of hour minute second (written_fraction part h)) c)
@@ -293,7 +293,7 @@ module _ {E : Type 0} (fault : Row → E) where
     unfolding offset_minute_at
     over_offset_minute date time s hour ds rest n h = rw (field_takes offset_minute_field (at_most 59) ds rest h.0 (at_most_holds 59 ds n h)) refl
 
-    -- ---- where a number stops, what is read of it stops
+    -- ---- a fault in a number is the fault of what is read with it
 
     month_halts : (year : ℤ) (text : Text) (e : E) → marked_field_at fault month_field is_month text ≡ Err e → full_month_at fault finish year text ≡ Err e
     unfolding full_month_at
@@ -467,15 +467,15 @@ module _ {E : Type 0} (fault : Row → E) where
       date_time_rows after_utc place e front rest f at =
           rw (f.2, f.4.1) ((over_through_time f.0 f.3 f.4.0 (inr f.4.2)).over rest ∙ utc_over _ _ f.4.0 rest f.4.2 ∙ utc_stops _ place e rest at)
 
-    -- ---- a whole date-time
+    -- ---- a complete date-time
 
-    -- the fraction of a partial time, as it is written
+    -- The fraction of a partial time, as it is written.
     secfrac_written : (part : Text) (fraction : Option FractionParts) → OptionalSecfrac part fraction
         → (w : (nothing either SecondFraction) part) × (written_fraction part w ≡ fraction)
     secfrac_written part None h = (inl h, refl)
     secfrac_written part (Some fraction) h = (inr (h.ds, h.some.0, h.is, h.some.1), ap Some (sym h.value))
 
-    -- what is read up to the end of a time is its record
+    -- The result of reading up to the end of a time is its record.
     through : (dates letters times : Text) (date : DateRecord) (time : TimeRecord) → IsFullDate dates date → one time_letter letters → IsPartialTime times time
         → (h : ThroughTime (dates ++ (letters ++ times))) × (h.3.3.3.3.3.0 ≡ date) × (time_to (dates ++ (letters ++ times)) h ≡ time)
     through dates letters times date time d letter t =
@@ -509,7 +509,7 @@ module _ {E : Type 0} (fault : Row → E) where
           λ i. record { hour = sym t.hour.1 i; minute = sym t.minute.1 i; second = sym t.second.1 i; fraction = written.1 i },
         )
 
-    -- reading a date-time ends at one of its two lines
+    -- Reading a date-time ends at one of its two table lines.
     abbrev pub Ends : Core → Text → Read E A → Type 0
     Ends core rest read = (read ≡ finish (of_date_time after_utc) core rest) ⊎ (read ≡ finish (of_date_time (after_field offset_minute_field)) core rest)
 

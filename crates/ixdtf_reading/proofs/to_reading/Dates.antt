@@ -1,4 +1,4 @@
--- For a date its record and the rest are returned, and each row of a date's lines is returned.
+-- Reading a date returns its record and the rest. Each row of the table lines of a date is returned.
 use Rattle.std.proofs.Common.{◌≡◌, ℕ, ◌<◌, ◌⊎◌, Bool, true, false, [], ◌++◌, Ok, Err, refl, sym, ap, ◌∙◌, inl, inr, arith, ℤ, nat_le, ◌&&◌, ◌≤◌}
 use Rattle.std.proofs.lemmas.Bool.{and_parts, and_from, leb-true, le-leb, false_from_ne_true, Decides.nat_tests}
 use Rattle.ixdtf_grammar.specs.{declared.records.DateRecord.DateRecord, language.{Letters.{Text, ◌or◌, digit, hyphen}, Shapes.digits, Digits.decimal}}
@@ -13,16 +13,16 @@ use Rattle.ixdtf_reading.proofs.parts.{Looks.{ReadsOver, ◌before◌, ◌upto�
 use Rattle.ixdtf_reading.proofs.parts.{Marks.{Starts, Begun, hyphen_is, hyphen_over, mark_over, mark_stops, two_digits_over, two_digits_stop}, Years.year_takes}
 use Rattle.ixdtf_reading.proofs.parts.Years.{year_start_row, year_digits_row, extended_year_digits_row, minus_zero_year_row}
 
--- the lines that a date's own reading returns
+-- The table lines whose rows are returned when a date is read.
 abbrev pub IsInside : DateLine → Type 0
 IsInside after_date = ⊥
 IsInside _ = Unit {0}
 
--- the row of two digits that are no month, before this text
+-- The row of two digits that are not a month, before this text.
 abbrev pub no_month : Text → Row
 no_month left = row_of (of_date month_range) (anywhere left) InvalidMonthRange
 
--- what stands of a month, by whether a hyphen does
+-- The beginning of a month, with a hyphen before it or without.
 begun_month : (t : Text) → HyphenOrDigit t → (b : Bool) × (ds : Text) × (t ≡ hyphens_of b ++ ds) × Begun b ds
 begun_month t (inl h) = (true, [], hyphen_is t h, inl refl)
 begun_month t (inr (inl h)) = (true, h.1, h.2 ∙ ap (λ u. u ++ h.1) (hyphen_is h.0 h.3), inr h.4)
@@ -32,7 +32,7 @@ pub hyphens_are : (hs : Text) → OptionalHyphen hs → (b : Bool) × (hs ≡ hy
 hyphens_are hs (inl h) = (false, h)
 hyphens_are hs (inr h) = (true, hyphen_is hs h)
 
--- whether a number is that of a month
+-- The test whether a number is that of a month.
 pub month_is : (m : ℕ) → 1 ≤ m → m ≤ 12 → (nat_le 1 m && nat_le m 12) ≡ true
 month_is m low high = and_from _ _ (le-leb 1 m low) (le-leb m 12 high)
 
@@ -45,9 +45,9 @@ month_or_none m = grind arith
 module _ {E : Type 0} (fault : Row → E) where
   -- ---- a year and a month
 
-  -- the year stops at this line
+  -- The table line after the year is `name`.
   module _ (name : LineName) (asks : LooksFor (hyphen or digit) (line_of true name)) where
-    -- what is read of a month's digits, behind a hyphen or none
+    -- Reads on from the digits of a month, with a hyphen before them or without.
     abbrev month_of : Bool → Text × Text → Read E (ℕ × Bool)
     month_of b ds = month_in_range fault ds >>= λ month. Ok ((month.0, b), month.1)
 
@@ -72,7 +72,7 @@ module _ {E : Type 0} (fault : Row → E) where
     unfolding month_in_range
     month_out b ds rest h = (over_digits b ds h.0).over rest ∙ rw (month_is_none (decimal ds) h.1) refl
 
-    -- a year and a month, and what is read with them from there
+    -- A year and a month, and what `go` reads after them.
     module _ {A : Type 0} (go : ℤ → (ℕ × Bool) × Text → Read E A) where
       abbrev from_year : Text → Read E A
       from_year text = year_at fault text >>= λ year. month_at fault name year.1 >>= λ month. go year.0 month
@@ -92,7 +92,7 @@ module _ {E : Type 0} (fault : Row → E) where
       year_stops ys y place e rest h at = (over_year ys y h).over rest ∙ rw (mark_stops fault name place e rest (looks_for (hyphen or digit) _ asks) at)
 
       module _ (brackets : Bool) where
-        -- every row of a year and of a month after it
+        -- Every row of a year and of a month after it.
         pub year_and_month_row : (l : DateLine) (prior : Text) → BeforeDate year_month l prior
             → RowsRead fault brackets (λ body. from_year (prior ++ body)) (of_date l)
         year_and_month_row year_start prior h place e front rest f at = rw (h, year_start_row fault brackets place e front rest f at) refl
@@ -127,7 +127,7 @@ module _ {E : Type 0} (fault : Row → E) where
   over_separator true text starts = mark_over fault (of_date after_hyphened_month) true text tt refl starts
   over_separator false text starts = mark_over fault (of_date after_basic_month) false text tt (λ c h. h) starts
 
-  -- what is read of a day's digits
+  -- Reads on from the digits of a day.
   abbrev day_of : ℤ → ℕ → Bool → Text × Text → Read E DateRecord
   day_of y m b ds = day_in_range fault (date_of y m (decimal ds.0)) ds.1
 
@@ -164,7 +164,7 @@ module _ {E : Type 0} (fault : Row → E) where
   pub date_takes : (text : Text) (date : DateRecord) (rest : Text) → IsDate text date → date_at fault (text ++ rest) ≡ Ok (date, rest)
   date_takes text date rest h = (over_date text date h.0).over rest ∙ day_fits date rest h.1
 
-  -- every row of a date but those after it
+  -- Every row of a date, except those for what follows it.
   pub date_row_read : (brackets : Bool) (l : DateLine) → IsInside l → RowsRead fault brackets (date_at fault) (of_date l)
   unfolding date_at day_at
   date_row_read brackets after_year h place e front rest f at = year_stops (of_date after_year) (λ c. refl) day_from front f.0 place e rest f.1 at

@@ -1,4 +1,4 @@
--- A duration is read, and each row of a duration's lines is returned.
+-- A duration is read. Each row of the table lines of a duration is returned.
 use Rattle.std.proofs.Common.{◌≡◌, false, ℕ, ◌≤◌, ◌<◌, IsTrue, IsFalse, List, [], ◌∷◌, ◌++◌, Result, Ok, Err, Some, refl, sym, ap, ◌∙◌, subst, inl, inr, arith}
 use Rattle.std.proofs.{Common.{append_assoc, append-nil, nat_le}, lemmas.Bool.{or_left, or_right, le-leb, lt-leb, Decides.nat_tests}}
 use Rattle.ixdtf_grammar.specs.{declared.{profile.Profile.Profile, records.{Sign.Sign, DurationParseRecord.DurationParseRecord}}, language.Letters.Text}
@@ -69,7 +69,7 @@ module _ {E : Type 0} (fault : Row → E) (profile : Profile) where
       (signed (sign_of h.0)) h.4.0 h.4.2 (λ rest. refl) in
       rw (h.2, h.4.1, h.5) (first before second)
 
-  -- the first digit of a group, and one more
+  -- The first digit of a group. The next lemma is for one more digit.
   over_first_digit : (context : Context) (c : ℕ) → IsTrue (digit c) → IsTrue (nat_le (decimal (Plain c ∷ [])) greatest_value)
       → Over fault profile (between context) (Plain c ∷ []) (in_number context (Plain c ∷ []))
   unfolding step
@@ -89,7 +89,7 @@ module _ {E : Type 0} (fault : Row → E) (profile : Profile) where
       over_digit context ds c h.0 (below_front greatest_value _ more all)
       before rw append_assoc at (over_digits context (ds ++ (Plain c ∷ [])) more h.1 all)
 
-  -- one or more digits
+  -- One or more digits.
   over_all : (context : Context) (c : ℕ) (rest : Text) → AllDigits (Plain c ∷ rest) → IsTrue (nat_le (decimal (Plain c ∷ rest)) greatest_value)
       → Over fault profile (between context) (Plain c ∷ rest) (in_number context (Plain c ∷ rest))
   over_all context c rest h below =
@@ -170,7 +170,7 @@ module _ {E : Type 0} (fault : Row → E) (profile : Profile) where
       before one_letter fault profile (in_fraction s dates times h.ds f.ds) h.c (or_right _ _ h.ends)
       (λ rest. rw (designator_no_digit time h.c h.ends, same_fraction_group h, ← h.unit, order) refl))
 
-  -- ---- a front of a line leads to a state that looks at the line
+  -- ---- a prefix of a table line leads to a state with this line
 
   abbrev Reaches : DurationLine → Text → Type 0
   Reaches name front = (s : State) × Over fault profile started front s × (line_of_state s ≡ name)
@@ -214,7 +214,7 @@ module _ {E : Type 0} (fault : Row → E) (profile : Profile) where
       r.1.over rest ∙ run_stops fault profile r.0 place e rest (subst (λ n. Stops (duration_line profile n) place e rest) (sym r.2) at)
       ∙ ap (λ n. Err (fault (row_of (of_duration profile n) place e))) r.2
 
-  -- ---- the lines whose error stands whatever follows
+  -- ---- the whole lines: their error does not depend on what follows
 
   value_stops : (context : Context) (ds : Text) (c : ℕ) (rest : Text) → AllDigits (ds ++ (Plain c ∷ [])) → decimal ds ≤ greatest_value
       → greatest_value < decimal (ds ++ (Plain c ∷ []))
@@ -273,7 +273,7 @@ module _ {E : Type 0} (fault : Row → E) (profile : Profile) where
   line_rows date_unit_range place e front rest f at = absurd at
   line_rows name place e front rest f at = state_row name tt place e front rest f at
 
-  -- each row of the reader's lines is returned
+  -- Each row of the table lines of the reader is returned.
   pub duration_rows : ReadsAllRows fault (parse_duration profile) (duration_at fault profile)
   duration_rows (of_duration other l) pairs place e prior front rest b f at =
       let here : front_of (duration_line profile l) front = rw b.0.1 at f in

@@ -1,4 +1,4 @@
--- A first bracket is read, where its zone may have to be exact, and each row of its lines is returned.
+-- A first bracket whose zone can have to be exact is read. Each row of its table lines is returned.
 use Rattle.std.proofs.Common.{◌≡◌, ◌⊎◌, ℕ, List, Bool, true, false, IsTrue, IsFalse, Ok, Err, [], ◌∷◌, ◌++◌, refl, sym, ap, ◌∙◌, if◌then◌else◌}
 use Rattle.std.proofs.lemmas.Bool.{both_ways, false_from_ne_true}
 use Rattle.ixdtf_grammar.specs.{language.{Letters.{Text, Letter.Plain}, ZoneNames.{Zone, Zone.{Name, Offset}, has_dots}, Brackets.{ZoneNote, IsZoneBracket, IsExactBracket, MayStand}}}
@@ -9,7 +9,7 @@ use Rattle.ixdtf_reading.specs.reading.ExactZones.{is_exact, behind_flag, name_l
 use Rattle.ixdtf_reading.proofs.{parts.{ExactZones.{exact_holds, exact_is}, Openings.Returned}, to_reading.FirstBracket.{bracket_takes, bracket_rows}}
 use Rattle.ixdtf_reading.proofs.to_grammar.FirstBracket.{InBracket, IsBracket}
 
--- a first bracket, whose zone may have to be exact
+-- A first bracket. The first argument says whether its zone must be exact.
 abbrev pub IsBracketBy : Bool → Text → Bracket → Type 0
 IsBracketBy exact text (zoned note) = IsZoneBracket text note × MayStand exact text note
 IsBracketBy exact text (paired pair) = IsBracket text (paired pair)
@@ -32,7 +32,7 @@ module _ {E : Type 0} (fault : Row → E) where
   bracket_by_rows true name place e before front rest b f at =
       let row = bracket_rows fault name place e before front rest b f at in (row.0, row.1, rw row.2 refl)
 
-  -- a zone that is not exact
+  -- A zone that is not exact.
   inexact : (front rest : Text) (note : ZoneNote) → IsZoneBracket front note → ¬ (IsExactBracket front note)
       → Returned (bracket_by fault true) front rest (Err (fault (form_row note.zone rest)))
   inexact front rest note is none =
@@ -41,7 +41,7 @@ module _ {E : Type 0} (fault : Row → E) where
       false_from_ne_true _ (λ test. none (exact_is front read.0 rest note read.1 is test)) in
       (read.0, read.1, rw (read.2, fails) refl)
 
-  -- a name that is not exact, with dots or without
+  -- A name that is not exact. `dots` says whether one of its parts is `.` or `..`.
   inexact_name : (front rest : Text) (critical : Bool) (name : List ℕ) (dots : Bool) → has_dots name ≡ dots
       → IsZoneBracket front (record { critical = critical; zone = Name name })
       → ¬ (IsExactBracket front (record { critical = critical; zone = Name name }))

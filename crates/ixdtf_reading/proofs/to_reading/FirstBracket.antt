@@ -1,4 +1,4 @@
--- A first bracket is read, and each row of a first bracket's lines is returned.
+-- A first bracket is read. Each row of the table lines of a first bracket is returned.
 use Rattle.std.proofs.{lemmas.Bool.{or_left, or_right, Decides.nat_tests}, Common.{◌≡◌, ℕ, Bool, true, IsTrue, IsFalse, [], ◌∷◌, ◌++◌, Ok, Err, refl, ap, ◌∙◌}}
 use Rattle.std.proofs.Common.{inl, inr, arith, append_assoc}
 use Rattle.ixdtf_grammar.specs.{declared.records.TimeRecord.TimeRecord, language.{Times.{Clock, TimeShape, TimeShape.{seconds, fractions}}, Letters.Text}}
@@ -27,11 +27,11 @@ key_no_sign c h = grind (arith, nat_tests)
 key_starts : (c : ℕ) → IsTrue (key_lead c) → IsTrue ((zone_lead or sign) c)
 key_starts c h = grind (arith, nat_tests)
 
--- what a name begins with where no key may
+-- A code unit with which a name can begin, but not a key.
 only_lead : (c : ℕ) → IsTrue (zone_only_lead c) → IsTrue (zone_lead c) × IsFalse (key_lead c)
 only_lead c h = (grind (arith, nat_tests), grind (arith, nat_tests))
 
--- `]` closes a time of each shape
+-- A time of each shape ends before `]`.
 closing_closes : (shape : TimeShape) (rest : Text) → Closed Clock.MinuteOffset shape (Plain 93 ∷ rest)
 closing_closes seconds rest = refl
 closing_closes fractions rest = refl
@@ -40,12 +40,12 @@ closing_closes minutes rest = (refl, refl)
 module _ {E : Type 0} (fault : Row → E) where
   -- ---- names
 
-  -- what the first code unit leads to
+  -- The result of reading the content of a bracket by its first code unit.
   abbrev ReadsInside : Bool → Text → Read E Bracket → Type 0
   ReadsInside critical text given =
       (c : ℕ) × (more : Text) × (text ≡ Plain c ∷ more) × IsTrue ((zone_lead or sign) c) × (inside_at fault critical c text ≡ given)
 
-  -- what reads as a name is read so
+  -- If the bracket reads as a name, it is read as a name.
   as_name : (critical : Bool) (text : Text) (given : Read E Bracket) → ReadsAsName text
       → noted critical (as_zone (name_in_bracket_at fault text)) ≡ given → ReadsInside critical text given
   unfolding inside_at name_or_pair_at
@@ -55,14 +55,14 @@ module _ {E : Type 0} (fault : Row → E) where
   as_name critical text given (inr h) is =
       (h.3.0, h.1, h.2 ∙ rw h.3.1, key_starts h.3.0 h.3.2, rw (key_no_sign h.3.0 h.3.2, h.3.2, sight_name fault text h) is)
 
-  -- what reads as a pair is read so
+  -- If the bracket reads as an annotation, it is read as an annotation.
   as_key : (critical : Bool) (text : Text) (given : Read E Bracket) → ReadsAsPair text → as_pair (pair_at fault critical text) ≡ given
       → ReadsInside critical text given
   unfolding inside_at name_or_pair_at
   as_key critical text given h is =
       (h.3.0, h.1, h.2 ∙ rw h.3.1, key_starts h.3.0 h.3.2, rw (key_no_sign h.3.0 h.3.2, h.3.2, sight_pair fault text h) is)
 
-  -- the row of a name's own line
+  -- The row of the table line of a name.
   in_name_row : RowsRead fault true (name_in_bracket_at fault) (of_zone in_zone_name)
   unfolding name_in_bracket_at
   in_name_row place e front rest f at = by_row (name_row fault true place e front rest f at)
@@ -73,11 +73,11 @@ module _ {E : Type 0} (fault : Row → E) where
 
   -- ---- offsets
 
-  -- after a time
+  -- Reads what follows a time.
   abbrev after_offset : ℕ → OpenTime × Text → Read E Zone
   after_offset c time = next_by (follow_look fault true Clock.MinuteOffset time.0) time.1 >>= λ next. Ok (Offset (minutes_of c time.0.1), next.1)
 
-  -- the offset is read as a time is
+  -- The offset is read like a time.
   offset_lead : (c : ℕ) (body : Text) → offset_in_bracket_at fault c ([] ++ body) ≡ (clock_at fault Clock.MinuteOffset body >>= after_offset c)
   unfolding offset_in_bracket_at
   offset_lead c body = refl
@@ -87,14 +87,14 @@ module _ {E : Type 0} (fault : Row → E) where
   unfolding next_by look_at
   offset_closed c shape time rest = refl
 
-  -- every row of an offset, after its sign
+  -- Every row of an offset, after its sign.
   offset_row : (c : ℕ) (l : ClockLine) → RowsRead fault true (offset_in_bracket_at fault c) (of_clock Clock.MinuteOffset l)
   offset_row c =
       clock_rows fault true Clock.MinuteOffset (offset_in_bracket_at fault c) (after_offset c) [] (offset_lead c)
       (λ shape t place e rest after. rw (letter_stops fault (line_after Clock.MinuteOffset shape) nothing closing AnnotationClose (always AnnotationClose)
       place e rest (stops_behind _ place e rest after)))
 
-  -- a sign leads to an offset
+  -- After a sign, an offset is read.
   at_sign : (critical : Bool) (c : ℕ) (more : Text) → IsTrue (sign c)
       → inside_at fault critical c (Plain c ∷ more) ≡ noted critical (offset_in_bracket_at fault c more)
   unfolding inside_at
@@ -102,7 +102,7 @@ module _ {E : Type 0} (fault : Row → E) where
 
   -- ---- zones
 
-  -- a zone and `]`, from the zone's first code unit on
+  -- A zone and `]`, from the first code unit of the zone on.
   zone_takes : (critical : Bool) (inside : Text) (zone : Zone) (rest : Text) → IsZone inside zone
       → ReadsInside critical (inside ++ (Plain 93 ∷ rest)) (Ok (zoned (record { critical = critical; zone = zone }), rest))
   unfolding name_in_bracket_at next_by look_at
@@ -121,19 +121,19 @@ module _ {E : Type 0} (fault : Row → E) where
             ∙ offset_closed o.c o.shape o.time rest)),
       )
 
-  -- ---- whole brackets
+  -- ---- complete brackets
 
   may_start : (c : ℕ) → IsTrue ((zone_lead or sign) c)
       → IsTrue ((zone_lead or sign or exclamation) c) × IsTrue ((zone_lead or sign) c) × IsFalse (exclamation c)
   may_start c h = (grind (arith, nat_tests), h, grind (arith, nat_tests))
 
-  -- what is read inside is what the bracket is read as
+  -- The result of reading the content is the result of reading the bracket.
   is_opened : (start : Text) (critical : Bool) → Opens start critical → (body rest : Text) (given : Read E Bracket)
       → ReadsInside critical (body ++ rest) given → Returned (bracket_at fault) (start ++ body) rest given
   unfolding bracket_at critical_bracket_at
   is_opened = opened fault (of_bracket first_bracket_start) (of_bracket first_critical_start) (zone_lead or sign) tt tt may_start refl (inside_at fault)
 
-  -- a whole bracket is read
+  -- A complete bracket is read.
   pub bracket_takes : (front rest : Text) (bracket : Bracket) → IsBracket front bracket → Returned (bracket_at fault) front rest (Ok (bracket, rest))
   bracket_takes front rest (zoned note) h =
       rw h.is (is_opened h.start note.critical h.opens (h.inside ++ (Plain 93 ∷ [])) rest _
@@ -145,12 +145,12 @@ module _ {E : Type 0} (fault : Row → E) where
 
   -- ---- each row is returned
 
-  -- a fault of the sight, where a key may begin
+  -- A fault of looking ahead is returned, if a key can begin here.
   scan_stops : (critical : Bool) (c : ℕ) (text : Text) (e : E) → IsTrue (key_lead c) → sight_at fault text ≡ Err e → inside_at fault critical c text ≡ Err e
   unfolding inside_at name_or_pair_at
   scan_stops critical c text e h is = rw (key_no_sign c h, h, is)
 
-  -- each row inside a first bracket is returned
+  -- Each row inside a first bracket is returned.
   pub bracket_rows : (name : LineName) (place : Place) (e : Fault) (before front rest : Text) → InBracket name before (front ++ rest)
       → front_of (line_of true name) front → Stops (line_of true name) place e rest
       → Returned (bracket_at fault) (before ++ front) rest (Err (fault (row_of name place e)))

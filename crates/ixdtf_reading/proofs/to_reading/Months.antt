@@ -1,4 +1,4 @@
--- A year-month and a month-day give their record and the rest, and each row of their lines is returned.
+-- Reading a year-month or a month-day returns its record and the rest. Each row of their table lines is returned.
 use Rattle.std.proofs.Common.{◌≡◌, ℕ, Bool, true, false, [], ◌∷◌, ◌++◌, Ok, Err, refl, sym, ap, ◌∙◌, inl, inr, append_assoc, ℤ, pos, nat_le}
 use Rattle.std.proofs.lemmas.Bool.{and_parts, and_from, leb-true, le-leb, false_from_ne_true}
 use Rattle.ixdtf_grammar.specs.{declared.{profile.Profile.Profile, records.DateRecord.DateRecord}, language.Letters.{Text, digit, hyphen, Letter.Plain}}
@@ -18,7 +18,7 @@ use Rattle.ixdtf_reading.proofs.to_reading.Dates.{hyphens_are, month_is, month_i
 -- ---- year-months
 
 module _ {E : Type 0} (fault : Row → E) where
-  -- the first of the month
+  -- The first day of the month.
   abbrev first_of : ℤ → (ℕ × Bool) × Text → Read E DateRecord
   first_of y month = Ok (date_of y month.0.0 1, month.1)
 
@@ -34,7 +34,7 @@ module _ {E : Type 0} (fault : Row → E) where
   pub year_month_takes : (text : Text) (date : DateRecord) (rest : Text) → IsYearMonth text date → year_month_at fault (text ++ rest) ≡ Ok (date, rest)
   year_month_takes text date rest h = (over_year_month text date h).over rest ∙ λ i. Ok (date_of date.year date.month (sym h.first_day i), rest)
 
-  -- every row of a year and of a month after it
+  -- Every row of a year and of a month after it.
   pub year_month_date_row : (l : DateLine) (prior : Text) → BeforeDate year_month l prior
       → RowsRead fault true (λ body. year_month_at fault (prior ++ body)) (of_date l)
   unfolding year_month_at
@@ -46,11 +46,11 @@ module _ {E : Type 0} (fault : Row → E) where
 
 -- ---- month-days
 
--- the row of two digits that are no month
+-- The row of two digits that are not a month.
 abbrev pub no_lone_month : Text → Row
 no_lone_month left = row_of (of_month_day month_day_month_range) (anywhere left) InvalidMonthRange
 
--- two hyphens, or nothing
+-- Two hyphens, or nothing.
 abbrev pub marks_of : Bool → Text
 marks_of true = Plain 45 ∷ (Plain 45 ∷ [])
 marks_of false = []
@@ -66,17 +66,17 @@ begun : (b : Bool) (ds : Text) → one digit ds → Begun b ds
 begun true ds h = inr h
 begun false ds h = h
 
--- what stands of a month, by whether two hyphens do
+-- The beginning of a month, with two hyphens before it or without.
 begun_month : (t : Text) → MonthDayMonthDigits t → (b : Bool) × (ds : Text) × (t ≡ marks_of b ++ ds) × Begun b ds
 begun_month t (inl h) = (true, [], two_marks t h, inl refl)
 begun_month t (inr h) = let m = marks_are h.0 h.3 in (m.0, h.1, h.2 ∙ ap (λ u. u ++ h.1) m.1, begun m.0 h.1 h.4)
 
--- what stands of a day, by whether a hyphen does
+-- The beginning of a day, with a hyphen before it or without.
 begun_day : (t : Text) → (one hyphen either (OptionalHyphen then one digit)) t → (b : Bool) × (ds : Text) × (t ≡ hyphens_of b ++ ds) × Begun b ds
 begun_day t (inl h) = (true, [], hyphen_is t h, inl refl)
 begun_day t (inr h) = let m = hyphens_are h.0 h.3 in (m.0, h.1, h.2 ∙ ap (λ u. u ++ h.1) m.1, begun m.0 h.1 h.4)
 
--- the lines that a month-day's own reading returns
+-- The table lines whose rows are returned when a month-day is read.
 abbrev pub IsInMonthDay : Profile → MonthDayLine → Type 0
 IsInMonthDay profile (month_day_range other) = other ≡ profile
 IsInMonthDay profile (after_month_day other) = ⊥
@@ -104,7 +104,7 @@ module _ {E : Type 0} (fault : Row → E) (profile : Profile) where
   ) refl
   over_marks false text starts = rw (hyphen_over fault (of_month_day month_day_start) false text (λ c. refl) starts)
 
-  -- what is read of a month's digits and behind them
+  -- Reads on from the digits of a month.
   abbrev month_from : Bool → Text × Text → Read E DateRecord
   month_from b ds = lone_month_in_range fault ds >>= λ month. lone_day_at fault profile month.0 month.1
 
@@ -116,7 +116,7 @@ module _ {E : Type 0} (fault : Row → E) (profile : Profile) where
   unfolding lone_month_in_range
   over_lone_month b ms m h = record { over = λ rest. (over_digits b ms h.0.0).over rest ∙ rw (sym h.0.1, month_is m h.1 h.2) refl }
 
-  -- what is read of a day's digits
+  -- Reads on from the digits of a day.
   abbrev day_from : ℕ → Bool → Text × Text → Read E DateRecord
   day_from m b ds = lone_day_in_range fault profile m (decimal ds.0) ds.1
 
@@ -150,7 +150,7 @@ module _ {E : Type 0} (fault : Row → E) (profile : Profile) where
   month_day_takes text date rest h = (over_month_day text date h.0).over rest ∙ day_fits date.month date.day rest h.1
       ∙ λ i. Ok (date_of (sym h.0.no_year i) date.month date.day, rest)
 
-  -- every row of a month-day but those after it
+  -- Every row of a month-day, except those for what follows it.
   pub month_day_row : (l : MonthDayLine) → IsInMonthDay profile l → RowsRead fault true (month_day_at fault profile) (of_month_day l)
   unfolding month_day_at marks_at lone_month_in_range lone_day_at
   month_day_row month_day_start h place e front rest f at = rw (f, mark_stops fault (of_month_day month_day_start) place e rest tt at)

@@ -1,4 +1,4 @@
--- The pairs after whole brackets are read, and each row of their lines is returned with the pairs before it.
+-- The annotations after complete brackets are read. Each row of their table lines is returned with the annotations before it.
 use Rattle.std.proofs.Common.{◌≡◌, ℕ, zero, suc, ◌<◌, ◌+◌, List, [], ◌∷◌, ◌++◌, length, Ok, Err, refl, ap, ◌∙◌, subst, arith, append_assoc, append-nil, true}
 use Rattle.std.proofs.lemmas.List.{length-append}
 use Rattle.ixdtf_grammar.specs.{language.{Letters.{Text, opening, Letter.Plain}, Shapes.nothing, Brackets.{Pair, ArePairs}}, table.Faults.Fault}
@@ -7,7 +7,7 @@ use Rattle.ixdtf_grammar.specs.table.{Lines.always, Rows.{Row, Place, Stops, fro
 use Rattle.ixdtf_reading.specs.reading.{Looks.{row_of, look_at_line}, Pairs.{later_pair_at, next_pair_at, pairs_at}, Chains.AfterBrackets}
 use Rattle.ixdtf_reading.proofs.{parts.Looks.{peek_end, peek_goes, peek_stops, RowsWhere}, to_reading.Pair.{later_pair_takes, later_pair_rows}}
 
--- what follows something is shorter
+-- The text after something is shorter than the text from it on.
 pub shorter : (whole front inner rest : Text) (c : ℕ) (n : ℕ) → front ≡ Plain c ∷ inner → whole ≡ front ++ rest → length whole < suc n → length rest < n
 shorter whole front inner rest c n starts is less =
     let all : length whole ≡ length front + length rest = ap (λ t. length t) is ∙ length-append front rest in
@@ -15,7 +15,7 @@ shorter whole front inner rest c n starts is less =
     omega (arith, all, first, less)
 
 module _ {E : Type 0} (fault : Row → E) where
-  -- each row of the line after whole brackets, and of the lines of a pair
+  -- Each row of the table line after complete brackets, and of the table lines of an annotation.
   next_row : (name : LineName) → RowsWhere fault true (next_pair_at fault) name (λ prior rest. AfterBrackets name prior)
   unfolding next_pair_at
   next_row (of_bracket after_bracket) place e prior front rest b f at =
@@ -26,13 +26,13 @@ module _ {E : Type 0} (fault : Row → E) where
   next_row name place e prior front rest b f at = absurd b
 
 module _ {E : Type 0} (fault : List Pair → Row → E) where
-  -- one more pair
+  -- One more annotation.
   one_pair : (pair : Pair) (inner rest : Text) (pairs : List Pair) (n : ℕ) → later_pair_at (fault pairs) (inner ++ rest) ≡ Ok (pair, rest)
       → pairs_at fault (suc n) pairs (Plain 91 ∷ (inner ++ rest)) ≡ pairs_at fault n (pairs ++ (pair ∷ [])) rest
   unfolding pairs_at next_pair_at
   one_pair pair inner rest pairs n read = rw (peek_goes (look_at_line (fault pairs) (of_bracket after_bracket)) 91 (inner ++ rest) refl, read)
 
-  -- reading goes over pairs, with fuel left for the rest
+  -- Reading goes over annotations. The bound `n` is large enough for the rest.
   pub over_pairs : (more : List Pair) (front rest : Text) (pairs : List Pair) (n : ℕ) → ArePairs front more → length (front ++ rest) < n
       → (m : ℕ) × (length rest < m) × (pairs_at fault n pairs (front ++ rest) ≡ pairs_at fault m (pairs ++ more) rest)
   over_pairs [] front rest pairs n h less = (n, subst (λ t. length (t ++ rest) < n) h less, rw (h, append-nil pairs))
@@ -54,7 +54,7 @@ module _ {E : Type 0} (fault : List Pair → Row → E) where
   pairs_end zero pairs less = absurd (omega (arith, less))
   pairs_end (suc n) pairs less = rw (peek_end (look_at_line (fault pairs) (of_bracket after_bracket)))
 
-  -- each row of the lines of pairs is returned
+  -- Each row of the table lines of annotations is returned.
   pub pairs_row : (name : LineName) (place : Place) (e : Fault) (prior front rest : Text) (pairs : List Pair) (n : ℕ) → AfterBrackets name prior
       → front_of (line_of true name) front → Stops (line_of true name) place e rest → length (prior ++ (front ++ rest)) < n
       → pairs_at fault n pairs (prior ++ (front ++ rest)) ≡ Err (fault pairs (row_of name place e))

@@ -1,4 +1,4 @@
--- A pair is read, and each row of a pair's lines is returned.
+-- An annotation is read. Each row of the table lines of an annotation is returned.
 use Rattle.std.proofs.Common.{◌≡◌, ℕ, Bool, true, IsTrue, IsFalse, List, [], ◌∷◌, ◌++◌, map, Ok, Err, refl, ap, ◌∙◌, arith, append_assoc}
 use Rattle.std.proofs.lemmas.{Bool.{or_parts, or_left, eqb-true, Decides.nat_tests}}
 use Rattle.ixdtf_grammar.specs.language.Letters.{Text, ◌or◌, hyphen, equals, closing, exclamation, key_lead, key_char, value_char, Letter.Plain}
@@ -11,13 +11,13 @@ use Rattle.ixdtf_reading.specs.reading.Pairs.{critical_pair_at, later_pair_at, V
 use Rattle.ixdtf_reading.specs.reading.{Pairs.{ValueStep as steps}, Chains.AfterBrackets}
 use Rattle.ixdtf_reading.proofs.parts.{Looks.row_here, Openings.{Returned, opened, start_row, critical_row}, Steps.{IsOver, over_one, over_both, over_many, over_ok, over_err}}
 
--- the lines from the key on
+-- The table lines from the key on.
 abbrev pub InPair : PairLine → Type 0
 InPair key_start = ⊥
 InPair critical_key_start = ⊥
 InPair line = Unit {0}
 
--- a key, `=`, a value and `]`
+-- The text of a key, `=`, a value and `]`.
 pub record PairText (text : Text) (pair : Pair) : Type 0 where
   pub keys : Text
   pub values : Text
@@ -35,7 +35,7 @@ pair_text h = record { keys = h.keys; values = h.values; is = refl; is_key = h.i
 key_lead_goes : (c : ℕ) → IsTrue (key_lead c) → IsTrue (key_char c)
 key_lead_goes c h = grind (arith, nat_tests)
 
--- what stops in a value
+-- A code unit that a value does not accept.
 no_value : (c : ℕ) → IsFalse ((value_char or hyphen or closing) c) → IsFalse (value_char c) × IsFalse (hyphen c) × IsFalse (closing c)
 no_value c h = (grind (arith, nat_tests), grind (arith, nat_tests), grind (arith, nat_tests))
 
@@ -64,7 +64,7 @@ module _ {E : Type 0} (fault : Row → E) where
 
   -- ---- values
 
-  -- what the step at a code unit returns
+  -- The result of the step of a code unit.
   abbrev pub stepped : ValueState → ℕ → Text → ValueStep → Read E (List ℕ)
   stepped state c rest step =
       elim step [
@@ -78,7 +78,7 @@ module _ {E : Type 0} (fault : Row → E) where
   unfolding value_run
   by_step state c rest step h = ap (stepped state c rest) h
 
-  -- a code unit leads into a value from each of its states
+  -- A code unit of a component leads to the state `Inside` from each state of a value.
   value_letter : (state : ValueState) (c : ℕ) → IsTrue (value_char c) → IsOver (value_run fault state) (value_run fault Inside) (Plain c ∷ [])
   value_letter state c h = over_one c (λ rest. by_step state c rest (GoesOn Inside) (rw h))
 
@@ -112,9 +112,9 @@ module _ {E : Type 0} (fault : Row → E) where
   value_stops state (bad left) e rest at = rw (at.3, at.1, at.2)
   value_stops state place e rest at = absurd at
 
-  -- ---- pairs from the key on
+  -- ---- annotations from the key on
 
-  -- from its key on
+  -- An annotation is read from its key on.
   pub pair_takes : (text rest : Text) (pair : Pair) → PairText text pair → pair_at fault pair.critical (text ++ rest) ≡ Ok (pair, rest)
   unfolding pair_at
   pair_takes text rest pair h =
@@ -122,7 +122,7 @@ module _ {E : Type 0} (fault : Row → E) where
       let value = over_ok pair.value (Plain 93 ∷ rest) rest (over_value h.values h.is_value) h.value (value_closed rest) in
       rw (h.is, append_assoc, over_ok pair.key (Plain 61 ∷ after) after (over_key h.keys h.is_key) h.key (key_ends 61 after refl), append_assoc, value)
 
-  -- a fault after a key and `=`
+  -- A fault after a key and `=`.
   after_key : (critical : Bool) (keys marks rest : Text) (e : E) → Key keys → one equals marks → value_run fault AtStart rest ≡ Err e
       → pair_at fault critical (keys ++ (marks ++ rest)) ≡ Err e
   unfolding pair_at
@@ -148,16 +148,16 @@ module _ {E : Type 0} (fault : Row → E) where
       (over_err rest _ dash (value_stops AfterHyphen place e rest at)))))
   pair_rows critical l place e front rest within f at = absurd within
 
-  -- ---- pairs after their `[`
+  -- ---- annotations after their `[`
 
-  -- a pair is read by its key, whatever its first code unit
+  -- Reads an annotation from its key on. Its first code unit is not tested.
   abbrev by_key : Bool → ℕ → Text → Read E Pair
   by_key critical c text = pair_at fault critical text
 
   may_start : (c : ℕ) → IsTrue (key_lead c) → IsTrue ((key_lead or exclamation) c) × IsTrue (key_lead c) × IsFalse (exclamation c)
   may_start c h = (or_left _ _ h, h, grind (arith, nat_tests))
 
-  -- what begins as a key does, behind what opens its bracket
+  -- A bracket that begins with a key after `[` or `[!`.
   at_key : (start : Text) (critical : Bool) (keys : Text) (body rest : Text) (given : Read E Pair) → Opens start critical → Key keys
       → (more : Text) → body ++ rest ≡ keys ++ more → pair_at fault critical (body ++ rest) ≡ given → Returned (later_pair_at fault) (start ++ body) rest given
   unfolding later_pair_at critical_pair_at
@@ -165,7 +165,7 @@ module _ {E : Type 0} (fault : Row → E) where
       opened fault (of_pair key_start) (of_pair critical_key_start) key_lead tt tt may_start refl by_key start critical opens body rest given
       (key.3.0, key.1 ++ more, is ∙ rw (key.2, key.3.1) refl, key.3.2, h)
 
-  -- a whole pair
+  -- A complete annotation is read.
   pub later_pair_takes : (front rest : Text) (pair : Pair) → IsPair front pair → Returned (later_pair_at fault) front rest (Ok (pair, rest))
   later_pair_takes front rest pair h =
       let behind : Text = Plain 61 ∷ (h.values ++ (Plain 93 ∷ [])) in

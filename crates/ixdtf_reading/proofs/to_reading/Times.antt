@@ -1,4 +1,5 @@
--- A time is read as far as it goes, wherever it starts, and each row of a time's lines is returned.
+-- A time is read, if the next code unit does not continue it. Its first digit can be read in any way.
+-- Each row of the table lines of a time is returned.
 use Rattle.std.proofs.Common.{◌≡◌, ℕ, suc, ◌<◌, ◌⊎◌, Bool, true, false, IsTrue, IsFalse, [], ◌∷◌, ◌++◌, Ok, Err, Some, None, refl, sym, ◌∙◌, inl, inr, arith}
 use Rattle.std.proofs.{Common.{append-nil, nat_le}, lemmas.Bool.{le-leb, lt-leb, or_parts, Decides.nat_tests}}
 use Rattle.ixdtf_grammar.specs.{declared.records.TimeRecord.TimeRecord, language.Times.{Clock, TimeShape, ClockOf, SecondText, greatest_second, has_seconds}}
@@ -37,7 +38,7 @@ module _ {E : Type 0} (fault : Row → E) (name : LineName) (asks : LooksFor dig
   unfolding number_by
   number_too_great ds rest p = rw (digits_go fault name asks 2 ds rest p.0, range_refused greatest (λ left. fault (past left)) ds rest p.1)
 
--- at a digit, which stays, a reading goes on as another
+-- At a digit, which is not consumed, one reading function continues as another one.
 module _ {E A : Type 0}
     (start stage : Text → Read E A) (same : (c : ℕ) (rest : Text) → IsTrue (digit c) → start (Plain c ∷ rest) ≡ stage (Plain c ∷ rest)) where
   same_over : (n : ℕ) (ds rest : Text) → digits (suc n) ds → start (ds ++ rest) ≡ stage (ds ++ rest)
@@ -49,7 +50,7 @@ module _ {E A : Type 0}
   halts_as : {rest : Text} {e : E} (n : ℕ) (ds : Text) → digits (suc n) ds → Halts stage ds rest e → Halts start ds rest e
   halts_as n ds d from = record { reads_to = same_over n ds _ d ∙ from.reads_to }
 
--- the text does not go on as a time of the shape does, and Bad does not stand next
+-- A time of this shape ends here: the next code unit does not continue it, and is not `Bad`.
 abbrev pub Closed : Clock → TimeShape → Text → Type 0
 Closed clock hours rest = NotNext colon rest × NotNext digit rest
 Closed clock basic_minutes rest = NotNext (seconds_after clock digit) rest × NotNext (colon or digit) rest
@@ -62,12 +63,12 @@ pub closed_minutes : (clock : Clock) (colons : Bool) (rest : Text) → NotNext (
 closed_minutes clock true rest h g = (h, g)
 closed_minutes clock false rest h g = (h, g)
 
--- the lines after the first digit of an hour
+-- The table lines after the first digit of an hour.
 abbrev pub IsLater : ClockLine → Type 0
 IsLater hour_start = ⊥
 IsLater _ = Unit {0}
 
--- the lines between the first digit of an hour and the end, at which a time may not stop
+-- The table lines after the first digit of an hour at which a time cannot end.
 abbrev pub IsInner : ClockLine → Type 0
 IsInner hour_start = ⊥
 IsInner after_hour = ⊥
@@ -77,7 +78,8 @@ IsInner after_second = ⊥
 IsInner after_fraction = ⊥
 IsInner _ = Unit {0}
 
--- what stands after a whole time where the row of its line fits, but at Bad and at what goes wrong in the time
+-- The text after a complete time, if a row of the table line after it fits. Not included are `Bad`, and a colon or a digit that
+-- is an error of the time itself.
 abbrev pub StopsAfter : Follow → Place → Fault → Text → Type 0
 StopsAfter follow (end left) e rest = (rest ≡ []) × (follow.at_end ≡ error e) × (left ≡ rest)
 StopsAfter follow (other left) e rest =
@@ -85,24 +87,24 @@ StopsAfter follow (other left) e rest =
 StopsAfter follow (bad left) e rest = ⊥
 StopsAfter follow (anywhere left) e rest = ⊥
 
--- such a row is one of the line of what goes on behind a time alone
+-- Such a row is also one of a table line that accepts only what can follow a time.
 pub stops_behind : (follow : Follow) (place : Place) (e : Fault) (rest : Text) → StopsAfter follow place e rest
     → Stops (line nothing follow.letters follow.at_end (always follow.at_other)) place e rest
 stops_behind follow (end left) e rest at = at
 stops_behind follow (other left) e rest at = at
 stops_behind follow place e rest at = absurd at
 
--- the text's end closes a time of each shape
+-- A time of each shape ends at the end of the text.
 pub closed_at_end : (clock : Clock) (shape : TimeShape) → Closed clock shape []
 closed_at_end clock seconds = tt
 closed_at_end clock fractions = tt
 closed_at_end clock minutes = (tt, tt)
 
--- a time with the fraction that was read
+-- A time with the fraction that was read.
 abbrev pub with_fraction : {E : Type 0} → ℕ → ℕ → ℕ → Read E FractionParts → Read E OpenTime
 with_fraction h m s r = r >>= λ fraction. Ok ((fractions, time_of h m s (Some fraction.0)), fraction.1)
 
--- Reading that starts a time: over a first digit it leads to the hour.
+-- A reading function that begins a time. After the first digit, it reads the rest of the hour.
 module _ {E : Type 0} (fault : Row → E) (clock : Clock)
     (start : Text → Read E OpenTime) (starts : (c : ℕ) → IsTrue (digit c) → ReadsOver start (Plain c ∷ []) (hour_from fault clock c)) where
   over_hour : (hs : Text) (h : ℕ) → UpTo 23 hs h → ReadsOver start hs (after_hour_at fault clock h)
@@ -174,7 +176,7 @@ module _ {E : Type 0} (fault : Row → E) (clock : Clock)
       let start_goes = goes fault (of_clock clock fraction_start) d (more ++ rest) tt is in
       record { reads_to = rw (start_goes, run_takes (bad_after fault clock fractions) n more rest ds closed) refl }
 
-  -- ---- staying at the end of a time
+  -- ---- consuming nothing at the end of a time
 
   stays_at_hour : (h : ℕ) (rest : Text) → Closed clock hours rest → after_hour_at fault clock h rest ≡ Ok ((hours, time_of h 0 0 None), rest)
   unfolding after_hour_at look_at
@@ -199,7 +201,7 @@ module _ {E : Type 0} (fault : Row → E) (clock : Clock)
   no_fraction (inl x) = x.no_fraction
   no_fraction (inr x) = x.no_fraction
 
-  -- a time is read as far as it goes
+  -- A time is read, if the next code unit does not continue it.
   pub time_takes : (shape : TimeShape) (text : Text) (t : TimeRecord) (rest : Text) → ClockOf clock shape text t → Closed clock shape rest
       → start (text ++ rest) ≡ Ok ((shape, t), rest)
   time_takes hours text t rest x closed =
@@ -249,7 +251,7 @@ module _ {E : Type 0} (fault : Row → E) (clock : Clock)
     second_too_great h m ds rest p =
         record { reads_to = rw (number_too_great fault (of_clock clock second_digits) (λ c. refl) (greatest_second clock) (second_past clock) ds rest p) refl }
 
-    -- each row inside a time
+    -- Each row inside a time.
     pub inner_rows : (l : ClockLine) → IsInner l → RowsRead fault brackets start (of_clock clock l)
     unfolding hour_from fraction_at fraction_stage
     inner_rows hour_digit h place e front rest f at =
@@ -292,7 +294,7 @@ module _ {E : Type 0} (fault : Row → E) (clock : Clock)
     inner_rows second_range h place e front rest f at = absurd at
     inner_rows l h place e front rest f at = absurd h
 
-  -- ---- the lines at which a time may stop
+  -- ---- the table lines after a complete time
 
   fraction_bad : (h m s d : ℕ) (more rest : Text) (n : ℕ) → IsTrue (digit d) → digits n more
       → Halts (fraction_stage h m s) (Plain d ∷ more) (Bad ∷ rest) (bad_after fault clock fractions (Bad ∷ rest))
@@ -301,7 +303,7 @@ module _ {E : Type 0} (fault : Row → E) (clock : Clock)
       let start_goes = goes fault (of_clock clock fraction_start) d (more ++ (Bad ∷ rest)) tt is in
       record { reads_to = rw (start_goes, run_bad (bad_after fault clock fractions) n more rest ds) refl }
 
-  -- at Bad
+  -- The next code unit is `Bad`.
   time_bad : (shape : TimeShape) (text : Text) (t : TimeRecord) (rest : Text) → ClockOf clock shape text t
       → start (text ++ (Bad ∷ rest)) ≡ Err (bad_after fault clock shape (Bad ∷ rest))
   unfolding after_hour_at after_minute_at after_second_at fraction_at fraction_stage look_at
@@ -315,7 +317,7 @@ module _ {E : Type 0} (fault : Row → E) (clock : Clock)
       rw (x.is, part.is, ds.2) ((over_seconds x.whole _ x.second upto over_mark _ _ _ (Plain part.mark ∷ []) (part.mark, refl, part.marks)
       upto fraction_bad _ _ _ ds.0 ds.1 rest part.some.0 ds.3 ds.4).reads_to)
 
-  -- at a colon or a digit that does not go on
+  -- The next code unit is a colon or a digit that cannot follow the time.
   minute_mixed : (colons : Bool) (text : Text) (t : TimeRecord) (c : ℕ) (rest : Text) → ClockOf clock (minutes_shape colons) text t
       → IsFalse (seconds_after clock (second_start colons) c) → IsTrue ((colon or digit) c)
       → start (text ++ (Plain c ∷ rest)) ≡ Err (mixed_after fault clock (minutes_shape colons) (Plain c ∷ rest))
@@ -326,7 +328,7 @@ module _ {E : Type 0} (fault : Row → E) (clock : Clock)
     abbrev follow : Follow
     follow = follow_of brackets clock
 
-    -- the row is returned inside the time, or what comes next is looked at after it
+    -- The row is returned while the time is read, or the next code unit is read after the time.
     abbrev pub OpenRow : TimeShape → Place → Fault → Text → Text → Type 0
     OpenRow shape place e front rest =
         (start (front ++ rest) ≡ Err (fault (row_of (line_after clock shape) place e)))

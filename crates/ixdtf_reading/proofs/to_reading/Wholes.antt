@@ -1,4 +1,4 @@
--- What is derived is returned, and each row that fits: what holds of a text decides what reading returns.
+-- Reading returns what the grammar derives, or the row that fits. So what is true for a text decides what reading returns.
 use Rattle.std.proofs.Common.{◌≡◌, ℕ, suc, ◌<◌, ◌⊎◌, List, [], ◌∷◌, ◌++◌, length, Ok, Err, Option, Some, None, refl, sym, ap, ◌∙◌, inl, inr, arith}
 use Rattle.std.proofs.Common.{append_assoc, append-nil, Bool, true}
 use Rattle.ixdtf_grammar.specs.language.{Times.Clock, Letters.{Text, Letter.Plain}, Shapes.some, Brackets.{ZoneNote, Pair, ArePairs, IsTail}, Cores.Core}
@@ -17,7 +17,7 @@ use Rattle.ixdtf_reading.proofs.to_reading.{ExactBracket.{bracket_by_rows, dots_
 use Rattle.ixdtf_reading.proofs.{to_grammar.FirstBracket.InBracket, to_reading.ZonesAlone.{offset_takes, offset_rows as offset_reader_rows}}
 use Rattle.ixdtf_reading.proofs.{to_reading.ZonesAlone.{identifier_takes, identifier_rows, iana_identifier_takes, iana_identifier_rows}, parts.{Looks.RowsWhere, Openings.Returned}}
 
--- one bracket or more, as reading takes them: a first one, and pairs
+-- One bracket or more, in the order of reading: a first bracket, and annotations.
 pub record Brackets (exact : Bool) (text : Text) (zone : Option ZoneNote) (pairs : List Pair) : Type 0 where
   pub bracket : Bracket
   pub first : Text
@@ -29,7 +29,7 @@ pub record Brackets (exact : Bool) (text : Text) (zone : Option ZoneNote) (pairs
   pub are_pairs : ArePairs rest more
   pub pairs_are : pairs ≡ pairs_in bracket ++ more
 
--- no bracket
+-- No bracket.
 pub record NoBrackets (text : Text) (zone : Option ZoneNote) (pairs : List Pair) : Type 0 where
   pub is : text ≡ []
   pub zone_is : zone ≡ None
@@ -54,11 +54,11 @@ brackets_of exact text (Some note) pairs h =
     inr (record { bracket = zoned note; first = h.0; rest = h.1; more = pairs; is = h.2; is_bracket = h.3; zone_is = refl; are_pairs = h.4; pairs_are = refl })
 
 module _ {E : Type 0} (fault : List Pair → Row → E) (kind : CoreKind) where
-  -- whether a zone has to be exact
+  -- Whether a zone must be exact.
   abbrev exact : Bool
   exact = has_exact_zones kind
 
-  -- ---- a core and what stands after it
+  -- ---- a core and what follows it
 
   abbrev whole_at : Text → Read E (Parsed × List Pair)
   whole_at text = bracketed_text_at fault kind text
@@ -72,11 +72,11 @@ module _ {E : Type 0} (fault : List Pair → Row → E) (kind : CoreKind) where
   unfolding bracketed_text_at
   after_opening cores core body inner is d = rw (is, (core_takes (fault []) kind cores core (Plain 91 ∷ inner) d (inr (inner, refl))).1 inner refl)
 
-  -- what is returned where these pairs were read after a core and a zone
+  -- The result after a core and a zone, if these annotations were read.
   abbrev with_core : Core → Option ZoneNote → List Pair × Text → Read E (Parsed × List Pair)
   with_core core zone pairs = Ok ((parsed_with core zone, pairs.0), pairs.1)
 
-  -- reading goes over whole brackets to the pairs after them, with fuel left for the rest
+  -- Reading goes over complete brackets to the annotations after them. The bound is large enough for the rest.
   pub over_brackets : (cores brackets rest : Text) (core : Core) (zone : Option ZoneNote) (pairs : List Pair) → IsCore kind cores core
       → Brackets exact brackets zone pairs → (m : ℕ) × (length rest < m)
       × (whole_at (cores ++ (brackets ++ rest)) ≡ (pairs_at fault m pairs rest >>= with_core core zone))
@@ -113,21 +113,21 @@ module _ {E : Type 0} (fault : List Pair → Row → E) (kind : CoreKind) where
       let row = bracket_by_rows (fault []) exact name place e prior front rest b f at in
       after_opening cores core (prior ++ (front ++ rest)) (row.0 ++ rest) (rw (← append_assoc prior front rest, row.1) refl) d ∙ rw row.2
 
-  -- a row of a zone that is not exact
+  -- A row of a zone that is not exact.
   form_row : (cores : Text) (core : Core) → IsCore kind cores core → (name : LineName) (place : Place) (e : Fault) (front rest : Text)
       → Returned (bracket_by (fault []) exact) front rest (Err (fault [] (row_of name place e)))
       → whole_at (cores ++ (front ++ rest)) ≡ Err (fault [] (row_of name place e))
   unfolding annotated_at
   form_row cores core d name place e front rest row = after_opening cores core (front ++ rest) (row.0 ++ rest) (rw row.1 refl) d ∙ rw row.2
 
-  -- a row after `[` or `[!`, and what stands before the two
+  -- A row after `[` or `[!`, and the text before the brackets.
   opened_row : (name : LineName) (place : Place) (e : Fault) (pairs : List Pair) (cores prior front rest before_all : Text) → pairs ≡ []
       → before_all ≡ cores ++ prior → some (IsCore kind) cores → InBracket name prior (front ++ rest) → front_of (line_of true name) front
       → Stops (line_of true name) place e rest → whole_at (before_all ++ (front ++ rest)) ≡ Err (fault pairs (row_of name place e))
   opened_row name place e pairs cores prior front rest before_all none is core b f at =
       rw (is, none) (ap (whole_at) (simp append_assoc) ∙ inner_row cores core.0 core.1 name place e prior front rest b f at)
 
-  -- a row after whole brackets
+  -- A row after complete brackets.
   bracketed_row : (name : LineName) (pairs : List Pair) (prior : Text) → Bracketed kind pairs prior
       → RowsWhere (fault pairs) true (λ body. whole_at (prior ++ body)) name (λ opens rest. AfterBrackets name opens)
   bracketed_row name pairs prior b place e opens front rest a f at = go (brackets_of exact b.1 b.4 pairs b.5)
@@ -139,7 +139,7 @@ module _ {E : Type 0} (fault : List Pair → Row → E) (kind : CoreKind) where
           ap whole_at (ap (λ t. t ++ (opens ++ (front ++ rest))) b.2 ∙ append_assoc b.0 b.1 (opens ++ (front ++ rest)))
           ∙ over.2 ∙ rw (pairs_row fault name place e opens front rest pairs over.0 a f at over.1)
 
-  -- a row of a core's lines
+  -- A row of the table lines of a core.
   in_core : (text : Text) (row : Row) (pairs : List Pair) → pairs ≡ [] → core_at (fault []) kind text ≡ Err (fault [] row)
       → whole_at text ≡ Err (fault pairs row)
   unfolding bracketed_text_at
@@ -190,7 +190,7 @@ module _ {E : Type 0} (fault : List Pair → Row → E) (kind : CoreKind) where
 module _ {E : Type 0} (fault : List Pair → Row → E) where
   -- ---- each reader
 
-  -- what is derived is returned, and nothing is left
+  -- Reading returns what the grammar derives, and nothing is left.
   pub takes : (reader : Reader) (text : Text) (found : Found) (pairs : List Pair) → Derives reader text found pairs
       → read_at fault reader text ≡ Ok ((found, pairs), [])
   takes reader text found pairs (as_parsed d) = rw (whole_takes fault _ text _ pairs d)
@@ -200,7 +200,7 @@ module _ {E : Type 0} (fault : List Pair → Row → E) where
   takes reader text found pairs (as_named d) = rw (iana_identifier_takes (fault []) text _ d)
   takes reader text found pairs (as_lasting d) = rw (duration_takes (fault []) _ text _ d)
 
-  -- a row that fits is returned
+  -- A row that fits is returned.
   pub row_read : (reader : Reader) (text : Text) (row : Row) (pairs : List Pair) → Fits reader row pairs text
       → read_at fault reader text ≡ Err (fault pairs row)
   row_read (bracketed kind) text row pairs f =

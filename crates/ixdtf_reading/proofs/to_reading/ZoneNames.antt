@@ -1,4 +1,4 @@
--- A zone name is read as far as it goes, and each row of a name's lines is returned.
+-- The name of a zone is read, if the next code unit does not continue it. Each row of the table lines of a name is returned.
 use Rattle.std.proofs.Common.{◌≡◌, ℕ, true, false, IsTrue, IsFalse, ◌⊎◌, List, [], ◌∷◌, ◌++◌, map, Ok, Err, refl, inl, inr, append_assoc, Bool, if◌then◌else◌}
 use Rattle.std.proofs.lemmas.Bool.{or_parts, and_right, eqb-true}
 use Rattle.ixdtf_grammar.specs.language.{Letters.{Text, zone_lead, zone_char, slash, closing, none, Letter.{Plain, Bad}}, Shapes.nothing, ZoneNames.NameItem}
@@ -8,19 +8,19 @@ use Rattle.ixdtf_grammar.specs.table.Rows.{Row, Place, Stops, Place.{end, other,
 use Rattle.ixdtf_reading.specs.reading.{Looks.row_of, Zones.name_run}
 use Rattle.ixdtf_reading.proofs.parts.{Looks.{RowsRead, NotNext, row_here}, Steps.{IsOver, over_one, over_both, over_many, over_ok, over_err}}
 
--- a name does not go on, and Bad does not stand next
+-- A name ends here: the next code unit does not continue it, and is not `Bad`.
 abbrev pub NameEnds : Text → Type 0
 NameEnds rest = NotNext zone_char rest × NotNext slash rest
 
--- the line behind a whole name, of what goes on behind it alone
+-- A table line after a complete name. It accepts only what can follow the name.
 abbrev pub behind_name : Bool → Line
 behind_name brackets = line nothing (if brackets then closing else none) (zone_end brackets) (zone_other brackets)
 
--- what a name begins with goes on in it
+-- A code unit with which a name can begin can also continue it.
 pub lead_char : (c : ℕ) → IsTrue (zone_lead c) → IsTrue (zone_char c)
 lead_char c h = rw h
 
--- what ends a name is not a code unit of it, and does not go on behind it
+-- A code unit that the table line of a name does not accept cannot continue the name, and cannot follow it.
 no_letter : (brackets : Bool) (c : ℕ) → IsFalse (zone_letters brackets c)
     → (IsFalse (zone_char c) × IsFalse (slash c)) × IsFalse ((if brackets then closing else none) c)
 no_letter true c h = let both = or_parts _ _ h in (or_parts _ _ both.0, both.1)
@@ -49,7 +49,7 @@ module _ {E : Type 0} (fault : Row → E) where
   ends_here (Bad ∷ rest) h = absurd h.0
   ends_here (Plain c ∷ rest) h = rw h.0 (rw h.1)
 
-  -- a name is read as far as it goes
+  -- A name is read, if the next code unit does not continue it.
   pub name_takes : (text : Text) (name : List ℕ) (rest : Text) → ZoneName text → text ≡ map Plain name → NameEnds rest
       → name_run fault true (text ++ rest) ≡ Ok (name, rest)
   name_takes text name rest h is closed = over_ok name rest rest (over_name text h) is (ends_here rest closed)
@@ -59,7 +59,7 @@ module _ {E : Type 0} (fault : Row → E) where
   bad_here rest = refl
 
   module _ (brackets : Bool) where
-    -- the row after a name is returned inside it, or what comes next is looked at after it
+    -- The row after a name is returned while the name is read, or the next code unit is read after the name.
     abbrev pub InNameOrBehind : Place → Fault → Text → Text → Type 0
     InNameOrBehind place e front rest =
         (name_run fault true (front ++ rest) ≡ Err (fault (row_of (of_zone in_zone_name) place e)))

@@ -1,4 +1,5 @@
--- The readers of an offset, of a zone and of a zone's name: what is derived is read, and each row that fits is found.
+-- The readers of an offset, of a zone and of the name of a zone.
+-- They read what the grammar derives, and return each row that fits.
 use Rattle.std.proofs.Common.{◌≡◌, ℕ, IsTrue, IsFalse, List, [], ◌∷◌, ◌++◌, Ok, Err, refl, sym, ap, ◌∙◌, inl, inr, arith, append_assoc, append-nil, false}
 use Rattle.std.proofs.lemmas.Bool.{or_left, or_right}
 use Rattle.std.proofs.lemmas.Bool.Decides.{nat_tests}
@@ -28,19 +29,19 @@ use Rattle.ixdtf_reading.proofs.to_reading.ZoneNames.{InNameOrBehind, name_takes
 use Rattle.ixdtf_reading.proofs.to_reading.Times.{closed_at_end, stops_behind}
 use Rattle.ixdtf_reading.proofs.to_reading.ClockRows.{Refuses, over_clock, clock_rows}
 
--- what a name begins with is no sign
+-- A code unit with which a name can begin is not a sign.
 pub lead_no_sign : (c : ℕ) → IsTrue (zone_lead c) → IsFalse (sign c)
 lead_no_sign c h = grind (arith, h, nat_tests)
 
--- a name begins with a code unit that a name begins with
+-- The first code unit of a name is one with which a name can begin.
 pub first_letter : (text : Text) → ZoneName text → (c : ℕ) × (more : Text) × (text ≡ Plain c ∷ more) × IsTrue (zone_lead c)
 first_letter text h = (h.3.0, h.1, rw (h.2, h.3.1) refl, h.3.2)
 
--- the record of an offset
+-- The record of an offset.
 abbrev pub offset_record : ℕ → TimeShape → TimeRecord → UtcOffsetRecord
 offset_record c shape time = offset_of c (writes_seconds shape) time
 
--- the zone of an offset without seconds
+-- The zone of an offset without seconds.
 abbrev pub zone_record : ℕ → TimeShape → TimeRecord → Zone
 zone_record c shape time = Offset (minutes_of c time)
 
@@ -48,11 +49,11 @@ module _ {E : Type 0} (fault : Row → E) where
   -- ---- a sign and a time
 
   module _ {O : Type 0} (clock : Clock) (record_of : ℕ → TimeShape → TimeRecord → O) where
-    -- what is read after the time
+    -- Reads what follows the time.
     abbrev signed_after : ℕ → OpenTime × Text → Read E O
     signed_after c time = peek_by (follow_look fault false clock time.0) time.1 >>= λ next. Ok (record_of c time.0.0 time.0.1, next.1)
 
-    -- a reader that a sign leads to a time
+    -- A reading function that reads a time after a sign.
     abbrev StartsWithSign : (Text → Read E O) → Type 0
     StartsWithSign read = (c : ℕ) → IsTrue (sign c) → (body : Text) → read (Plain c ∷ body) ≡ (clock_at fault clock body >>= signed_after c)
 
@@ -62,14 +63,14 @@ module _ {E : Type 0} (fault : Row → E) where
         ∙ over_clock fault false clock read (signed_after h.c) (Plain h.c ∷ []) (lead h.c h.sign) h.shape h.body h.time [] h.clock (closed_at_end clock h.shape)
         ∙ rw (peek_end (follow_look fault false clock (h.shape, h.time))) refl)
 
-    -- the row after a whole time
+    -- The row after a complete time.
     signed_refuses : (c : ℕ) → Refuses fault false clock (signed_after c)
     signed_refuses c shape t place e rest at =
         rw (peek_stops fault (line_after clock shape) nothing none (always InvalidEnd) place e rest (stops_behind _ place e rest at)) refl
 
   -- ---- offsets
 
-  -- a sign leads to a time
+  -- After a sign, a time is read.
   offset_lead : StartsWithSign clocks.Offset offset_record (offset_at fault)
   unfolding offset_at signed_alone_at
   offset_lead c h body = rw (goes fault _ c body tt h) refl
@@ -91,7 +92,7 @@ module _ {E : Type 0} (fault : Row → E) where
   unfolding name_alone_at
   alone_takes text name h = rw (← append-nil text, name_takes fault text name [] h.0 h.1 (tt, tt), peek_end _) refl
 
-  -- the row after a name, and the row after its slash
+  -- The row after a name. The next lemma is for the row after a slash.
   alone_row : RowsRead fault false (name_alone_at fault) (of_zone in_zone_name)
   unfolding name_alone_at
   alone_row place e front rest f at = by_row (name_row fault false place e front rest f at)
@@ -104,7 +105,7 @@ module _ {E : Type 0} (fault : Row → E) where
   unfolding name_alone_at
   alone_slash_row place e front rest f at = rw (slash_row fault false place e front rest f at) refl
 
-  -- a name is read from its first code unit on
+  -- A name is read from its first code unit on.
   iana_lead : (text rest : Text) → ZoneName text → iana_identifier_at fault (text ++ rest) ≡ name_alone_at fault (text ++ rest)
   unfolding iana_identifier_at
   iana_lead text rest h = let first = first_letter text h in rw first.2 (rw (goes fault _ first.0 _ tt first.3) refl)
@@ -125,7 +126,7 @@ module _ {E : Type 0} (fault : Row → E) where
 
   -- ---- zones
 
-  -- a sign leads to a time, and the first code unit of a name to a name
+  -- After a sign, a time is read. If the first code unit is one with which a name can begin, a name is read.
   zone_sign_lead : StartsWithSign clocks.MinuteOffset zone_record (identifier_at fault)
   unfolding identifier_at signed_alone_at
   zone_sign_lead c h body = rw (goes fault _ c body tt (or_right _ _ h), h) refl
@@ -135,7 +136,7 @@ module _ {E : Type 0} (fault : Row → E) where
   zone_name_lead text rest h = let first = first_letter text h in
       rw first.2 (rw (goes fault _ first.0 _ tt (or_left _ _ first.3), lead_no_sign first.0 first.3) refl)
 
-  -- the offset of a zone, as the zone
+  -- The zone of an offset.
   zone_of_offset : (text : Text) (zone : Zone) (offset : MinutePrecisionOffset) → IsMinuteOffset text offset → zone ≡ Offset offset
       → IsSigned clocks.MinuteOffset zone_record text zone
   zone_of_offset text zone offset h is = rw (is, h.value) (signed_text h.c h.body h.shape h.time h.is h.sign h.clock)

@@ -1,6 +1,5 @@
--- What stands before a line is plain, and what the line asks of the rest depends only on the code units before the first `Bad`.
--- So a row that fits a text with `Bad` in it is a row of `Bad`, or fits each text with the same code units before the first
--- `Bad`.
+-- The text before a table line has no `Bad`. The condition of the line on the rest depends only on the code units before the
+-- first `Bad`. So a row that fits a text with `Bad` is a row for `Bad`, or it fits each text with the same code units before it.
 use Rattle.std.proofs.Common.{◌≡◌, ◌⊎◌, List, ◌++◌, inl, inr, sym, ap, ◌∙◌, subst, append_assoc}
 use Rattle.ixdtf_grammar.specs.{declared.profile.Profile.Profile, language.{Letters.Text, Shapes.some, Times.Clock.{Time, Offset, MinuteOffset}}}
 use Rattle.ixdtf_grammar.specs.language.{Months.IsMonthDay, Brackets.{Pair, ReadsAsName, ReadsAsPair}, Cores.{BeginsWith, IsCore}}
@@ -57,7 +56,7 @@ moves_core_end = moves_either moves_nothing (moves_then plain_one moves_anything
 moves_time : Moves ReadsAsTime
 moves_time = moves_then (plain_some marked_plain) moves_core_end
 
--- a month-day in front of the other text stands within the time, and so is in front of this one
+-- If the other text begins with a month-day, this month-day is within the time, and so this text begins with it too.
 month_day_front_back : (profile : Profile) (rest other_rest : Text) → Sees rest other_rest → ReadsAsTime rest → BeginsWith (some (IsMonthDay profile)) other_rest
     → BeginsWith (some (IsMonthDay profile)) rest
 month_day_front_back profile rest other_rest sees (marked, after, is, time, ends) front =
@@ -189,12 +188,12 @@ before_line parse_identifier name pairs = besides (alone (in_identifier name))
 before_line parse_iana_identifier name pairs = besides (alone (in_iana_identifier name))
 before_line (parse_duration profile) name pairs = besides (alone (in_duration profile name))
 
--- the row, with this text from its place on
+-- The row, with this text from its position on.
 abbrev pub row_moved : Text → Row → Row
 row_moved rest row = record { name = row.name; place = moved_to rest row.place; error = row.error }
 
--- A row that fits a text with `Bad` stands behind plain code units, and is a row of `Bad`, or fits the other text too, behind
--- the same code units.
+-- A row that fits a text with `Bad` has no `Bad` before its position. It is a row for `Bad`, or it also fits the other text,
+-- after the same code units.
 pub fits_move : (reader : Reader) (row : Row) (pairs : List Pair) (text other_text : Text) → Sees text other_text → Fits reader row pairs text
     → (front : Text) × IsPlain front × (text ≡ front ++ left_at row.place)
     × (BeginsBad row.error (left_at row.place) ⊎ ((rest : Text) × (other_text ≡ front ++ rest) × Fits reader (row_moved rest row) pairs other_text))

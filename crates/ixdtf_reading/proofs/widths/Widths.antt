@@ -1,4 +1,4 @@
--- Two widths: numbers from 1 to 126 are the same code units in each, and the first other number is `Bad` as a 16-bit code unit.
+-- 8-bit and 16-bit text: the numbers 1 to 126 are the same code units in both. As a 16-bit code unit, any other number is `Bad`.
 use Rattle.std.proofs.Common.{◌≡◌, ◌⊎◌, ℕ, suc, ◌-◌, length, arith, Bool, true, false, IsTrue, IsFalse, List, [], ◌∷◌, ◌++◌, All, Any}
 use Rattle.std.proofs.{Common.{if◌then◌else◌, refl, sym, ◌∙◌, ap, subst, inl, inr}, lemmas.{List.length-append, Bool.both_ways}}
 use Rattle.std.proofs.lemmas.List.Elements.{All-nil, All-cons, All-head, All-tail}
@@ -26,7 +26,7 @@ same_letters (n ∷ numbers) all =
     let first = shared_letter n (All-head (λ x. IsTrue (is_shared x)) n numbers all) in
     let others = same_letters numbers (All-tail (λ x. IsTrue (is_shared x)) n numbers all) in λ i. first i ∷ others i
 
--- the mask has the code units before the first number that is not shared, or each number is shared
+-- The text of the mask has the same code units before the first number that is not shared, or each number is shared.
 sees_or_shared : (numbers : List ℕ) → Sees (wide_text numbers) (byte_text (mask numbers)) ⊎ All (λ n. IsTrue (is_shared n)) numbers
 sees_or_shared [] = inr (All-nil (λ n. IsTrue (is_shared n)))
 sees_or_shared (n ∷ numbers) = by_first _ refl (sees_or_shared numbers)
@@ -45,7 +45,7 @@ sees_where_not_shared numbers some = elim (sees_or_shared numbers) [
 
 -- ---- outcomes
 
--- what a reader derives something from is plain
+-- If a reader derives something from a text, the text has no `Bad`.
 derived_plain : (reader : Reader) (text : Text) (found : Found) (pairs : List Pair) → Derives reader text found pairs → IsPlain text
 derived_plain reader text found pairs (as_parsed h) =
     rw h.is (plain_append h.cores h.brackets (core_plain _ h.cores h.core h.is_core) (tail_plain _ h.brackets h.zone pairs h.is_tail))
@@ -55,11 +55,11 @@ derived_plain reader text found pairs (as_identified h) = zone_plain text _ h
 derived_plain reader text found pairs (as_named h) = plain_name.plain text h.0
 derived_plain reader text found pairs (as_lasting h) = duration_plain _ text _ h
 
--- the text has its first Bad behind so many code units
+-- The first `Bad` of the text is after this number of code units.
 abbrev FirstBadAt : Text → ℕ → Type 0
 FirstBadAt text at = (front more : Text) × IsPlain front × (text ≡ front ++ (Bad ∷ more)) × (at ≡ length front)
 
--- a fault is that of the first Bad, or is known besides
+-- The fault is that of the first `Bad`, or another statement is true.
 abbrev BadOr : Text → Fault → ℕ → Type 0 → Type 0
 BadOr text fault at also = ((fault ≡ NonAsciiCodePoint) × FirstBadAt text at) ⊎ also
 
@@ -77,7 +77,7 @@ fault_moves reader text other_text sees pairs fault at (row, fits, has, lengths)
       )
     ]
 
--- a refused pair stands behind a front that is derived, and so is in front of the other text
+-- A refused annotation is in a prefix that the grammar derives. So the other text has the same prefix.
 unhandled_fault_moves : (reader : Reader) (text other_text : Text) → Sees text other_text → (fault : Fault) (at : ℕ) → UnhandledFaultAt reader text fault at
     → BadOr text fault at (UnhandledFaultAt reader other_text fault at)
 unhandled_fault_moves reader text other_text sees fault at (pairs, inl h) =
@@ -90,7 +90,7 @@ unhandled_fault_moves reader text other_text sees fault at (pairs, inr h) = elim
   | inr other_fault ↦ inr (pairs, inr (other_fault, h.1))
 ]
 
--- a fault has a place
+-- A fault has a position.
 row_place : (reader : Reader) (text : Text) (pairs : List Pair) (fault : Fault) → HasFault reader text pairs fault → (at : ℕ) × HasFaultAt reader text pairs fault at
 row_place reader text pairs fault (row, fits, has) =
     let short = left_fits reader row pairs text fits in (length text - length (left_at row.place), (row, fits, has, omega (arith, short)))
@@ -104,13 +104,13 @@ outcome_place : (reader : Reader) (text : Text) (fault : Fault) → HasUnhandled
 outcome_place (bracketed kind) text fault h = unhandled_place (bracketed kind) text fault h
 outcome_place reader text fault h = row_place reader text [] fault h
 
--- and without it, is the outcome
+-- A fault without its position is the outcome.
 fault_of_place : (reader : Reader) (text : Text) (fault : Fault) (at : ℕ) → HasUnhandledFaultAt reader text fault at → HasUnhandledOutcome reader text (faulted fault)
 fault_of_place (bracketed kind) text fault at h = (h.0, without_place (bracketed kind) text h.0 (own_replies h.0) fault at h.1)
 fault_of_place reader text fault at h = (h.0, h.1, h.2)
 
 module _ (text other_text : Text) (sees : Sees text other_text) where
-  -- the outcome of a text with Bad is a fault
+  -- The outcome of a text with `Bad` is a fault.
   with_pairs_fault : (kind : CoreKind) (outcome : UnhandledOutcome) → HasWithPairs kind text outcome → (fault : Fault) × HasWithPairs kind text (faulted fault)
   with_pairs_fault kind (read_as (parsed found)) h =
       absurd (plain_sees_nothing text other_text (derived_plain (bracketed kind) text (parsed h.1.read) h.0 h.1.whole) sees)
@@ -126,14 +126,14 @@ module _ (text other_text : Text) (sees : Sees text other_text) where
   outcome_fault (bracketed kind) outcome h = with_pairs_fault kind outcome h
   outcome_fault reader outcome h = alone_fault reader outcome h
 
-  -- The outcome of a text with `Bad`: the fault of the first `Bad`, at its place, or the outcome of each text with the same
-  -- code units before it.
+  -- The outcome of a text with `Bad` is the fault of the first `Bad`, at its position, or it is the outcome of each text with
+  -- the same code units before this position.
   place_moves : (reader : Reader) (fault : Fault) (at : ℕ) → HasUnhandledFaultAt reader text fault at
       → BadOr text fault at (HasUnhandledFaultAt reader other_text fault at)
   place_moves (bracketed kind) fault at h = unhandled_fault_moves (bracketed kind) text other_text sees fault at h
   place_moves reader fault at h = fault_moves reader text other_text sees [] fault at h
 
--- ---- outcomes and places in two widths
+-- ---- outcomes and positions in 8-bit and 16-bit text
 
 pub same_where_shared : SameWhereShared
 same_where_shared reader numbers all outcome =
@@ -171,9 +171,9 @@ fault_where_not_shared reader numbers some =
       ],
     )
 
--- ---- where the fault of Bad stands
+-- ---- the position of the fault of `Bad`
 
--- the first Bad is the first number that is not shared
+-- The first `Bad` is the first number that is not shared.
 not_shared : (n : ℕ) → wide_letter n ≡ Bad → IsFalse (is_shared n)
 not_shared n is = grind (arith, is)
 
@@ -200,7 +200,7 @@ first_not_shared (n ∷ numbers) (Plain c ∷ front) more plain is =
       not_so,
     )
 
--- no 8-bit code unit is `Bad`
+-- No 8-bit code unit is `Bad`.
 no_bad_byte : (numbers : List ℕ) (front more : Text) → byte_text numbers ≡ front ++ (Bad ∷ more) → ⊥
 no_bad_byte [] [] more is = cc
 no_bad_byte [] (x ∷ front) more is = cc

@@ -1,4 +1,4 @@
--- Forms of the clauses of private functions, and what the code's own types stand for. No public clause cites one.
+-- The statements that the clauses of private functions use, and the meaning of the types of the code. No public clause uses them.
 use Rattle.ixdtf_reading.specs.declared.stop.Stop.TheVariants as stops
 use Rattle.std.specs.Prelude.{◌≡◌, ◌↔◌, ℕ, Bool, IsTrue, IsFalse, OnOk, IfErr, ◌+◌, ◌≤◌, map, length, Option, Some, None, Result, Ok, Err, ◌++◌}
 use Rattle.std.specs.Prelude.{if◌then◌else◌}
@@ -12,7 +12,7 @@ use Rattle.ixdtf_grammar.specs.{Handlers.{UnhandledRecord, UnhandledFault, Unhan
 use Rattle.ixdtf_reading.specs.{declared.stop.{Stop.Stop, StopAt.StopAt}, reading.Looks.{Read, Look, Placed, before, look_for, ◌>>=◌, error_of, digit_run}}
 use Rattle.ixdtf_reading.specs.reading.{Times.clock_at, Cores.{ClosedCore, after_time_at}}
 
--- the fault of the error that a stop is
+-- The fault that a `Stop` stands for.
 abbrev pub fault_of_stop : Stop → Fault
 fault_of_stop stops.NonAsciiCodePoint = faults.NonAsciiCodePoint
 fault_of_stop stops.AbruptDigit = abrupt_digit
@@ -63,57 +63,56 @@ fault_of_stop stops.DateDurationPartOrder = faults.DateDurationPartOrder
 fault_of_stop stops.TimeDurationPartOrder = faults.TimeDurationPartOrder
 fault_of_stop stops.TimeDurationDesignator = faults.TimeDurationDesignator
 
--- the same of a stop with its place
+-- The fault that the `Stop` of a `StopAt` stands for.
 abbrev pub fault_of_stop_at : StopAt → Fault
 fault_of_stop_at why = fault_of_stop why.stop
 
--- what a private function returned, with its value seen by a view, and its stop by its fault
+-- The result of a private function. `view` is applied to its value, and its `Stop` is replaced by the fault.
 abbrev pub yielded : {X Y : Type 0} → (X → Y) → Result X Stop → Result Y Fault
 yielded view (Ok x) = Ok (view x)
 yielded view (Err e) = Err (fault_of_stop e)
 
--- the same, with what was remaining after it
+-- As above. The fault also has the remaining text.
 abbrev pub yielded_at : {X Y : Type 0} → (X → Y) → Result X Stop → Text → Result Y Placed
 yielded_at view (Ok x) left = Ok (view x)
 yielded_at view (Err e) left = Err (fault_of_stop e, left)
 
--- what a private function returned, seen so, is what is wanted
+-- The result of a private function, as `yielded` gives it, is `wanted`.
 abbrev pub Yields : {X Y : Type 0} → (X → Y) → Result X Stop → Result Y Fault → Type 0
 Yields view (Ok x) wanted = wanted ≡ Ok (view x)
 Yields view (Err e) wanted = wanted ≡ Err (fault_of_stop e)
 
--- the same, with what was remaining after it
+-- As above. The fault also has the remaining text.
 abbrev pub YieldsAt : {X Y : Type 0} → (X → Y) → Result X Stop → Text → Result Y Placed → Type 0
 YieldsAt view (Ok x) left wanted = wanted ≡ Ok (view x)
 YieldsAt view (Err e) left wanted = wanted ≡ Err (fault_of_stop e, left)
 
--- what a function returned for the remaining input, and what it left of it, is what reading returns
+-- The result of a function, and the remaining input after it, are what the reading function returns for the input before it.
 abbrev pub Reads : {X Y : Type 0} → (ℕ → Letter) → (X → Y) → Unread → Result X Stop → Unread → (Text → Read Placed Y) → Type 0
 Reads letter view old (Ok x) new reading = reading (map letter old.rest) ≡ Ok (view x, map letter new.rest)
 Reads letter view old (Err e) new reading = reading (map letter old.rest) ≡ Err (fault_of_stop e, map letter new.rest)
 
--- what a public function returned is what a private one did, with the error of its stop
+-- A public function returns the value of a private function, or the error of its `Stop`.
 abbrev pub Settles : {X E : Type 0} → (E → Fault) → Result X Stop → Result X E → Type 0
 Settles named (Ok x) (Ok y) = y ≡ x
 Settles named (Ok x) (Err e) = ⊥
 Settles named (Err stop) (Ok y) = ⊥
 Settles named (Err stop) (Err e) = named e ≡ fault_of_stop stop
 
--- a look at a code unit that is then taken is paid for by it; at most so many looks more were made, and the count did not
--- decrease
+-- Besides one access for each code unit that was consumed, at most `more` accesses were made. The count did not decrease.
 abbrev pub Spends : ℕ → Unread → Unread → Type 0
 Spends more old new = (new.looks + length new.rest ≤ old.looks + length old.rest + more) × (old.looks ≤ new.looks)
 
--- so many looks more than the taken code units pay for, and no more than so many in all
+-- The limit of `Spends`. Also, at most `all` accesses were made in all.
 abbrev pub SpendsInAll : ℕ → ℕ → Unread → Unread → Type 0
 SpendsInAll more all old new = Spends more old new × (new.looks ≤ old.looks + all)
 
--- so many looks more than the taken code units pay for, and so many where nothing stopped
+-- The limit of `Spends`, with `found` if the function succeeded, and with `more` if it returned a `Stop`.
 abbrev pub SpendsOr : {X : Type 0} → ℕ → ℕ → Unread → Result X Stop → Unread → Type 0
 SpendsOr more found old (Ok x) new = Spends found old new
 SpendsOr more found old (Err e) new = Spends more old new
 
--- what a form without a handler promises, where each pair replies for itself
+-- What a variant without a handler promises. The reply to each annotation is the annotation itself.
 pub record UnhandledForm (reader : Reader) (text : Text) (result : Result Parsed Fault) : Type 0 where
   pub ok : (found : Parsed) → (result ≡ Ok found) ↔ UnhandledRecord reader text found
   pub err : IfErr result (λ fault. UnhandledFault reader text fault)
@@ -121,49 +120,49 @@ pub record UnhandledForm (reader : Reader) (text : Text) (result : Result Parsed
   pub no_other_reader : OnOk result ((profile : Profile) → InNoOther profile reader text)
   pub only : IfErr result (λ fault. UnhandledOnlyFault reader text fault)
 
--- a test held of a number that was handed back, or else the stop came
+-- The function returned the value, and `test` is true; or it returned a `Stop` for `fault`, and `test` is false.
 abbrev pub Checks : {X Y : Type 0} → (X → Y) → Result X Stop → Y → Bool → Fault → Type 0
 Checks view (Ok x) wanted test fault = (view x ≡ wanted) × IsTrue test
 Checks view (Err e) wanted test fault = (fault_of_stop e ≡ fault) × IsFalse test
 
--- ---- looks, as the code makes them: it returns errors, and does not tell the line
+-- ---- looks, as the code makes them: their errors do not name a table line
 
--- the look for the end of the text
+-- The look that expects the end of the text.
 abbrev pub end_look : Look Placed
 end_look = look_for none None faults.InvalidEnd
 
--- the look for a hyphen or a digit, with the errors at the end and at another code unit
+-- The look for a hyphen or a digit. The arguments are the errors at the end of the text and at any other code unit.
 abbrev pub hyphen_look : Fault → Fault → Look Placed
 hyphen_look at_end other = look_for (hyphen or digit) (Some at_end) other
 
--- the look for the end of a bracket
+-- The look for the `]` of a bracket. `fault` is the error at any other code unit.
 abbrev pub closing_look : Fault → Look Placed
 closing_look fault = look_for closing (Some faults.AnnotationClose) fault
 
--- what a look for a digit finds, with the error at another code unit
+-- The result of a look for a digit, if `other` is the error at any other code unit.
 abbrev pub digit_seen : Fault → Result (Option ℕ) Fault → Result ℕ Fault
 digit_seen other (Ok None) = Err abrupt_digit
 digit_seen other (Ok (Some c)) = if digit c then Ok c else Err other
 digit_seen other (Err e) = Err e
 
--- the digits of a fraction behind its first ones, and the fraction
+-- Reads the digits of a fraction after its first digits `front`. Returns the fraction of all these digits.
 abbrev pub more_digits_at : Text → Text → Read Placed FractionParts
 more_digits_at front text = digit_run (before faults.NonAsciiCodePoint) text >>= λ more. Ok (fraction_of (front ++ more.0), more.1)
 
--- a time, and an offset where there is one, behind a date or none
+-- Reads a time and an optional offset, after `date`, if there is one.
 unfoldable pub timed_core_at : Option DateRecord → Text → Read Placed ClosedCore
 timed_core_at date text = clock_at error_of clocks.Time text >>= λ time. after_time_at error_of date time.0 time.1
 
 -- ---- records
 
--- the core that stands in a record
+-- The core of a record: its date, its time and its offset.
 abbrev pub core_in : {T U : Type 0} → IxdtfParseRecord T U → Core
 core_in found = core_of found.date found.time found.offset
 
--- nothing stands in a record of what brackets write
+-- A record has no zone and no calendar.
 abbrev pub HasNoBrackets : {T U : Type 0} → IxdtfParseRecord T U → Type 0
 HasNoBrackets found = (found.tz ≡ None) × (found.calendar ≡ None)
 
--- what brackets write in a record is as before
+-- The zone and the calendar of a record have not changed.
 abbrev pub KeepsBrackets : {T U : Type 0} → IxdtfParseRecord T U → IxdtfParseRecord T U → Type 0
 KeepsBrackets old new = (new.tz ≡ old.tz) × (new.calendar ≡ old.calendar)

@@ -1,4 +1,4 @@
--- Reading a duration, code unit by code unit.
+-- The reading functions of durations: a state machine that reads code unit by code unit.
 use Rattle.std.specs.Prelude.{ℕ, List, [], ◌∷◌, ◌++◌, Option, Result, Ok, Err, Some, None, nat_le, if◌then◌else◌}
 use Rattle.ixdtf_grammar.specs.declared.{profile.Profile.Profile, records.{Sign.{Sign, TheVariants.Positive}, DurationParseRecord.DurationParseRecord}}
 use Rattle.ixdtf_grammar.specs.language.{Letters.{Text, digit, sign, Letter.{Plain, Bad}}, Digits.decimal, Fractions.fraction_of, Offsets.sign_of}
@@ -11,8 +11,8 @@ use Rattle.ixdtf_grammar.specs.table.{DurationFronts.{Context, half_of, groups_o
 use Rattle.ixdtf_grammar.specs.table.Rows.Place.{anywhere}
 use Rattle.ixdtf_reading.specs.reading.Looks.{Read, Look, ◌>>=◌, row_of, look_at_line}
 
--- How far the text was read: nothing, a sign, up to where a group may begin, digits of a group, a number and its decimal mark,
--- digits behind it, a group with a fraction.
+-- What was read last: nothing, a sign, something after which a group can begin, digits of a group, a number and its decimal mark,
+-- digits of a fraction, or a group with a fraction.
 pub data State : Type 0 where
   started : State
   signed : Sign → State
@@ -22,7 +22,7 @@ pub data State : Type 0 where
   in_fraction : Sign → List Group → List Group → Text → Text → State
   ended : Sign → List Group → List Group → Group → State
 
--- the line at which each state looks
+-- The table line of the next code unit in each state.
 abbrev pub line_of_state : State → DurationLine
 line_of_state started = duration_start
 line_of_state (signed s) = after_duration_sign
@@ -37,7 +37,7 @@ line_of_state (ended s dates times g) = after_fraction_group
 
 -- ---- groups
 
--- one more group
+-- Adds a group.
 abbrev pub add : Context → Group → Context
 add (in_dates s dates) g = in_dates s (g ∷ dates)
 add (in_times s dates times) g = in_times s dates (g ∷ times)
@@ -48,7 +48,7 @@ integer_group half ds c = record { unit = unit_of half c; value = decimal ds; fr
 abbrev pub fraction_group : Text → Text → ℕ → Group
 fraction_group ds fs c = record { unit = unit_of time c; value = decimal ds; fraction = Some (fraction_of fs) }
 
--- the rows of numbers that are too great, and of a group out of order
+-- The table row of a number of 2^64 or more. The next two are for a number that is too great for its unit, and for a wrong order.
 abbrev pub value_past : Profile → Half → Text → Row
 value_past profile half left = row_of (of_duration profile (group_value_range half)) (anywhere left) DurationValueExceededRange
 
@@ -59,37 +59,38 @@ abbrev pub out_of_order : Profile → Half → Text → Row
 out_of_order profile half left = row_of (of_duration profile (unit_order half)) (anywhere left) (order_fault half)
 
 module _ {E : Type 0} (fault : Row → E) (profile : Profile) (left : Text) where
-  -- these digits of a group, where their number is in range
+  -- The state after these digits of a group, if their number is less than 2^64.
   abbrev pub grow : Context → Text → Result State E
   grow context ds = if nat_le (decimal ds) greatest_value then Ok (in_number context ds) else Err (fault (value_past profile (half_of context) left))
 
-  -- a group, where its number is in the range of its unit
+  -- The state after a date group, if its number is in the range of its unit.
   abbrev pub add_in_range : Context → Group → Result State E
   add_in_range context g = if nat_le g.value (greatest g.unit) then Ok (between (add context g)) else Err (fault (unit_past profile left))
 
-  -- what comes of a group, where it may stand behind those before it
+  -- The result is `next` if the group may follow the groups before it. Otherwise it is the fault of the wrong order.
   abbrev pub in_its_order : Context → Group → Result State E → Result State E
   in_its_order context g next = if in_order profile (groups_of context) g.unit then next else Err (fault (out_of_order profile (half_of context) left))
 
-  -- a group without a fraction
+  -- The state after a group without a fraction.
   abbrev pub add_group : Context → Group → Result State E
   add_group context g = in_its_order context g (add_in_range context g)
 
-  -- a group with a fraction
+  -- The state after a group with a fraction.
   abbrev pub end_group : Sign → List Group → List Group → Group → Result State E
   end_group s dates times g = in_its_order (in_times s dates times) g (Ok (ended s dates times g))
 
--- at a time designator
+-- The state after the `T` before the time groups.
 abbrev pub to_times : Context → State
 to_times (in_dates s dates) = between (in_times s dates [])
 to_times (in_times s dates times) = started
 
--- at a decimal mark
+-- The state after the decimal mark of a group.
 abbrev pub to_fraction : Context → Text → State
 to_fraction (in_dates s dates) ds = started
 to_fraction (in_times s dates times) ds = at_mark s dates times ds
 
--- The state after a code unit with which the state's line goes on, before this text, or the fault of a whole line.
+-- The state after a code unit that the table line of the state accepts, or the fault of a whole line.
+-- `left` is the text after this code unit.
 unfoldable pub step : {E : Type 0} → (Row → E) → Profile → Text → State → ℕ → Result State E
 step fault profile left started c = if sign c then Ok (signed (sign_of c)) else Ok (between (in_dates Positive []))
 step fault profile left (signed s) c = Ok (between (in_dates s []))
@@ -103,7 +104,7 @@ step fault profile left (in_fraction s dates times ds fs) c =
     if digit c then Ok (in_fraction s dates times ds (fs ++ (Plain c ∷ []))) else end_group fault profile left s dates times (fraction_group ds fs c)
 step fault profile left (ended s dates times g) c = Ok (ended s dates times g)
 
--- what was read, where the text may end
+-- The record of what was read, if the text ends here.
 abbrev pub finished : State → DurationParseRecord
 finished (between (in_dates s dates)) = duration_of s dates []
 finished (between (in_times s dates times)) = duration_of s dates times
@@ -116,16 +117,16 @@ finished (in_fraction s dates times ds fs) = duration_of s dates times
 
 -- ---- texts
 
--- the look of the line at which a state looks
+-- The look of the table line of a state.
 abbrev pub state_look : {E : Type 0} → (Row → E) → Profile → State → Look E
 state_look fault profile s = look_at_line fault (of_duration profile (line_of_state s))
 
--- the end of the text
+-- The result at the end of the text: the fault, if there is one, and otherwise the value.
 abbrev pub at_end : {E A : Type 0} → Option E → A → Read E A
 at_end None x = Ok (x, [])
 at_end (Some e) x = Err e
 
--- The text from a state on.
+-- Reads the text from a state on, up to its end.
 unfoldable pub run : {E : Type 0} → (Row → E) → Profile → State → Text → Read E DurationParseRecord
 run fault profile s [] = at_end ((state_look fault profile s).at_end []) (finished s)
 run fault profile s (Bad ∷ rest) = Err ((state_look fault profile s).at_bad (Bad ∷ rest))
@@ -133,6 +134,6 @@ run fault profile s (Plain c ∷ rest) =
     if (state_look fault profile s).goes_on c then (step fault profile rest s c >>= λ next. run fault profile next rest) else Err
     ((state_look fault profile s).at_other c (Plain c ∷ rest))
 
--- a duration, and the end
+-- Reads a duration and the end of the text.
 abbrev pub duration_at : {E : Type 0} → (Row → E) → Profile → Text → Read E DurationParseRecord
 duration_at fault profile text = run fault profile started text

@@ -1,4 +1,4 @@
--- Reading at fixed places: each place is looked at in turn, and nothing is read where one does not fit.
+-- Reading in fixed columns. The columns are read one after the other. If one does not fit, the result is `None`.
 use Rattle.std.specs.Prelude.{ℕ, Bool, pos, [], ◌∷◌, ◌+◌, ◌*◌, drop, Option, Some, None, Result, Ok, Err, nat_le, ◌&&◌, if◌then◌else◌}
 use Rattle.ixdtf_grammar.specs.declared.{profile.Profile.Profile, records.DateRecord.DateRecord}
 use Rattle.ixdtf_grammar.specs.{declared.records.TimeRecord.TimeRecord, language.Letters.{Text, Class, digit, hyphen, colon, date_time_separator}}
@@ -7,23 +7,23 @@ use Rattle.ixdtf_grammar.specs.table.{Faults.Fault.InvalidMonthRange, LineNames.
 use Rattle.ixdtf_reading.specs.reading.{Looks.{Read, Placed, ◌>>=◌, error_of, digits_at}, Dates.{date_of, day_in_range}}
 use Rattle.ixdtf_reading.specs.reading.{Months.{lone_month_in_range, lone_day_at}, Times.time_of}
 
--- from what was found to what is found with it
+-- Continues with the value that was found. Without a value, the result is `None`.
 infixl 10 ◌>>?◌
 abbrev pub ◌>>?◌ : {A B : Type 0} → Option A → (A → Option B) → Option B
 None >>? go = None
 (Some x) >>? go = go x
 
--- the first code unit, where it is of the class
+-- The first code unit, if it is of the class.
 abbrev pub first_in : Class → Text → Option ℕ
 first_in class [] = None
 first_in class (Bad ∷ rest) = None
 first_in class (Plain c ∷ rest) = if class c then Some c else None
 
--- the code unit at a place, where it is of the class
+-- The code unit at index `place`, if it is of the class.
 abbrev pub letter_place : Class → ℕ → Text → Option ℕ
 letter_place class place text = first_in class (drop place text)
 
--- the code unit at a place, or 0 where there is none
+-- The first code unit, or 0 if there is none. `byte_place` is for the code unit at index `place`.
 abbrev pub first_byte : Text → ℕ
 first_byte [] = 0
 first_byte (Bad ∷ rest) = 0
@@ -32,72 +32,73 @@ first_byte (Plain c ∷ rest) = c
 abbrev pub byte_place : ℕ → Text → ℕ
 byte_place place text = first_byte (drop place text)
 
--- the code unit that a look found, or 0 where it found none
+-- The code unit that a look found, or 0 if it found none.
 abbrev pub byte_of_look : {E : Type 0} → Result (Option ℕ) E → ℕ
 byte_of_look (Ok None) = 0
 byte_of_look (Ok (Some c)) = c
 byte_of_look (Err e) = 0
 
--- the value of a digit as the first of two and as the second, and 100 for any other code unit
+-- The value of a digit as the first digit of two, or 100 for any other code unit. `ones_value` is for the second digit.
 abbrev pub tens_value : ℕ → ℕ
 tens_value c = if digit c then 10 * digit_value (Plain c) else 100
 
 abbrev pub ones_value : ℕ → ℕ
 ones_value c = if digit c then digit_value (Plain c) else 100
 
--- the number of two digits at a place and the next
+-- The number of the two digits at index `place` and at the next index.
 unfoldable pub number_place : ℕ → Text → Option ℕ
 number_place place text =
     letter_place digit place text >>? λ tens. letter_place digit (place + 1) text >>? λ ones. Some (decimal (Plain tens ∷ Plain ones ∷ []))
 
--- the year at the first four places
+-- The year in the first four columns.
 unfoldable pub year_place : Text → Option ℕ
 year_place text = number_place 0 text >>? λ century. number_place 2 text >>? λ year. Some (100 * century + year)
 
--- the date of a year and of the month and the day at their places behind a hyphen, whatever these are
+-- The date of a year, with the month and the day in their columns after a hyphen. Their ranges are not tested.
 unfoldable pub days_place : ℕ → Text → Option DateRecord
 days_place year text =
     number_place 5 text >>? λ month. letter_place hyphen 7 text >>? λ _. number_place 8 text >>? λ day. Some (date_of (pos year) month day)
 
--- the same without hyphens
+-- The date of a year, with the month and the day in their columns without hyphens. Their ranges are not tested.
 unfoldable pub basic_days_place : ℕ → Text → Option DateRecord
 basic_days_place year text = number_place 4 text >>? λ month. number_place 6 text >>? λ day. Some (date_of (pos year) month day)
 
--- the date at the first ten places, whatever its month and its day
+-- The date in the first ten columns. The ranges of its month and its day are not tested.
 unfoldable pub date_place : Text → Option DateRecord
 date_place text = year_place text >>? λ year. letter_place hyphen 4 text >>? λ _. days_place year text
 
--- the date at the eight places of one without hyphens, whatever its month and its day
+-- The date without hyphens in the first eight columns. The ranges of its month and its day are not tested.
 unfoldable pub basic_date_place : Text → Option DateRecord
 basic_date_place text = year_place text >>? λ year. basic_days_place year text
 
--- the time at the eight places after a date and a separator, whatever its numbers
+-- The time in the eight columns after a date and a separator. The ranges of its numbers are not tested.
 unfoldable pub time_place : Text → Option TimeRecord
 time_place text =
     number_place 11 text >>? λ hour. letter_place colon 13 text >>? λ _. number_place 14 text >>? λ minute.
     letter_place colon 16 text >>? λ _. number_place 17 text >>? λ second. Some (time_of hour minute second None)
 
--- the date with the text after it, where its month and its day are in range, and the text after its month
+-- The date and the text after it, if its month and its day are in their ranges. `after_month` is the text after the month.
 abbrev pub ranged : DateRecord → Text → Text → Read Placed DateRecord
 ranged date after_month rest =
     if nat_le 1 date.month && nat_le date.month 12 then day_in_range error_of date rest else Err (InvalidMonthRange, after_month)
 
--- whether the month is one and has the day
+-- Whether the month is 1 to 12, and has the day.
 abbrev pub date_in_range : DateRecord → Bool
 date_in_range date =
     nat_le 1 date.month && nat_le date.month 12 && nat_le 1 date.day && nat_le date.day (month_length date.year date.month)
 
--- whether the numbers are at most the greatest of their places
+-- Whether the hour, the minute and the second are in their ranges.
 abbrev pub time_in_range : TimeRecord → Bool
 time_in_range time = nat_le time.hour 23 && nat_le time.minute 59 && nat_le time.second 60
 
--- the date and the time, where their numbers are in range
+-- The date and the time in the first nineteen columns, if their numbers are in their ranges.
 unfoldable pub date_time_place : Text → Option (DateRecord × TimeRecord)
 date_time_place text =
     date_place text >>? λ date. letter_place date_time_separator 10 text >>? λ _. time_place text >>? λ time.
     if date_in_range date && time_in_range time then Some (date, time) else None
 
--- the hour of an offset at the first two places behind its sign, and the minute behind a colon at the next, where it is in range
+-- The hour of an offset in the first two columns after its sign, if it is in its range.
+-- `minute_place` is for the minute after a colon.
 unfoldable pub hour_place : Text → Option ℕ
 hour_place text = number_place 0 text >>? λ hour. if nat_le hour 23 then Some hour else None
 
@@ -105,26 +106,26 @@ unfoldable pub minute_place : Text → Option ℕ
 minute_place text =
     letter_place colon 2 text >>? λ _. number_place 3 text >>? λ minute. if nat_le minute 59 then Some minute else None
 
--- the first day of a year's month that stands at a place and the next, whatever it is
+-- The first day of a month of the year. The month has its digits at index `place` and at the next index. Its range is not tested.
 unfoldable pub month_of_year_place : ℕ → ℕ → Text → Option DateRecord
 month_of_year_place year place text = number_place place text >>? λ month. Some (date_of (pos year) month 1)
 
--- the year-month with the text after it, where its month is one
+-- The year-month and the text after it, if its month is 1 to 12.
 abbrev pub ranged_month : DateRecord → Text → Read Placed DateRecord
 ranged_month date rest = if nat_le 1 date.month && nat_le date.month 12 then Ok (date, rest) else Err (InvalidMonthRange, rest)
 
--- whether two hyphens stand in front
+-- Whether the text begins with two hyphens.
 abbrev pub marks_place : Text → Bool
 marks_place text = hyphen (byte_place 0 text) && hyphen (byte_place 1 text)
 
--- a month-day, without the hyphens that may stand before its month
+-- Reads a month-day, without the two hyphens that can be before its month.
 abbrev pub unmarked_at : Profile → Text → Read Placed DateRecord
 unmarked_at profile text = do
   ds ← digits_at error_of (of_month_day month_day_month_digits) 2 text
   month ← lone_month_in_range error_of ds
   lone_day_at error_of profile month.0 month.1
 
--- opening this opens the readings of parts at fixed places
+-- To unfold this unfolds the reading functions of parts in fixed columns.
 unfoldable pub fixed_readings : ℕ
 unfolding number_place year_place days_place basic_days_place date_place basic_date_place time_place date_time_place
     hour_place minute_place month_of_year_place

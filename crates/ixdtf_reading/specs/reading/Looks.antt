@@ -1,12 +1,12 @@
--- What every reading is made of. A reading is a function on texts, in the shape of the code; no public clause
--- cites one. It returns a value and the text after it, or a fault. What a fault is comes from outside, by what is made
--- of a row: the row itself, or its error.
+-- The parts of all reading functions. A reading function is a function on texts that has the form of the code. No public clause
+-- refers to it. It returns a value and the text after it, or a fault. The argument `fault` makes the fault from a table row:
+-- it returns the row itself, or the error of the row.
 use Rattle.std.specs.Prelude.{ℕ, Bool, true, zero, suc, [], ◌∷◌, drop, Option, Some, None, Result, Ok, Err, nat_le, if◌then◌else◌}
 use Rattle.ixdtf_grammar.specs.{language.{Letters.{Text, Class, digit, none, any, Letter.{Plain, Bad}}, Digits.{decimal, padded_digits}}, table.Faults.Fault}
 use Rattle.ixdtf_grammar.specs.table.{Faults.Fault.NonAsciiCodePoint, LineNames.LineName, Lines.{Line, Ending, line_of, abrupt_digit}}
 use Rattle.ixdtf_grammar.specs.table.{Lines.{Line.{line, scanned, whole}, Ending.{ok, error}}, Rows.{Row, Place, left_at, Place.{end, other, bad, anywhere}}}
 
--- a value and the text after it, or a fault
+-- The result of a reading function: a value and the text after it, or a fault.
 abbrev pub Read : Type 0 → Type 0 → Type 0
 Read E A = Result (A × Text) E
 
@@ -18,11 +18,11 @@ abbrev pub ◌>>=◌ : {E A B : Type 0} → Result A E → (A → Result B E) �
 abbrev pub row_of : LineName → Place → Fault → Row
 row_of name place fault = record { name = name; place = place; error = fault }
 
--- an error, and what the text has from its place on
+-- An error, and the rest of the text from the position of the error on.
 abbrev pub Placed : Type 0
 Placed = Fault × Text
 
--- an error before a text, whatever the code unit
+-- An error at the beginning of a text. With `always_before`, it does not depend on the code unit.
 abbrev pub before : Fault → Text → Placed
 before fault text = (fault, text)
 
@@ -33,11 +33,12 @@ abbrev pub end_before : Option Fault → Text → Option Placed
 end_before None text = None
 end_before (Some fault) text = Some (fault, text)
 
--- the fault is a row's error, with what the text has from its place on
+-- The error of a row, and the rest of the text from its position on.
 abbrev pub error_of : Row → Placed
 error_of row = (row.error, left_at row.place)
 
--- one look: the code units that go on, and in a text the faults at its end, at another code unit and at `Bad`
+-- One look at the next code unit. `goes_on` has the code units that it accepts. The other fields are the faults at the end of the
+-- text, at any other code unit and at `Bad`.
 pub record Look (E : Type 0) : Type 0 where
   pub goes_on : Class
   pub at_end : Text → Option E
@@ -68,11 +69,11 @@ look_of fault name (whole front e) = record {
   at_bad = λ text. fault (row_of name (anywhere text) e);
 }
 
--- the look that a line inside a part asks for: it is the same in each reader
+-- The look of a table line inside a part. It is the same in each reader.
 abbrev pub look_at_line : {E : Type 0} → (Row → E) → LineName → Look E
 look_at_line fault name = look_of fault name (line_of true name)
 
--- the look for code units of the class, with the errors at the end and at another code unit
+-- The look for a code unit of the class. The other arguments are the errors at the end of the text and at any other code unit.
 abbrev pub look_for : Class → Option Fault → Fault → Look Placed
 look_for class at_end fault = record {
   goes_on = class;
@@ -81,17 +82,17 @@ look_for class at_end fault = record {
   at_bad = before NonAsciiCodePoint;
 }
 
--- the look for a digit, with the error at another code unit
+-- The look for a digit. `fault` is the error at any other code unit.
 abbrev pub digit_look : Fault → Look Placed
 digit_look fault = look_for digit (Some abrupt_digit) fault
 
--- the next code unit, or nothing at the end, where `Bad` is this fault
+-- The next code unit, or `None` at the end of the text. If the next code unit is `Bad`, the fault is `at_bad`.
 unfoldable pub look_at : {E : Type 0} → E → Text → Result (Option ℕ) E
 look_at at_bad [] = Ok None
 look_at at_bad (Bad ∷ rest) = Err at_bad
 look_at at_bad (Plain c ∷ rest) = Ok (Some c)
 
--- the next code unit, as the code looks at it
+-- The next code unit. The error at `Bad` is the one of the code, `NonAsciiCodePoint`.
 abbrev pub seen : Text → Result (Option ℕ) Placed
 seen text = look_at (NonAsciiCodePoint, text) text
 
@@ -103,7 +104,7 @@ abbrev pub needed : {E : Type 0} → Look E → Option ℕ → Text → Read E �
 needed l None text = missing (l.at_end text) (l.at_bad text)
 needed l (Some c) text = if l.goes_on c then Ok (c, drop 1 text) else Err (l.at_other c text)
 
--- the next code unit, taken where the line goes on with it
+-- Consumes the next code unit, if the look accepts it.
 unfoldable pub next_by : {E : Type 0} → Look E → Text → Read E ℕ
 next_by l text = do
   next ← look_at (l.at_bad text) text
@@ -112,7 +113,7 @@ next_by l text = do
 abbrev pub letter_at : {E : Type 0} → (Row → E) → LineName → Text → Read E ℕ
 letter_at fault name text = next_by (look_at_line fault name) text
 
--- so many code units of the line, one after the other
+-- Consumes `n` code units, one after the other, with the same look.
 unfoldable pub digits_by : {E : Type 0} → Look E → ℕ → Text → Read E Text
 digits_by l zero text = Ok ([], text)
 digits_by l (suc n) text =
@@ -121,16 +122,16 @@ digits_by l (suc n) text =
 abbrev pub digits_at : {E : Type 0} → (Row → E) → LineName → ℕ → Text → Read E Text
 digits_at fault name n text = digits_by (look_at_line fault name) n text
 
--- the two digits of a number
+-- The two digits of a number below 100.
 unfoldable pub two_digits_of : ℕ → Text
 two_digits_of number = padded_digits 2 number
 
--- the number of the digits that were read
+-- Replaces the digits that were read by their number.
 abbrev pub as_number : {E : Type 0} → Read E Text → Read E ℕ
 as_number (Ok x) = Ok (decimal x.0, x.1)
 as_number (Err e) = Err e
 
--- where the text may end: nothing, or the next code unit, taken
+-- The text can end here: then the result is `None`. Otherwise consumes the next code unit, if the look accepts it.
 abbrev pub peeked : {E : Type 0} → Look E → Option ℕ → Text → Read E (Option ℕ)
 peeked l None text = Ok (None, text)
 peeked l (Some c) text = if l.goes_on c then Ok (Some c, drop 1 text) else Err (l.at_other c text)
@@ -140,7 +141,7 @@ peek_by l text = do
   next ← look_at (l.at_bad text) text
   peeked l next text
 
--- a code unit of the class is taken, and reading goes on after it; else reading stays
+-- If the next code unit is of the class, consumes it and continues with `go`. Otherwise continues with `stay`.
 abbrev pub chosen : {E A : Type 0} → Class → (ℕ → Text → Result A E) → (Text → Result A E) → Option ℕ → Text → Result A E
 chosen class go stay None text = stay text
 chosen class go stay (Some c) text = if class c then go c (drop 1 text) else stay text
@@ -148,7 +149,7 @@ chosen class go stay (Some c) text = if class c then go c (drop 1 text) else sta
 abbrev pub on_next : {E A : Type 0} → (Text → E) → Class → (ℕ → Text → Result A E) → (Text → Result A E) → Text → Result A E
 on_next at_bad class go stay text = look_at (at_bad text) text >>= λ next. chosen class go stay next text
 
--- whether a mark stands where the line goes on with it or without it; it is taken, and any other code unit is not
+-- Whether the next code unit is a mark. A mark is consumed. Any other code unit that the look accepts is not consumed.
 unfoldable pub mark_by : {E : Type 0} → Look E → Class → Text → Read E Bool
 mark_by l mark text = do
   next ← next_by l text
@@ -157,22 +158,22 @@ mark_by l mark text = do
 abbrev pub mark_at : {E : Type 0} → (Row → E) → LineName → Class → Text → Read E Bool
 mark_at fault name mark text = mark_by (look_at_line fault name) mark text
 
--- a number that is at most the greatest of its place
+-- The number of the digits `ds.0`, if it is at most `greatest`.
 unfoldable pub in_range : {E : Type 0} → ℕ → (Text → E) → Text × Text → Read E ℕ
 in_range greatest fault ds = if nat_le (decimal ds.0) greatest then Ok (decimal ds.0, ds.1) else Err (fault ds.1)
 
--- two digits, whose number is at most the greatest of its place
+-- Reads two digits, whose number must be at most `greatest`.
 unfoldable pub number_by : {E : Type 0} → Look E → ℕ → (Text → E) → Text → Read E ℕ
 number_by l greatest past text = digits_by l 2 text >>= in_range greatest past
 
--- all the digits in front, and the text after them
+-- All digits at the beginning of the text, and the text after them.
 unfoldable pub digit_run : {E : Type 0} → (Text → E) → Text → Read E Text
 digit_run at_bad [] = Ok ([], [])
 digit_run at_bad (Bad ∷ rest) = Err (at_bad (Bad ∷ rest))
 digit_run at_bad (Plain c ∷ rest) =
     if digit c then (digit_run at_bad rest >>= λ more. Ok (Plain c ∷ more.0, more.1)) else Ok ([], Plain c ∷ rest)
 
--- opening this opens the looks at single code units
+-- To unfold this unfolds the reading functions of single code units and digits.
 unfoldable pub look_readings : ℕ
 unfolding next_by digits_by peek_by mark_by in_range digit_run
 look_readings = 0

@@ -1,4 +1,4 @@
--- Reading zone names and offsets.
+-- The reading functions of the names of zones, and of offsets.
 use Rattle.std.specs.Prelude.{ℕ, Bool, true, false, List, [], ◌∷◌, Option, Some, None, Ok, Err, ◌&&◌, if◌then◌else◌}
 use Rattle.ixdtf_grammar.specs.language.{Times.{Clock as clocks, Clock, TimeShape, writes_seconds}, Letters.{Text, Class, none, sign, slash, zone_char}}
 use Rattle.ixdtf_grammar.specs.language.{Letters.Letter.{Plain, Bad}, Offsets.{offset_of, minutes_of}, ZoneNames.{Zone, Zone.{Name, Offset}}}
@@ -9,7 +9,7 @@ use Rattle.ixdtf_grammar.specs.table.{Lines.{follow_of, zone_end, zone_other}, R
 use Rattle.ixdtf_reading.specs.reading.Looks.{Read, Look, ◌>>=◌, row_of, end_of, letter_at, peek_by, look_readings}
 use Rattle.ixdtf_reading.specs.reading.Times.{OpenTime, line_after, bad_after, clock_at}
 
--- the look at what follows a time or an offset that does not go on as its shape does, where brackets may follow or not
+-- The look at the code unit after a time or an offset. `brackets` says whether brackets can follow.
 abbrev pub follow_look : {E : Type 0} → (Row → E) → Bool → Clock → OpenTime → Look E
 follow_look fault brackets clock time = record {
   goes_on = (follow_of brackets clock).letters;
@@ -20,26 +20,26 @@ follow_look fault brackets clock time = record {
 
 -- ---- names
 
--- the line of a name that may end, and of one that ends with a slash
+-- The table line of the next code unit of a name. The argument says whether the name can end here. It cannot end after a slash.
 abbrev pub name_line : Bool → LineName
 name_line true = of_zone in_zone_name
 name_line false = of_zone after_zone_slash
 
--- whether the name may end after the code unit, or None where the code unit does not go on in it
+-- Whether the name can end after the code unit `c`. It is `None` if the code unit cannot continue the name.
 abbrev pub name_step : ℕ → Bool → Option Bool
 name_step c may_end = if zone_char c then Some true else (if slash c && may_end then Some false else None)
 
--- a code unit in front of the others
+-- Puts a code unit before the others.
 abbrev pub with_letter : {E : Type 0} → ℕ → Read E (List ℕ) → Read E (List ℕ)
 with_letter c (Ok x) = Ok (c ∷ x.0, x.1)
 with_letter c (Err e) = Err e
 
--- the name ends here, where it may
+-- The name ends here. If it cannot end here, the fault is `after_slash`.
 abbrev pub name_stops : {E : Type 0} → E → Bool → Text → Read E (List ℕ)
 name_stops after_slash true text = Ok ([], text)
 name_stops after_slash false text = Err after_slash
 
--- The run of code units of a name: it may end here, or a slash stands before.
+-- Reads the code units of a name. `may_end` says whether the name can end here. It cannot end after a slash.
 unfoldable pub name_run : {E : Type 0} → (Row → E) → Bool → Text → Read E (List ℕ)
 name_run fault may_end [] = name_stops (fault (row_of (of_zone after_zone_slash) (end []) IanaCharPostSeparator)) may_end []
 name_run fault may_end (Bad ∷ rest) = Err (fault (row_of (name_line may_end) (bad (Bad ∷ rest)) NonAsciiCodePoint))
@@ -48,7 +48,7 @@ name_run fault may_end (Plain c ∷ rest) =
     else (if slash c && may_end then with_letter c (name_run fault false rest)
     else name_stops (fault (row_of (of_zone after_zone_slash) (other (Plain c ∷ rest)) IanaCharPostSeparator)) may_end (Plain c ∷ rest))
 
--- the look at what follows a name, in a bracket or where it stands alone, where the code units of the class go on
+-- The look at the code unit after a name, in a bracket or at the end of the text. It accepts the code units of the class.
 abbrev pub name_look : {E : Type 0} → (Row → E) → Bool → Class → Look E
 name_look fault in_bracket class = record {
   goes_on = class;
@@ -59,27 +59,27 @@ name_look fault in_bracket class = record {
 
 -- ---- texts that are an offset or a zone
 
--- a name, and the end
+-- Reads a name and the end of the text.
 unfoldable pub name_alone_at : {E : Type 0} → (Row → E) → Text → Read E (List ℕ)
 name_alone_at fault text = do
   name ← name_run fault true text
   next ← peek_by (name_look fault false none) name.1
   Ok (name.0, next.1)
 
--- a name that begins with a code unit of the line, and the end
+-- Reads a name and the end of the text. Also tests the first code unit of the name.
 unfoldable pub iana_identifier_at : {E : Type 0} → (Row → E) → Text → Read E (List ℕ)
 iana_identifier_at fault text = do
   lead ← letter_at fault (of_zone zone_name_start) text
   name_alone_at fault text
 
--- what a sign and a time of the clock stand for, after the sign, and the end
+-- Reads a time of this clock after the sign `c`, and the end of the text. `record_of` makes the record.
 unfoldable pub signed_alone_at : {E O : Type 0} → (Row → E) → Clock → (ℕ → TimeShape → TimeRecord → O) → ℕ → Text → Read E O
 signed_alone_at fault clock record_of c text = do
   time ← clock_at fault clock text
   next ← peek_by (follow_look fault false clock time.0) time.1
   Ok (record_of c time.0.0 time.0.1, next.1)
 
--- an offset after its sign, and the end
+-- Reads an offset after its sign, and the end of the text.
 abbrev pub offset_alone_at : {E : Type 0} → (Row → E) → ℕ → Text → Read E UtcOffsetRecord
 offset_alone_at fault = signed_alone_at fault clocks.Offset (λ c shape time. offset_of c (writes_seconds shape) time)
 
@@ -88,11 +88,11 @@ offset_at fault text = do
   lead ← letter_at fault (of_offset offset_start) text
   offset_alone_at fault lead.0 lead.1
 
--- an offset without seconds after its sign, and the end
+-- Reads an offset without seconds after its sign, and the end of the text.
 abbrev pub minute_offset_alone_at : {E : Type 0} → (Row → E) → ℕ → Text → Read E Zone
 minute_offset_alone_at fault = signed_alone_at fault clocks.MinuteOffset (λ c shape time. Offset (minutes_of c time))
 
--- a zone that is a name
+-- The zone of a name that was read.
 abbrev pub as_zone : {E : Type 0} → Read E (List ℕ) → Read E Zone
 as_zone (Ok x) = Ok (Name x.0, x.1)
 as_zone (Err e) = Err e
@@ -102,7 +102,7 @@ identifier_at fault text = do
   lead ← letter_at fault (of_zone identifier_start) text
   if sign lead.0 then minute_offset_alone_at fault lead.0 lead.1 else as_zone (name_alone_at fault text)
 
--- opening this opens the readings of offsets and zones, but for the loop over a name
+-- To unfold this unfolds the reading functions of offsets and zones, without the loop over a name.
 unfoldable pub zone_readings : ℕ
 unfolding look_readings name_alone_at iana_identifier_at signed_alone_at offset_at identifier_at
 zone_readings = 0

@@ -1,4 +1,4 @@
--- A year-month, and a month-day, at fixed places: what is found there is read so.
+-- A year-month or a month-day in fixed columns. The reading functions return what is found in these columns.
 use Rattle.std.proofs.Common.{◌≡◌, ℕ, suc, ◌+◌, Bool, true, false, IsTrue, [], ◌∷◌, drop, map, Some, Ok, refl, sym, ap, ◌∙◌, pos}
 use Rattle.std.proofs.{Common.{◌≤◌, arith, ◌++◌, append_assoc, inl, inr, length}, lemmas.Bool.{and_parts, cases_Bool}}
 use Rattle.std.specs.Prelude.{Result, Err, nat_le, ◌&&◌, IsFalse}
@@ -17,7 +17,7 @@ use Rattle.ixdtf_reading.proofs.{to_reading.Months.over_lone_day, code.FixedPlac
 
 -- ---- year-months
 
--- a year that is found is read, and the month behind it
+-- If a year is found in the first four columns, reading a year-month goes on with the month after it.
 year_is_taken : (text : Text) (year : ℕ) → year_place text ≡ Some year → year_month_at error_of text
     ≡ (month_at error_of (of_year_month after_year_in_year_month) (drop 4 text) >>= λ month. Ok (date_of (pos year) month.0.0 1, month.1))
 unfolding year_month_at
@@ -25,7 +25,7 @@ year_is_taken text year e =
     let (ys, is, y) = year_at_place text year e in
     ap (year_month_at error_of) is ∙ rw (year_takes error_of ys (pos year) (drop 4 text) (inl y)) refl
 
--- and so is the month, where it is found
+-- If the month is found too, its range decides the result.
 month_is_read : (b : Bool) (text : Text) (year place : ℕ) (date : DateRecord) → year_place text ≡ Some year → drop 4 text ≡ hyphens_of b ++ drop place text
     → month_of_year_place year place text ≡ Some date → year_month_at error_of text ≡ ranged_month date (drop (suc (suc place)) text)
 unfolding month_of_year_place
@@ -64,7 +64,7 @@ module _ (profile : Profile) (text : Text) (start month : ℕ) where
   abbrev behind : Text
   behind = drop (start + 2) text
 
-  -- a month that is found is read, and what is behind it where it is one
+  -- If the month is found and is 1 to 12, reading goes on after it.
   pub month_goes_on : number_place start text ≡ Some month → IsTrue (nat_le 1 month && nat_le month 12)
       → unmarked_at profile (drop start text) ≡ lone_day_at error_of profile month behind
   unfolding lone_month_in_range
@@ -83,7 +83,7 @@ module _ (profile : Profile) (text : Text) (start month : ℕ) where
       ap (unmarked_at profile) (over_two m (ap (λ p. drop p text) second))
       ∙ rw (digits_go error_of (of_month_day month_day_month_digits) (λ c. refl) 2 (two m) behind (two_digits m refl).0, ← m.value, is_none) refl
 
-  -- and a day that is found is read, with a hyphen before it or with none
+  -- If a day is found, with or without a hyphen before it, its range decides the result.
   day_is_read : (b : Bool) (place day : ℕ) → behind ≡ hyphens_of b ++ drop place text → number_place place text ≡ Some day
       → lone_day_at error_of profile month behind ≡ lone_day_in_range error_of profile month day (drop (suc (suc place)) text)
   day_is_read b place day at_day days =
@@ -105,7 +105,7 @@ module _ (profile : Profile) (text : Text) (start month : ℕ) where
       let last : suc (suc (start + 2)) ≡ start + 4 = omega arith in
       rw last at (day_is_read false (start + 2) day refl days)
 
--- a day that was tested
+-- The result of a function that tested the day is the result of the reading function.
 pub day_tested : (profile : Profile) (month day : ℕ) (rest : Text) (result : Result DateRecord Stop)
     → Checks (λ date. date) result (date_of (pos 0) month day) (nat_le (least_day profile) day && nat_le day (greatest_day month)) InvalidMonthDay
     → YieldsAt (λ date. (date, rest)) result rest (lone_day_in_range error_of profile month day rest)
@@ -113,14 +113,14 @@ unfolding lone_day_in_range
 day_tested profile month day rest (Ok date) is = rw (is.1, is.0) refl
 day_tested profile month day rest (Err stop) is = rw (is.1, is.0) refl
 
--- what is read from a place on
+-- If the wanted result is that of the reading function, a function that yields it reads as this function does.
 pub yields_on : (letter : ℕ → Letter) (here new : Unread) (result : Result DateRecord Stop) (reading : Text → Read Placed DateRecord) (wanted : Read Placed DateRecord)
     → wanted ≡ reading (map letter here.rest) → Reads letter (λ date. date) here result new reading
     → YieldsAt (λ date. (date, map letter new.rest)) result (map letter new.rest) wanted
 yields_on letter here new (Ok date) reading wanted same is = same ∙ is
 yields_on letter here new (Err stop) reading wanted same is = same ∙ is
 
--- two hyphens in front are taken
+-- Two hyphens at the beginning are consumed.
 pub marked_is_read : (profile : Profile) (text : Text) → IsTrue (marks_place text) → month_day_at error_of profile text ≡ unmarked_at profile (drop 2 text)
 unfolding month_day_at marks_at mark_by next_by look_at
 marked_is_read profile text marks =
@@ -129,7 +129,7 @@ marked_is_read profile text marks =
     let second = byte_is_mark 45 1 text refl both.1 in
     ap (month_day_at error_of profile) (first ∙ onto 45 second)
 
--- what begins with no hyphen has none
+-- A text that does not begin with a hyphen has no hyphens before its month.
 pub unmarked_is_read : (profile : Profile) (text : Text) → IsFalse (hyphen (byte_place 0 text)) → 1 ≤ length text
     → month_day_at error_of profile text ≡ unmarked_at profile text
 unfolding month_day_at marks_at mark_by digits_by next_by look_at

@@ -1,4 +1,4 @@
--- An offset that stands at its places behind its sign, where the core ends with it, is read so.
+-- An offset in fixed columns after its sign, if the core ends after it. The reading functions return this offset.
 use Rattle.std.proofs.Common.{◌≡◌, ℕ, ◌≤◌, append_assoc, List, ◌∷◌, [], ◌++◌, map, length, drop, Option, Some, None, Ok, true, false, nat_le, refl, ap, ◌∙◌, arith}
 use Rattle.std.proofs.lemmas.{Bool.Decides.nat_tests, List.{drop-map, drop_all}}
 use Rattle.ixdtf_grammar.specs.declared.records.{DateRecord.DateRecord, TimeRecord.TimeRecord, MinutePrecisionOffset.MinutePrecisionOffset}
@@ -13,11 +13,11 @@ use Rattle.ixdtf_reading.specs.reading.Cores.{with_offset, offset_core_at, core_
 use Rattle.ixdtf_reading.proofs.{parts.Looks.onto, code.FixedPlaces.{then_some, then_held, Number, number_at_place, mark_at_place, two, two_digits, over_two}}
 use Rattle.ixdtf_reading.proofs.to_reading.{Times.{Closed, time_takes}, ClockRows.clock_starts}
 
--- behind five code units that are all nothing is left
+-- If there are only five code units, nothing is left after them.
 pub nothing_left : (letter : ℕ → Letter) (units : List ℕ) → length units ≡ 5 → (drop 5 units ≡ []) × (drop 5 (map letter units) ≡ [])
 nothing_left letter units size = let none = drop_all 5 units (omega arith) in (none, drop-map letter 5 units ∙ ap (map letter) none)
 
--- the code units of an hour, a colon and a minute, and the text after them
+-- The code units of an hour, a colon and a minute, and the text after them.
 record OffsetLetters (text : Text) (time : TimeRecord) : Type 0 where
   letters : Text
   is : text ≡ letters ++ drop 5 text
@@ -61,13 +61,13 @@ module _ (c : ℕ) (text : Text) (hour minute : ℕ) (hours : hour_place text �
   abbrev offset : MinutePrecisionOffset
   offset = minutes_of c (time_of hour minute 0 None)
 
-  -- its code units are read as those of an hour and a minute, where nothing goes on behind them
+  -- Its code units are read as an hour and a minute, if what follows does not continue them.
   is_read : (clock : Clock) → Closed clock colon_minutes (drop 5 text) → clock_at error_of clock text ≡ Ok ((colon_minutes, time_of hour minute 0 None), drop 5 text)
   is_read clock closed =
       ap (clock_at error_of clock) there.is ∙ time_takes error_of clock _ (clock_starts error_of clock) colon_minutes there.letters _
       (drop 5 text) there.minutes closed
 
-  -- so it is read behind the time of a date-time
+  -- So the offset is read after the time of a date-time.
   pub is_numeric_offset : (date : DateRecord) (time : TimeRecord)
       → num_offset_at error_of open_end date time c text ≡ Ok (numeric_core date time offset, drop 5 text)
   is_numeric_offset date time =
@@ -87,7 +87,7 @@ module _ (c : ℕ) (text : Text) (hour minute : ℕ) (hours : hour_place text �
     ends_a_zone = rw (is_read MinuteOffset (rw is (tt, tt)), is) refl
 
   module _ (date : Option DateRecord) (time : TimeRecord) where
-    -- what follows is looked at behind the five places
+    -- The code unit after the five columns is read next.
     goes_on : Closed Offset colon_minutes (drop 5 text)
         → offset_core_at error_of date time c text
         ≡ core_end_at error_of (line_after Offset colon_minutes) (with_offset date time (MinutePrecision offset)) (drop 5 text)

@@ -1,4 +1,4 @@
--- The hour's two digits, which the table reads by two lines, are read as one number.
+-- The two digits of the hour, for which the fault table has two lines, are read as one number.
 use Rattle.std.proofs.{Common.{◌≡◌, ℕ, true, [], ◌∷◌, refl, inl, inr}, lemmas.Bool.cases_Bool}
 use Rattle.ixdtf_grammar.specs.{language.{Letters.{Text, digit, Letter.{Plain, Bad}}, Times.Clock}, table.Faults.Fault.TimeHour}
 use Rattle.ixdtf_reading.specs.reading.{Looks.{Read, Placed, ◌>>=◌, error_of, before, digit_look, number_by, digits_by, next_by, look_at, in_range}, Times.{OpenTime, hour_from, after_hour_at, clock_at}}

@@ -1,4 +1,4 @@
--- A time that stands alone, by what the first look at it finds.
+-- A time without a date. Its first code unit decides how it is read.
 use Rattle.std.proofs.{Common.{◌≡◌, ℕ, true, false, drop, map, Option, Some, None, Result, Ok, Err, refl, arith}, lemmas.Bool.Decides.nat_tests}
 use Rattle.ixdtf_grammar.specs.{declared.{profile.Profile.Profile, records.DateRecord.DateRecord}, Views.Unread}
 use Rattle.ixdtf_grammar.specs.language.Letters.{Letter, Text, ◌or◌, digit, sign, hyphen, time_letter}
@@ -11,7 +11,7 @@ ok_again : {A E : Type 0} → (r : Result A E) → (r >>= λ x. Ok x) ≡ r
 ok_again (Ok x) = refl
 ok_again (Err e) = refl
 
--- what was read of one text is what is read so of another
+-- A result for one text is also the result for another text, if the reading functions return the same for both.
 pub reads_as : {X Y : Type 0} (letter : ℕ → Letter) (view : X → Y) (old old' new : Unread) (result : Result X Stop) (reading reading' : Text → Read Placed Y)
     → reading' (map letter old'.rest) ≡ reading (map letter old.rest) → Reads letter view old result new reading → Reads letter view old' result new reading'
 reads_as letter view old old' new result reading reading' e is = reads_on letter view old' old new result reading' reading e is
@@ -31,12 +31,12 @@ module _ (profile : Profile) (text : Text) (c : ℕ) (first : seen text ≡ Ok (
   unfolding year_month_at year_at next_by
   no_year_month_begins = rw (first, no_year c marked) refl
 
-  -- a text that begins with `T` or `t` has no front
+  -- A text that begins with `T` or `t` does not begin with a month-day or a year-month.
   pub marked_is : (date : Option DateRecord) → date ≡ None → time_alone_core_at error_of profile text ≡ timed_core_at date (drop 1 text)
   unfolding time_alone_core_at marked_core_at marked_time_at timed_core_at
   marked_is date none = rw (none, first, marked, no_month_day_begins, no_year_month_begins) (ok_again (timed_core_at None (drop 1 text)))
 
--- any other is read from its start, and then its front
+-- Any other text is read from its beginning. Then its beginning is tested.
 pub unmarked_is : (profile : Profile) (text : Text) (next : Option ℕ) → seen text ≡ Ok next → next_is time_letter next ≡ false
     → (date : Option DateRecord) → date ≡ None
     → time_alone_core_at error_of profile text ≡ timed_core_at date text >>= λ core. unfronted error_of profile text (Ok core)
@@ -44,7 +44,7 @@ unfolding time_alone_core_at marked_core_at marked_time_at lone_time_at timed_co
 unmarked_is profile text None first other date none = rw (none, first) refl
 unmarked_is profile text (Some c) first other date none = rw (none, first, other) refl
 
--- where the first code unit is bad, nothing is read
+-- If the first code unit is bad, the result is its fault.
 pub bad_is : (profile : Profile) (text : Text) (fault : Placed) → seen text ≡ Err fault
     → time_alone_core_at error_of profile text ≡ Err fault
 unfolding time_alone_core_at marked_core_at marked_time_at

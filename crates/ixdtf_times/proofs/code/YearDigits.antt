@@ -1,16 +1,16 @@
--- The digits of years, by twos and threes.
+-- The digits of years: six digits as three times two, and four digits as one and three.
 use Rattle.std.proofs.Common.{◌≡◌, ℕ, ◌+◌, ◌*◌, ◌-◌, pos, Ok, arith}
 use Rattle.ixdtf_grammar.specs.{language.Letters.Text, table.Faults.Fault.DateYear}
 use Rattle.ixdtf_reading.specs.reading.{Looks.{Look, Placed, ◌>>=◌, error_of, as_number, digits_by, digit_look}, Dates.four_digit_year_at}
 
--- six digits are two, and two, and two more
+-- Six digits are read as three times two digits.
 pub six_digits : (l : Look Placed) (text : Text)
     → as_number (digits_by l 6 text) ≡ (as_number (digits_by l 2 text) >>= λ high. as_number (digits_by l 2 high.1)
     >>= λ middle. as_number (digits_by l 2 middle.1) >>= λ low. Ok (10000 * high.0 + 100 * middle.0 + low.0, low.1))
 unfolding digits_by
 six_digits l text = grind (arith)
 
--- a year of four digits is the first, and three more
+-- A year of four digits is read as its first digit and three more.
 pub four_digits : (c : ℕ) (text : Text)
     → four_digit_year_at error_of c text ≡ (as_number (digits_by (digit_look DateYear) 3 text) >>= λ low. Ok (pos (1000 * (c - 48) + low.0), low.1))
 unfolding four_digit_year_at digits_by

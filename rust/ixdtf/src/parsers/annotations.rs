@@ -14,7 +14,7 @@ use crate::records::Annotation;
 
 // ==== Keys and values ====
 
-/// The code units of a key.
+/// The class of the code units that a key can contain.
 pub struct KeyLetters;
 
 impl Letters for KeyLetters {
@@ -24,7 +24,10 @@ impl Letters for KeyLetters {
     }
 }
 
-/// Reads a key and the `=` after it. Returns the code units of the key. The caller has tested its first code unit.
+/// Reads a key and the `=` after it, and returns the code units of the key.
+///
+/// The caller has tested the first code unit of the key. Returns `AnnotationKeyValueSeparator` at the end of the input,
+/// `NonAsciiCodePoint` at a bad code unit, and `AnnotationKeyChar` at any other code unit that a key cannot contain.
 #[inline(always)]
 pub fn parse_annotation_key<'a, T: EncodingType>(
     cursor: &mut Cursor<'a, T>,
@@ -47,7 +50,7 @@ pub fn parse_annotation_key<'a, T: EncodingType>(
     }
 }
 
-/// The code units of a component of a value.
+/// The class of the code units that a component of a value can contain.
 pub struct ComponentLetters;
 
 impl Letters for ComponentLetters {
@@ -57,8 +60,10 @@ impl Letters for ComponentLetters {
     }
 }
 
-/// Consumes the first code unit of a component. Returns `other` at any other code unit and at the end of the input.
-/// Then nothing is consumed.
+/// Consumes the first code unit of a component.
+///
+/// Returns `NonAsciiCodePoint` at a bad code unit, and `other` at any other code unit and at the end of the input. Then
+/// nothing is consumed.
 #[inline(always)]
 fn start_component<'a, T: EncodingType>(cursor: &mut Cursor<'a, T>, other: Stop) -> Result<(), Stop> {
     match cursor.look()? {
@@ -70,7 +75,9 @@ fn start_component<'a, T: EncodingType>(cursor: &mut Cursor<'a, T>, other: Stop)
     }
 }
 
-/// Reads a value and the `]` after it, component by component. Returns the code units of the value.
+/// Reads a value and the `]` after it, and returns the code units of the value.
+///
+/// A value consists of components. One hyphen separates each component from the next one.
 #[inline(always)]
 pub fn parse_annotation_value<'a, T: EncodingType>(
     cursor: &mut Cursor<'a, T>,
@@ -95,7 +102,7 @@ pub fn parse_annotation_value<'a, T: EncodingType>(
 
 // ==== Annotations ====
 
-/// Reads a key, `=`, a value and `]`. These are an annotation after its `[` or `[!`.
+/// Reads an annotation after its `[` or `[!`: a key, `=`, a value and `]`.
 #[inline(always)]
 fn parse_pair<'a, T: EncodingType>(
     cursor: &mut Cursor<'a, T>,
@@ -137,6 +144,8 @@ fn parse_critical_pair<'a, T: EncodingType>(
 }
 
 /// Reads the next annotation after a complete bracket. Returns `None` at the end of the input.
+///
+/// Returns `NonAsciiCodePoint` if a bad code unit follows the bracket, and `InvalidEnd` at any other code unit except `[`.
 #[inline(always)]
 pub fn next_annotation<'a, T: EncodingType>(
     cursor: &mut Cursor<'a, T>,

@@ -80,10 +80,10 @@ fn ends_bracket(next: Option<u8>) -> bool {
     matches!(next, Some(byte) if is_annotation_close(byte))
 }
 
-/// Reads an annotation if an `=` comes before any `]`, and otherwise a name. Also reads the `]` of the bracket.
+/// Reads an annotation if an `=` comes before any `]`, and otherwise a name. Also consumes the `]` of the bracket.
 ///
-/// A name can contain every character of a key. So the function first consumes the characters of a name. It reads
-/// further ahead only if it returns an error.
+/// A name can contain every character that a key can contain. So the function first consumes the characters of a key,
+/// and then those of a name. It reads further ahead only if it returns an error.
 #[inline(always)]
 fn parse_name_or_pair<'a, T: EncodingType>(
     cursor: &mut Cursor<'a, T>,
@@ -119,7 +119,7 @@ fn parse_name_or_pair<'a, T: EncodingType>(
     Err(refused.stop)
 }
 
-/// The code units of a first bracket, without `=` and `]`.
+/// The class of all code units except `=` and `]`.
 pub struct BracketLetters;
 
 impl Letters for BracketLetters {
@@ -137,9 +137,12 @@ struct Refused<'a, T: EncodingType> {
 
 /// Returns the error of a first bracket that is not a name, after the code units of a name have been consumed.
 ///
-/// If an `=` comes before any `]`, the bracket is an annotation, and its key ends before the code unit that does not
-/// fit. The position is the end of the key or of the name, or the end of what was read ahead. The cursor is passed by
-/// value, so that the compiler can keep the cursor of the caller in registers.
+/// - If an `=` comes before any `]`, the bracket is an annotation. Returns `AnnotationKeyChar` after the characters of a
+///   key.
+/// - If a `]` comes first, the bracket is a zone. Returns the error of the name, after the characters of a name.
+/// - Otherwise returns `AbruptBracket` at the end of the input, or `NonAsciiCodePoint` at a bad code unit.
+///
+/// The cursor is passed by value, so that the compiler can keep the cursor of the caller in registers.
 fn refuse_bracket<'a, T: EncodingType>(
     here: Cursor<'a, T>,
     behind_key: &'a [T::CodeUnit],

@@ -20,7 +20,7 @@ use crate::parsers::offsets::{AfterCore, offset_from, take_fixed_offset};
 use crate::parsers::rfc3339::parse_internet_date_time;
 use crate::parsers::time::{Clock, TimeShape, WholeTime, parse_after_second, parse_clock};
 
-/// A type that reads cores of one kind.
+/// A type that reads cores of one kind. A core is the part of a text before its first `[`.
 ///
 /// The functions that read complete texts are generic in this type. So no code tests the kind at run time.
 pub trait CoreReader {
@@ -31,7 +31,7 @@ pub trait CoreReader {
         found: &mut IxdtfParseRecord<'a, T>,
     ) -> Result<AfterCore, Stop>;
 
-    /// Returns whether a zone after the core has to be exactly one of RFC 9557.
+    /// Returns whether a zone after the core must have the form of RFC 9557, section 4.1.
     fn has_exact_zones() -> bool;
 }
 
@@ -64,8 +64,7 @@ impl CoreReader for InternetDateTimes {
         _profile: Profile,
         found: &mut IxdtfParseRecord<'a, T>,
     ) -> Result<AfterCore, Stop> {
-        let read = parse_internet_date_time(cursor)?;
-        read.place(found);
+        parse_internet_date_time(cursor, found)?;
         close_core(cursor)
     }
 

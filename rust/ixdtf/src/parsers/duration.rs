@@ -67,8 +67,8 @@ impl<'a> IsoDurationParser<'a, Utf16> {
 
     /// Creates a parser of 16-bit code units, as [`from_utf16`](Self::from_utf16) does.
     ///
-    /// This function has the name that it has in `ixdtf` 0.6.7. So a caller must name the encoding:
-    /// `IsoDurationParser::<Utf16>::from_utf8`.
+    /// The function has this name because it has this name in `ixdtf` 0.6.7. There are two functions `from_utf8`, one for
+    /// each encoding. So a caller must name the encoding: `IsoDurationParser::<Utf16>::from_utf8`.
     ///
     /// # Examples
     ///
@@ -123,14 +123,14 @@ impl<'a, T: EncodingType> IsoDurationParser<'a, T> {
 
     /// Parses the remaining input as a duration, such as `P1Y2M3DT4H` or `-PT1H30.5M`.
     ///
-    /// A duration is `Duration` of the Temporal grammar, and a form of ISO 8601, section 5.5.2. It consists of these
-    /// parts, and has at least one group. A group is a number and the letter of its unit.
+    /// The form of a duration is `Duration` of the Temporal grammar (ISO 8601, section 5.5.2). A duration consists of
+    /// these parts, and has at least one group. A group is a number and the letter of its unit.
     ///
     /// 1. An optional sign, `+` or `-`.
     /// 2. `P`.
     /// 3. Date groups: years (`Y`), months (`M`), weeks (`W`) and days (`D`).
-    /// 4. If there are time groups, `T` and time groups: hours (`H`), minutes (`M`) and seconds (`S`). The last time
-    ///    group can have a fraction, such as `.25` or `,25`.
+    /// 4. `T`, and then time groups: hours (`H`), minutes (`M`) and seconds (`S`). A duration without time groups has no
+    ///    `T`. The last time group can have a fraction, such as `.25` or `,25`.
     ///
     /// All letters can be lowercase. Within the date groups, and within the time groups, no unit can come after a
     /// shorter unit. A unit can be repeated, and then its last number counts. Under [`Profile::Strict`], no unit can be
@@ -156,7 +156,7 @@ impl<'a, T: EncodingType> IsoDurationParser<'a, T> {
     /// let duration = IsoDurationParser::from_str("-pt1h0,5m").parse()?;
     /// let Some(TimeDurationRecord::Minutes { hours, minutes, fraction }) = duration.time else { panic!("no minutes") };
     /// assert_eq!((duration.sign, hours, minutes), (Sign::Negative, 1, 0));
-    /// // of a minute: half of it is 500,000,000 billionths
+    /// // The fraction is a fraction of a minute. Half a minute is 500,000,000 billionths of a minute.
     /// assert_eq!(fraction.unwrap().to_nanoseconds(), Some(500_000_000));
     ///
     /// assert_eq!(IsoDurationParser::from_str("P1Y2Y").parse()?.date.unwrap().years, 2);
@@ -172,12 +172,13 @@ impl<'a, T: EncodingType> IsoDurationParser<'a, T> {
     ///
     /// # Errors
     ///
-    /// The first part that is wrong decides. In a group, the order of its unit is tested before the range of its
-    /// number. To get the position of the error, call [`parse_located`](Self::parse_located).
+    /// The first wrong part of the text decides the error. In one group, three tests follow each other: the number must be
+    /// less than 2^64, the unit must be in order, and a number of years, months or weeks must be less than 2^32. To get
+    /// the position of the error, call [`parse_located`](Self::parse_located).
     ///
     /// - `AbruptEnd`: the text is empty (location `DurationStart`), or ends after the sign (`DurationDesignator`) or
-    ///   after `P` (`Duration`). After the digits of a group, the text ends or has another character than the letter of
-    ///   a unit (`DateDurationDesignator`, `TimeDurationDesignator`).
+    ///   after `P` (`Duration`). This is also the error if the letter of a unit is missing after a number, with or without
+    ///   a fraction. The location is then `DateDurationDesignator`, or `TimeDurationDesignator` after the `T`.
     /// - `DurationDisgnator`: the text begins with a character that is neither a sign nor `P`, or the sign is followed
     ///   by another character than `P`.
     /// - `TimeDurationDesignator`: no digit follows the `T`. This is also the error if the text ends there.
@@ -186,7 +187,7 @@ impl<'a, T: EncodingType> IsoDurationParser<'a, T> {
     /// - `DurationValueExceededRange`: a number is 2^64 or more, or the number of years, months or weeks is 2^32 or
     ///   more.
     /// - `FractionPart`: no digit follows the `.` or `,`. This is also the error if the text ends there.
-    /// - `InvalidEnd`: any other character follows `P` or a group.
+    /// - `InvalidEnd`: `P` or a group is followed by a character that must not follow it.
     /// - `NonAsciiCodePoint`: 16-bit text has a code unit outside 1 to 126. 8-bit text never has this error.
     #[inline(always)]
     pub fn parse(&mut self) -> ParserResult<DurationParseRecord> {
@@ -197,7 +198,7 @@ impl<'a, T: EncodingType> IsoDurationParser<'a, T> {
         }
     }
 
-    /// Parses the remaining input as a duration, like [`parse`](Self::parse). An error has its position.
+    /// Parses the remaining input as a duration, like [`parse`](Self::parse). An error includes its position.
     ///
     /// The position is the number of code units before the error. It is the index of the code unit that does not fit,
     /// or the end of the input if the input ends too early. There are two exceptions:
@@ -224,7 +225,7 @@ impl<'a, T: EncodingType> IsoDurationParser<'a, T> {
     ///
     /// # Errors
     ///
-    /// The errors of [`parse`](Self::parse), each with its position.
+    /// Returns the errors of [`parse`](Self::parse), each with its position.
     #[inline(always)]
     pub fn parse_located(&mut self) -> Result<DurationParseRecord, LocatedError> {
         let mut here = self.cursor.fork();

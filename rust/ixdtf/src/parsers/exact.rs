@@ -62,14 +62,15 @@ impl<'a, T: EncodingType> IxdtfParser<'a, T> {
     ///   where an offset has to begin (location `time-numoffset`).
     /// - `DateYear`: the year has another character than a digit.
     /// - `DateMonth`, `DateDay`, `TimeHour`, `TimeMinuteSecond`, `TimeSecond`: the month, the day, the hour, the minute or
-    ///   the second has another character than a digit. The last three also say that the number is out of its range. The
-    ///   hour and the minute can be those of the time or those of the offset.
+    ///   the second has another character than a digit. For the hour, the minute and the second, this is also the error of
+    ///   a number out of its range. The hour and the minute can be those of the time or those of the offset.
     /// - `InvalidMonthRange`: there is no such month.
     /// - `InvalidDayRange`: the month does not have this day.
     /// - `DateSeparator`: no `-` follows the month, or another character than `-` follows the year.
     /// - `TimeSeparator`: no `T` follows the date, or no `:` follows the hour or the minute of the time.
     /// - `FractionPart`: no digit follows the `.`, or a `,` follows the second.
-    /// - `OffsetNeedsSign`: any other character follows the second or the fraction, where the offset has to begin.
+    /// - `OffsetNeedsSign`: another character than a sign, `Z` or `z` is where the offset has to begin. But directly
+    ///   after the second, a `.` begins a fraction, and a `,` has the error `FractionPart`.
     /// - `UtcTimeSeparator`: no `:` follows the hour of the offset.
     /// - `InvalidEnd`: any character follows the offset.
     /// - `NonAsciiCodePoint`: 16-bit text has a code unit outside 1 to 126. 8-bit text never has this error.
@@ -77,8 +78,9 @@ impl<'a, T: EncodingType> IxdtfParser<'a, T> {
     pub fn parse_rfc3339(&mut self) -> ParserResult<IxdtfParseRecord<'a, T>> {
         let mut here = self.cursor.fork();
         // The error is returned in an arm of its own, as in `parse`.
-        match parse_rfc3339_text(&mut here) {
-            Ok(found) => {
+        let mut found = IxdtfParseRecord::default();
+        match parse_rfc3339_text(&mut here, &mut found) {
+            Ok(()) => {
                 self.cursor = here;
                 Ok(found)
             }
@@ -117,8 +119,9 @@ impl<'a, T: EncodingType> IxdtfParser<'a, T> {
     pub fn parse_rfc3339_located(&mut self) -> Result<IxdtfParseRecord<'a, T>, LocatedError> {
         let mut here = self.cursor.fork();
         // These two arms do what `settle` does. The borrow checker has no rule for a call of `settle` with a record.
-        match parse_rfc3339_text(&mut here) {
-            Ok(found) => {
+        let mut found = IxdtfParseRecord::default();
+        match parse_rfc3339_text(&mut here, &mut found) {
+            Ok(()) => {
                 self.cursor = here;
                 Ok(found)
             }

@@ -1,6 +1,8 @@
 // Made by tools/to_rust.py of crates/ixdtf_brackets/src/exact_zones.rt. Do not edit.
 
-//! Functions that test whether the zone of a first bracket is exactly one of RFC 9557, section 4.1.
+//! Functions that test whether the zone of a first bracket has the form of RFC 9557, section 4.1.
+//!
+//! A reader that does not use this test also accepts other zones, for example names with a part `.` or `..`.
 
 use crate::parsers::brackets::{Bracket, parse_first_bracket};
 use crate::encoding::EncodingType;
@@ -11,21 +13,21 @@ use crate::classes::{
 use crate::cursor::Cursor;
 use crate::stop::Stop;
 
-/// What was read of a part of a name.
+/// Which code units of a part of a name were read.
 #[derive(Clone, Copy)]
 pub enum PartForm {
-    /// Nothing yet.
+    /// No code unit.
     Start,
-    /// A `.` alone.
+    /// Only a `.`.
     OneDot,
-    /// `..` alone.
+    /// Only `..`.
     TwoDots,
-    /// What a part may be.
+    /// Code units that can be a complete part.
     Whole,
 }
 
 impl PartForm {
-    /// What is read of a part with one more code unit, or `None` if it does not continue the name.
+    /// Returns the form after one more code unit, or `None` if this code unit cannot continue the name.
     #[inline(always)]
     fn after(self, byte: u8) -> Option<PartForm> {
         match self {
@@ -63,9 +65,10 @@ fn has_exact_parts<'a, T: EncodingType>(cursor: &mut Cursor<'a, T>) -> bool {
     }
 }
 
-/// Tests whether the zone of a first bracket is exactly one of RFC 9557. `start` is the input after the `[`.
+/// Tests whether the zone of a first bracket has the form of RFC 9557, section 4.1. `start` is the input after the `[`.
 ///
-/// The position of the cursor does not change. It is not inlined, because the bracket has been read without it.
+/// The position of the cursor does not change. The function is not inlined, because it is called only if a zone must have
+/// this form, after the bracket has been read.
 #[inline(never)]
 fn is_exact_zone<'a, T: EncodingType>(
     cursor: &mut Cursor<'a, T>,
@@ -83,7 +86,7 @@ fn is_exact_zone<'a, T: EncodingType>(
     is_exact
 }
 
-/// Returns the error of a zone that is not exactly one of RFC 9557.
+/// Returns the error of a zone that does not have the form of RFC 9557, section 4.1.
 #[inline(always)]
 fn zone_stop<'a, T: EncodingType>(zone: &TimeZoneAnnotation<'a, T>) -> Stop {
     match &zone.tz {
@@ -92,7 +95,10 @@ fn zone_stop<'a, T: EncodingType>(zone: &TimeZoneAnnotation<'a, T>) -> Stop {
     }
 }
 
-/// Reads a first bracket after its `[`. If `is_exact`, its zone has to be exactly one of RFC 9557.
+/// Reads a first bracket after its `[`. If `is_exact`, a zone must have the form of RFC 9557, section 4.1.
+///
+/// If the zone is a name without this form, returns `IanaChar`. If it is an offset without this form, returns
+/// `InvalidMinutePrecisionOffset`. Both errors have the position after the `]`.
 #[inline(always)]
 pub fn parse_bracket_by<'a, T: EncodingType>(
     cursor: &mut Cursor<'a, T>,

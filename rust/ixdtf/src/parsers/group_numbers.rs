@@ -1,6 +1,6 @@
 // Made by tools/to_rust.py of crates/ixdtf_durations/src/group_numbers.rt. Do not edit.
 
-//! The number of a group: digits, and the code unit after them.
+//! Functions that read the number of a group, and store it.
 
 use crate::encoding::EncodingType;
 use crate::cursor::Cursor;
@@ -25,8 +25,11 @@ fn add_digit(value: u64, byte: u8) -> Result<u64, Stop> {
     }
 }
 
-/// Consumes the digits of a number after the first one. Returns the number, and the code unit after it, which is not
-/// consumed. Returns `end` at the end of the input.
+/// Consumes the digits of a number after the first one.
+///
+/// Returns the number, and the code unit after it, which is not consumed. Returns `end` at the end of the input,
+/// `NonAsciiCodePoint` at a bad code unit, and `DurationValueExceededRange` after the digit with which the number
+/// becomes 2^64 or more.
 #[inline(always)]
 pub fn parse_number<'a, T: EncodingType>(
     cursor: &mut Cursor<'a, T>,
@@ -45,7 +48,7 @@ pub fn parse_number<'a, T: EncodingType>(
     Err(end)
 }
 
-/// Stores the number of a group at the rank of its unit.
+/// Stores the number of a group in `values`. The index is the rank of the unit of the group.
 #[inline(always)]
 pub fn keep_number(values: &mut [u64], rank: u8, number: u64) {
     let place = usize::from(rank);

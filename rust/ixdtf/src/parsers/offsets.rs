@@ -77,8 +77,9 @@ fn fixed_minute<'a, T: EncodingType>(cursor: &mut Cursor<'a, T>) -> Option<u8> {
 
 /// Consumes an offset `HH:MM` after its sign, if the text ends after it or continues with `[`.
 ///
-/// Writes the offset to `found`, and consumes the `[` too. Returns which of the two followed the offset. Returns `None`, and
-/// consumes nothing, if the input has another form or a number is out of range.
+/// Writes the offset to `found`. Returns `End` if the text ends after the offset. Returns `Bracket` if a `[` follows the
+/// offset, and then consumes the `[` too. Returns `None`, and consumes nothing, if the input has another form or a
+/// number is out of range.
 #[inline(always)]
 pub fn take_fixed_offset<'a, T: EncodingType>(
     cursor: &mut Cursor<'a, T>,

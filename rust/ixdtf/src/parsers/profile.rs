@@ -43,7 +43,9 @@ impl Profile {
         }
     }
 
-    /// Returns the least difference between the ranks of two duration units, one directly after the other in the text.
+    /// Returns by how much the rank of a duration unit must at least exceed the rank of the unit directly before it.
+    ///
+    /// In each part of a duration, the longest unit has the rank 1, the next shorter unit has the rank 2, and so on.
     #[inline(always)]
     pub(crate) fn least_step(self) -> u8 {
         match self {

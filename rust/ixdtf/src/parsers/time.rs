@@ -85,7 +85,7 @@ impl WholeTime {
         self.hour <= 23 && self.minute <= 59 && self.second <= 60
     }
 
-    /// The record of it, with a fraction where there is one.
+    /// Returns the record of the time, with the fraction, if there is one.
     #[inline(always)]
     pub fn with_fraction(self, fraction: Option<Fraction>) -> TimeRecord {
         TimeRecord {
@@ -149,7 +149,10 @@ pub fn next_number<'a, T: EncodingType>(
     check_most(number, greatest, stop)
 }
 
-/// Reads a time as far as it goes, and writes it to `time`. Returns which parts it has.
+/// Reads a time or an offset, and writes it to `time`. Returns which parts it has.
+///
+/// Other code units can follow the time or the offset. A bad code unit is an error there. It is also an error if a colon or
+/// a digit follows a minute, and does not begin a second.
 #[inline(always)]
 pub fn parse_clock<'a, T: EncodingType>(
     cursor: &mut Cursor<'a, T>,
@@ -248,7 +251,10 @@ pub fn parse_after_second<'a, T: EncodingType>(
     }
 }
 
-/// Reads the digits of a fraction after its `.` or `,`. Returns `FractionPart` if no digit follows.
+/// Reads the digits of a fraction after its `.` or `,`.
+///
+/// Returns `NonAsciiCodePoint` at a bad code unit, also after the digits. Returns `FractionPart` if the input ends after
+/// the `.` or `,`, or if a code unit follows that is neither a digit nor bad.
 #[inline(always)]
 pub fn parse_fraction<'a, T: EncodingType>(cursor: &mut Cursor<'a, T>) -> Result<Fraction, Stop> {
     let mut here = cursor.fork();
@@ -257,7 +263,7 @@ pub fn parse_fraction<'a, T: EncodingType>(cursor: &mut Cursor<'a, T>) -> Result
     read
 }
 
-/// Reads the digits of a fraction. It is not inlined, because few texts have a fraction.
+/// Reads the digits of a fraction. The function is not inlined, because few texts have a fraction.
 #[inline(never)]
 fn parse_digits<'a, T: EncodingType>(cursor: &mut Cursor<'a, T>) -> Result<Fraction, Stop> {
     let mut here = cursor.fork();

@@ -45,7 +45,10 @@ pub struct TimeGroup {
     pub letter: u8,
 }
 
-/// Consumes the letter of a time unit. Returns its rank if it is at least `least`. Any other code unit is not consumed.
+/// Consumes the letter of a time unit, and returns the rank of the unit.
+///
+/// Returns `AbruptTimeDesignator` at any other code unit, which is not consumed. Returns `TimeDurationPartOrder` if the
+/// rank is less than `least`.
 #[inline(always)]
 fn take_time_unit<'a, T: EncodingType>(
     cursor: &mut Cursor<'a, T>,
@@ -107,8 +110,8 @@ fn parse_fraction_group<'a, T: EncodingType>(
 
 /// Reads time groups after their first digit, and expects the end of the input.
 ///
-/// No group can follow a group with a fraction. So only the last group can have a fraction. The others are only
-/// numbers, and are not copied with a field for a fraction.
+/// No group can follow a group with a fraction. So only the last group can have a fraction. For the other groups, the
+/// function does not copy a field for a fraction.
 #[inline(always)]
 pub fn parse_time_groups<'a, T: EncodingType>(
     cursor: &mut Cursor<'a, T>,

@@ -74,9 +74,9 @@ impl<'a, T: EncodingType> TimeZoneParser<'a, T> {
     ///
     /// A time zone is a name (`time-zone-name` of RFC 9557, section 4.1), or an offset without seconds:
     ///
-    /// - A name begins with an ASCII letter, `_` or `.`, and continues with these, digits, `+`, `-` and `/`. A
-    ///   character of a name other than `/` must follow each `/`. The result is a slice of the text. It is not checked
-    ///   that such a zone exists.
+    /// - A name consists of ASCII letters, digits, `_`, `.`, `+`, `-` and `/`. Its first character is a letter, `_` or
+    ///   `.`. Its last character is not a `/`, and no `/` follows another `/`. The result is a slice of the text. It is
+    ///   not checked that such a zone exists.
     /// - An offset is as in [`parse_offset`](Self::parse_offset), but without seconds.
     ///
     /// If the call succeeds, no input remains, and a second call returns the error of the empty text. If it fails, the
@@ -104,18 +104,20 @@ impl<'a, T: EncodingType> TimeZoneParser<'a, T> {
     ///
     /// # Errors
     ///
-    /// The error is the first one from the left. To get its position, call
+    /// The first wrong part of the text decides the error. To get the position of the error, call
     /// [`parse_identifier_located`](Self::parse_identifier_located).
     ///
     /// - `AbruptEnd`: the text is empty (location `TimeZoneAnnotation`), or it ends where a digit is required (location
     ///   `digit`).
     /// - `TzLeadingChar`: the text begins with a character that can begin neither a name nor an offset.
     /// - `IanaChar`: a name contains a character that a name cannot contain.
-    /// - `IanaCharPostSeparator`: in a name, a `/` is not followed by a character of a name.
+    /// - `IanaCharPostSeparator`: in a name, a `/` is followed by another `/`, by a character that a name cannot contain,
+    ///   or by the end of the text.
     /// - `TimeHour`: the hour of an offset contains a character that is not a digit, or is greater than 23.
     /// - `TimeMinuteSecond`: the minute of an offset contains a character that is not a digit, or is greater than 59.
     /// - `InvalidMinutePrecisionOffset`: a colon or a digit follows the minute of an offset.
-    /// - `InvalidEnd`: a `]` follows a name, or any other character follows an offset.
+    /// - `InvalidEnd`: a `]` follows a name. Or a character that is neither a colon nor a digit follows the hour or the
+    ///   minute of an offset.
     /// - `NonAsciiCodePoint`: 16-bit text has a code unit outside 1 to 126. 8-bit text never has this error.
     pub fn parse_identifier(&mut self) -> ParserResult<TimeZoneRecord<'a, T>> {
         let mut here = self.cursor.fork();
@@ -168,7 +170,7 @@ impl<'a, T: EncodingType> TimeZoneParser<'a, T> {
     ///
     /// # Errors
     ///
-    /// The error is the first one from the left. To get its position, call
+    /// The first wrong part of the text decides the error. To get the position of the error, call
     /// [`parse_offset_located`](Self::parse_offset_located).
     ///
     /// - `AbruptEnd`: the text is empty (location `time-numoffset`), or it ends where a digit is required (location
@@ -178,7 +180,8 @@ impl<'a, T: EncodingType> TimeZoneParser<'a, T> {
     /// - `TimeMinuteSecond`: the minute or the second contains a character that is not a digit, or is greater than 59.
     /// - `UtcTimeSeparator`: the offset has only one of its two colons.
     /// - `FractionPart`: no digit follows the `.` or `,`. This is also the error if the text ends there.
-    /// - `InvalidEnd`: any other character follows the offset.
+    /// - `InvalidEnd`: the offset is followed by a character that must not follow it, and no other error of this list is
+    ///   about this character.
     /// - `NonAsciiCodePoint`: 16-bit text has a code unit outside 1 to 126. 8-bit text never has this error.
     pub fn parse_offset(&mut self) -> ParserResult<UtcOffsetRecord> {
         let mut here = self.cursor.fork();
@@ -213,12 +216,13 @@ impl<'a, T: EncodingType> TimeZoneParser<'a, T> {
     ///
     /// # Errors
     ///
-    /// The error is the first one from the left. To get its position, call
+    /// The first wrong part of the text decides the error. To get the position of the error, call
     /// [`parse_iana_identifier_located`](Self::parse_iana_identifier_located).
     ///
     /// - `TzLeadingChar`: the text is empty, or begins with a character that cannot begin a name.
     /// - `IanaChar`: the name contains a character that a name cannot contain.
-    /// - `IanaCharPostSeparator`: in the name, a `/` is not followed by a character of a name.
+    /// - `IanaCharPostSeparator`: in the name, a `/` is followed by another `/`, by a character that a name cannot contain,
+    ///   or by the end of the text.
     /// - `InvalidEnd`: a `]` follows the name.
     /// - `NonAsciiCodePoint`: 16-bit text has a code unit outside 1 to 126. 8-bit text never has this error.
     pub fn parse_iana_identifier(&mut self) -> ParserResult<&'a [T::CodeUnit]> {

@@ -15,7 +15,7 @@ use crate::parsers::time::{Clock, parse_clock};
 
 // ==== Names ====
 
-/// The code units of a part of a name.
+/// The class of the code units that a part of a name can contain.
 pub struct PartLetters;
 
 impl Letters for PartLetters {
@@ -25,14 +25,15 @@ impl Letters for PartLetters {
     }
 }
 
-/// The state while a name is read: whether the name can end here. After a `/` it cannot.
+/// The state while a name is read: whether the name can end here. It cannot end after a `/`.
 #[derive(Clone, Copy)]
 pub struct NameState {
     pub may_end: bool,
 }
 
 impl NameState {
-    /// Returns the error of a name that ends where it must not end.
+    /// Returns the error of a code unit that cannot follow here: `IanaCharPostSeparator` if the name cannot end here, and
+    /// otherwise `IanaChar`.
     #[inline(always)]
     pub fn stop(self) -> Stop {
         if self.may_end {
@@ -62,7 +63,9 @@ fn starts_part(next: Option<u8>) -> bool {
     matches!(next, Some(byte) if is_tz_char(byte))
 }
 
-/// Consumes the code units of a name, part by part between its slashes.
+/// Consumes the code units of a name, part by part. A `/` separates two parts.
+///
+/// Returns `NonAsciiCodePoint` at a bad code unit.
 #[inline(always)]
 pub fn pass_name<'a, T: EncodingType>(cursor: &mut Cursor<'a, T>) -> Result<PassedName, Stop> {
     let mut here = cursor.fork();
@@ -100,7 +103,7 @@ pub struct ReadName<'a, T: EncodingType> {
     pub next: Option<u8>,
 }
 
-/// Reads a name. Returns its code units, and the code unit after it. The caller has tested its first code unit.
+/// Reads a name, and returns its code units and the code unit after it. The caller has tested the first code unit.
 #[inline(always)]
 pub fn parse_tz_name<'a, T: EncodingType>(
     cursor: &mut Cursor<'a, T>,
@@ -117,7 +120,7 @@ pub fn parse_tz_name<'a, T: EncodingType>(
     })
 }
 
-/// Reads a name, and expects the end of the input. The caller has tested its first code unit.
+/// Reads a name, and expects the end of the input. The caller has tested the first code unit of the name.
 #[inline]
 fn parse_name_alone<'a, T: EncodingType>(
     cursor: &mut Cursor<'a, T>,
@@ -183,7 +186,7 @@ fn close_bracket<'a, T: EncodingType>(cursor: &mut Cursor<'a, T>, other: Stop) -
     }
 }
 
-/// Reads an offset after its sign, and the `]` of its bracket.
+/// Reads an offset without seconds after its sign, and the `]` of its bracket.
 pub fn parse_offset_in_bracket<'a, T: EncodingType>(
     cursor: &mut Cursor<'a, T>,
     sign: u8,
@@ -194,7 +197,7 @@ pub fn parse_offset_in_bracket<'a, T: EncodingType>(
     Ok(TimeZoneRecord::Offset(minute_offset(sign, time)))
 }
 
-/// Reads a name and the `]` of its bracket.
+/// Reads a name and the `]` of its bracket. The caller has tested the first code unit of the name.
 #[inline(always)]
 pub fn parse_name_in_bracket<'a, T: EncodingType>(
     cursor: &mut Cursor<'a, T>,

@@ -30,7 +30,7 @@ returns-in_err-more-clause-bracket g c =
     let p = err_from_is_err_and c.from_residual-in_err-more.result c.from_residual-in_err-more.ensures.1 in
     rw (p.1, p.2) (more_failed _ _ _ _ _ c.in_ok-next.ensures.letters.2 _ c.in_err-more.ensures.letters)
 
--- a name: its code units are those of a key, and those after them
+-- The bracket is a name: the code units of a key, and those after them.
 pub returns-then-ends_bracket-clause-bracket : goal.returns-then-ends_bracket-clause-bracket
 returns-then-ends_bracket-clause-bracket g c =
     let keys = c.in_ok-next.ensures.letters in
@@ -42,7 +42,7 @@ returns-then-ends_bracket-clause-bracket g c =
     rw c.if-more.true (sym c.ends_bracket.ensures ∙ c.if-ends_bracket.true) in
     rw (c.saturating_sub-count.ensures, front, c.advance-then-ends_bracket.ensures.letters) (name_read _ _ _ _ _ keys.2 _ _ passed.2 is)
 
--- the text ends in the bracket
+-- The text ends in the bracket.
 pub returns-then-is_none-clause-bracket : goal.returns-then-is_none-clause-bracket
 returns-then-is_none-clause-bracket g c =
     let none : c.in_ok-more.more.next ≡ None = search rules in

@@ -4,11 +4,11 @@ use Rattle.ixdtf_grammar.specs.language.Letters.{equals}
 use Rattle.ixdtf_reading.specs.reading.{Brackets.{refusal, name_fault, sight_at}, Looks.error_of}
 use Rattle.ixdtf_brackets.proofs.code.FirstPass.{bracket_failed, bracket_sighted}
 
--- the look failed
+-- The look ahead failed: a code unit is bad.
 pub returns-in-Err-clause-stop : goal.returns-in-Err-clause-stop
 returns-in-Err-clause-stop g c = rw (bracket_failed _ _ _ c.in-Err.ensures.letters) refl
 
--- a name, which goes no further
+-- The bracket is a name, but the next code unit cannot continue it.
 pub returns-in-Some-2-clause-stop : goal.returns-in-Some-2-clause-stop
 returns-in-Some-2-clause-stop g c =
     let letter = g.T.EncodingType.letter in

@@ -13,7 +13,7 @@ returns-then-not-name-clause-name g c =
     let slash : c.in_ok-name.name.state.may_end ≡ false = search rules in
     name_refused _ _ _ c.in_ok-name.ensures.letters.2 slash
 
--- the code units are those that were passed over
+-- The code units of the name are those that were consumed.
 pub returns-clause-name : goal.returns-clause-name
 returns-clause-name g c =
     let passed = c.in_ok-name.ensures.letters in

@@ -12,13 +12,13 @@ returns-in_err-behind-clause-letters g c =
     let p = err_from_is_err_and c.from_residual.result c.from_residual.ensures.1 in
     rw (p.1, p.2) (part_fails g.met.T.EncodingType.faithful c.loop-behind.invariant.far _ _ c.in_err-behind.ensures.letters)
 
--- no slash follows a part
+-- No slash follows a part.
 pub returns-then-not-ends_part-clause-letters : goal.returns-then-not-ends_part-clause-letters
 returns-then-not-ends_part-clause-letters g c =
     let passed = c.in_ok-behind.ensures.letters in
     part_ceases g.met.T.EncodingType.faithful c.loop-behind.invariant.far _ _ _ passed.2 passed.1 (sym c.ends_part.ensures ∙ c.if-not-ends_part.true)
 
--- the look behind a slash failed
+-- The code unit after a slash is bad.
 pub returns-in_err-next-clause-letters : goal.returns-in_err-next-clause-letters
 returns-in_err-next-clause-letters g c =
     let faithful = g.met.T.EncodingType.faithful in
@@ -28,7 +28,7 @@ returns-in_err-next-clause-letters g c =
     let far = part_slashes faithful c.loop-behind.invariant.far _ _ _ passed.2 passed.1 _ is c.advance.ensures.rest in
     rw (p.1, p.2, c.look.ensures.rest) (slash_fails faithful far _ c.in_err-next.ensures.letter)
 
--- no part follows a slash
+-- No part follows a slash.
 pub returns-then-not-starts_part-clause-letters : goal.returns-then-not-starts_part-clause-letters
 returns-then-not-starts_part-clause-letters g c =
     let faithful = g.met.T.EncodingType.faithful in
@@ -59,7 +59,7 @@ loop-behind-preserved g c =
       shorter = omega (arith, counts.shorter, walked.shorter, paid, joined, off, off_too);
     }
 
--- the slash pays for the look at it
+-- The slash was consumed, so its access needs no addition to the limit.
 pub returns-then-not-starts_part-clause-looks : goal.returns-then-not-starts_part-clause-looks
 returns-then-not-starts_part-clause-looks g c =
     let walked = c.in_ok-behind.ensures in

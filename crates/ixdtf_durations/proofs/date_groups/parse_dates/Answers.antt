@@ -6,7 +6,7 @@ use Rattle.ixdtf_reading.proofs.code.FractionLoop.{one_taken}
 use Rattle.ixdtf_durations.proofs.code.{DurationLetters.ends_date, DurationGroups.no_dates, DurationLoops.{date_added_on, date_refused_on, dates_small}}
 use Rattle.ixdtf_durations.proofs.code.DurationLoops.{dates_go_on, dates_stop, dates_break, dates_timed, dates_alone}
 
--- no group yet
+-- No group has been read.
 pub loop-number-init : goal.loop-number-init
 loop-number-init g c = record {
   far = record { dates = []; has = no_dates _; leads = λ s. refl };
@@ -16,14 +16,14 @@ loop-number-init g c = record {
   counted = omega arith;
 }
 
--- the group may not stand there
+-- The group may not follow.
 pub returns-in_err-rank-clause-refused : goal.returns-in_err-rank-clause-refused
 returns-in_err-rank-clause-refused g c =
     let p = err_from_is_err_and c.from_residual-in_err-rank.result c.from_residual-in_err-rank.ensures.1 in
     rw (p.1, p.2) (date_refused_on _ _ _ c.loop-number.invariant.far c.in_ok-number.number (map g.T.EncodingType.letter c.parse_number.new.cursor.rest) _
     (ends_date _ _ _ c.in_ok-number.number _ c.in_ok-number.ensures.number c.args.profile) c.in_err-rank.ensures.left _ c.in_err-rank.ensures.rank)
 
--- the look failed
+-- The look failed: the next code unit is bad.
 pub returns-in_err-look-clause-refused : goal.returns-in_err-look-clause-refused
 returns-in_err-look-clause-refused g c =
     let p = err_from_is_err_and c.from_residual-in_err-look.result c.from_residual-in_err-look.ensures.1 in
@@ -33,7 +33,7 @@ returns-in_err-look-clause-refused g c =
     _ _ c.in_ok-rank.ensures.rank c.least_step.ensures) in
     rw (p.1, p.2, c.in_err-look.ensures.rest) (dates_break _ _ _ read _ c.in_err-look.ensures.letter)
 
--- the text ends
+-- The text ends.
 pub returns-in-None-clause-dates : goal.returns-in-None-clause-dates
 returns-in-None-clause-dates g c =
     let read = rw (← c.keep_number.ensures) at (date_added_on _ _ _ c.loop-number.invariant.far c.in_ok-number.number (map g.T.EncodingType.letter c.parse_number.new.cursor.rest)
@@ -44,7 +44,7 @@ returns-in-None-clause-dates g c =
     cc (c.in_ok-look.ensures.letter, c.in-None.is) in
     dates_alone _ _ _ read g.T.EncodingType.letter _ refl _ _ c.date_record.ensures none (rw c.in_ok-look.ensures.rest refl)
 
--- one more group
+-- One more group begins.
 pub loop-number-smaller : goal.loop-number-smaller
 loop-number-smaller g c =
     let off = one_taken {letter = g.T.EncodingType.letter} c.in_ok-look.ensures.letter c.in-Some.is c.in_ok-look.ensures.rest c.advance.ensures.rest in
@@ -65,7 +65,7 @@ loop-number-preserved g c =
       counted = omega (arith, c.in_ok-number.ensures.looks, c.in_ok-rank.ensures.looks, c.loop-number.invariant.counted, c.in_ok-look.ensures.looks, c.advance.ensures.looks);
     }
 
--- a `T` follows
+-- A `T` follows.
 pub date_record-requires-in-Some-2 : goal.date_record-requires-in-Some-2
 date_record-requires-in-Some-2 g c =
     let read = rw (← c.keep_number.ensures) at (date_added_on _ _ _ c.loop-number.invariant.far c.in_ok-number.number (map g.T.EncodingType.letter c.parse_number.new.cursor.rest)
@@ -87,7 +87,7 @@ returns-in-Some-2-clause-dates g c =
     c.advance-in-Some-2.ensures.letters ∙ ap (λ (t : List ℕ). drop 1 (map g.T.EncodingType.letter t)) c.in_ok-look.ensures.rest in
     dates_timed _ _ _ read g.T.EncodingType.letter _ refl _ _ c.date_record-in-Some-2.ensures _ found is left
 
--- another code unit follows
+-- Another code unit follows.
 pub returns-in-Some-3-clause-refused : goal.returns-in-Some-3-clause-refused
 returns-in-Some-3-clause-refused g c =
     let read = rw (← c.keep_number.ensures) at (date_added_on _ _ _ c.loop-number.invariant.far c.in_ok-number.number (map g.T.EncodingType.letter c.parse_number.new.cursor.rest)

@@ -4,19 +4,19 @@ use Rattle.ixdtf_grammar.specs.{language.Letters.{digit, time_letter}, table.Dur
 use Rattle.ixdtf_reading.specs.reading.Looks.{seen}
 use Rattle.ixdtf_durations.proofs.code.DurationSteps.{fails, reads_on_earlier, to_digit, to_mark, opened_at_end, dates_at_other}
 
--- the look failed
+-- The look failed: the next code unit is bad.
 pub returns-in_err-look-clause-duration : goal.returns-in_err-look-clause-duration
 returns-in_err-look-clause-duration g c =
     let p = err_from_is_err_and c.from_residual.result c.from_residual.ensures.1 in
     rw (p.1, p.2, c.in_err-look.ensures.rest) (fails _ _ _ _ c.in_err-look.ensures.letter)
 
--- the text ends
+-- The text ends.
 pub returns-in-None-clause-duration : goal.returns-in-None-clause-duration
 returns-in-None-clause-duration g c =
     let none : seen (map g.T.EncodingType.letter c.args.cursor.now.rest) ≡ Ok None = cc (c.in_ok-look.ensures.letter, c.in-None.is) in
     rw c.in_ok-look.ensures.rest (opened_at_end _ _ none _)
 
--- a `T` stands there
+-- The next code unit is `T` or `t`.
 pub returns-in-Some-clause-duration : goal.returns-in-Some-clause-duration
 returns-in-Some-clause-duration g c =
     let found : seen (map g.T.EncodingType.letter c.args.cursor.now.rest) ≡ Ok (Some c.in-Some.byte) =
@@ -26,7 +26,7 @@ returns-in-Some-clause-duration g c =
     c.advance.ensures.letters ∙ ap (λ (t : List ℕ). drop 1 (map g.T.EncodingType.letter t)) c.in_ok-look.ensures.rest in
     reads_on_earlier _ _ _ _ c.args.cursor.now c.advance.new.self _ _ _ (to_mark _ _ _ _ found is left c.args.sign []) (c.parse_times.ensures.duration [] refl)
 
--- a group begins
+-- A group begins.
 pub returns-in-Some-2-clause-duration : goal.returns-in-Some-2-clause-duration
 returns-in-Some-2-clause-duration g c =
     let found : seen (map g.T.EncodingType.letter c.args.cursor.now.rest) ≡ Ok (Some c.in-Some.byte) =
@@ -37,7 +37,7 @@ returns-in-Some-2-clause-duration g c =
     reads_on_earlier _ _ _ _ c.args.cursor.now c.advance-in-Some-2.new.self _ _ _ (to_digit _ _ _ _ found is left (in_dates c.args.sign []))
     c.parse_dated.ensures.duration
 
--- another code unit stands there
+-- The next code unit is another one.
 pub returns-in-Some-3-clause-duration : goal.returns-in-Some-3-clause-duration
 returns-in-Some-3-clause-duration g c =
     let found : seen (map g.T.EncodingType.letter c.args.cursor.now.rest) ≡ Ok (Some c.in-Some.byte) =

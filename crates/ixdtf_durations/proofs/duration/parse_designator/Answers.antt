@@ -2,7 +2,7 @@ use Rattle.ixdtf_durations.proofs.duration.parse_designator.Goals as goal
 use Rattle.std.proofs.lemmas.Result.{err_from_is_err_and}
 use Rattle.ixdtf_durations.proofs.code.DurationSteps.{fails}
 
--- the look failed
+-- The look failed: the next code unit is bad.
 pub returns-in_err-look-clause-sign : goal.returns-in_err-look-clause-sign
 returns-in_err-look-clause-sign g c profile =
     let p = err_from_is_err_and c.from_residual.result c.from_residual.ensures.1 in

@@ -4,13 +4,13 @@ use Rattle.ixdtf_grammar.specs.language.Letters.{sign}
 use Rattle.ixdtf_reading.specs.reading.Looks.{seen}
 use Rattle.ixdtf_durations.proofs.code.DurationSteps.{fails, reads_on_earlier, start_at_sign}
 
--- the look failed
+-- The look failed: the next code unit is bad.
 pub returns-in_err-look-clause-sign : goal.returns-in_err-look-clause-sign
 returns-in_err-look-clause-sign g c profile =
     let p = err_from_is_err_and c.from_residual.result c.from_residual.ensures.1 in
     rw (p.1, p.2, c.in_err-look.ensures.rest) (fails _ _ _ _ c.in_err-look.ensures.letter)
 
--- a sign stands there
+-- The next code unit is a sign.
 pub returns-in-Some-clause-sign : goal.returns-in-Some-clause-sign
 returns-in-Some-clause-sign g c profile =
     let found : seen (map g.T.EncodingType.letter c.args.cursor.now.rest) ≡ Ok (Some c.in-Some.byte) =

@@ -5,13 +5,13 @@ use Rattle.ixdtf_reading.specs.reading.Looks.{seen}
 use Rattle.ixdtf_durations.proofs.code.DurationSteps.{fails, to_digit, times_at_end, times_at_other}
 use Rattle.ixdtf_durations.proofs.duration.parse_times.Goals.{in_default-via-in-Some+else-is_ascii_digit, in_default-via-in_default}
 
--- the look failed
+-- The look failed: the next code unit is bad.
 pub returns-in_err-byte-clause-duration : goal.returns-in_err-byte-clause-duration
 returns-in_err-byte-clause-duration g c dates is =
     let p = err_from_is_err_and c.from_residual.result c.from_residual.ensures.1 in
     rw (p.1, p.2, c.in_err-byte.ensures.rest) (fails _ _ _ _ c.in_err-byte.ensures.letter)
 
--- groups were read
+-- Time groups were read.
 pub returns-in-Ok-clause-duration : goal.returns-in-Ok-clause-duration
 returns-in-Ok-clause-duration g c dates is =
     let found : seen (map g.T.EncodingType.letter c.args.cursor.now.rest) ≡ Ok (Some c.in-Some.byte) =
@@ -21,7 +21,7 @@ returns-in-Ok-clause-duration g c dates is =
     c.advance.ensures.letters ∙ ap (λ (t : List ℕ). drop 1 (map g.T.EncodingType.letter t)) c.in_ok-byte.ensures.rest in
     to_digit _ _ _ _ found begins left (in_times c.args.sign dates []) ∙ rw is at (c.in-Ok.ensures.times c.args.sign dates)
 
--- groups were refused
+-- Reading the time groups failed.
 pub returns-in-Err-clause-duration : goal.returns-in-Err-clause-duration
 returns-in-Err-clause-duration g c dates is =
     let found : seen (map g.T.EncodingType.letter c.args.cursor.now.rest) ≡ Ok (Some c.in-Some.byte) =
@@ -31,7 +31,7 @@ returns-in-Err-clause-duration g c dates is =
     c.advance.ensures.letters ∙ ap (λ (t : List ℕ). drop 1 (map g.T.EncodingType.letter t)) c.in_ok-byte.ensures.rest in
     to_digit _ _ _ _ found begins left (in_times c.args.sign dates []) ∙ c.in-Err.ensures.times c.args.sign dates
 
--- no group begins
+-- No group begins.
 pub returns-in_default-clause-duration : goal.returns-in_default-clause-duration
 returns-in_default-clause-duration g c dates is = elim c.in_default.branch [
   | in_default-via-in-Some+else-is_ascii_digit w ↦

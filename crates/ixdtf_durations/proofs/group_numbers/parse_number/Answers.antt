@@ -14,13 +14,13 @@ loop-byte-init g c = record {
   counted = omega arith;
 }
 
--- the look failed
+-- The look failed: the next code unit is bad.
 pub returns-in_err-byte-clause-number : goal.returns-in_err-byte-clause-number
 returns-in_err-byte-clause-number g c =
     let p = err_from_is_err_and c.from_residual.result c.from_residual.ensures.1 in
     rw (p.1, p.2, c.in_err-byte.ensures.rest) (λ profile context at. breaks _ _ _ _ c.loop-byte.invariant.far _ c.in_err-byte.ensures.letter profile context)
 
--- the code unit is not a digit
+-- The code unit is not a digit.
 pub returns-then-not-is_ascii_digit-clause-number : goal.returns-then-not-is_ascii_digit-clause-number
 returns-then-not-is_ascii_digit-clause-number g c =
     let stays = letter_stays {letter = g.T.EncodingType.letter} c.in_ok-byte.ensures.letter c.in-Some.is c.in_ok-byte.ensures.rest in
@@ -36,7 +36,7 @@ returns-then-not-is_ascii_digit-clause-more g c =
 pub returns-then-not-is_ascii_digit-clause-small : goal.returns-then-not-is_ascii_digit-clause-small
 returns-then-not-is_ascii_digit-clause-small g c = c.loop-byte.invariant.small
 
--- the number is past the greatest
+-- The number becomes 2^64 or more.
 pub returns-in_err-value-clause-number : goal.returns-in_err-value-clause-number
 returns-in_err-value-clause-number g c =
     let p = err_from_is_err_and c.from_residual-in_err-value.result c.from_residual-in_err-value.ensures.1 in
@@ -60,7 +60,7 @@ loop-byte-preserved g c =
       counted = omega (arith, c.loop-byte.invariant.counted, c.in_ok-byte.ensures.looks, c.advance.ensures.looks);
     }
 
--- the text ends
+-- The text ends.
 pub returns-clause-number : goal.returns-clause-number
 returns-clause-number g c profile context at =
     let over : seen (map g.T.EncodingType.letter c.loop-byte.cursor.rest) ≡ Ok None = search rules in

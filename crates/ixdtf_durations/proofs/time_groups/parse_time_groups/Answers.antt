@@ -7,7 +7,7 @@ use Rattle.ixdtf_durations.specs.declared.time_groups.TimeGroup.{TimeGroup}
 use Rattle.ixdtf_durations.proofs.code.{DurationGroups.no_times, DurationLetters.{ends_time, at_decimal_mark}, DurationSteps.letters_left}
 use Rattle.ixdtf_durations.proofs.code.DurationLoops.{time_added_on, time_refused_on, times_go_on, times_stop, times_break, times_end_with}
 
--- no group yet
+-- No group has been read.
 pub loop-whole-init : goal.loop-whole-init
 loop-whole-init g c = record {
   far = record { times = []; has = no_times _; leads = λ s dates. refl };
@@ -19,7 +19,7 @@ loop-whole-init g c = record {
 
 -- ---- a last group, with a fraction
 
--- there is no fraction
+-- Reading the fraction, or the code unit after it, failed.
 pub returns-in_err-group-clause-times : goal.returns-in_err-group-clause-times
 returns-in_err-group-clause-times g c s dates =
     let p = err_from_is_err_and c.from_residual-in_err-group.result c.from_residual-in_err-group.ensures.1 in
@@ -30,7 +30,7 @@ returns-in_err-group-clause-times g c s dates =
     ∙ at_decimal_mark _ _ _ _ _ number c.args.profile s dates far.times _ (letters_left g.T.EncodingType.letter _ _ c.advance_by.ensures.rest) is
     ∙ c.in_err-group.ensures.group c.args.profile s dates far.times number.ds number.value)
 
--- the group may not stand there
+-- The group may not follow.
 pub returns-in_err-rank-clause-times : goal.returns-in_err-rank-clause-times
 returns-in_err-rank-clause-times g c s dates =
     let p = err_from_is_err_and c.from_residual-in_err-rank.result c.from_residual-in_err-rank.ensures.1 in
@@ -41,7 +41,7 @@ returns-in_err-rank-clause-times g c s dates =
     ∙ c.in_ok-group.ensures.group c.args.profile s dates times number.ds number.value)
     c.in_err-rank.ensures.left _ c.in_err-rank.ensures.rank s dates)
 
--- the look failed
+-- The look failed: the next code unit is bad.
 pub returns-in_err-look-clause-times : goal.returns-in_err-look-clause-times
 returns-in_err-look-clause-times g c s dates =
     let p = err_from_is_err_and c.from_residual-in_err-look.result c.from_residual-in_err-look.ensures.1 in
@@ -54,7 +54,7 @@ returns-in_err-look-clause-times g c s dates =
     c.in_ok-rank.ensures.left _ (least_step c.args.profile) c.in_ok-rank.ensures.rank refl in
     rw (p.1, p.2, c.in_err-look.ensures.rest) (times_break _ _ _ read _ c.in_err-look.ensures.letter s dates)
 
--- the text ends
+-- The text ends.
 pub returns-in-None-clause-times : goal.returns-in-None-clause-times
 returns-in-None-clause-times g c s dates =
     let number = c.in_ok-whole.ensures.number in
@@ -67,7 +67,7 @@ returns-in-None-clause-times g c s dates =
     let none : seen (map g.T.EncodingType.letter c.take_time_unit.new.cursor.rest) ≡ Ok None = cc (c.in_ok-look.ensures.letter, c.in-None.is) in
     rw c.in_ok-look.ensures.rest (times_end_with _ _ _ read _ none c.time_record.ensures s dates)
 
--- any code unit follows
+-- A code unit follows.
 pub returns-in-Some-clause-times : goal.returns-in-Some-clause-times
 returns-in-Some-clause-times g c s dates =
     let number = c.in_ok-whole.ensures.number in
@@ -85,7 +85,7 @@ returns-in-Some-clause-times g c s dates =
 
 -- ---- a group without one
 
--- the group may not stand there
+-- The group may not follow.
 pub returns-in_err-rank-2-clause-times : goal.returns-in_err-rank-2-clause-times
 returns-in_err-rank-2-clause-times g c s dates =
     let p = err_from_is_err_and c.from_residual-in_err-rank-2.result c.from_residual-in_err-rank-2.ensures.1 in
@@ -95,7 +95,7 @@ returns-in_err-rank-2-clause-times g c s dates =
     (λ s dates times. ends_time _ _ _ _ _ c.in_ok-whole.ensures.number c.args.profile s dates times miss c.in_ok-whole.ensures.small)
     c.in_err-rank-2.ensures.left _ c.in_err-rank-2.ensures.rank s dates)
 
--- the look failed
+-- The look failed: the next code unit is bad.
 pub returns-in_err-look-2-clause-times : goal.returns-in_err-look-2-clause-times
 returns-in_err-look-2-clause-times g c s dates =
     let p = err_from_is_err_and c.from_residual-in_err-look-2.result c.from_residual-in_err-look-2.ensures.1 in
@@ -107,7 +107,7 @@ returns-in_err-look-2-clause-times g c s dates =
     c.in_ok-rank-2.ensures.left _ _ c.in_ok-rank-2.ensures.rank c.least_step.ensures in
     rw (p.1, p.2, c.in_err-look-2.ensures.rest) (times_break _ _ _ read _ c.in_err-look-2.ensures.letter s dates)
 
--- the text ends
+-- The text ends.
 pub returns-in-None-2-clause-times : goal.returns-in-None-2-clause-times
 returns-in-None-2-clause-times g c s dates =
     let group : TimeGroup = record { value = c.in_ok-whole.whole.value; fraction = None; letter = c.in_ok-whole.whole.next } in
@@ -120,7 +120,7 @@ returns-in-None-2-clause-times g c s dates =
     cc (c.in_ok-look-2.ensures.letter, c.in-None-2.is) in
     rw c.in_ok-look-2.ensures.rest (times_end_with _ _ _ read _ none c.time_record-in-None-2.ensures s dates)
 
--- one more group
+-- One more group begins.
 pub loop-whole-smaller : goal.loop-whole-smaller
 loop-whole-smaller g c =
     let off = one_taken {letter = g.T.EncodingType.letter} c.in_ok-look-2.ensures.letter c.in-Some-2.is c.in_ok-look-2.ensures.rest c.advance.ensures.rest in
@@ -144,7 +144,7 @@ loop-whole-preserved g c =
       counted = omega (arith, c.in_ok-whole.ensures.looks, c.in_ok-rank-2.ensures.looks, c.loop-whole.invariant.counted, c.in_ok-look-2.ensures.looks, c.advance.ensures.looks);
     }
 
--- another code unit follows
+-- Another code unit follows.
 pub returns-in-Some-2-2-clause-times : goal.returns-in-Some-2-2-clause-times
 returns-in-Some-2-2-clause-times g c s dates =
     let group : TimeGroup = record { value = c.in_ok-whole.whole.value; fraction = None; letter = c.in_ok-whole.whole.next } in

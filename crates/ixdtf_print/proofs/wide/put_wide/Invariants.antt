@@ -5,4 +5,4 @@ use Rattle.ixdtf_print.specs.Prints.{Prints}
 
 -- The bytes so far are written.
 abbrev pub invariant-loop-byte : goal.invariant-loop-byte
-invariant-loop-byte l = Prints l.initial.out l.out 0 l.at (map Plain (take l.byte-index l.bytes))
+invariant-loop-byte l = Prints l.initial.out l.out l.at l.place (map Plain (take l.byte-index l.bytes))

@@ -31,6 +31,6 @@ returns-in-Some-2-clause-key g c =
     let behind = key_behind _ g.met.T.EncodingType.faithful _ _ c.requires.first c.advance.ensures.rest in
     behind.2 ∙ ap (with_letter behind.0) (key_refused _ _ _ _ c.in_ok-next.ensures.letters.2 _ c.in-Some-next.is refuses)
 
--- the key's code units always stand there
+-- The slice of the code units of the key always exists.
 pub returns-in_default-clause-key : goal.returns-in_default-clause-key
 returns-in_default-clause-key g c = elim c.in_default.ensures.lookup.0 [ inl low ↦ absurd (omega (arith, low)) | inr far ↦ absurd (omega (arith, far)) ]

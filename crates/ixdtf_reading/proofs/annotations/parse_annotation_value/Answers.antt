@@ -5,7 +5,7 @@ use Rattle.ixdtf_reading.specs.reading.Pairs.{AtStart, AfterHyphen}
 use Rattle.ixdtf_reading.proofs.code.{LetterLoops.{front_before, behind_last}, PairLoops.{value_unstarted, value_begins, value_fails, value_starts, component_fails}}
 use Rattle.ixdtf_reading.proofs.code.PairLoops.{component_last, component_closed, component_joined, component_refused}
 
--- no component begins
+-- No component begins.
 pub returns-in_err-start_component-clause-value : goal.returns-in_err-start_component-clause-value
 returns-in_err-start_component-clause-value g c =
     let p = err_from_is_err_and c.from_residual.result c.from_residual.ensures.1 in
@@ -48,7 +48,7 @@ returns-in-Some-3-clause-value g c =
     let dash : hyphen c.in-Some-3.field-0 ≡ false = search rules in
     component_refused g.T.EncodingType.letter g.met.T.EncodingType.faithful _ _ c.loop-next.invariant.far _ _ _ passed.2 passed.1 _ c.in-Some-3.is shut dash
 
--- behind a hyphen no component begins
+-- No component begins after a hyphen.
 pub returns-in_err-start_component-2-clause-value : goal.returns-in_err-start_component-2-clause-value
 returns-in_err-start_component-2-clause-value g c =
     let p = err_from_is_err_and c.from_residual-in_err-start_component-2.result c.from_residual-in_err-start_component-2.ensures.1 in

@@ -5,14 +5,14 @@ use Rattle.ixdtf_grammar.specs.{language.Letters.{Letter, Text, Class, Letter.Pl
 use Rattle.ixdtf_reading.specs.{declared.stop.Stop.Stop, reading.{Clauses.{YieldsAt}, Looks.{Placed, seen}, Runs.{PassesOver, found_in, within}}}
 use Rattle.ixdtf_reading.proofs.code.{FractionLoop.one_taken, LetterLoops.{IsSoFar, goes_on, ceases, fails}}
 
--- a look that found a code unit of the class
+-- A look found a code unit of the class.
 one_found : (class : Class) (found : Result (Option ℕ) Stop) (text : Text) (sees : Result (Option ℕ) Placed) → YieldsAt (λ x. x) found text sees
     → found_in class found ≡ true → (c : ℕ) × (sees ≡ Ok (Some c)) × (class c ≡ true)
 one_found class (Ok (Some c)) text sees is has = (c, is, has)
 one_found class (Ok None) text sees is has = absurd cc
 one_found class (Err stop) text sees is has = absurd cc
 
--- a code unit that a step took: the run goes on behind it
+-- A step consumed a code unit. The run continues after it.
 record Step (letter : ℕ → Letter) (class : Class) (whole before after : List ℕ) : Type 0 where
   far : IsSoFar (within class) letter tt whole after tt
   taken : length after + 1 ≡ length before
@@ -26,7 +26,7 @@ step letter faithful class whole before looked after found far is goes same move
     let next : within class tt byte ≡ Some tt = rw has refl in
     record { far = goes_on _ letter faithful _ _ _ _ far _ _ _ off.found next off.moved; taken = off.shorter }
 
--- the run ends at any other: at the end, at a code unit of another class, or where the look failed
+-- The run ends at the end of the text, at a code unit of another class, or at a bad code unit.
 run_ends : (letter : ℕ → Letter) (faithful : (unit n : ℕ) → letter unit ≡ Plain n → n ≡ unit) (class : Class) (old here : Unread)
     (found : Result (Option ℕ) Stop) → IsSoFar (within class) letter tt old.rest here.rest tt
     → YieldsAt (λ x. x) found (map letter here.rest) (seen (map letter here.rest)) → found_in class found ≡ false → PassesOver letter old found here class
@@ -36,7 +36,7 @@ run_ends letter faithful class old here (Ok (Some c)) far is other =
 run_ends letter faithful class old here (Ok None) far is other = (far.taken, far.units, ceases _ letter faithful _ _ _ _ far None is tt)
 run_ends letter faithful class old here (Err stop) far is other = fails _ letter faithful _ _ _ _ far _ is
 
--- and a code unit that was looked at is taken by a step
+-- If a look found a code unit, a step consumes one code unit.
 stays : (letter : ℕ → Letter) (rest : List ℕ) (found : Result (Option ℕ) Stop) → YieldsAt (λ x. x) found (map letter rest) (seen (map letter rest))
     → IfOk found (λ next. IsSome next → length (drop 1 rest) + 1 ≡ length rest)
 stays letter rest (Ok (Some c)) is = λ some. (one_taken {letter = letter} {rest = rest} is refl refl refl).shorter

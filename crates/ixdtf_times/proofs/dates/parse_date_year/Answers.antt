@@ -3,7 +3,7 @@ use Rattle.std.proofs.Common.{rules, ◌≡◌, map, drop, length, Ok, Some, ari
 use Rattle.ixdtf_reading.specs.reading.Looks.{seen}
 use Rattle.ixdtf_reading.proofs.code.Units.{stepped}
 
--- the sign is looked at and taken, so its look is paid for
+-- The sign was read and consumed, so its access needs no addition to the limit.
 pub returns-in-Some-2-clause-looks : goal.returns-in-Some-2-clause-looks
 returns-in-Some-2-clause-looks g c =
     let old = c.args.cursor.now.rest in

@@ -5,7 +5,7 @@ use Rattle.ixdtf_reading.specs.reading.{Looks.error_of, FixedPlaces.byte_place, 
 use Rattle.ixdtf_reading.proofs.code.FixedDateTimes.{fixed_date_time}
 use Rattle.ixdtf_times.specs.{declared.time.WholeTime.WholeTime, TimeTypes.time_to_second}
 
--- what is found is read, behind a letter
+-- If the separator is `T` or `t`, what was found in the fixed columns is what the reading function reads.
 found_read : (text rest : Text) (found : Option (DateRecord × WholeTime)) → IsTrue (time_letter (byte_place 10 text))
     → IfSome found (λ x. FixedDateTime text x.0 (time_to_second x.1) rest)
     → IfSome found (λ x. date_time_by error_of open_end text ≡ after_whole_second_at error_of open_end x.0 x.1.hour x.1.minute x.1.second rest)

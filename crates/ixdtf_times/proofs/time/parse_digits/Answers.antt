@@ -4,7 +4,7 @@ use Rattle.ixdtf_grammar.specs.language.{Letters.Letter.Plain, Times.{Clock as c
 use Rattle.ixdtf_reading.specs.reading.{Looks.{error_of, next_by}, Clauses.more_digits_at, Times.fraction_at}
 use Rattle.ixdtf_reading.proofs.code.FixedPlaces.{reads_on}
 
--- the other digits are read behind the first one
+-- The other digits are read after the first one.
 pub returns-in-Ok-Some-clause-fraction : goal.returns-in-Ok-Some-clause-fraction
 unfolding fraction_at next_by
 returns-in-Ok-Some-clause-fraction g c =

@@ -5,7 +5,7 @@ use Rattle.ixdtf_times.specs.TimeTypes.{clock_of, open_time_of}
 use Rattle.ixdtf_times.proofs.time.parse_minute.Goals.{then-colons, else-colons}
 use Rattle.ixdtf_reading.proofs.code.FixedPlaces.{reads_on}
 
--- a second is read behind its colon, or from its first digit on
+-- The second is read after its colon, or directly from its first digit on.
 pub returns-after-colons-clause-time : goal.returns-after-colons-clause-time
 unfolding minute_at after_minute_at
 returns-after-colons-clause-time g c =

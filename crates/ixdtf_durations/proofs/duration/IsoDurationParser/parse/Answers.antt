@@ -5,7 +5,7 @@ use Rattle.ixdtf_reading.specs.reading.{Looks.error_of, Durations.duration_at}
 use Rattle.ixdtf_reading.proofs.code.ReadersWithoutPairs.{exact}
 use Rattle.ixdtf_durations.proofs.code.DurationSteps.{reads_whole}
 
--- a duration begins
+-- The beginning of a duration was read.
 pub returns-in-Ok : goal.returns-in-Ok
 returns-in-Ok g c =
     let groups = c.parse_groups.ensures.groups in
@@ -19,7 +19,7 @@ returns-in-Ok g c =
       profile = search rules;
     })
 
--- none begins
+-- The beginning of the text is not that of a duration.
 pub returns-in-Err : goal.returns-in-Err
 returns-in-Err g c =
     let gives = exact _ _ (parse_duration c.self.inside.profile) lasting (λ x y e. cc) tt (duration_at error_of _)

@@ -1,4 +1,4 @@
--- A count of no looks is a value of no bytes, whose ghost field is set to 0.
+-- A new count is a value of 0 bytes. Its ghost field is set to 0.
 use Rattle.ixdtf_reading.specs.contracts.looks.Looks.none as f
 use Rattle.ixdtf_reading.proofs.looks.Looks.none.Code as code
 use Rattle.ixdtf_reading.proofs.code.WalkNames.{[], ◌∷◌, refl, proved, ftrue, Val, vstruct, vcons, vnil, ‵, raw, ◌$◌, ◌∵◌, !, qed, done, keep, suffices}

@@ -1,4 +1,4 @@
--- A tick does nothing at run time, and sets the ghost field to one more.
+-- `tick` does nothing at run time. It adds one to the ghost field.
 use Rattle.ixdtf_reading.specs.contracts.looks.Looks.tick as f
 use Rattle.ixdtf_reading.proofs.looks.Looks.tick.Code as code
 use Rattle.ixdtf_reading.proofs.code.WalkNames.{◌+◌, [], ◌∷◌, refl, proved, ftrue, flft, named, vunit, tables, ‵, ◌⊛◌, ◌$◌, ◌∵◌, !, qed, done, move, keep}
@@ -23,7 +23,7 @@ tick_spec 𝓤 𝓛 𝓜 𝓡 wired =
     enter ! _ _ _ _ _ $ alloc_all ! (λ l. pass_all ! refl ((tt, tt), tt) $
     fsplit3 ! $ move ! (1 ∷ 2 ∷ 3 ∷ []) $ opens ! tt R b o (λ us.
     move ! (0 ∷ 1 ∷ []) $ closes ! tt R more us b o $
-    -- [two parts of self; the token; self's first part]
+    -- The context has the two parts of `self`, the token, and the first part of `self`.
     sets ! (of_opd ! (unit_lit !)) refl (tt, tt) $
     returns ! (look_at ! 0 refl) $ free_all ! refl $ move ! (3 ∷ []) $
     suffices ! _ (ends_at 𝓛 f.ended stayed c y vunit tt (more, tt) (tt, tt)) $ says ! refl $

@@ -1,4 +1,4 @@
--- A tick by a number does nothing at run time, and adds it to the ghost field.
+-- `tick_by` does nothing at run time. It adds its argument to the ghost field.
 use Rattle.ixdtf_reading.specs.contracts.looks.Looks.tick_by as f
 use Rattle.ixdtf_reading.proofs.looks.Looks.tick_by.Code as code
 use Rattle.ixdtf_reading.proofs.code.WalkNames.{◌+◌, [], ◌∷◌, refl, proved, ftrue, flft, named, vunit, tables, ‵, ◌⊛◌, ◌$◌, ◌∵◌, !, qed, done, move, keep}
@@ -25,7 +25,7 @@ tick_by_spec 𝓤 𝓛 𝓜 𝓡 wired =
     enter ! _ _ _ _ _ $ alloc_all ! (λ l. pass_all ! refl ((tt, tt), ((tt, record { fits = are.1.0.1 }), tt)) $
     fsplit3 ! $ move ! (1 ∷ 2 ∷ 3 ∷ []) $ opens ! tt R b o (λ us.
     move ! (0 ∷ 1 ∷ []) $ closes ! tt R more us b o $
-    -- [two parts of self; the token; self's first part]
+    -- The context has the two parts of `self`, the token, and the first part of `self`.
     sets ! (of_opd ! (unit_lit !)) refl (tt, tt) $
     returns ! (look_at ! 0 refl) $ free_all ! refl $ move ! (3 ∷ []) $
     suffices ! _ (ends_at 𝓛 f.ended stayed c y vunit tt (more, (tt, tt)) (tt, (tt, tt))) $ says ! refl $

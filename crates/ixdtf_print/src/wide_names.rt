@@ -1,0 +1,348 @@
+//! Records of 16-bit text printed as 16-bit code units: the names of zones, the calendars and their brackets.
+//!
+//! The date, the time and the offset of a record are the same in both widths, so the functions for 8-bit text write them.
+// Because of `#[inline]` at each function here, and at each public function that calls one of them, `rustc` compiles them only
+// into the crates that call them. Otherwise it would inline less into the functions for 8-bit text, and these would take up to a
+// tenth more.
+#![tactic(auto, using(crate::proofs::code::CanonicalLengths::lengths, crate::proofs::code::PutBytes::putting))]
+
+ghost use Rattle.std.specs.Prelude.{◌≡◌, ◌↔◌, ◌<◌, ◌^◌, ◌++◌, IsTrue, length, map, None, IfSome, OnSome, OnOk, option_map};
+ghost use Rattle.ixdtf.specs.Views.{note_of, zone_of};
+ghost use Rattle.ixdtf.specs.language.Brackets.{Value};
+ghost use Rattle.ixdtf.specs.language.Letters.{Plain, value_char};
+ghost use Rattle.ixdtf.specs.language.ZoneNames.{ZoneName};
+ghost use Rattle.ixdtf_print.specs.Canonical.{minute_offset_text, zone_text, bracket_text, calendar_text, brackets_text};
+ghost use Rattle.ixdtf_print.specs.Printable.{record_of};
+ghost use Rattle.ixdtf_print.specs.Printing.{PrintsOrRefuses};
+ghost use Rattle.ixdtf_print.specs.Prints.{HasRoom, Prints};
+ghost use Rattle.ixdtf_print.specs.Spelled.{IsZoneText, HasZone, HasCalendar, HasBrackets};
+ghost use Rattle.ixdtf_print.specs.Zones.{zone_in};
+
+use crate::check::is_minute_clock;
+use crate::error::PrintError;
+use crate::fields::{opening_of, put_minute_offset};
+use crate::text::{CanonicalText, put_core_utf16};
+use crate::wide::{put_unit, put_units, put_wide};
+use crate::written::front_of;
+use ixdtf::encoding::{Utf8, Utf16};
+use ixdtf::parsers::{TimeZoneParser, is_annotation_value_component};
+use ixdtf::records::{IxdtfParseRecord, MinutePrecisionOffset, TimeZoneAnnotation, TimeZoneRecord};
+
+/// The code unit `-`.
+const HYPHEN: u16 = 45;
+
+/// The code unit `]`.
+const CLOSING: u16 = 93;
+
+/// Writes the core, and then the brackets of the record. Returns the number of code units.
+#[inline]
+pub fn print_bracketed<T: CanonicalText>(
+    core: T,
+    parsed: &IxdtfParseRecord<'_, Utf16>,
+    out: &mut [u16],
+) -> Result<usize, PrintError>
+    ensures prints { PrintsOrRefuses (T.IsPrintable core × HasBrackets (record_of parsed.now))
+        (T.core core ++ brackets_text (record_of parsed.now)) out.old out.new result }
+    ensures printable { OnOk result (T.IsPrintable core × HasBrackets (record_of parsed.now)) }
+{
+    if !is_printable(core, parsed) {
+        return Err(PrintError::NotPrintable);
+    }
+    if (out.len() as u128) < bracketed_length(core, parsed) {
+        return Err(PrintError::TooShort);
+    }
+    Ok(put_bracketed(core, parsed, out))
+}
+
+/// Returns whether the core and the brackets have texts.
+#[inline]
+fn is_printable<T: CanonicalText>(core: T, parsed: &IxdtfParseRecord<'_, Utf16>) -> bool
+    ensures { IsTrue result ↔ (T.IsPrintable core × HasBrackets (record_of parsed.now)) }
+{
+    core.is_printable() && has_brackets(parsed)
+}
+
+/// Returns the number of code units of the core and the brackets.
+#[inline]
+fn bracketed_length<T: CanonicalText>(core: T, parsed: &IxdtfParseRecord<'_, Utf16>) -> u128
+    ensures { result ≡ length (T.core core ++ brackets_text (record_of parsed.now)) }
+{
+    u128::from(core.core_length()) + brackets_length(parsed)
+}
+
+/// Writes the core and the brackets at the beginning of the slice. Returns the index after them.
+#[inline]
+fn put_bracketed<T: CanonicalText>(
+    core: T,
+    parsed: &IxdtfParseRecord<'_, Utf16>,
+    out: &mut [u16],
+) -> usize
+    requires { HasRoom out.old 0 (T.core core ++ brackets_text (record_of parsed.now)) }
+    ensures { Prints out.old out.new 0 result (T.core core ++ brackets_text (record_of parsed.now)) }
+{
+    let after_core = put_core_utf16(core, out);
+    put_brackets(out, after_core, parsed)
+}
+
+/// Returns the number of code units of the core and the brackets, if they have texts and a `usize` can hold the number.
+#[inline]
+pub fn printed_length<T: CanonicalText>(
+    core: T,
+    parsed: &IxdtfParseRecord<'_, Utf16>,
+) -> Option<usize>
+    ensures length { IfSome result
+        (λ n. n ≡ length (T.core core ++ brackets_text (record_of parsed.now))) }
+    ensures printable { OnSome result (T.IsPrintable core × HasBrackets (record_of parsed.now)) }
+    ensures none { (result ≡ None) ↔ ¬ ((T.IsPrintable core × HasBrackets (record_of parsed.now)) ×
+        (length (T.core core ++ brackets_text (record_of parsed.now)) < 2 ^ 64)) }
+{
+    if is_printable(core, parsed) {
+        usize::try_from(bracketed_length(core, parsed)).ok()
+    } else {
+        None
+    }
+}
+
+/// Writes the zone, without brackets. Returns the number of code units.
+#[inline]
+pub fn print_zone(zone: &TimeZoneRecord<'_, Utf16>, out: &mut [u16]) -> Result<usize, PrintError>
+    ensures prints { PrintsOrRefuses (IsZoneText (zone_in zone.now)) (zone_text (zone_in zone.now)) out.old out.new result }
+    ensures printable { OnOk result (IsZoneText (zone_in zone.now)) }
+{
+    if !is_zone(zone) {
+        return Err(PrintError::NotPrintable);
+    }
+    if (out.len() as u128) < length_of_zone(zone) {
+        return Err(PrintError::TooShort);
+    }
+    Ok(put_zone(out, 0, zone))
+}
+
+/// Returns the number of code units of the zone, if it has a text.
+#[inline]
+pub fn zone_length(zone: &TimeZoneRecord<'_, Utf16>) -> Option<usize>
+    ensures length { IfSome result (λ n. n ≡ length (zone_text (zone_in zone.now))) }
+    ensures none { (result ≡ None) ↔ ¬ (IsZoneText (zone_in zone.now)) }
+{
+    if is_zone(zone) {
+        Some(length_of_zone(zone) as usize)
+    } else {
+        None
+    }
+}
+
+/// Returns a record with the date, the time and the offset of the record, and without names.
+#[inline]
+pub fn without_names(parsed: &IxdtfParseRecord<'_, Utf16>) -> IxdtfParseRecord<'static, Utf8>
+    ensures { record_of result ≡ record (record_of parsed.now) { zone = None; calendar = None } }
+{
+    let mut core = IxdtfParseRecord::default();
+    core.date = parsed.date;
+    core.time = parsed.time;
+    core.offset = parsed.offset;
+    core
+}
+
+// ---- Tests
+
+/// Returns whether the code units are the name of a time zone, as `parse_iana_identifier` accepts it.
+#[inline]
+fn is_name(name: &[u16]) -> bool
+    ensures { IsTrue result ↔ ZoneName (map Plain name.now) }
+{
+    TimeZoneParser::from_utf16(name)
+        .parse_iana_identifier()
+        .is_ok()
+}
+
+/// Returns whether the zone has a text.
+#[inline]
+fn is_zone(zone: &TimeZoneRecord<'_, Utf16>) -> bool
+    ensures { IsTrue result ↔ IsZoneText (zone_of (λ unit. unit) zone.now) }
+{
+    match zone {
+        TimeZoneRecord::Name(name) => is_name(name),
+        TimeZoneRecord::Offset(offset) => is_minute_clock(*offset),
+    }
+}
+
+/// Returns whether there is no zone, or the zone has a text.
+#[inline]
+fn has_zone(note: &Option<TimeZoneAnnotation<'_, Utf16>>) -> bool
+    ensures { IsTrue result ↔ HasZone (option_map (note_of (λ unit. unit)) note.now) }
+{
+    match note {
+        None => true,
+        Some(note) => is_zone(&note.tz),
+    }
+}
+
+/// Returns whether a component of a value can contain the code unit: an ASCII letter or a digit.
+#[inline]
+fn is_value_unit(unit: u16) -> bool
+    ensures { result ≡ value_char unit }
+{
+    unit <= 255 && is_annotation_value_component(unit as u8)
+}
+
+/// Returns whether the code units are the value of an annotation.
+#[inline]
+fn is_value(units: &[u16]) -> bool
+    ensures { IsTrue result ↔ Value (map Plain units.now) }
+{
+    let mut in_run = false;
+    for unit in units {
+        if is_value_unit(*unit) {
+            in_run = true;
+        } else if *unit == HYPHEN && in_run {
+            in_run = false;
+        } else {
+            return false;
+        }
+    }
+    in_run
+}
+
+/// Returns whether there is no calendar, or the calendar has a text.
+#[inline]
+fn has_calendar(calendar: Option<&[u16]>) -> bool
+    ensures { IsTrue result ↔
+        HasCalendar (option_map (λ units. map (λ unit. unit) units.now) calendar.entry) }
+{
+    match calendar {
+        None => true,
+        Some(value) => is_value(value),
+    }
+}
+
+/// Returns whether the zone and the calendar have texts.
+#[inline]
+fn has_brackets(parsed: &IxdtfParseRecord<'_, Utf16>) -> bool
+    ensures { IsTrue result ↔ HasBrackets (record_of parsed.now) }
+{
+    has_zone(&parsed.tz) && has_calendar(parsed.calendar)
+}
+
+// ---- Lengths
+
+/// Returns the number of code units of the zone, without its bracket.
+#[inline]
+fn length_of_zone(zone: &TimeZoneRecord<'_, Utf16>) -> u128
+    ensures length { result ≡ length (zone_text (zone_of (λ unit. unit) zone.now)) }
+    ensures small { result < 2 ^ 64 }
+{
+    match zone {
+        TimeZoneRecord::Name(name) => name.len() as u128,
+        TimeZoneRecord::Offset(_) => 6,
+    }
+}
+
+/// Returns the number of code units of the bracket with the zone.
+#[inline]
+fn bracket_length(note: &Option<TimeZoneAnnotation<'_, Utf16>>) -> u128
+    ensures length { result ≡ length (bracket_text (option_map (note_of (λ unit. unit)) note.now)) }
+    ensures small { result < 2 ^ 65 }
+{
+    match note {
+        None => 0,
+        Some(note) => {
+            if note.critical {
+                3 + length_of_zone(&note.tz)
+            } else {
+                2 + length_of_zone(&note.tz)
+            }
+        }
+    }
+}
+
+/// Returns the number of code units of the bracket with the calendar.
+#[inline]
+fn calendar_length(calendar: Option<&[u16]>) -> u128
+    ensures length { result ≡ length
+        (calendar_text (option_map (λ units. map (λ unit. unit) units.now) calendar.entry)) }
+    ensures small { result < 2 ^ 65 }
+{
+    match calendar {
+        None => 0,
+        Some(value) => 7 + value.len() as u128,
+    }
+}
+
+/// Returns the number of code units of the two brackets.
+#[inline]
+fn brackets_length(parsed: &IxdtfParseRecord<'_, Utf16>) -> u128
+    ensures length { result ≡ length (brackets_text (record_of parsed.now)) }
+    ensures small { result < 2 ^ 66 }
+{
+    bracket_length(&parsed.tz) + calendar_length(parsed.calendar)
+}
+
+// ---- Code units
+
+/// Writes an offset with hours and minutes at index `at`. Returns the index after it.
+#[inline]
+fn put_zone_offset(out: &mut [u16], at: usize, offset: MinutePrecisionOffset) -> usize
+    requires { HasRoom out.old at (minute_offset_text offset) }
+    ensures { Prints out.old out.new at result (minute_offset_text offset) }
+{
+    let mut bytes = [0; 6];
+    put_minute_offset(&mut bytes, 0, offset);
+    put_wide(out, at, front_of(&bytes, 6))
+}
+
+/// Writes the zone at index `at`. Returns the index after it.
+#[inline]
+fn put_zone(out: &mut [u16], at: usize, zone: &TimeZoneRecord<'_, Utf16>) -> usize
+    requires { HasRoom out.old at (zone_text (zone_of (λ unit. unit) zone.now)) }
+    ensures { Prints out.old out.new at result (zone_text (zone_of (λ unit. unit) zone.now)) }
+{
+    match zone {
+        TimeZoneRecord::Name(name) => put_units(out, at, name),
+        TimeZoneRecord::Offset(offset) => put_zone_offset(out, at, *offset),
+    }
+}
+
+/// Writes the zone in its bracket at index `at`, if there is one. Returns the index after it.
+#[inline]
+fn put_bracket(out: &mut [u16], at: usize, note: &Option<TimeZoneAnnotation<'_, Utf16>>) -> usize
+    requires { HasRoom out.old at (bracket_text (option_map (note_of (λ unit. unit)) note.now)) }
+    ensures { Prints out.old out.new at result
+        (bracket_text (option_map (note_of (λ unit. unit)) note.now)) }
+{
+    match note {
+        None => at,
+        Some(note) => {
+            let inside = put_wide(out, at, opening_of(note.critical));
+            let end = put_zone(out, inside, &note.tz);
+            put_unit(out, end, CLOSING)
+        }
+    }
+}
+
+/// Writes the calendar in its bracket at index `at`, if there is one. Returns the index after it.
+#[inline]
+fn put_calendar(out: &mut [u16], at: usize, calendar: Option<&[u16]>) -> usize
+    requires { HasRoom out.old at
+        (calendar_text (option_map (λ units. map (λ unit. unit) units.now) calendar)) }
+    ensures { Prints out.old out.new at result
+        (calendar_text (option_map (λ units. map (λ unit. unit) units.now) calendar.entry)) }
+{
+    match calendar {
+        None => at,
+        Some(value) => {
+            let inside = put_wide(out, at, b"[u-ca=");
+            let end = put_units(out, inside, value);
+            put_unit(out, end, CLOSING)
+        }
+    }
+}
+
+/// Writes the two brackets at index `at`. Returns the index after them.
+#[inline]
+fn put_brackets(out: &mut [u16], at: usize, parsed: &IxdtfParseRecord<'_, Utf16>) -> usize
+    requires { HasRoom out.old at (brackets_text (record_of parsed.now)) }
+    ensures { Prints out.old out.new at result (brackets_text (record_of parsed.now)) }
+{
+    let after_bracket = put_bracket(out, at, &parsed.tz);
+    put_calendar(out, after_bracket, parsed.calendar)
+}
