@@ -50,7 +50,7 @@ Which part of a line is read:\n\
 \x20 ixdtf_check --csv --header --field time table.csv\n\
 \n\
 What is written:\n\
-\x20 --canonical      the canonical text of each date-time that is accepted\n\
+\x20 --canonical      the canonical text of each accepted text\n\
 \x20 --max-reports N  at most N reports, and the number of the others\n\
 \x20 --quiet          nothing about lines that are refused\n\
 \x20 ixdtf_check --canonical --quiet dates.txt\n\

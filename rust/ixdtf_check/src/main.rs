@@ -69,7 +69,7 @@ Which part of a line is read:
   ixdtf_check --csv --header --field time table.csv
 
 What is written:
-  --canonical      the canonical text of each date-time that is accepted
+  --canonical      the canonical text of each accepted text
   --max-reports N  at most N reports, and the number of the others
   --quiet          nothing about lines that are refused
   ixdtf_check --canonical --quiet dates.txt
