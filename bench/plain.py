@@ -33,7 +33,7 @@ BENCHMARK = to_rust.Crate('crates/ixdtf_bench/src', '', root='main', tests=True,
 USES = {'use crate::runtime::{AllocError, Global, String};': 'use crate::runtime::{AllocError, Global, TryToVec, Vec};',
         'use std::env;': 'use crate::runtime::{HostRuntime, env};', '.to_vec(alloc)': '.try_to_vec(alloc)'}
 # The later fields of `Request` in the workloads, and their values. A checkout may be older than such a field.
-LATER_FIELDS = {'skips': 'None', 'most_reports': 'u64::MAX'}
+LATER_FIELDS = {'skips': 'None', 'most_reports': 'u64::MAX', 'extent': 'Extent::One'}
 # A loop has a label if a proof names it. Rust needs no label there.
 HEAD = '#![forbid(unsafe_code)]\n#![allow(unused_imports, unused_labels)]\n\n#[macro_use]\nmod runtime;\n'
 
@@ -82,11 +82,13 @@ def workloads():
 
 
 def without_later(plain, checkout):
-    """A file of the benchmark without the fields of `Request` that an older checkout does not have, and with its name of the task of printing."""
+    """A file of the benchmark without the fields of `Request` and of `Field` that an older checkout does not have, and with its name of the task of printing."""
     fields = read(os.path.join(checkout, 'rust', 'ixdtf_check', 'src', 'request.rs'))
     for field, value in LATER_FIELDS.items():
         if f'pub {field}:' not in fields:
             plain = plain.replace(f'    {field}: {value},\n', '')
+    if 'enum Extent' not in fields:
+        plain = plain.replace('Extent, ', '')
     # In older checkouts, only date-times have canonical texts.
     return plain if 'Print(Kind)' in fields else plain.replace('Task::Print(Kind::DateTime)', 'Task::Print')
 

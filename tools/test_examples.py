@@ -100,6 +100,16 @@ class Examples(unittest.TestCase):
                 file.write(LOG)
             self.assertEqual(printed(name, arguments, '', folder), wanted)
 
+    def test_records(self):
+        """The command on a table with quotes prints what the document shows."""
+        table = next(it for it in blocks('docs/PROGRAM.md') if it.startswith('name,day'))
+        command, wanted = next(it for it in blocks('docs/PROGRAM.md') if it.startswith('$ ixdtf_check --csv')).split('\n', 1)
+        name, *arguments = command.removeprefix('$ ').split()
+        with tempfile.TemporaryDirectory() as folder:
+            with open(os.path.join(folder, arguments[-1]), 'w', encoding='utf-8') as file:
+                file.write(table)
+            self.assertEqual(printed(name, arguments, '', folder), wanted)
+
     @unittest.skipUnless(shutil.which('jq'), 'jq is not installed')
     def test_lines_of_json(self):
         """The pipe of PROGRAM reports the line numbers of the file."""

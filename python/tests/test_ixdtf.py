@@ -11,6 +11,7 @@ import random
 import sys
 import threading
 import unittest
+import weakref
 import zoneinfo
 
 import ixdtf
@@ -40,6 +41,18 @@ KINDS = {
     "parse_identifier": "zone",
     "parse_iana_identifier": "zone-name",
     "duration": "duration",
+}
+ACCEPTED = {
+    "parse": "2024-03-02T08:48:00Z[UTC]",
+    "parse_year_month": "2024-03",
+    "parse_month_day": "03-02",
+    "parse_time": "T08:48",
+    "parse_rfc3339": "2024-03-02T08:48:00Z",
+    "parse_rfc9557": "2024-03-02T08:48:00Z[UTC]",
+    "parse_offset": "+05:30",
+    "parse_identifier": "Europe/Paris",
+    "parse_iana_identifier": "Europe/Paris",
+    "duration": "P1D",
 }
 WITH_PROFILES = ("parse_month_day", "parse_time", "duration")
 UTC = datetime.timezone.utc
@@ -75,6 +88,26 @@ class Rows(unittest.TestCase):
         self.assertGreater(seen, 250)
 
 
+    def test_rows_as_str(self):
+        """Each row as a str. The position of the error is that of the row, except that a row for 16-bit text can have a character that is not ASCII. Then
+        another error can be found before it."""
+        seen = other = 0
+        with open(TOP / "tools" / "places.tsv", encoding="utf-8", newline="") as file:
+            for row in csv.DictReader(file, delimiter="\t", quoting=csv.QUOTE_NONE):
+                text = row["text"].encode("utf-8").decode("unicode_escape")
+                keywords = {"strict": True} if row["profile"] == "strict" and row["reader"] in WITH_PROFILES else {}
+                with self.subTest(row=row):
+                    error = refusal(READERS[row["reader"]], text, **keywords)
+                    seen += 1
+                    if row["error"] == "NonAsciiCodePoint":
+                        self.assertLessEqual(error.position, int(row["place"]))
+                        other += error.position != int(row["place"])
+                    else:
+                        self.assertEqual((error.position, error.within), (int(row["place"]), row["error"].partition(" ")[2]))
+        self.assertGreater(seen, 350)
+        self.assertLess(other, 10)
+
+
 class Texts(unittest.TestCase):
     """A text is str or bytes, and may contain any characters. A record keeps its text as long as the record exists."""
 
@@ -96,6 +129,16 @@ class Texts(unittest.TestCase):
             self.assertEqual(refusal(ixdtf.parse, character + "2024").position, 0)
             self.assertEqual(refusal(ixdtf.parse, "2024-03-02" + character).position, 10)
 
+    def test_each_character(self):
+        """A text with a character that is not ASCII is refused at this character, in each reader, whatever the width of the str."""
+        for name, reader in READERS.items():
+            text = ACCEPTED[name]
+            reader(text)
+            for character in ("\x80", "\xe9", "\u20ac", "\ud800", "\U0001f600", "\U0010ffff"):
+                self.assertEqual(refusal(reader, text + character).position, len(text), (name, character))
+                self.assertEqual(refusal(reader, character + text).position, 0, (name, character))
+                self.assertFalse(ixdtf.is_valid(text + character, KINDS[name]))
+
     def test_zero(self):
         self.assertEqual(refusal(ixdtf.parse, "2024-03-02\0").position, 10)
         self.assertEqual(refusal(ixdtf.parse, "\0").position, 0)
@@ -113,6 +156,53 @@ class Texts(unittest.TestCase):
         records = [ixdtf.parse("2024-03-02[Area/" + "a" * number + "]") for number in range(1, 200)]
         gc.collect()
         self.assertEqual([len(it.zone.name) for it in records], [5 + number for number in range(1, 200)])
+
+    def test_buffers_that_are_gone(self):
+        released = memoryview(b"2024-03-02")
+        released.release()
+        with self.assertRaises(ValueError):
+            ixdtf.parse(released)
+        self.assertEqual(ixdtf.parse(memoryview(b"2x0x2x4x-x0x3x-x0x2")[::2]).date, Date(2024, 3, 2))
+        buffer = bytearray(b"2024-03-02[u-ca=a][u-ca=b]")
+
+        def empty(annotation):
+            buffer.clear()
+            gc.collect()
+            return annotation
+
+        self.assertEqual(ixdtf.parse(buffer, handler=empty).calendar, "a")
+        self.assertEqual(buffer, b"")
+
+    def test_subclasses(self):
+        """A text of a subclass of str or bytes can refer to its record. Such a cycle is freed."""
+
+        class Str(str):
+            pass
+
+        class Bytes(bytes):
+            pass
+
+        class Other:
+            pass
+
+        for kind, text in ((Str, "2024-03-02[u-ca=a]"), (Bytes, b"2024-03-02[u-ca=a]")):
+            made = kind(text)
+            made.record, made.other = ixdtf.parse(made), Other()
+            self.assertEqual((made.record, made.record.calendar), (ixdtf.parse("2024-03-02[u-ca=a]"), "a"))
+            gone = weakref.ref(made.other)
+            del made
+            gc.collect()
+            self.assertIsNone(gone())
+        wrong = Str("2024-13-02")
+        self.assertIs(refusal(ixdtf.parse, wrong).text, wrong)
+
+    def test_surrogates(self):
+        for text in ("\ud83d\ude00", "\ude00\ud83d", "\udcff", "\ud800"):
+            for front in ("", "2024-03-02", "2024-03-02[Europe/Paris", "2024-03-02[a="):
+                error = refusal(ixdtf.parse, front + text)
+                self.assertEqual((error.position, error.text), (len(front), front + text))
+                self.assertEqual(str(error).splitlines()[1:], [front + ascii(text)[1:-1], " " * len(front) + "^"])
+                self.assertEqual(pickle.loads(pickle.dumps(error)).text, front + text)
 
     def test_no_text(self):
         for value in (None, 2024, ["2024-03-02"], 1.5):
@@ -324,6 +414,10 @@ class Datetimes(unittest.TestCase):
         for text in ("2024-03-02", "+010000-01-01T00:00"):
             with self.assertRaises(ValueError):
                 ixdtf.parse(text).to_datetime(truncate=True)
+        for digits, value in ((1, 25), (1, 382401004647999005), (6, (1 << 32) + 5), (6, 1000000), (18, 10**18 - 1)):
+            made = Record(Date(2024, 3, 2), Time(0, 0, 0, Fraction(digits, value)))
+            with self.assertRaises(ValueError):
+                made.to_datetime()
         with self.assertRaises(ValueError):
             ixdtf.parse("2024-03-02T00:00").to_datetime(on_conflict="both")
         with self.assertRaises(TypeError):
@@ -338,8 +432,30 @@ class Datetimes(unittest.TestCase):
             self.assertEqual(ixdtf.parse(text).to_datetime().isoformat(), "2024-06-30T20:00:00-04:00")
         self.assertEqual(ixdtf.parse("2024-07-01T00:00[America/New_York]").to_datetime().isoformat(), "2024-07-01T00:00:00-04:00")
         self.assertEqual(ixdtf.parse("2024-07-01T00:00+05:30[+05:30]").to_datetime().isoformat(), "2024-07-01T00:00:00+05:30")
+
+    def test_zones_that_do_not_exist(self):
+        for name in ("No/Where", "Europe", "zone.tab", "./UTC", "Europe/../UTC", "UTC/.", "A" * 300, "/".join(["A"] * 3000)):
+            with self.assertRaises(zoneinfo.ZoneInfoNotFoundError):
+                ixdtf.parse(f"2024-07-01T00:00[{name}]").to_datetime()
         with self.assertRaises(zoneinfo.ZoneInfoNotFoundError):
-            ixdtf.parse("2024-07-01T00:00[No/Where]").to_datetime()
+            Record(Date(2024, 7, 1), Time(0, 0, 0), None, Zone("")).to_datetime()
+
+    def test_first_and_last_year(self):
+        for text in ("9999-12-31T23:59:59-05:00[America/New_York]", "9999-12-31T23:59:59-05:00[-05:00]", "0001-01-01T00:00:00+00:09:21[Europe/Paris]",
+                     "0001-01-01T00:00:00+05:00[+05:00]"):
+            for on_conflict in ("error", "offset", "zone"):
+                found = ixdtf.parse(text).to_datetime(on_conflict)
+                self.assertEqual(found.isoformat(), text[: text.index("[")])
+        for text in ("9999-12-31T23:59:59Z[Asia/Tokyo]", "0001-01-01T00:00:00-00:00[America/New_York]"):
+            for on_conflict in ("error", "offset", "zone"):
+                with self.assertRaisesRegex(ValueError, "1 to 9999"):
+                    ixdtf.parse(text).to_datetime(on_conflict)
+        record = ixdtf.parse("9999-12-31T23:59:59-05:00[Asia/Tokyo]")
+        with self.assertRaises(ixdtf.ZoneConflictError):
+            record.to_datetime()
+        with self.assertRaisesRegex(ValueError, "1 to 9999"):
+            record.to_datetime("offset")
+        self.assertEqual(record.to_datetime("zone").isoformat(), "9999-12-31T23:59:59+09:00")
 
     def test_conflict(self):
         record = ixdtf.parse("2024-07-01T00:00:00-05:00[America/New_York]")
@@ -364,7 +480,7 @@ class Datetimes(unittest.TestCase):
              "Europe/Moscow", "Pacific/Apia", "Pacific/Auckland", "Pacific/Kiritimati", "America/Santiago")
 
     def test_each_change_of_offset(self):
-        """Tests instants up to two hours before and after each change of the offset of a zone, from 1950 to 2035. The offset that the zone has is accepted,
+        """Tests instants up to two hours before and after each change of the offset of a zone, from 1950 to 2034. The offset that the zone has is accepted,
         and another one is refused."""
         changes = 0
         for name in self.ZONES:
@@ -499,34 +615,7 @@ class Calls(unittest.TestCase):
 
 
 class Runs(unittest.TestCase):
-    """The package does not leak memory, and it works in several threads and in several interpreters."""
-
-    def test_nothing_leaks(self):
-        def work():
-            record = ixdtf.parse("2024-03-02T08:48:00.25-05:00[America/New_York][u-ca=hebrew]")
-            record.date, record.time, record.offset, record.zone, record.calendar, hash(record), repr(record), record == record
-            record.to_datetime()
-            ixdtf.canonical(record)
-            ixdtf.instant(record)
-            pickle.loads(pickle.dumps(record))
-            ixdtf.parse("2024-03-02[u-ca=a][b=c]", handler=lambda it: it)
-            for text in ("2024-13-01", "2024\u20ac", b"\xff"):
-                refusal(ixdtf.parse, text)
-            refusal(ixdtf.parse, "2024-03-02[!b=c]", handler=lambda it: it)
-            ixdtf.canonical(ixdtf.parse_duration("P1DT1.5H"))
-            ixdtf.canonical(record.offset), ixdtf.canonical(record.zone)
-            ixdtf.parse_duration("P1DT1.5H").to_timedelta()
-            ixdtf.is_valid("P1D", "duration")
-
-        for _ in range(1000):
-            work()
-        gc.collect()
-        before = sys.getallocatedblocks()
-        for _ in range(4000):
-            work()
-        gc.collect()
-        # If each call of work() leaked one block, 4000 blocks would be left.
-        self.assertLess(sys.getallocatedblocks() - before, 2000)
+    """The package works in several threads and in several interpreters."""
 
     def test_threads(self):
         long = "2024-03-02[" + "a" * 100_000 + "]"

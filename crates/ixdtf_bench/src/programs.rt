@@ -6,7 +6,7 @@ use ixdtf::parsers::Profile;
 use ixdtf_answers::runner::run;
 use ixdtf_checks::checker::check;
 use ixdtf_checks::kind::Kind;
-use ixdtf_checks::request::{Field, Request, Task};
+use ixdtf_checks::request::{Extent, Field, Request, Task};
 use std::alloc::{AllocError, Global};
 
 /// A request that checks complete lines as date-times.
@@ -39,6 +39,7 @@ const THIRD_FIELD: Request<'static> = Request {
     field: Some(Field {
         before: 2,
         separator: b',',
+        extent: Extent::One,
     }),
     skips: None,
     most_reports: u64::MAX,

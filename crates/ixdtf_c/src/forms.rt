@@ -6,7 +6,7 @@ ghost use Rattle.ixdtf_c.specs.Crossing.{is_negative as has_minus};
 
 use ixdtf::records::{DateRecord, Fraction, Sign, TimeRecord, UtcOffsetRecord, UtcOffsetRecordOrZ};
 
-/// A date. If it is absent, a reader writes 0 to the other fields.
+/// A date. If `is_there` is false, a reader writes 0 to the other fields.
 #[derive(Clone, Copy)]
 #[repr(C)]
 pub struct Date {
@@ -20,7 +20,7 @@ pub struct Date {
     pub is_there: bool,
 }
 
-/// A time. If it is absent, a reader writes 0 to the other fields.
+/// A time. If `is_there` is false, a reader writes 0 to the other fields.
 #[derive(Clone, Copy)]
 #[repr(C)]
 pub struct Time {

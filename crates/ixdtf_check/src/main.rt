@@ -8,8 +8,8 @@ use front::Front;
 use ixdtf_buffers::error::RunError;
 use ixdtf_checks::arguments::{FieldName, Options, Word, Wrong, meant_by};
 use ixdtf_checks::checker::check_lines;
-use ixdtf_checks::column::{ColumnError, column_named};
-use ixdtf_checks::request::Request;
+use ixdtf_checks::column::{ColumnError, column_in_record, column_named};
+use ixdtf_checks::request::{Extent, Request};
 use ixdtf_checks::status::status_of;
 use ixdtf_checks::tally::Tally;
 use std::fs::File;
@@ -40,12 +40,17 @@ Which lines are read:\n\
 Which part of a line is read:\n\
 \x20 --field N        field N of each line, counted from 1, and not the complete line\n\
 \x20 --field NAME     the field that has this name in the first line; needs --header\n\
-\x20 --separator C    the byte between two fields; without this option, it is a tab\n\
+\x20 --fields A-B     fields A to B, between which a line has one space\n\
+\x20 --csv            with --field: the lines are records of RFC 4180, with fields in quotes\n\
+\x20 --separator C    the byte between two fields; without this option, it is a tab,\n\
+\x20                  or a comma with --csv\n\
 \x20 ixdtf_check --field 3 --separator , table.csv\n\
 \x20 ixdtf_check --header --field time --separator , table.csv\n\
+\x20 ixdtf_check --fields 1-2 server.log\n\
+\x20 ixdtf_check --csv --header --field time table.csv\n\
 \n\
 What is written:\n\
-\x20 --canonical      the canonical text of each date-time that is accepted\n\
+\x20 --canonical      the canonical text of each accepted text\n\
 \x20 --max-reports N  at most N reports, and the number of the others\n\
 \x20 --quiet          nothing about lines that are refused\n\
 \x20 ixdtf_check --canonical --quiet dates.txt\n\
@@ -58,6 +63,9 @@ Other:\n\
 \n\
 Exit status: 0 if every line was accepted, 1 if a line was refused, and 2 if an\n\
 argument is wrong, or if a file or standard output failed.";
+
+/// The number of bytes of the longest line that is checked.
+const LONGEST_LINE: usize = 65536;
 
 const VERSION: &str = "ixdtf_check 0.6.7+rattle";
 
@@ -231,10 +239,14 @@ fn column_of(
     let Ok(words) = env::args(rt) else {
         return Err(ColumnError::Missing);
     };
-    let separator = options.field_after(0).separator;
+    let field = options.field_after(0);
     for (number, word) in words.skip(1).enumerate() {
         if number == field_name.word {
-            return column_named(separator, field_name.in_word(word.as_str()), first);
+            let name = field_name.in_word(word.as_str());
+            if field.extent == Extent::Csv {
+                return column_in_record(field.separator, name, first, &mut [0; LONGEST_LINE]);
+            }
+            return column_named(field.separator, name, first);
         }
     }
     Err(ColumnError::Missing)

@@ -1,5 +1,6 @@
 pub mod CharactersLemmas
 pub mod ColumnLemmas
+pub mod CsvLemmas
 pub mod InstantLemmas
 pub mod MaskedLemmas
 pub mod NameLemmas

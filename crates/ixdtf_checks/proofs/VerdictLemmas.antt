@@ -1,5 +1,5 @@
 -- Proves which verdict follows from the result of a reader.
-use Rattle.std.proofs.Common.{◌≡◌, ℕ, ◌≤◌, Bool, true, false, if◌then◌else◌, List, [], ◌∷◌, ◌++◌, length, Option, Some, None, inl, inr, refl, sym, ap, ◌∙◌, true≢false, arith, length-append}
+use Rattle.std.proofs.Common.{◌≡◌, ℕ, ◌≤◌, subst, le-ltb, Bool, true, false, if◌then◌else◌, List, [], ◌∷◌, ◌++◌, length, Option, Some, None, inl, inr, refl, sym, ap, ◌∙◌, true≢false, arith, length-append}
 use Rattle.std.proofs.lemmas.{List.{length-map}, Str.{IsUtf8-from_is_utf8, is_utf8-from_IsUtf8}}
 use Rattle.std.specs.Str.{is_utf8}
 use Rattle.ixdtf_grammar.specs.LocatedTexts.{pointed_text}
@@ -11,9 +11,9 @@ use Rattle.ixdtf_grammar.specs.language.Readers.Reader.{bracketed, parse_rfc3339
 use Rattle.ixdtf_grammar.specs.table.{ErrorTexts.message_of, Faults.Fault}
 use Rattle.ixdtf_instants.specs.declared.instant.Instant.{Instant}
 use Rattle.ixdtf_print.proofs.theorems.ShortErrors.{message_short}
-use Rattle.ixdtf_checks.specs.{Seen.lines_at, Kinds.{has_offset, reader_of}, Parts.{Text as Part}, Refusals.IsRefusal}
-use Rattle.ixdtf_checks.specs.{Verdicts.{Verdict, ShowsPlace, IsOrderVerdict, IsTextVerdict, Verdict.{accepted, printed, skipped, refused}}, declared.kind.Kind.Kind}
-use Rattle.ixdtf_checks.specs.declared.request.Task.TheVariants.{Check, Print}
+use Rattle.ixdtf_checks.specs.{Seen.lines_at, Kinds.{has_offset, reader_of}, Parts.{Text as Part, line_in}, Refusals.IsRefusal}
+use Rattle.ixdtf_checks.specs.{Verdicts.{Verdict, ShowsPlace, IsOrderVerdict, IsShortVerdict, IsTextVerdict, IsVerdict, Verdict.{accepted, printed, skipped, refused}}, declared.kind.Kind.Kind}
+use Rattle.ixdtf_checks.specs.declared.request.{Request.Request, Task.TheVariants.{Check, Print}}
 
 -- The position of an error is at most the length of the text.
 at_most : (reader : Reader) (text : Text) (fault : Fault) (at : ℕ) → HasUnhandledFaultAt reader text fault at → at ≤ length text
@@ -83,3 +83,9 @@ order_refused reader last text (printed canonical) none = absurd none
 order_refused reader last text skipped none = absurd none
 order_refused reader last text (refused None column message lines) is = inl is
 order_refused reader last text (refused (Some instant) column message lines) none = absurd none
+
+-- The verdict on a line that is not too long.
+pub short_verdict : (request : Request) (is_first : Bool) (last : Option Instant) (line text : List ℕ) (verdict : Verdict) → length line ≤ 65536 → line ≡ text
+    → IsShortVerdict request is_first last (line_in is_first line) verdict → IsVerdict request is_first last text verdict
+short_verdict request is_first last line text verdict few same is =
+    subst (λ t. IsVerdict request is_first last t verdict) same (rw (le-ltb 65536 (length line) few) is)

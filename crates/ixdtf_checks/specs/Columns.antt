@@ -1,6 +1,6 @@
 -- Defines which field has a name in the first line of a file.
 use Rattle.std.specs.Prelude.{◌≡◌, ℕ, ◌<◌, List, drop, Option, Some, option_map}
-use Rattle.ixdtf_checks.specs.{Parts.{field_start, front_field}, declared.column.ColumnError.{ColumnError, TheVariants.{Missing, Twice}}}
+use Rattle.ixdtf_checks.specs.{Parts.{field_start, front_field}, declared.column.ColumnError.{ColumnError, TheVariants.{Missing, Twice, NoRecord}}}
 
 -- This is the field after `before` other fields.
 abbrev pub field_in : ℕ → ℕ → List ℕ → Option (List ℕ)
@@ -20,3 +20,4 @@ abbrev pub HasNoColumn : ColumnError → ℕ → List ℕ → List ℕ → Type 
 HasNoColumn Missing separator name line = (before : ℕ) → ¬ (IsNamed separator name line before)
 HasNoColumn Twice separator name line =
     (before : ℕ) × (other : ℕ) × (before < other) × IsNamed separator name line before × IsNamed separator name line other
+HasNoColumn NoRecord separator name line = ⊥

@@ -1,6 +1,7 @@
 pub mod Canonicals
 pub mod Checks
 pub mod Columns
+pub mod Csv
 pub mod Kept
 pub mod Kinds
 pub mod Order
@@ -13,3 +14,4 @@ pub mod Skipped
 pub mod Spaced
 pub mod Statuses
 pub mod Verdicts
+pub mod Walks

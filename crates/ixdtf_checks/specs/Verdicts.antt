@@ -1,12 +1,12 @@
 -- Defines the verdict on a line.
-use Rattle.std.specs.{Prelude.{◌≡◌, ◌⊎◌, ℕ, Bool, true, ◌+◌, List, [], ◌∷◌, ◌++◌, length, nat_lt, codes, IsUtf8, Option, Some, None, MatchOption}, Bool.MatchBool}
+use Rattle.std.specs.{Prelude.{◌≡◌, ◌⊎◌, ℕ, Bool, true, ◌+◌, List, [], ◌∷◌, ◌++◌, length, nat_lt, codes, IsUtf8, Option, Some, None}, Bool.MatchBool}
 use Rattle.ixdtf_grammar.specs.{declared.profile.Profile.Profile, LocatedTexts.pointed_text, Places.HasUnhandledFaultAt}
 use Rattle.ixdtf_grammar.specs.{Widths.{HasUnhandledOutcome, byte_text, UnhandledOutcome.read_as}, language.{Languages.{Found}}}
 use Rattle.ixdtf_grammar.specs.{language.Readers.{Reader}, table.{Faults.Fault}}
 use Rattle.ixdtf_buffers.specs.Lines.{newline}
-use Rattle.ixdtf_checks.specs.{declared.request.{Request.Request, Task.{Task, TheVariants.{Check, Print, Order}}}, Kinds.{has_offset, reader_of, instant_reader_of}}
+use Rattle.ixdtf_checks.specs.{declared.{part.Lost.{Lost, TheVariants.{NoField, Broken}}, request.{Request.Request, Task.{Task, TheVariants.{Check, Print, Order}}}}, Kinds.{has_offset, reader_of, instant_reader_of}}
 use Rattle.ixdtf_instants.specs.declared.instant.Instant.{Instant}
-use Rattle.ixdtf_checks.specs.{Canonicals.IsCanonical, Order.{IsTimed, IsUntimed, IsTooEarly}, Parts.{Text, part_of, line_in}, Skipped.is_skipped, Spaced.message_at}
+use Rattle.ixdtf_checks.specs.{Canonicals.IsCanonical, Order.{IsTimed, IsUntimed, IsTooEarly}, Csv.quoting_message, Parts.{Text, HasText, IsLost, line_in, width_of}, Skipped.is_skipped, Spaced.message_at}
 
 -- `accepted`: the text of the line is accepted, and has this instant if it was read for its instant.
 -- `printed`: the text is accepted, and this is its canonical text.
@@ -35,7 +35,7 @@ ShowsPlace bytes at lines = (IsUtf8 bytes × (lines ≡ pointed_text bytes at ++
 abbrev pub IsRefused : Bool → Reader → Text → ℕ → List ℕ → List ℕ → Type 0
 IsRefused has_offset reader text column message lines =
     (fault : Fault) × (at : ℕ) × HasUnhandledFaultAt reader (byte_text text.bytes) fault at
-    × (column ≡ text.start + at + 1) × (message ≡ message_at has_offset text.bytes fault at) × ShowsPlace text.bytes at lines
+    × (column ≡ text.start + width_of text at + 1) × (message ≡ message_at has_offset text.bytes fault at) × ShowsPlace text.bytes at lines
 
 -- The complete text is refused with this message. The column is that of the first byte of the text in the line.
 abbrev pub IsMarked : Text → List ℕ → ℕ → List ℕ → List ℕ → Type 0
@@ -68,11 +68,16 @@ IsTextVerdict (Print kind) profile last text (refused None column message lines)
 IsTextVerdict (Print kind) profile last text (refused (Some instant) column message lines) = ⊥
 IsTextVerdict (Order kind) profile last text verdict = IsOrderVerdict (instant_reader_of kind) last text verdict
 
+-- This is the verdict on a line without a text.
+abbrev pub IsLostVerdict : List ℕ → Lost → Verdict → Type 0
+IsLostVerdict line NoField verdict = verdict ≡ refused None (length line + 1) (codes "no such field") []
+IsLostVerdict line (Broken broken) verdict = verdict ≡ refused None (broken.at + 1) (quoting_message broken.quoting) []
+
 -- This is the verdict on a line that is neither too long nor skipped, without the bytes that do not belong to it.
 abbrev pub IsLineVerdict : Request → Option Instant → List ℕ → Verdict → Type 0
-IsLineVerdict request last line verdict = MatchOption (part_of request.field line)
-    (verdict ≡ refused None (length line + 1) (codes "no such field") [])
-    (λ text. IsTextVerdict request.task request.profile last text verdict)
+IsLineVerdict request last line verdict =
+    ((text : Text) × HasText request.field line text × IsTextVerdict request.task request.profile last text verdict)
+    ⊎ ((lost : Lost) × IsLost request.field line lost × IsLostVerdict line lost verdict)
 
 abbrev pub IsShortVerdict : Request → Bool → Option Instant → List ℕ → Verdict → Type 0
 IsShortVerdict request is_first last line verdict =

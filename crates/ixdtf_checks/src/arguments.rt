@@ -1,12 +1,19 @@
 //! The arguments of the program: the words after its name.
 
+use crate::csv::QUOTE;
 use crate::kind::{InstantKind, Kind};
 use crate::nearest::{KINDS, OPTIONS, nearest_of};
-use crate::request::{Field, Request, Skips, Task};
+use crate::request::{Extent, Field, Request, Skips, Task};
 use ixdtf::parsers::Profile;
 
 /// The separator of fields, if no option gives another one.
 const TAB: u8 = b'\t';
+
+/// The separator of the fields of `--csv`, if there is no `--separator`.
+const COMMA: u8 = b',';
+
+/// The separator of the fields of `--fields`, between which the text has one space.
+const SPACE: u8 = b' ';
 
 /// The value of `Skips` if no option asks to skip lines: no line is skipped.
 const NOTHING_SKIPPED: Skips = Skips {
@@ -51,8 +58,16 @@ pub enum Wrong {
     InvalidComment,
     /// The value of `--max-reports` is not a number.
     InvalidCount,
-    /// There is `--separator`, but no `--field`.
+    /// There is `--separator`, but neither `--field` nor `--fields`.
     SeparatorWithoutField,
+    /// The value of `--fields` is not the numbers of two fields in order, with a `-` between them.
+    InvalidFields,
+    /// There is `--fields`, and the value of `--separator` is not a space.
+    FieldsSeparator,
+    /// There is `--csv`, but no `--field`.
+    CsvWithoutField,
+    /// There is `--csv`, and the value of `--separator` is a quote.
+    CsvSeparator,
     /// There is `--ordered`, and the texts of the kind do not name instants.
     OrderedKind,
     /// There is `--ordered` together with `--canonical`.
@@ -77,7 +92,15 @@ impl Wrong {
             Wrong::InvalidSeparator => "expected a separator of one byte",
             Wrong::InvalidComment => "expected the one byte with which comments begin",
             Wrong::InvalidCount => "expected a number of reports",
-            Wrong::SeparatorWithoutField => "--separator needs --field",
+            Wrong::SeparatorWithoutField => "--separator needs --field or --fields",
+            Wrong::InvalidFields => {
+                "expected the numbers of two fields with a - between them, such as 1-2; the first is 1 or more, and the second is not less"
+            }
+            Wrong::FieldsSeparator => {
+                "--fields joins fields that a space separates; expected no --separator, or a space"
+            }
+            Wrong::CsvWithoutField => "--csv needs --field",
+            Wrong::CsvSeparator => "with --csv, the separator cannot be a quote",
             Wrong::OrderedKind => {
                 "--ordered is only for the kinds date-time, rfc3339 and rfc9557, whose texts can name instants"
             }
@@ -103,6 +126,10 @@ pub fn meant_by(word: &str, wrong: Wrong) -> Option<&'static str> {
         | Wrong::InvalidComment
         | Wrong::InvalidCount
         | Wrong::SeparatorWithoutField
+        | Wrong::InvalidFields
+        | Wrong::FieldsSeparator
+        | Wrong::CsvWithoutField
+        | Wrong::CsvSeparator
         | Wrong::OrderedKind
         | Wrong::OrderedCanonical => None,
     }
@@ -114,6 +141,7 @@ enum Awaited {
     Anything,
     Kind,
     Field,
+    Fields,
     Separator,
     Comment,
     MaxReports,
@@ -137,13 +165,15 @@ impl FieldName {
     }
 }
 
-/// The field of a line that is its text.
+/// The field or the fields of a line that are its text.
 #[derive(Clone, Copy, Debug, PartialEq)]
 enum Column {
     /// The field that has this number of fields before it.
     After(usize),
     /// The field that has a given name in the first line of a file.
     Named(FieldName),
+    /// The field after the first number of other fields, and the second number of fields after it.
+    Between(usize, usize),
 }
 
 /// The options of the program. Each call of `take` applies one more word to them.
@@ -156,6 +186,7 @@ pub struct Options {
     is_strict: bool,
     column: Option<Column>,
     separator: Option<u8>,
+    is_csv: bool,
     skips: Skips,
     most_reports: Option<u64>,
     is_canonical: bool,
@@ -173,6 +204,7 @@ impl Options {
             is_strict: false,
             column: None,
             separator: None,
+            is_csv: false,
             skips: NOTHING_SKIPPED,
             most_reports: None,
             is_canonical: false,
@@ -187,6 +219,7 @@ impl Options {
             Awaited::Anything => self.take_any(word),
             Awaited::Kind
             | Awaited::Field
+            | Awaited::Fields
             | Awaited::Separator
             | Awaited::Comment
             | Awaited::MaxReports => self.take_value(word, 0),
@@ -201,6 +234,7 @@ impl Options {
         match self.awaited {
             Awaited::Kind => self.take_kind(value),
             Awaited::Field => self.take_field(value, start),
+            Awaited::Fields => self.take_fields(value),
             Awaited::Separator => self.take_separator(value),
             Awaited::Comment => self.take_comment(value),
             Awaited::MaxReports => self.take_count(value),
@@ -233,6 +267,8 @@ impl Options {
             self.skips.header = true;
         } else if option == "--skip-blank" {
             self.skips.blank = true;
+        } else if option == "--csv" {
+            self.is_csv = true;
         } else if option == "--canonical" {
             self.is_canonical = true;
         } else if option == "--ordered" {
@@ -253,6 +289,8 @@ impl Options {
             self.awaited = Awaited::Kind;
         } else if option == "--field" {
             self.awaited = Awaited::Field;
+        } else if option == "--fields" {
+            self.awaited = Awaited::Fields;
         } else if option == "--separator" {
             self.awaited = Awaited::Separator;
         } else if option == "--comment" {
@@ -302,6 +340,24 @@ impl Options {
         Word::Option
     }
 
+    /// Applies the value of `--fields`, the numbers of the first and the last field.
+    fn take_fields(&mut self, value: &str) -> Word {
+        self.awaited = Awaited::Anything;
+        let Some((first, last)) = value.split_once('-') else {
+            return Word::Wrong(Wrong::InvalidFields);
+        };
+        match (first.parse::<usize>(), last.parse::<usize>()) {
+            (Ok(first), Ok(last)) if first > 0 && first <= last => {
+                self.column = Some(Column::Between(
+                    first.saturating_sub(1),
+                    last.saturating_sub(first),
+                ));
+                Word::Option
+            }
+            _ => Word::Wrong(Wrong::InvalidFields),
+        }
+    }
+
     /// Applies the value of `--separator`, one byte.
     fn take_separator(&mut self, word: &str) -> Word {
         self.awaited = Awaited::Anything;
@@ -344,12 +400,19 @@ impl Options {
         match self.awaited {
             Awaited::Kind
             | Awaited::Field
+            | Awaited::Fields
             | Awaited::Separator
             | Awaited::Comment
             | Awaited::MaxReports => Some(Wrong::MissingValue),
             Awaited::Anything | Awaited::File => {
                 if self.separator.is_some() && self.column.is_none() {
                     Some(Wrong::SeparatorWithoutField)
+                } else if self.is_csv && !self.is_one_field() {
+                    Some(Wrong::CsvWithoutField)
+                } else if self.is_csv && self.separator == Some(QUOTE) {
+                    Some(Wrong::CsvSeparator)
+                } else if self.joins_other_fields() {
+                    Some(Wrong::FieldsSeparator)
                 } else if self.field_name().is_some() && !self.skips.header {
                     Some(Wrong::NameWithoutHeader)
                 } else if self.is_ordered && InstantKind::of(kind).is_none() {
@@ -367,7 +430,23 @@ impl Options {
     pub fn field_name(&self) -> Option<FieldName> {
         match self.column {
             Some(Column::Named(field_name)) => Some(field_name),
-            Some(Column::After(_)) | None => None,
+            Some(Column::After(_) | Column::Between(_, _)) | None => None,
+        }
+    }
+
+    /// Returns whether the text is one field of a line.
+    fn is_one_field(&self) -> bool {
+        match self.column {
+            Some(Column::After(_) | Column::Named(_)) => true,
+            Some(Column::Between(_, _)) | None => false,
+        }
+    }
+
+    /// Returns whether `--fields` is to join fields that something else than a space separates.
+    fn joins_other_fields(&self) -> bool {
+        match (self.column, self.separator) {
+            (Some(Column::Between(_, _)), Some(separator)) => separator != SPACE,
+            _ => false,
         }
     }
 
@@ -375,7 +454,14 @@ impl Options {
     pub fn field_after(&self, before: usize) -> Field {
         Field {
             before,
-            separator: self.separator.unwrap_or(TAB),
+            separator: self
+                .separator
+                .unwrap_or(if self.is_csv { COMMA } else { TAB }),
+            extent: if self.is_csv {
+                Extent::Csv
+            } else {
+                Extent::One
+            },
         }
     }
 
@@ -400,10 +486,15 @@ impl Options {
         })
     }
 
-    /// Returns the field, if `--field` has a number.
+    /// Returns the field, if `--field` has a number, or the fields of `--fields`.
     fn numbered_field(&self) -> Option<Field> {
         match self.column {
             Some(Column::After(before)) => Some(self.field_after(before)),
+            Some(Column::Between(before, more)) => Some(Field {
+                before,
+                separator: SPACE,
+                extent: Extent::More(more),
+            }),
             Some(Column::Named(_)) | None => None,
         }
     }

@@ -3,7 +3,9 @@ ghost use Rattle.std.specs.Prelude.{◌≡◌, ◌≢◌, true, false, Some, Non
 ghost use Rattle.ixdtf_checks.specs.Columns.{HasNoColumn, IsColumn};
 ghost use Rattle.ixdtf_checks.specs.Parts.{line_in};
 
-use crate::part::{front_field, line_in};
+use crate::part::{Lost, front_field, line_in, part_of};
+use crate::request::{Extent, Field};
+use crate::verdict::LINE_LIMIT;
 use ixdtf_buffers::place::place_of;
 
 /// The reason why `column_named` returns an error: the number of fields with the name is not one.
@@ -13,6 +15,8 @@ pub enum ColumnError {
     Missing,
     /// Two or more fields have the name.
     Twice,
+    /// The line is no record of RFC 4180.
+    NoRecord,
 }
 
 impl ColumnError {
@@ -24,6 +28,9 @@ impl ColumnError {
             }
             ColumnError::Twice => {
                 "expected the name of --field once in the first line, but two fields there have it"
+            }
+            ColumnError::NoRecord => {
+                "expected names in the first line, but a quote there is not closed, or is at a wrong place"
             }
         }
     }
@@ -63,6 +70,46 @@ pub fn column_named(separator: u8, name: &[u8], first: &[u8]) -> Result<usize, C
         Ok(None) => Err(ColumnError::Missing),
         Ok(Some(column)) => Ok(column),
         Err(error) => Err(error),
+    }
+}
+
+/// Returns the number of fields before the field that has this name in the first line of a file. The line is a record of RFC 4180,
+/// in which some fields may be in quotes. `unquoted` is a buffer for the texts of these fields.
+///
+/// # Errors
+///
+/// - `ColumnError::Missing`: no field of the line has the name, or the line is too long.
+/// - `ColumnError::Twice`: two or more fields of the line have the name.
+/// - `ColumnError::NoRecord`: the line is no record.
+pub fn column_in_record(
+    separator: u8,
+    name: &[u8],
+    first: &[u8],
+    unquoted: &mut [u8; LINE_LIMIT],
+) -> Result<usize, ColumnError> {
+    let line = line_in(true, first);
+    if line.len() > LINE_LIMIT {
+        return Err(ColumnError::Missing);
+    }
+    let mut found = None;
+    for before in 0..=line.len() {
+        let field = Field {
+            before,
+            separator,
+            extent: Extent::Csv,
+        };
+        match part_of(field, line, unquoted) {
+            Ok(part) => match one_named(found, before, is_named(part.text, name)) {
+                Ok(kept) => found = kept,
+                Err(error) => return Err(error),
+            },
+            Err(Lost::NoField) => break,
+            Err(Lost::Broken(_)) => return Err(ColumnError::NoRecord),
+        }
+    }
+    match found {
+        Some(column) => Ok(column),
+        None => Err(ColumnError::Missing),
     }
 }
 

@@ -1,11 +1,12 @@
 //! Decides the verdict on a line.
-ghost use Rattle.std.specs.Prelude.{◌≡◌, ◌≤◌, ◌+◌, ℕ, List, length, IfSome, Some, None};
+ghost use Rattle.std.specs.Prelude.{◌≡◌, ◌≤◌, ◌+◌, ℕ, List, [], length, IfSome, Some, None};
 ghost use Rattle.ixdtf_grammar.specs.Places.{HasUnhandledFaultAt};
 ghost use Rattle.ixdtf_grammar.specs.Widths.{byte_text};
 ghost use Rattle.ixdtf_grammar.specs.language.Readers.{Reader};
 ghost use Rattle.ixdtf_grammar.specs.table.ErrorTexts.{message_of};
 ghost use Rattle.ixdtf_grammar.specs.table.Faults.{fault_of_located};
 ghost use Rattle.ixdtf_buffers.specs.Line.{IsLine};
+ghost use Rattle.ixdtf_checks.specs.Csv.{quoting_message};
 ghost use Rattle.ixdtf_checks.specs.Kinds.{instant_reader_of};
 ghost use Rattle.ixdtf_checks.specs.Order.{IsTimed, latest};
 ghost use Rattle.ixdtf_checks.specs.Parts.{line_in, seen_part};
@@ -15,13 +16,14 @@ ghost use Rattle.ixdtf_checks.specs.Reports.{instant_in};
 ghost use Rattle.ixdtf_checks.specs.Refusals.{IsRefusal};
 ghost use Rattle.ixdtf_checks.specs.Spaced.{is_spaced, message_at};
 
+use crate::csv::Quoting;
 use crate::instants::read_instant;
 use crate::kind::InstantKind;
-use crate::part::{Part, part_of};
+use crate::part::{Lost, Part, part_of};
 use crate::printed::PrintedText;
 use crate::printing::read_to_print;
 use crate::reading::read;
-use crate::request::{Request, Task};
+use crate::request::{Field, Request, Task};
 use crate::skipped::kept_line;
 use crate::verdict::{Early, LINE_LIMIT, Reason, Refusal, Unread, Verdict};
 use ixdtf::{Instant, LocatedError};
@@ -37,6 +39,7 @@ pub fn judge<'a>(
     last: &mut Option<Instant>,
     line: Option<&'a [u8]>,
     printed: &mut PrintedText,
+    unquoted: &'a mut [u8; LINE_LIMIT],
     verdict: &mut Verdict<'a>,
 )
     requires { IfSome line (λ bytes. length bytes.now ≤ 65536) }
@@ -51,7 +54,7 @@ pub fn judge<'a>(
                 reason: Reason::TooLong,
             });
         }
-        Some(bytes) => judge_short(request, is_first, last, bytes, printed, verdict),
+        Some(bytes) => judge_short(request, is_first, last, bytes, printed, unquoted, verdict),
     }
 }
 
@@ -62,6 +65,7 @@ fn judge_short<'a>(
     last: &mut Option<Instant>,
     bytes: &'a [u8],
     printed: &mut PrintedText,
+    unquoted: &'a mut [u8; LINE_LIMIT],
     verdict: &mut Verdict<'a>,
 )
     requires { length bytes.now ≤ 65536 }
@@ -70,7 +74,7 @@ fn judge_short<'a>(
 {
     match kept_line(&request.skips, is_first, bytes) {
         None => *verdict = Verdict::Skipped,
-        Some(line) => judge_line(request, last, line, printed, verdict),
+        Some(line) => judge_line(request, last, line, printed, unquoted, verdict),
     }
 }
 
@@ -80,24 +84,74 @@ fn judge_line<'a>(
     last: &mut Option<Instant>,
     line: &'a [u8],
     printed: &mut PrintedText,
+    unquoted: &'a mut [u8; LINE_LIMIT],
     verdict: &mut Verdict<'a>,
 )
     requires { length line.now ≤ 65536 }
     ensures verdict { IsLineVerdict request.now last.old line.now (seen printed.new verdict.new) }
     ensures kept { (printed : List ℕ) → last.new ≡ latest (instant_in (seen printed verdict.new)) last.old }
 {
-    match part_of(request.field, line) {
+    match request.field {
         None => {
+            let part = Part {
+                start: 0,
+                text: line,
+                is_quoted: false,
+            };
+            judge_text(request, last, part, printed, verdict)
+        }
+        Some(field) => judge_field(request, field, last, line, printed, unquoted, verdict),
+    }
+}
+
+/// Writes the verdict on a line whose text begins with the given field.
+#[inline(never)]
+fn judge_field<'a>(
+    request: &Request<'_>,
+    field: Field,
+    last: &mut Option<Instant>,
+    line: &'a [u8],
+    printed: &mut PrintedText,
+    unquoted: &'a mut [u8; LINE_LIMIT],
+    verdict: &mut Verdict<'a>,
+)
+    requires short { length line.now ≤ 65536 }
+    requires asked { request.now.field ≡ Some field }
+    ensures verdict { IsLineVerdict request.now last.old line.entry.now (seen printed.new verdict.new) }
+    ensures kept { (printed : List ℕ) → last.new ≡ latest (instant_in (seen printed verdict.new)) last.old }
+{
+    match part_of(field, line, unquoted) {
+        Err(Lost::NoField) => {
             *verdict = Verdict::Refused(Refusal {
                 column: line.len() + 1,
                 reason: Reason::NoField,
             });
         }
-        Some(part) => judge_text(request, last, part, printed, verdict),
+        Err(Lost::Broken(broken)) => {
+            *verdict = Verdict::Refused(Refusal {
+                column: broken.at + 1,
+                reason: reason_of_quoting(broken.quoting),
+            });
+        }
+        Ok(part) => judge_text(request, last, part, printed, verdict),
+    }
+}
+
+/// Returns the reason for a line that is no record of RFC 4180.
+fn reason_of_quoting<'a>(quoting: Quoting) -> Reason<'a>
+    ensures message { message_in result ≡ quoting_message quoting }
+    ensures lines { lines_in result ≡ [] }
+    ensures instant { instant_of result ≡ None }
+{
+    match quoting {
+        Quoting::NotClosed => Reason::NotClosed,
+        Quoting::TextAfter => Reason::TextAfter,
+        Quoting::Stray => Reason::Stray,
     }
 }
 
 /// Writes the verdict on the text of a line.
+#[inline(always)]
 fn judge_text<'a>(
     request: &Request<'_>,
     last: &mut Option<Instant>,
@@ -184,6 +238,7 @@ fn order(instant: Instant, last: Option<Instant>, part: Part<'_>) -> Verdict<'_>
 
 /// Writes the verdict on a line whose text a reader refuses. `has_offset` says whether texts of this kind can have an offset after
 /// their time.
+#[inline(always)]
 fn refuse<'a>(verdict: &mut Verdict<'a>, has_offset: bool, error: LocatedError, part: Part<'a>)
     requires line { part.start + length part.text.now ≤ 65536 }
     requires within { error.at ≤ length part.text.now }
@@ -194,7 +249,7 @@ fn refuse<'a>(verdict: &mut Verdict<'a>, has_offset: bool, error: LocatedError, 
     ensures instant { (printed : List ℕ) → instant_in (seen printed verdict.new) ≡ None }
 {
     *verdict = Verdict::Refused(Refusal {
-        column: part.start + error.at + 1,
+        column: part.start + part.width_of(error.at) + 1,
         reason: reason_of(
             has_offset,
             Unread {

@@ -8,6 +8,7 @@ pub mod arguments;
 pub mod checker;
 mod checking;
 pub mod column;
+mod csv;
 mod instants;
 mod judge;
 pub mod kind;

@@ -1,8 +1,10 @@
 //! Finds the part of a line that is its text.
-ghost use Rattle.std.specs.Prelude.{◌≡◌, ◌+◌, ◌≤◌, length, Some, option_map, IfSome};
-ghost use Rattle.ixdtf_checks.specs.Parts.{line_in, without_mark, without_return, field_start, front_field, part_of, seen_part};
+ghost use Rattle.std.specs.Prelude.{◌≡◌, ◌+◌, ◌≤◌, length, Some, None, option_map, IfErr, IfOk, IfSome, ℕ, if◌then◌else◌};
+ghost use Rattle.ixdtf_checks.specs.Parts.{line_in, without_mark, without_return, field_start, front_field, front_fields, field_text, fields_text, HasCsvText, HasText, IsLost, IsLostCsv, seen_part, width_of};
 
-use crate::request::Field;
+use crate::csv::{Broken, QUOTE, field_in_record, quotes_in};
+use crate::request::{Extent, Field};
+use crate::verdict::LINE_LIMIT;
 use ixdtf_buffers::place::{pass_many, place_of};
 
 /// If at least this many fields come before a field, separators are counted in steps of sixteen bytes.
@@ -15,6 +17,36 @@ pub struct Part<'a> {
     pub start: usize,
     /// The bytes of the part.
     pub text: &'a [u8],
+    /// Whether the line has each quote of the text twice.
+    pub is_quoted: bool,
+}
+
+impl Part<'_> {
+    ghost use Rattle.ixdtf_checks.specs.Parts.{seen_part, width_of};
+
+    /// Returns the number of bytes of the line for the first `count` bytes of the text.
+    #[inline(always)]
+    pub fn width_of(self, count: usize) -> usize
+        requires within { count ≤ length self.text.now }
+        requires short { count ≤ 65536 }
+        ensures width { result ≡ width_of (seen_part self.entry) count }
+        ensures most { result ≤ count + count }
+    {
+        if self.is_quoted {
+            count + quotes_in(&self.text[..count])
+        } else {
+            count
+        }
+    }
+}
+
+/// The reason why a line has no text.
+#[derive(Clone, Copy)]
+pub enum Lost {
+    /// The line has too few fields.
+    NoField,
+    /// The line is no record of RFC 4180.
+    Broken(Broken),
 }
 
 /// Returns the line without the bytes that do not belong to it. These are a byte order mark at the beginning of the first line of a
@@ -49,33 +81,92 @@ pub fn without_return(line: &[u8]) -> &[u8]
     }
 }
 
-/// Returns the given field of the line, or the complete line if `field` is `None`. Returns `None` if the line has too few fields.
+/// Returns the text of the line, which begins with the given field. Returns an error if the line has no text.
 #[inline(always)]
-pub fn part_of(field: Option<Field>, line: &[u8]) -> Option<Part<'_>>
-    ensures part { option_map seen_part result ≡ part_of field line.now }
-    ensures within { IfSome result (λ part. part.start + length part.text.now ≤ length line.now) }
+pub fn part_of<'a>(
+    field: Field,
+    line: &'a [u8],
+    unquoted: &'a mut [u8; LINE_LIMIT],
+) -> Result<Part<'a>, Lost>
+    requires { length line.now ≤ 65536 }
+    ensures text { IfOk result (λ part. HasText (Some field) line.entry.now (seen_part part)) }
+    ensures lost { IfErr result (λ lost. IsLost (Some field) line.entry.now lost) }
+    ensures within { IfOk result (λ part. part.start + length part.text.now ≤ length line.entry.now) }
 {
-    match field {
-        None => Some(Part {
-            start: 0,
-            text: line,
-        }),
-        Some(field) => field_of(field, line),
+    match field.extent {
+        Extent::One => plain_field(field.separator, field.before, line),
+        Extent::More(more) => plain_fields(field.separator, field.before, more, line),
+        Extent::Csv => csv_field(field.separator, field.before, line, unquoted),
     }
 }
 
-/// Returns the given field of the line. Returns `None` if the line has too few fields.
+/// Returns the field after `before` other fields of a record of RFC 4180. Returns an error if the line is no record, or has too few fields.
+///
+/// In a line without quotes, each field is what is between two separators.
 #[inline(never)]
-fn field_of(field: Field, line: &[u8]) -> Option<Part<'_>>
-    ensures part { option_map seen_part result ≡ part_of (Some field) line.now }
-    ensures within { IfSome result (λ part. part.start + length part.text.now ≤ length line.now) }
+fn csv_field<'a>(
+    separator: u8,
+    before: usize,
+    line: &'a [u8],
+    unquoted: &'a mut [u8; LINE_LIMIT],
+) -> Result<Part<'a>, Lost>
+    requires { length line.now ≤ 65536 }
+    ensures text { IfOk result (λ part. HasCsvText separator before line.entry.now (seen_part part)) }
+    ensures lost { IfErr result (λ lost. IsLostCsv separator before line.entry.now lost) }
+    ensures within { IfOk result (λ part. part.start + length part.text.now ≤ length line.entry.now) }
 {
-    match field_start(field.separator, field.before, line) {
-        None => None,
-        Some(start) => Some(Part {
+    match place_of(QUOTE, line) {
+        None => plain_field(separator, before, line),
+        Some(_) => field_in_record(separator, before, line, unquoted),
+    }
+}
+
+/// Returns the field after `before` other fields. It is what is between two separators. Returns an error if there are too few fields.
+#[inline(always)]
+fn plain_field(separator: u8, before: usize, line: &[u8]) -> Result<Part<'_>, Lost>
+    ensures text { IfOk result (λ part. field_text separator before line.now ≡ Some (seen_part part)) }
+    ensures lost { IfErr result (λ lost. (lost ≡ Lost.NoField) × (field_text separator before line.now ≡ None)) }
+    ensures within { IfOk result (λ part. part.start + length part.text.now ≤ length line.now) }
+{
+    match field_start(separator, before, line) {
+        None => Err(Lost::NoField),
+        Some(start) => Ok(Part {
             start,
-            text: front_field(field.separator, &line[start..]),
+            text: front_field(separator, &line[start..]),
+            is_quoted: false,
         }),
+    }
+}
+
+/// Returns the field after `before` other fields, with `more` fields after it. Returns an error if there are too few fields.
+#[inline(never)]
+fn plain_fields(separator: u8, before: usize, more: usize, line: &[u8]) -> Result<Part<'_>, Lost>
+    ensures text { IfOk result (λ part. fields_text separator before more line.now ≡ Some (seen_part part)) }
+    ensures lost { IfErr result (λ lost. (lost ≡ Lost.NoField) × (fields_text separator before more line.now ≡ None)) }
+    ensures within { IfOk result (λ part. part.start + length part.text.now ≤ length line.now) }
+{
+    match field_start(separator, before, line) {
+        None => Err(Lost::NoField),
+        Some(start) => match front_fields(separator, more, &line[start..]) {
+            None => Err(Lost::NoField),
+            Some(text) => Ok(Part {
+                start,
+                text,
+                is_quoted: false,
+            }),
+        },
+    }
+}
+
+/// Returns the first field and `more` fields after it, with the separators between them. Returns `None` if there are too few fields.
+#[inline(never)]
+fn front_fields(separator: u8, more: usize, rest: &[u8]) -> Option<&[u8]>
+    ensures text { option_map (λ text. text.now) result ≡ front_fields separator more rest.now }
+    ensures shorter { IfSome result (λ text. length text.now ≤ length rest.now) }
+{
+    match field_start(separator, more, rest) {
+        None => None,
+        Some(last) => Some(&rest[..last + front_field(separator, &rest[last..]).len()]),
     }
 }
 
@@ -83,6 +174,7 @@ fn field_of(field: Field, line: &[u8]) -> Option<Part<'_>>
 ///
 /// If many fields come before it, the function counts the separators in sixteen bytes at once. If the fields are short, this is
 /// faster than one search for each field.
+#[inline(always)]
 fn field_start(separator: u8, before: usize, line: &[u8]) -> Option<usize>
     ensures start { result ≡ field_start separator before line.now }
     ensures within { IfSome result (λ start. start ≤ length line.now) }

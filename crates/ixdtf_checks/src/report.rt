@@ -104,6 +104,9 @@ fn add_reason(room: &mut [u8; ROOM], at: usize, reason: &Reason<'_>) -> usize
     match reason {
         Reason::TooLong => add_message(room, at, "line too long", ""),
         Reason::NoField => add_message(room, at, "no such field", ""),
+        Reason::NotClosed => add_message(room, at, "a quote is not closed in this line", ""),
+        Reason::TextAfter => add_message(room, at, "text after a closing quote", ""),
+        Reason::Stray => add_message(room, at, "a quote in a field without quotes", ""),
         Reason::Unread(unread) => {
             let (message, location) = error_parts(unread.error.error);
             let lines = add_message(room, at, message, location);

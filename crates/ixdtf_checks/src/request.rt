@@ -15,13 +15,26 @@ pub enum Task {
     Order(InstantKind),
 }
 
-/// Says which field of a line is the text that is read.
+/// Says which field of a line is the text that is read, or with which field this text begins.
 #[derive(Clone, Copy, Debug, PartialEq)]
 pub struct Field {
     /// The number of fields before it.
     pub before: usize,
     /// The byte between two fields.
     pub separator: u8,
+    /// Which bytes from the beginning of the field on are the text.
+    pub extent: Extent,
+}
+
+/// Which bytes of a line are the text, from the beginning of a field on.
+#[derive(Clone, Copy, Debug, PartialEq)]
+pub enum Extent {
+    /// The field.
+    One,
+    /// The field and this number of fields after it, with the separators between them.
+    More(usize),
+    /// The field of a record of RFC 4180, which may be in quotes.
+    Csv,
 }
 
 /// Which lines have no text. These lines are skipped: nothing is written about them.
@@ -44,7 +57,7 @@ pub struct Request<'n> {
     pub task: Task,
     /// The profile that the readers use.
     pub profile: Profile,
-    /// Says which field of a line is the text that is read. If this is `None`, the complete line is the text.
+    /// Says which field of a line is the text that is read, or with which field this text begins. If this is `None`, the complete line is the text.
     pub field: Option<Field>,
     /// Which lines are skipped. If it is `None`, no line is skipped.
     pub skips: Option<Skips>,

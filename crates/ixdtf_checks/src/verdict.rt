@@ -40,6 +40,12 @@ pub enum Reason<'a> {
     TooLong,
     /// The line has too few fields.
     NoField,
+    /// A quote opens a field of the line, but no quote closes it.
+    NotClosed,
+    /// The line has text after a closing quote.
+    TextAfter,
+    /// A field of the line has a quote, but does not begin with one.
+    Stray,
     /// A reader refuses the text of the line.
     Unread(Unread<'a>),
     /// A reader refuses the text of the line, at a space before an offset.
@@ -108,6 +114,9 @@ impl Reason<'_> {
             Reason::Early(early) => *last = Some(early.instant),
             Reason::TooLong
             | Reason::NoField
+            | Reason::NotClosed
+            | Reason::TextAfter
+            | Reason::Stray
             | Reason::Unread(_)
             | Reason::Spaced(_)
             | Reason::NoInstant(_) => {}

@@ -23,7 +23,7 @@ use std::fmt;
 /// time. In a date, only the days can have more than ten digits. No number has more than twenty digits.
 const MOST_WITHOUT_FRACTION: usize = 120;
 
-/// Writes the canonical text of a duration to the beginning of the slice, such as `P1Y2M3DT4H5.5M`.
+/// Writes the canonical text of a duration, such as `P1Y2M3DT4H5.5M`, to the beginning of the slice.
 ///
 /// The duration is a record that [`IsoDurationParser::parse`](ixdtf::parsers::IsoDurationParser::parse) returns. The
 /// canonical text begins with `-` if the duration is negative. A duration unit whose number is zero is left out, with two
@@ -40,7 +40,11 @@ const MOST_WITHOUT_FRACTION: usize = 120;
 /// use ixdtf_print::{PrintError, print_duration};
 ///
 /// let mut out = [0; 64];
-/// for (text, canonical) in [("+p1y0m03dt04,50m", "P1Y3DT4.50M"), ("-P0Y", "-P0D"), ("P0WT0H0S", "P0DT0S")] {
+/// for (text, canonical) in [
+///     ("+p1y0m03dt04,50m", "P1Y3DT4.50M"),
+///     ("-P0Y", "-P0D"),
+///     ("P0WT0H0S", "P0DT0S"),
+/// ] {
 ///     let duration = IsoDurationParser::from_str(text).parse().unwrap();
 ///     let count = print_duration(&duration, &mut out).unwrap();
 ///     assert_eq!(&out[..count], canonical.as_bytes());
@@ -126,7 +130,7 @@ fn has_part(date: Option<DateDurationRecord>, time: Option<TimeDurationRecord>) 
     date.is_some() || time.is_some()
 }
 
-/// A duration that `Display` writes as its canonical text, such as `-PT1H30.5M`.
+/// A value that displays the canonical text of a duration, such as `-PT1H30.5M`.
 ///
 /// This is the text that [`print_duration`](crate::print_duration) writes into a slice. `Display` does not allocate, and
 /// ignores width and fill.

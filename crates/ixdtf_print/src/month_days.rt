@@ -21,7 +21,7 @@ use ixdtf::parsers::days_in_month;
 use ixdtf::records::{DateRecord, IxdtfParseRecord, TimeRecord, UtcOffsetRecordOrZ};
 use std::fmt;
 
-/// Writes the canonical text of a month and a day to the beginning of the slice, such as `11-07[u-ca=hebrew]`.
+/// Writes the canonical text of a month and a day, such as `11-07[u-ca=hebrew]`, to the beginning of the slice.
 ///
 /// The record is one that [`IxdtfParser::parse_month_day`](ixdtf::parsers::IxdtfParser::parse_month_day) returns. The
 /// canonical text has the month and the day, without hyphens before them. If the record has a zone or a calendar,
@@ -161,7 +161,7 @@ pub fn month_day_length_utf16(parsed: &IxdtfParseRecord<'_, Utf16>) -> Option<us
     wide_names::printed_length(CanonicalMonthDay { parsed: &core }, parsed)
 }
 
-/// A record of a month and a day that `Display` writes as its canonical text, such as `11-07[u-ca=hebrew]`.
+/// A value that displays the canonical text of a month and a day, such as `11-07`.
 ///
 /// This is the text that [`print_month_day`](crate::print_month_day) writes into a slice. `Display` does not allocate, and ignores
 /// width and fill.

@@ -14,7 +14,7 @@ use crate::text::{self, CanonicalText, Tail};
 use ixdtf::records::{UtcOffsetRecord, UtcOffsetRecordOrZ};
 use std::fmt;
 
-/// Writes the canonical text of an offset to the beginning of the slice, such as `-05:00` or `+01:30:15.5`.
+/// Writes the canonical text of an offset, such as `-05:00` or `+01:30:15.5`, to the beginning of the slice.
 ///
 /// The offset is a record that [`TimeZoneParser::parse_offset`](ixdtf::parsers::TimeZoneParser::parse_offset) returns. The
 /// canonical text has the seconds exactly if the offset was read with seconds: `+01` is written as `+01:00`, and
@@ -30,7 +30,11 @@ use std::fmt;
 /// use ixdtf_print::{PrintError, print_offset};
 ///
 /// let mut out = [0; 16];
-/// for (text, canonical) in [("-05", "-05:00"), ("+0130", "+01:30"), ("+013015,5", "+01:30:15.5")] {
+/// for (text, canonical) in [
+///     ("-05", "-05:00"),
+///     ("+0130", "+01:30"),
+///     ("+013015,5", "+01:30:15.5"),
+/// ] {
 ///     let offset = TimeZoneParser::from_str(text).parse_offset().unwrap();
 ///     let count = print_offset(&offset, &mut out).unwrap();
 ///     assert_eq!(&out[..count], canonical.as_bytes());
@@ -105,7 +109,7 @@ pub fn offset_length(offset: &UtcOffsetRecord) -> Option<usize>
     text::printed_length(CanonicalOffset { offset })
 }
 
-/// An offset that `Display` writes as its canonical text, such as `-05:00`.
+/// A value that displays the canonical text of an offset, such as `-05:00`.
 ///
 /// This is the text that [`print_offset`](crate::print_offset) writes into a slice. `Display` does not allocate, and
 /// ignores width and fill.

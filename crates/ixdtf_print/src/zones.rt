@@ -16,7 +16,7 @@ use ixdtf::encoding::{Utf8, Utf16};
 use ixdtf::records::TimeZoneRecord;
 use std::fmt;
 
-/// Writes the canonical text of a time zone to the beginning of the slice, such as `Europe/Paris` or `+05:30`.
+/// Writes the canonical text of a time zone, such as `Europe/Paris` or `+05:30`, to the beginning of the slice.
 ///
 /// The zone is a record that [`TimeZoneParser::parse_identifier`](ixdtf::parsers::TimeZoneParser::parse_identifier)
 /// returns. A name is written as it is. An offset has a sign, an hour and a minute. The canonical text has no brackets.
@@ -34,7 +34,11 @@ use std::fmt;
 /// use ixdtf_print::{PrintError, print_zone};
 ///
 /// let mut out = [0; 16];
-/// for (text, canonical) in [("Europe/Paris", "Europe/Paris"), ("-05", "-05:00"), ("+0530", "+05:30")] {
+/// for (text, canonical) in [
+///     ("Europe/Paris", "Europe/Paris"),
+///     ("-05", "-05:00"),
+///     ("+0530", "+05:30"),
+/// ] {
 ///     let zone = TimeZoneParser::from_str(text).parse_identifier().unwrap();
 ///     let count = print_zone(&zone, &mut out).unwrap();
 ///     assert_eq!(&out[..count], canonical.as_bytes());
@@ -147,7 +151,7 @@ pub fn zone_length_utf16(zone: &TimeZoneRecord<'_, Utf16>) -> Option<usize>
     wide_names::zone_length(zone)
 }
 
-/// A time zone that `Display` writes as its canonical text, such as `Europe/Paris` or `+05:30`.
+/// A value that displays the canonical text of a time zone, such as `Europe/Paris` or `+05:30`.
 ///
 /// This is the text that [`print_zone`](crate::print_zone) writes into a slice. `Display` does not allocate, and ignores
 /// width and fill.

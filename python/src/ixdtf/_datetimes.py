@@ -11,7 +11,10 @@ if TYPE_CHECKING:
 
 
 class ZoneConflictError(ValueError):
-    """Raised if the offset of a record differs from the offset that its zone has at this time (RFC 9557, section 3.4)."""
+    """Raised by to_datetime if on_conflict is "error", and the offset and the zone of a record do not agree (RFC 9557, section 3.4).
+
+    They do not agree if the zone has another offset at this time, or if the local time does not exist in the zone. If the record has
+    its offset in hours and minutes, the offset of the zone is first rounded to minutes."""
 
     __module__ = "ixdtf"
 
@@ -26,10 +29,10 @@ def to_datetime(record: Record, on_conflict: str = "error", truncate: bool = Fal
     zone = _zone_info(record.zone)
     if record.offset is None:
         return local.replace(tzinfo=zone)
-    instant = local.replace(tzinfo=_fixed(record.offset, truncate)).astimezone(_datetime.timezone.utc)
+    known = local.replace(tzinfo=_fixed(record.offset, truncate))
     if isinstance(record.offset, _Utc) or _is_negative_zero(record.offset):
-        return instant.astimezone(zone)
-    return _agreed(local, instant, record.offset, zone, on_conflict)
+        return _moved(known, zone)
+    return _agreed(known, record.offset, zone, on_conflict)
 
 
 def _local(record: Record, truncate: bool) -> _datetime.datetime:
@@ -48,10 +51,13 @@ def _local(record: Record, truncate: bool) -> _datetime.datetime:
 
 def _microsecond(fraction: Optional[Fraction], truncate: bool) -> int:
     """Returns the microseconds of a fraction of a second. If `truncate` is true, drops the digits after the sixth. Otherwise raises ValueError if the
-    number of microseconds is not whole, or if the fraction has more than 18 digits."""
+    number of microseconds is not whole, or if the fraction has more than 18 digits. Raises ValueError if its value has more digits than its field `digits`
+    says. No text gives such a fraction."""
     if fraction is None:
         return 0
     known = min(fraction.digits, 18)
+    if fraction.value >= 10**known:
+        raise ValueError("the value of a fraction of the record has more digits than its field digits says")
     whole, rest = divmod(fraction.value * 10**6, 10**known)
     if (rest or fraction.digits > 18) and not truncate:
         raise ValueError("the fraction of the record does not fit into the six digits of a datetime. With truncate=True, further digits are dropped.")
@@ -70,9 +76,13 @@ def _zone_info(zone: Zone) -> _datetime.tzinfo:
     """Returns the tzinfo of a zone. For a name, it is a ZoneInfo. Raises ZoneInfoNotFoundError for an unknown name."""
     if zone.offset is not None:
         return _fixed(zone.offset, False)
-    from zoneinfo import ZoneInfo
+    from zoneinfo import ZoneInfo, ZoneInfoNotFoundError
 
-    return ZoneInfo(zone.name or "")
+    try:
+        return ZoneInfo(zone.name or "")
+    except (OSError, ValueError, RecursionError) as error:
+        # ZoneInfo raises these for some names, such as the name of a folder, of a file without a zone, a name with "..", and one with many "/".
+        raise ZoneInfoNotFoundError(f"No time zone found with key {zone.name}") from error
 
 
 def _is_negative_zero(offset: Offset) -> bool:
@@ -80,17 +90,33 @@ def _is_negative_zero(offset: Offset) -> bool:
     return offset.sign < 0 and not (offset.hour or offset.minute or offset.second or (offset.fraction and offset.fraction.value))
 
 
-def _agreed(
-    local: _datetime.datetime, instant: _datetime.datetime, offset: Offset, zone: _datetime.tzinfo, on_conflict: str
-) -> _datetime.datetime:
+def _moved(known: _datetime.datetime, zone: _datetime.tzinfo) -> _datetime.datetime:
+    """Returns an instant as a local time of the zone. Raises ValueError if the year is then outside 1 to 9999, either in UTC or in the zone."""
+    try:
+        return known.astimezone(_datetime.timezone.utc).astimezone(zone)
+    except OverflowError:
+        raise ValueError(f"the year of a datetime is 1 to 9999, but the year of {known} is outside of it in UTC or in {zone}") from None
+
+
+def _exists(local: _datetime.datetime, naive: _datetime.datetime) -> bool:
+    """Returns whether a local time of a zone exists. It does not exist if the clocks were set forward over it. `naive` is the same time without tzinfo."""
+    try:
+        return local.astimezone(_datetime.timezone.utc).astimezone(local.tzinfo).replace(tzinfo=None) == naive
+    except OverflowError:  # The year is outside 1 to 9999 in UTC. Then this cannot be found out in this way, and the local time counts as existing.
+        return True
+
+
+def _agreed(known: _datetime.datetime, offset: Offset, zone: _datetime.tzinfo, on_conflict: str) -> _datetime.datetime:
     """Returns the local time in the zone, if the zone has this offset at this time. If the local time occurs twice, sets `fold`, so that the result has
-    this offset. If the zone does not have this offset at this time, `on_conflict` decides what is returned or raised."""
+    this offset. If the zone does not have this offset at this time, `on_conflict` decides what is returned or raised. `known` is the local time with the
+    offset as its tzinfo."""
+    local = known.replace(tzinfo=None)
     for fold in (0, 1):
         found = local.replace(tzinfo=zone, fold=fold)
-        if _fits(_offset_at(found), offset) and found.astimezone(_datetime.timezone.utc).astimezone(zone).replace(tzinfo=None) == local:
+        if _fits(_offset_at(found), offset) and _exists(found, local):
             return found
     if on_conflict == "offset":
-        return instant.astimezone(zone)
+        return _moved(known, zone)
     if on_conflict == "zone":
         return local.replace(tzinfo=zone)
     raise ZoneConflictError(f"the offset {_offset_text(offset)} is not that of {zone} at {local}, which has {_delta_text(_offset_at(local.replace(tzinfo=zone)))}")

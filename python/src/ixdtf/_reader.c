@@ -36,10 +36,11 @@ typedef struct {
     int32_t last_seconds;
 } module_state;
 
+/* The garbage collector does not visit records, because a record refers only to its type and to `source`, and `source` refers to no other object. */
 typedef struct {
     PyObject_HEAD
     ixdtf_record fields; /* Its slices point into `source`. */
-    PyObject *source;    /* an ASCII str, or bytes: an object that never changes */
+    PyObject *source;    /* an ASCII str, or bytes, and not of a subclass: an object that never changes */
 } record_object;
 
 static struct PyModuleDef module_definition;
@@ -72,23 +73,29 @@ typedef struct {
     PyObject *owner;
 } text_bytes;
 
-/* Writes the bytes of a text to `out`. The text is a str, bytes, or another object with a buffer. An object that can change is copied. Returns 0, or -1
- * with an exception. */
+/* Writes the bytes of a text to `out`. The text is a str, bytes, or another object with a buffer. An object that can change is copied. An object of a
+ * subclass of str or bytes is copied too, because it can refer to the record, and then neither of them would ever be freed. Returns 0, or -1 with an
+ * exception. */
 static int take_text(PyObject *text, text_bytes *out) {
     if (PyUnicode_Check(text)) {
         if (!is_ready(text)) {
             return -1;
         }
         if (PyUnicode_IS_ASCII(text)) {
-            out->at = PyUnicode_1BYTE_DATA(text);
-            out->length = PyUnicode_GET_LENGTH(text);
-            out->owner = Py_NewRef(text);
+            out->owner = PyUnicode_FromObject(text); /* a new reference to `text`, or a copy if it is of a subclass */
+            if (out->owner == NULL) {
+                return -1;
+            }
+            out->at = PyUnicode_1BYTE_DATA(out->owner);
+            out->length = PyUnicode_GET_LENGTH(out->owner);
             return 0;
         }
         /* No reader accepts such a text, but its error needs a position. So unpaired surrogates are encoded too, with "surrogatepass". */
         out->owner = PyUnicode_AsEncodedString(text, "utf-8", "surrogatepass");
-    } else if (PyBytes_Check(text)) {
+    } else if (PyBytes_CheckExact(text)) {
         out->owner = Py_NewRef(text);
+    } else if (PyBytes_Check(text)) {
+        out->owner = PyBytes_FromStringAndSize(PyBytes_AS_STRING(text), PyBytes_GET_SIZE(text));
     } else if (PyObject_CheckBuffer(text)) {
         out->owner = PyBytes_FromObject(text);
     } else {
@@ -532,11 +539,15 @@ static PyObject *record_new(PyTypeObject *type, PyObject *arguments, PyObject *k
 
 /* ---- datetime ---- */
 
-/* Returns the microseconds of a fraction of a second. Returns -1 if the fraction has digits other than 0 after the sixth, or more than 18 digits. */
+/* Returns the microseconds of a fraction of a second. Returns -1 if the fraction has digits other than 0 after the sixth, or more than 18 digits. Also
+ * returns -1 if the result would be more than 999999. No text gives such a fraction, but Record can be called with it. */
 static long microseconds_of(uint64_t fraction, uint8_t digits) {
     unsigned known = digits < 18 ? digits : 18;
     if (known == 0) {
         return 0;
+    }
+    if (known < 6 && fraction > 999999) {
+        return -1;
     }
     for (; known < 6; known++) {
         fraction *= 10;
@@ -547,7 +558,7 @@ static long microseconds_of(uint64_t fraction, uint8_t digits) {
         }
         fraction /= 10;
     }
-    return digits > 18 ? -1 : (long)fraction;
+    return digits > 18 || fraction > 999999 ? -1 : (long)fraction;
 }
 
 /* Returns the tzinfo of Z, or of an offset of whole seconds. The last tzinfo is kept, because the texts of a list often have the same offset. */
@@ -633,7 +644,8 @@ static PyMethodDef record_methods[] = {
       "the zone. If the record has any other offset, the zone should have this offset at this time. If the zone has a different one,\n"
       "on_conflict decides. 'error' raises ZoneConflictError. 'offset' computes the instant from the offset, and returns this instant\n"
       "in the zone. 'zone' ignores the offset, and returns the local time in the zone.\n\n"
-      "Raises ValueError if the date or the time is missing, if the year is not 1 to 9999, or if the day is 0. With\n"
+      "Raises ValueError if the date or the time is missing, if the year is not 1 to 9999, or if the day is 0. If the result is an\n"
+      "instant in the zone, also raises ValueError if the year of this instant is not 1 to 9999 in UTC or in the zone. With\n"
       "truncate=True, the second 60 becomes 59, and digits after the sixth are dropped. With truncate=False, also raises ValueError if\n"
       "the second is 60, if a fraction is not a whole number of microseconds, or if a fraction has more than 18 digits. Raises\n"
       "zoneinfo.ZoneInfoNotFoundError if the name of the zone is unknown." },
@@ -1257,13 +1269,18 @@ static int clear(PyObject *module) {
     return 0;
 }
 
+/* Frees the state of a module that is freed without `clear`, such as one whose import failed. */
+static void release(void *module) {
+    clear((PyObject *)module);
+}
+
 static PyModuleDef_Slot module_slots[] = {
     { Py_mod_exec, execute },
     { 0, NULL },
 };
 
 static struct PyModuleDef module_definition = {
-    PyModuleDef_HEAD_INIT, "ixdtf._reader", "The functions that call the library for C, and the type Record.", sizeof(module_state), module_methods, module_slots, traverse, clear, NULL,
+    PyModuleDef_HEAD_INIT, "ixdtf._reader", "The functions that call the library for C, and the type Record.", sizeof(module_state), module_methods, module_slots, traverse, clear, release,
 };
 
 PyMODINIT_FUNC PyInit__reader(void) {

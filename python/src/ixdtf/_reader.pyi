@@ -1,5 +1,5 @@
 import datetime
-from typing import Callable, Literal, Optional, Union, overload
+from typing import Callable, Literal, Optional, Union, final, overload
 
 from ixdtf._records import Annotation, Date, Duration, Instant, Offset, Time, Zone, _Utc
 
@@ -7,6 +7,7 @@ _Text = Union[str, bytes, bytearray, memoryview]
 _Kind = Literal["date-time", "year-month", "month-day", "time", "rfc3339", "rfc9557", "offset", "zone", "zone-name", "duration"]
 _Handler = Callable[[Annotation], Optional[Annotation]]
 
+@final
 class Record:
     __match_args__ = ("date", "time", "offset", "zone", "calendar")
     def __new__(

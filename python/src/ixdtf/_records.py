@@ -214,14 +214,17 @@ def make_duration(
     value: int,
 ) -> Duration:
     """Makes a Duration. `last` is the last unit of the time: 0 if there is no time, 1 for hours, 2 for minutes, and 3 for seconds."""
-    duration = Duration(
-        sign=-1 if is_negative else 1,
-        hours=hours if last > 0 else None,
-        minutes=minutes if last > 1 else None,
-        seconds=seconds if last > 2 else None,
-        fraction=_fraction(digits, value),
+    return Duration(
+        -1 if is_negative else 1,
+        years if has_date else None,
+        months if has_date else None,
+        weeks if has_date else None,
+        days if has_date else None,
+        hours if last > 0 else None,
+        minutes if last > 1 else None,
+        seconds if last > 2 else None,
+        _fraction(digits, value),
     )
-    return duration._replace(years=years, months=months, weeks=weeks, days=days) if has_date else duration
 
 
 def describe(date: Any, time: Any, offset: Any, zone: Any, calendar: Any) -> str:

@@ -3,6 +3,9 @@
 //! Code that the two programs `ixdtf_check` and `ixdtf_lines` share: the loop over lines, the buffers for input and output, the
 //! search for a byte, and short texts with decimal numbers.
 //!
+//! A *run* is one call of [`drive`](crate::driver::drive). It reads a *source* line by line, and passes each line to a
+//! *task*. The task writes its results to a *sink*.
+//!
 //! Nothing in this crate allocates, because each buffer is an array of fixed size. The crate uses only the standard library.
 
 #![forbid(unsafe_code)]

@@ -72,9 +72,10 @@ pub struct Passed {
     pub left: usize,
 }
 
-/// Skips bytes up to the byte number `count` that is equal to `wanted`, as far as this is possible in steps of 16 bytes.
+/// Skips bytes in steps of 16, as long as fewer than `count` of the skipped bytes are equal to `wanted`.
 ///
-/// It stops before a step that contains this byte, and if fewer than 16 bytes are left.
+/// For example, if `wanted` is `b','` and `count` is 3, the function stops before the step that contains the third comma. The function also
+/// stops if fewer than 16 bytes are left.
 pub fn pass_many(wanted: u8, count: usize, bytes: &[u8]) -> Passed {
     let mut passed = Passed {
         place: 0,

@@ -4,7 +4,7 @@
 
 use ixdtf::records::{DateRecord, Fraction, Sign, TimeRecord, UtcOffsetRecord, UtcOffsetRecordOrZ};
 
-/// A date. If it is absent, a reader writes 0 to the other fields.
+/// A date. If `is_there` is false, a reader writes 0 to the other fields.
 #[derive(Clone, Copy)]
 #[repr(C)]
 pub struct Date {
@@ -18,7 +18,7 @@ pub struct Date {
     pub is_there: bool,
 }
 
-/// A time. If it is absent, a reader writes 0 to the other fields.
+/// A time. If `is_there` is false, a reader writes 0 to the other fields.
 #[derive(Clone, Copy)]
 #[repr(C)]
 pub struct Time {

@@ -1,6 +1,12 @@
 // Made by tools/to_rust.py of crates/ixdtf_c/src/lib.rt. Do not edit.
 
 //! The readers and printers of `ixdtf`, for programs in C and in each language that can call C.
+//!
+//! A *reader* is a function that parses one kind of text, and a *printer* is a function that writes a value as text. These
+//! pages have the structs that are passed between C and Rust, but not all of the functions. In the repository, the header
+//! `c/ixdtf.h` documents each function that a program can call, and `docs/C.md` describes the library.
+//!
+//! In C, a `Slice` is a pointer and a length.
 
 #![cfg_attr(not(test), no_std)]
 

@@ -1,6 +1,8 @@
 // Made by tools/to_rust.py of crates/ixdtf_c/src/wide.rt. Do not edit.
 
-//! The structs for 16-bit text that are passed between C and Rust.
+//! The structs for 16-bit text that are passed between C and Rust, and a function that writes a calendar into a record.
+//!
+//! In C, a `Slice` is a pointer and a length.
 
 use crate::errors::number_and_location;
 use crate::forms::{Date, Offset, Time};
@@ -51,6 +53,9 @@ pub struct Record<'a> {
 }
 
 /// An annotation of a text, such as `[u-ca=hebrew]`, or the reply to an annotation.
+///
+/// A *reply* is the annotation that a program passes to `ixdtf16_reply` for an annotation of the text. It is this annotation
+/// itself, or another annotation that replaces it.
 #[derive(Clone, Copy)]
 #[repr(C)]
 pub struct Annotation<'a> {
@@ -165,8 +170,7 @@ impl<'a> CalendarOf<'a, Utf16> for Calendar<'a> {
     }
 }
 
-/// Writes a calendar into a record. It is the calendar that was kept from the replies. If none was kept, the record then has no
-/// calendar.
+/// Writes the calendar that was kept from the replies into a record. If none was kept, the record then has no calendar.
 #[unsafe(no_mangle)]
 pub extern "C" fn ixdtf16_keep_calendar<'a>(out: &mut Record<'a>, calendar: &Calendar<'a>) {
     out.has_calendar = calendar.is_there;

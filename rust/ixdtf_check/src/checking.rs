@@ -24,6 +24,8 @@ pub struct Checking<'n> {
     /// The array in which a report is made. It is kept between lines, because clearing it for each report would take as long as
     /// filling it.
     pub room: [u8; ROOM],
+    /// The text of the last line in whose text two quotes became one.
+    pub unquoted: [u8; LINE_LIMIT],
     /// The instant of the last line whose text names an instant. It is kept only if the task is `Task::Order`.
     pub last: Option<Instant>,
     /// The counts so far, without the bytes. `check_lines` adds the number of bytes at the end.
@@ -37,6 +39,7 @@ impl<'n> Checking<'n> {
             request,
             printed: PrintedText::empty(),
             room: [0; ROOM],
+            unquoted: [0; LINE_LIMIT],
             last: None,
             tally: Tally::new(),
         }
@@ -59,6 +62,7 @@ impl LineTask<LINE_LIMIT> for Checking<'_> {
             &mut self.last,
             line,
             &mut self.printed,
+            &mut self.unquoted,
             &mut verdict,
         );
         self.tally.add_line(verdict.is_refused());

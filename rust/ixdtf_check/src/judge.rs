@@ -2,13 +2,14 @@
 
 //! Decides the verdict on a line.
 
+use crate::csv::Quoting;
 use crate::instants::read_instant;
 use crate::kind::InstantKind;
-use crate::part::{Part, part_of};
+use crate::part::{Lost, Part, part_of};
 use crate::printed::PrintedText;
 use crate::printing::read_to_print;
 use crate::reading::read;
-use crate::request::{Request, Task};
+use crate::request::{Field, Request, Task};
 use crate::skipped::kept_line;
 use crate::verdict::{Early, LINE_LIMIT, Reason, Refusal, Unread, Verdict};
 use ixdtf::{Instant, LocatedError};
@@ -24,6 +25,7 @@ pub fn judge<'a>(
     last: &mut Option<Instant>,
     line: Option<&'a [u8]>,
     printed: &mut PrintedText,
+    unquoted: &'a mut [u8; LINE_LIMIT],
     verdict: &mut Verdict<'a>,
 ) {
     match line {
@@ -33,7 +35,7 @@ pub fn judge<'a>(
                 reason: Reason::TooLong,
             });
         }
-        Some(bytes) => judge_short(request, is_first, last, bytes, printed, verdict),
+        Some(bytes) => judge_short(request, is_first, last, bytes, printed, unquoted, verdict),
     }
 }
 
@@ -44,11 +46,12 @@ fn judge_short<'a>(
     last: &mut Option<Instant>,
     bytes: &'a [u8],
     printed: &mut PrintedText,
+    unquoted: &'a mut [u8; LINE_LIMIT],
     verdict: &mut Verdict<'a>,
 ) {
     match kept_line(&request.skips, is_first, bytes) {
         None => *verdict = Verdict::Skipped,
-        Some(line) => judge_line(request, last, line, printed, verdict),
+        Some(line) => judge_line(request, last, line, printed, unquoted, verdict),
     }
 }
 
@@ -58,20 +61,61 @@ fn judge_line<'a>(
     last: &mut Option<Instant>,
     line: &'a [u8],
     printed: &mut PrintedText,
+    unquoted: &'a mut [u8; LINE_LIMIT],
     verdict: &mut Verdict<'a>,
 ) {
-    match part_of(request.field, line) {
+    match request.field {
         None => {
+            let part = Part {
+                start: 0,
+                text: line,
+                is_quoted: false,
+            };
+            judge_text(request, last, part, printed, verdict)
+        }
+        Some(field) => judge_field(request, field, last, line, printed, unquoted, verdict),
+    }
+}
+
+/// Writes the verdict on a line whose text begins with the given field.
+#[inline(never)]
+fn judge_field<'a>(
+    request: &Request<'_>,
+    field: Field,
+    last: &mut Option<Instant>,
+    line: &'a [u8],
+    printed: &mut PrintedText,
+    unquoted: &'a mut [u8; LINE_LIMIT],
+    verdict: &mut Verdict<'a>,
+) {
+    match part_of(field, line, unquoted) {
+        Err(Lost::NoField) => {
             *verdict = Verdict::Refused(Refusal {
                 column: line.len() + 1,
                 reason: Reason::NoField,
             });
         }
-        Some(part) => judge_text(request, last, part, printed, verdict),
+        Err(Lost::Broken(broken)) => {
+            *verdict = Verdict::Refused(Refusal {
+                column: broken.at + 1,
+                reason: reason_of_quoting(broken.quoting),
+            });
+        }
+        Ok(part) => judge_text(request, last, part, printed, verdict),
+    }
+}
+
+/// Returns the reason for a line that is no record of RFC 4180.
+fn reason_of_quoting<'a>(quoting: Quoting) -> Reason<'a> {
+    match quoting {
+        Quoting::NotClosed => Reason::NotClosed,
+        Quoting::TextAfter => Reason::TextAfter,
+        Quoting::Stray => Reason::Stray,
     }
 }
 
 /// Writes the verdict on the text of a line.
+#[inline(always)]
 fn judge_text<'a>(
     request: &Request<'_>,
     last: &mut Option<Instant>,
@@ -140,9 +184,10 @@ fn order(instant: Instant, last: Option<Instant>, part: Part<'_>) -> Verdict<'_>
 
 /// Writes the verdict on a line whose text a reader refuses. `has_offset` says whether texts of this kind can have an offset after
 /// their time.
+#[inline(always)]
 fn refuse<'a>(verdict: &mut Verdict<'a>, has_offset: bool, error: LocatedError, part: Part<'a>) {
     *verdict = Verdict::Refused(Refusal {
-        column: part.start + error.at + 1,
+        column: part.start + part.width_of(error.at) + 1,
         reason: reason_of(
             has_offset,
             Unread {

@@ -7,6 +7,7 @@ mod arguments;
 mod checker;
 mod checking;
 mod column;
+mod csv;
 mod instants;
 mod judge;
 mod kind;
@@ -25,9 +26,9 @@ mod verdict;
 
 use arguments::{Options, Word, Wrong, meant_by};
 use checker::check;
-use column::column_named;
+use column::{column_in_record, column_named};
 use ixdtf_buffers::error::RunError;
-use request::Request;
+use request::{Extent, Request};
 use status::status_of;
 use std::fmt::Display;
 use std::fs::File;
@@ -58,12 +59,17 @@ Which lines are read:
 Which part of a line is read:
   --field N        field N of each line, counted from 1, and not the complete line
   --field NAME     the field that has this name in the first line; needs --header
-  --separator C    the byte between two fields; without this option, it is a tab
+  --fields A-B     fields A to B, between which a line has one space
+  --csv            with --field: the lines are records of RFC 4180, with fields in quotes
+  --separator C    the byte between two fields; without this option, it is a tab,
+                   or a comma with --csv
   ixdtf_check --field 3 --separator , table.csv
   ixdtf_check --header --field time --separator , table.csv
+  ixdtf_check --fields 1-2 server.log
+  ixdtf_check --csv --header --field time table.csv
 
 What is written:
-  --canonical      the canonical text of each date-time that is accepted
+  --canonical      the canonical text of each accepted text
   --max-reports N  at most N reports, and the number of the others
   --quiet          nothing about lines that are refused
   ixdtf_check --canonical --quiet dates.txt
@@ -223,7 +229,13 @@ fn check_reader<R: Read, W: Write>(
         Err(error) => return complain(request.name, error, outcome),
     };
     let line = front.split(|byte| *byte == b'\n').next().unwrap_or(&front);
-    match column_named(options.field_after(0).separator, field_name, line) {
+    let field = options.field_after(0);
+    let column = if field.extent == Extent::Csv {
+        column_in_record(field.separator, field_name, line, &mut [0; LINE_LIMIT])
+    } else {
+        column_named(field.separator, field_name, line)
+    };
+    match column {
         Ok(before) => {
             request.field = Some(options.field_after(before));
             check_request(&mut front.as_slice().chain(reader), request, output, outcome);

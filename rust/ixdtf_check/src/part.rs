@@ -2,7 +2,9 @@
 
 //! Finds the part of a line that is its text.
 
-use crate::request::Field;
+use crate::csv::{Broken, QUOTE, field_in_record, quotes_in};
+use crate::request::{Extent, Field};
+use crate::verdict::LINE_LIMIT;
 use ixdtf_buffers::place::{pass_many, place_of};
 
 /// If at least this many fields come before a field, separators are counted in steps of sixteen bytes.
@@ -15,6 +17,29 @@ pub struct Part<'a> {
     pub start: usize,
     /// The bytes of the part.
     pub text: &'a [u8],
+    /// Whether the line has each quote of the text twice.
+    pub is_quoted: bool,
+}
+
+impl Part<'_> {
+    /// Returns the number of bytes of the line for the first `count` bytes of the text.
+    #[inline(always)]
+    pub fn width_of(self, count: usize) -> usize {
+        if self.is_quoted {
+            count + quotes_in(&self.text[..count])
+        } else {
+            count
+        }
+    }
+}
+
+/// The reason why a line has no text.
+#[derive(Clone, Copy)]
+pub enum Lost {
+    /// The line has too few fields.
+    NoField,
+    /// The line is no record of RFC 4180.
+    Broken(Broken),
 }
 
 /// Returns the line without the bytes that do not belong to it. These are a byte order mark at the beginning of the first line of a
@@ -40,27 +65,71 @@ pub fn without_return(line: &[u8]) -> &[u8] {
     }
 }
 
-/// Returns the given field of the line, or the complete line if `field` is `None`. Returns `None` if the line has too few fields.
+/// Returns the text of the line, which begins with the given field. Returns an error if the line has no text.
 #[inline(always)]
-pub fn part_of(field: Option<Field>, line: &[u8]) -> Option<Part<'_>> {
-    match field {
-        None => Some(Part {
-            start: 0,
-            text: line,
-        }),
-        Some(field) => field_of(field, line),
+pub fn part_of<'a>(
+    field: Field,
+    line: &'a [u8],
+    unquoted: &'a mut [u8; LINE_LIMIT],
+) -> Result<Part<'a>, Lost> {
+    match field.extent {
+        Extent::One => plain_field(field.separator, field.before, line),
+        Extent::More(more) => plain_fields(field.separator, field.before, more, line),
+        Extent::Csv => csv_field(field.separator, field.before, line, unquoted),
     }
 }
 
-/// Returns the given field of the line. Returns `None` if the line has too few fields.
+/// Returns the field after `before` other fields of a record of RFC 4180. Returns an error if the line is no record, or has too few fields.
+///
+/// In a line without quotes, each field is what is between two separators.
 #[inline(never)]
-fn field_of(field: Field, line: &[u8]) -> Option<Part<'_>> {
-    match field_start(field.separator, field.before, line) {
-        None => None,
-        Some(start) => Some(Part {
+fn csv_field<'a>(
+    separator: u8,
+    before: usize,
+    line: &'a [u8],
+    unquoted: &'a mut [u8; LINE_LIMIT],
+) -> Result<Part<'a>, Lost> {
+    match place_of(QUOTE, line) {
+        None => plain_field(separator, before, line),
+        Some(_) => field_in_record(separator, before, line, unquoted),
+    }
+}
+
+/// Returns the field after `before` other fields. It is what is between two separators. Returns an error if there are too few fields.
+#[inline(always)]
+fn plain_field(separator: u8, before: usize, line: &[u8]) -> Result<Part<'_>, Lost> {
+    match field_start(separator, before, line) {
+        None => Err(Lost::NoField),
+        Some(start) => Ok(Part {
             start,
-            text: front_field(field.separator, &line[start..]),
+            text: front_field(separator, &line[start..]),
+            is_quoted: false,
         }),
+    }
+}
+
+/// Returns the field after `before` other fields, with `more` fields after it. Returns an error if there are too few fields.
+#[inline(never)]
+fn plain_fields(separator: u8, before: usize, more: usize, line: &[u8]) -> Result<Part<'_>, Lost> {
+    match field_start(separator, before, line) {
+        None => Err(Lost::NoField),
+        Some(start) => match front_fields(separator, more, &line[start..]) {
+            None => Err(Lost::NoField),
+            Some(text) => Ok(Part {
+                start,
+                text,
+                is_quoted: false,
+            }),
+        },
+    }
+}
+
+/// Returns the first field and `more` fields after it, with the separators between them. Returns `None` if there are too few fields.
+#[inline(never)]
+fn front_fields(separator: u8, more: usize, rest: &[u8]) -> Option<&[u8]> {
+    match field_start(separator, more, rest) {
+        None => None,
+        Some(last) => Some(&rest[..last + front_field(separator, &rest[last..]).len()]),
     }
 }
 
@@ -68,6 +137,7 @@ fn field_of(field: Field, line: &[u8]) -> Option<Part<'_>> {
 ///
 /// If many fields come before it, the function counts the separators in sixteen bytes at once. If the fields are short, this is
 /// faster than one search for each field.
+#[inline(always)]
 fn field_start(separator: u8, before: usize, line: &[u8]) -> Option<usize> {
     if before < MANY_FIELDS {
         return near_field_start(separator, before, line);

@@ -12,12 +12,19 @@ use ixdtf::encoding::{Utf8, Utf16};
 use ixdtf::records::IxdtfParseRecord;
 use core::fmt;
 
-/// Writes the canonical text of the record to the beginning of the slice, such as `2024-03-02T08:48:00Z[u-ca=hebrew]`.
+/// Writes the canonical text of the record, such as `2024-03-02T08:48:00Z`, to the beginning of the slice.
 ///
-/// The canonical text has these parts, if the record has them: the date; the time, with its seconds; the offset, with
-/// seconds only if the record has them; the zone, with its `!` if it is critical; and the calendar. Some parts of a parsed
-/// text are not in the record, and so not in the canonical text: the `!` of a calendar, and all annotations other than the
-/// zone and the calendar of the record. Digits of a fraction after the first 18 are written as zeros.
+/// The canonical text has these parts, if the record has them:
+///
+/// - the date;
+/// - the time, with its seconds;
+/// - the offset, with seconds only if the record has them;
+/// - the zone, with its `!` if it is critical;
+/// - the calendar.
+///
+/// Some parts of a parsed text are not in the record, and so not in the canonical text: the `!` of a calendar, and all
+/// annotations other than the zone and the calendar of the record. Digits of a fraction after the first 18 are written as
+/// zeros.
 ///
 /// A record of `parse_year_month` has the first day of the month, so this function writes `2020-11-01` for `2020-11`. A
 /// record of `parse_month_day` has the year 0, so this function writes `0000-11-07` for `11-07`. A record of `parse_time`
@@ -72,11 +79,13 @@ pub fn print(parsed: &IxdtfParseRecord<'_, Utf8>, out: &mut [u8]) -> Result<usiz
 /// use ixdtf::parsers::IxdtfParser;
 /// use ixdtf_print::{PrintError, print_utf16};
 ///
-/// let text: Vec<u16> = "20240302 084800z[!Europe/Paris][!u-ca=hebrew][a=b]".encode_utf16().collect();
+/// let text = "20240302 084800z[!Europe/Paris][!u-ca=hebrew][a=b]";
+/// let text: Vec<u16> = text.encode_utf16().collect();
 /// let record = IxdtfParser::from_utf16(&text).parse().unwrap();
 /// let mut out = [0; 64];
 /// let count = print_utf16(&record, &mut out).unwrap();
-/// assert_eq!(String::from_utf16(&out[..count]).unwrap(), "2024-03-02T08:48:00Z[!Europe/Paris][u-ca=hebrew]");
+/// let printed = String::from_utf16(&out[..count]).unwrap();
+/// assert_eq!(printed, "2024-03-02T08:48:00Z[!Europe/Paris][u-ca=hebrew]");
 /// assert_eq!(print_utf16(&record, &mut [0; 8]), Err(PrintError::TooShort));
 /// ```
 ///
@@ -157,7 +166,7 @@ pub fn length_of(parsed: &IxdtfParseRecord<'_, Utf8>) -> u128 {
     text::length(Canonical { parsed })
 }
 
-/// A record that `Display` writes as its canonical text, such as `2024-03-02T08:48:00Z[u-ca=hebrew]`.
+/// A value that displays the canonical text of a record, such as `2024-03-02T08:48:00Z`.
 ///
 /// This is the text that [`print`](crate::print) writes into a slice. `Display` does not allocate, and ignores width
 /// and fill.

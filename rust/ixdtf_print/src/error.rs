@@ -5,7 +5,7 @@
 use core::error::Error;
 use core::fmt;
 
-/// The reason why [`print`](crate::print), or a printer of another kind of record, wrote nothing.
+/// The reason why [`print`](crate::print), or another function that prints, wrote nothing.
 ///
 /// `Display` writes a message.
 ///

@@ -13,7 +13,7 @@ use ixdtf::encoding::{Utf8, Utf16};
 use ixdtf::records::{DateRecord, IxdtfParseRecord, TimeRecord, UtcOffsetRecordOrZ};
 use core::fmt;
 
-/// Writes the canonical text of a time to the beginning of the slice, such as `08:48:00Z[u-ca=hebrew]`.
+/// Writes the canonical text of a time, such as `08:48:00Z[u-ca=hebrew]`, to the beginning of the slice.
 ///
 /// The time is a record that [`IxdtfParser::parse_time`](ixdtf::parsers::IxdtfParser::parse_time) returns. The canonical
 /// text has the time with its seconds, and no `T`. If the record has an offset, a zone or a calendar, they follow the time,
@@ -71,7 +71,8 @@ pub fn print_time(parsed: &IxdtfParseRecord<'_, Utf8>, out: &mut [u8]) -> Result
 /// let record = IxdtfParser::from_utf16(&text).parse_time().unwrap();
 /// let mut out = [0; 64];
 /// let count = print_time_utf16(&record, &mut out).unwrap();
-/// assert_eq!(String::from_utf16(&out[..count]).unwrap(), "12:00:00+01:00[!+01:00][u-ca=hebrew]");
+/// let printed = String::from_utf16(&out[..count]).unwrap();
+/// assert_eq!(printed, "12:00:00+01:00[!+01:00][u-ca=hebrew]");
 /// assert_eq!(print_time_utf16(&record, &mut [0; 7]), Err(PrintError::TooShort));
 /// ```
 ///
@@ -130,7 +131,7 @@ pub fn time_length_utf16(parsed: &IxdtfParseRecord<'_, Utf16>) -> Option<usize> 
     wide_names::printed_length(CanonicalTime { parsed: &core }, parsed)
 }
 
-/// A record of a time that `Display` writes as its canonical text, such as `08:48:00Z[u-ca=hebrew]`.
+/// A value that displays the canonical text of a time, such as `08:48:00Z`.
 ///
 /// This is the text that [`print_time`](crate::print_time) writes into a slice. `Display` does not allocate, and ignores
 /// width and fill.

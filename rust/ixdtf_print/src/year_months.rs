@@ -13,7 +13,7 @@ use ixdtf::encoding::{Utf8, Utf16};
 use ixdtf::records::{DateRecord, IxdtfParseRecord, TimeRecord, UtcOffsetRecordOrZ};
 use core::fmt;
 
-/// Writes the canonical text of a year and a month to the beginning of the slice, such as `2020-11[u-ca=hebrew]`.
+/// Writes the canonical text of a year and a month, such as `2020-11[u-ca=hebrew]`, to the beginning of the slice.
 ///
 /// The record is one that [`IxdtfParser::parse_year_month`](ixdtf::parsers::IxdtfParser::parse_year_month) returns. The
 /// canonical text has the year, with four digits or with a sign and six digits, and the month. If the record has a
@@ -135,7 +135,7 @@ pub fn year_month_length_utf16(parsed: &IxdtfParseRecord<'_, Utf16>) -> Option<u
     wide_names::printed_length(CanonicalYearMonth { parsed: &core }, parsed)
 }
 
-/// A record of a year and a month that `Display` writes as its canonical text, such as `2020-11[u-ca=hebrew]`.
+/// A value that displays the canonical text of a year and a month, such as `2020-11`.
 ///
 /// This is the text that [`print_year_month`](crate::print_year_month) writes into a slice. `Display` does not allocate, and ignores
 /// width and fill.

@@ -3,7 +3,7 @@
 use ixdtf::parsers::Profile;
 use ixdtf_checks::arguments::{FieldName, Options, Word, Wrong, meant_by};
 use ixdtf_checks::kind::{InstantKind, Kind};
-use ixdtf_checks::request::{Field, Skips, Task};
+use ixdtf_checks::request::{Extent, Field, Skips, Task};
 use ixdtf_checks::status::status_of;
 use ixdtf_checks::tally::Tally;
 use std::process::Abort;
@@ -42,7 +42,8 @@ fn takes_options(rt: HostRuntime) {
         request.field,
         Some(Field {
             before: 2,
-            separator: b';'
+            separator: b';',
+            extent: Extent::One,
         })
     );
     assert_eq!(rt; request.most_reports, 20);
@@ -55,6 +56,41 @@ fn takes_options(rt: HostRuntime) {
         })
     );
     assert!(rt; request.is_quiet);
+}
+
+/// Values of `--fields`, with the fields that they ask for.
+const JOINED: &[(&str, usize, usize)] = &[("1-2", 0, 1), ("3-3", 2, 0), ("2-9", 1, 7)];
+
+#[test]
+fn asks_for_a_field_of_a_record(rt: HostRuntime) {
+    let Some(request) = options_of(&rt, &["--csv", "--field", "3"]).request("f") else {
+        panic!(rt; "no request");
+    };
+    assert_eq!(rt;
+        request.field,
+        Some(Field {
+            before: 2,
+            separator: b',',
+            extent: Extent::Csv
+        })
+    );
+}
+
+#[test]
+fn asks_for_fields(rt: HostRuntime) {
+    for (value, before, more) in JOINED {
+        let Some(request) = options_of(&rt, &["--fields", value]).request("f") else {
+            panic!(rt; "no request");
+        };
+        assert_eq!(rt;
+            request.field,
+            Some(Field {
+                before: *before,
+                separator: b' ',
+                extent: Extent::More(*more)
+            })
+        );
+    }
 }
 
 /// Words, and the position at which they name a field, if they do.
@@ -114,6 +150,19 @@ const TOGETHER: &[(&[&str], Option<Wrong>)] = &[
     (&["--kind=time", "--canonical"], None),
     (&["--field=when"], Some(Wrong::NameWithoutHeader)),
     (&["--header", "--field", "when"], None),
+    (&["--fields=1-2", "--separator= "], None),
+    (
+        &["--fields", "1-2", "--separator", ","],
+        Some(Wrong::FieldsSeparator),
+    ),
+    (&["--fields"], Some(Wrong::MissingValue)),
+    (&["--csv"], Some(Wrong::CsvWithoutField)),
+    (&["--csv", "--fields=1-2"], Some(Wrong::CsvWithoutField)),
+    (
+        &["--csv", "--field=1", "--separator=\""],
+        Some(Wrong::CsvSeparator),
+    ),
+    (&["--csv", "--field=1", "--separator=;"], None),
     (&["--kind", "rfc9557", "--ordered"], None),
     (&["--ordered", "--kind=time"], Some(Wrong::OrderedKind)),
     (&["--ordered", "--canonical"], Some(Wrong::OrderedCanonical)),
@@ -146,6 +195,10 @@ const ONE_BY_ONE: &[(&str, Word)] = &[
 const WITHOUT_VALUES: &[(&str, &str, Wrong)] = &[
     ("--field", "0", Wrong::InvalidField),
     ("--field", "", Wrong::InvalidField),
+    ("--fields", "0-2", Wrong::InvalidFields),
+    ("--fields", "2-1", Wrong::InvalidFields),
+    ("--fields", "2", Wrong::InvalidFields),
+    ("--fields", "1-", Wrong::InvalidFields),
     ("--kind", "date", Wrong::UnknownKind),
     ("--separator", ",,", Wrong::InvalidSeparator),
     ("--comment", "//", Wrong::InvalidComment),

@@ -1,6 +1,6 @@
 //! Tests which field has a name in the first line.
 
-use ixdtf_checks::column::{ColumnError, column_named};
+use ixdtf_checks::column::{ColumnError, column_in_record, column_named};
 
 /// First lines, names, and the number of fields before the field with the name, or the error.
 const FIRST_LINES: &[(&[u8], &str, Result<usize, ColumnError>)] = &[
@@ -20,5 +20,33 @@ const FIRST_LINES: &[(&[u8], &str, Result<usize, ColumnError>)] = &[
 fn finds_the_field_with_a_name(rt: HostRuntime) {
     for (first, name, wanted) in FIRST_LINES {
         assert_eq!(rt; column_named(b',', name.as_bytes(), first), *wanted);
+    }
+}
+
+/// First lines that are records of RFC 4180, or are not, with names, and the number of fields before the field with the name, or the
+/// error.
+const FIRST_RECORDS: &[(&[u8], &str, Result<usize, ColumnError>)] = &[
+    (b"id,day", "day", Ok(1)),
+    (b"\xEF\xBB\xBF\"id\",day\r", "id", Ok(0)),
+    (
+        b"id,\"the \"\"day\"\", or not\",time",
+        "the \"day\", or not",
+        Ok(1),
+    ),
+    (b"\"id,day\",time", "time", Ok(1)),
+    (b"\"id,day\",time", "day", Err(ColumnError::Missing)),
+    (b"day,id,\"day\"", "day", Err(ColumnError::Twice)),
+    (b"day,\"id", "day", Err(ColumnError::NoRecord)),
+    (b"", "day", Err(ColumnError::Missing)),
+];
+
+#[test]
+fn finds_the_field_with_a_name_in_a_record(rt: HostRuntime) {
+    let mut unquoted = [0; 65536];
+    for (first, name, wanted) in FIRST_RECORDS {
+        assert_eq!(rt;
+            column_in_record(b',', name.as_bytes(), first, &mut unquoted),
+            *wanted
+        );
     }
 }

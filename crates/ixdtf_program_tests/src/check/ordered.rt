@@ -2,7 +2,7 @@
 
 use super::{DATE_TIMES, check_written};
 use ixdtf_checks::kind::{InstantKind, Kind};
-use ixdtf_checks::request::{Field, Task};
+use ixdtf_checks::request::{Extent, Field, Task};
 use std::test::Fail;
 
 /// Lines. Some of them are too early, name no instant, or are refused for another reason.
@@ -35,6 +35,7 @@ fn marks_the_field_that_goes_back(rt: HostRuntime) -> Result<(), Fail> {
     request.field = Some(Field {
         before: 1,
         separator: b',',
+        extent: Extent::One,
     });
     check_written(
         &rt,

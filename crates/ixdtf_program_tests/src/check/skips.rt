@@ -1,7 +1,7 @@
 //! Tests with lines that have no text, and with bytes that do not belong to a line.
 
 use super::{DATE_TIMES, check_written};
-use ixdtf_checks::request::{Field, Skips};
+use ixdtf_checks::request::{Extent, Field, Skips};
 use std::test::Fail;
 
 /// No line is skipped.
@@ -93,6 +93,7 @@ fn counts_columns_after_a_byte_order_mark(rt: HostRuntime) -> Result<(), Fail> {
     request.field = Some(Field {
         before: 1,
         separator: b',',
+        extent: Extent::One,
     });
     check_written(
         &rt,

@@ -4,7 +4,7 @@ use super::{DATE_TIMES, check_written};
 use ixdtf::parsers::Profile;
 use ixdtf_buffers::place::pass_many;
 use ixdtf_checks::kind::Kind;
-use ixdtf_checks::request::{Field, Request, Task};
+use ixdtf_checks::request::{Extent, Field, Request, Task};
 use std::alloc::Global;
 use std::process::Abort;
 use std::test::Fail;
@@ -106,6 +106,7 @@ fn reads_a_field(rt: HostRuntime) -> Result<(), Fail> {
     request.field = Some(Field {
         before: 1,
         separator: b',',
+        extent: Extent::One,
     });
     check_written(
         &rt,
@@ -124,6 +125,7 @@ fn reads_a_field_behind_many(rt: HostRuntime) -> Result<(), Fail> {
     request.field = Some(Field {
         before: 20,
         separator: b',',
+        extent: Extent::One,
     });
     check_written(
         &rt,
@@ -134,6 +136,88 @@ fn reads_a_field_behind_many(rt: HostRuntime) -> Result<(), Fail> {
 f:3:30: no such field\n",
         (3, 2),
     )
+}
+
+#[test]
+fn reads_two_fields(rt: HostRuntime) -> Result<(), Fail> {
+    let mut request = DATE_TIMES;
+    request.field = Some(Field {
+        before: 1,
+        separator: b' ',
+        extent: Extent::More(1),
+    });
+    check_written(
+        &rt,
+        rt.alloc(),
+        &request,
+        b"a 2020-01-01 12:00:00 b\nab 2020-01-01 25:00:00\na 2020-01-01\nabc\na 2020-01-01  12:00\n",
+        b"f:2:17: Invalid character while parsing hour value.\n2020-01-01 25:00:00\n             ^\n\
+f:3:13: no such field\nf:4:4: no such field\nf:5:14: Parsing ended abruptly while parsing digit\n2020-01-01 \n           ^\n",
+        (5, 4),
+    )
+}
+
+/// Records of RFC 4180 and lines that are none, with what is written about the second field.
+const RECORDS: &[(&[u8], &str)] = &[
+    (b"a,2020-01-01,b\n", ""),
+    (b"\"a,b\",2020-01-01\n", ""),
+    (b"\"a\"\"\"\",b\",\"2020-01-01\",\"\"\r\n", ""),
+    (
+        b"\"a,b\",\"2020-13-01\"\n",
+        "f:1:15: Parsed month value not in a valid range.\n2020-13-01\n       ^\n",
+    ),
+    (
+        b"a,\"2020-\"\"12\",\"\"\n",
+        "f:1:9: Invalid character while parsing month value.\n2020-\"12\n     ^\n",
+    ),
+    (
+        b"a,\"\"\"\"\n",
+        "f:1:4: Invalid chracter while parsing year value.\n\"\n^\n",
+    ),
+    (b"\"a,2020-01-01\"\n", "f:1:15: no such field\n"),
+    (b"a\n", "f:1:2: no such field\n"),
+    (
+        b"a,2020-01-01,\"b\n",
+        "f:1:14: a quote is not closed in this line\n",
+    ),
+    (
+        b"a,\"2020-01-01\n",
+        "f:1:3: a quote is not closed in this line\n",
+    ),
+    (
+        b"a,\"2020-01-01\"\"\n",
+        "f:1:3: a quote is not closed in this line\n",
+    ),
+    (
+        b"\"a\"b,2020-01-01\n",
+        "f:1:4: text after a closing quote\n",
+    ),
+    (
+        b"a,2020-01-01,b\"c\n",
+        "f:1:15: a quote in a field without quotes\n",
+    ),
+];
+
+#[test]
+fn reads_a_field_of_a_record(rt: HostRuntime) -> Result<(), Fail> {
+    let mut request = DATE_TIMES;
+    request.field = Some(Field {
+        before: 1,
+        separator: b',',
+        extent: Extent::Csv,
+    });
+    for (line, report) in RECORDS {
+        let refused = u64::from(!report.is_empty());
+        check_written(
+            &rt,
+            rt.alloc(),
+            &request,
+            line,
+            report.as_bytes(),
+            (1, refused),
+        )?;
+    }
+    Ok(())
 }
 
 #[test]

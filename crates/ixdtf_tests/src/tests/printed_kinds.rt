@@ -148,12 +148,12 @@ fn check_wide_zone(rt: &impl Abort, text: &str, canonical: &str) {
     let mut out = UNTOUCHED_UNITS;
     let printed = print_zone_utf16(&zone, &mut out);
     check_wide(rt, canonical, printed, &out, zone_length_utf16(&zone));
-    let wide = Wide::new(canonical);
-    let again = TimeZoneParser::from_utf16(wide.units()).parse_identifier();
-    check(rt, canonical, again == Ok(zone));
     let mut out = UNTOUCHED_UNITS;
     let printed = print_zone_utf16(&zone, &mut out[..too_few(canonical)]);
     check_wide_refused(rt, canonical, printed, PrintError::TooShort, &out);
+    let wide = Wide::new(canonical);
+    let again = TimeZoneParser::from_utf16(wide.units()).parse_identifier();
+    check(rt, canonical, again == Ok(zone));
 }
 
 /// Asserts that the date-time of the 16-bit text is printed as 16-bit code units, and read back from them.
@@ -166,12 +166,12 @@ fn check_wide_date_time(rt: &impl Abort, text: &str, canonical: &str) {
     let mut out = UNTOUCHED_UNITS;
     let printed = print_utf16(&record, &mut out);
     check_wide(rt, canonical, printed, &out, printed_length_utf16(&record));
-    let wide = Wide::new(canonical);
-    let again = IxdtfParser::from_utf16(wide.units()).parse();
-    check(rt, canonical, again == Ok(record));
     let mut out = UNTOUCHED_UNITS;
     let printed = print_utf16(&record, &mut out[..too_few(canonical)]);
     check_wide_refused(rt, canonical, printed, PrintError::TooShort, &out);
+    let wide = Wide::new(canonical);
+    let again = IxdtfParser::from_utf16(wide.units()).parse();
+    check(rt, canonical, again == Ok(record));
 }
 
 /// Asserts that the time of the 16-bit text is printed as 16-bit code units, and read back from them.
@@ -184,12 +184,12 @@ fn check_wide_time(rt: &impl Abort, text: &str, canonical: &str) {
     let mut out = UNTOUCHED_UNITS;
     let printed = print_time_utf16(&record, &mut out);
     check_wide(rt, canonical, printed, &out, time_length_utf16(&record));
-    let wide = Wide::new(canonical);
-    let again = IxdtfParser::from_utf16(wide.units()).parse_time();
-    check(rt, canonical, again == Ok(record));
     let mut out = UNTOUCHED_UNITS;
     let printed = print_time_utf16(&record, &mut out[..too_few(canonical)]);
     check_wide_refused(rt, canonical, printed, PrintError::TooShort, &out);
+    let wide = Wide::new(canonical);
+    let again = IxdtfParser::from_utf16(wide.units()).parse_time();
+    check(rt, canonical, again == Ok(record));
 }
 
 /// Asserts that the year-month of the 16-bit text is printed as 16-bit code units, and read back from them.
@@ -208,12 +208,12 @@ fn check_wide_year_month(rt: &impl Abort, text: &str, canonical: &str) {
         &out,
         year_month_length_utf16(&record),
     );
-    let wide = Wide::new(canonical);
-    let again = IxdtfParser::from_utf16(wide.units()).parse_year_month();
-    check(rt, canonical, again == Ok(record));
     let mut out = UNTOUCHED_UNITS;
     let printed = print_year_month_utf16(&record, &mut out[..too_few(canonical)]);
     check_wide_refused(rt, canonical, printed, PrintError::TooShort, &out);
+    let wide = Wide::new(canonical);
+    let again = IxdtfParser::from_utf16(wide.units()).parse_year_month();
+    check(rt, canonical, again == Ok(record));
 }
 
 /// Asserts that the month-day of the 16-bit text is printed as 16-bit code units, and read back from them.
@@ -232,12 +232,12 @@ fn check_wide_month_day(rt: &impl Abort, text: &str, canonical: &str) {
         &out,
         month_day_length_utf16(&record),
     );
-    let wide = Wide::new(canonical);
-    let again = IxdtfParser::from_utf16(wide.units()).parse_month_day();
-    check(rt, canonical, again == Ok(record));
     let mut out = UNTOUCHED_UNITS;
     let printed = print_month_day_utf16(&record, &mut out[..too_few(canonical)]);
     check_wide_refused(rt, canonical, printed, PrintError::TooShort, &out);
+    let wide = Wide::new(canonical);
+    let again = IxdtfParser::from_utf16(wide.units()).parse_month_day();
+    check(rt, canonical, again == Ok(record));
 }
 
 fn check_time(rt: &impl Abort, alloc: Global, text: &str, canonical: &str) -> Result<(), Fail> {
