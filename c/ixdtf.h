@@ -439,7 +439,7 @@ IXDTF_CHECKED_ uint32_t ixdtf_print(const ixdtf_record *record, uint8_t *out, si
  * - `time_form` has a value that is not named above.
  * - `fraction` has more digits than `fraction_digits` says, or more than 18 digits.
  * If ixdtf_parse_duration wrote the duration for a text of n bytes, a capacity of n bytes is always
- * enough. A capacity of 406 bytes is enough for every duration. */
+ * enough. A capacity of 376 bytes is enough for every duration. */
 IXDTF_CHECKED_ uint32_t ixdtf_print_duration(const ixdtf_duration *duration, uint8_t *out,
     size_t room, size_t *count);
 

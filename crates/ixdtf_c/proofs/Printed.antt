@@ -15,7 +15,7 @@ use Rattle.ixdtf_c.specs.Standing.{where_there, fraction_by, date_by, time_by, m
 use Rattle.ixdtf_c.proofs.Numbers.{number_some}
 use Rattle.ixdtf_print.specs.{Canonical.canonical_text, Durations.{duration_text, IsPrintableDuration, IsDurationReadBack}, Printable.IsPrintable, Spelled.{HasTime, HasDigits, IsDayTime, IsShift}}
 use Rattle.ixdtf_print.specs.{Times.IsPrintableTime, YearMonths.IsPrintableYearMonth, MonthDays.IsPrintableMonthDay, SpelledCores.{HasLoneTime, HasLoneMonth, HasLoneDay}}
-use Rattle.ixdtf_print.{specs.declared.error.PrintError.TheVariants.NotPrintable, proofs.theorems.ShortDurations.duration_short}
+use Rattle.ixdtf_print.{specs.declared.error.PrintError.TheVariants.NotPrintable, proofs.theorems.ShortDurations.duration_most}
 use Rattle.ixdtf_print.proofs.theorems.{PrintableTimes.tests_time, PrintableYearMonths.tests_year_month, PrintableMonthDays.tests_month_day}
 use Rattle.ixdtf_print.specs.{Offsets.IsPrintableOffset, Printing.{HasText, HasOneText, PrintsOrRefuses}, SpelledDurations.HasTimeUnits}
 use Rattle.ixdtf_print.proofs.{parts.ParsedParts.to_parts, theorems.{PrintableDurations.printable_duration, PrintableOffsets.printable_offset, PrintableRecords.{printable_iff, of_record}}}
@@ -216,10 +216,10 @@ refused none = record {
   unchanged = refl;
 }
 
--- The canonical text of a duration has at most 406 code units.
-pub short_text : (duration : Option DurationParseRecord) → IsSomeAnd duration IsPrintableDuration → length (text_where duration_text duration) ≤ 406
+-- The canonical text of a duration has at most 376 code units.
+pub short_text : (duration : Option DurationParseRecord) → IsSomeAnd duration IsPrintableDuration → length (text_where duration_text duration) ≤ 376
 short_text None is = absurd is
-short_text (Some duration) is = duration_short duration is
+short_text (Some duration) is = duration_most duration is
 
 -- If `P` gives `Q`, and `P` is true after the printer succeeds, then `Q` is true after it.
 pub on_ok : {E P Q : Type 0} (result : Result ℕ E) → (P → Q) → OnOk result P → OnOk result Q
