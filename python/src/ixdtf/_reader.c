@@ -1002,7 +1002,7 @@ static int duration_fields(PyObject *duration, ixdtf_duration *out) {
 
 static PyObject *canonical_duration(PyObject *duration) {
     ixdtf_duration fields = IXDTF_DURATION;
-    uint8_t text[512]; /* large enough: the text has at most 406 bytes */
+    uint8_t text[512]; /* large enough: the text has at most 376 bytes */
     size_t count = 0;
     if (duration_fields(duration, &fields) < 0) {
         return NULL;
