@@ -29,8 +29,10 @@ use std::fmt;
 ///     }
 /// }
 ///
-/// assert_eq!(advice(IxdtfParser::from_str("2021-13-01").parse().unwrap_err()), "there is no such month");
-/// assert_eq!(advice(IxdtfParser::from_str("2021").parse().unwrap_err()), "Date");
+/// let error = IxdtfParser::from_str("2021-13-01").parse().unwrap_err();
+/// assert_eq!(advice(error), "there is no such month");
+/// let error = IxdtfParser::from_str("2021").parse().unwrap_err();
+/// assert_eq!(advice(error), "Date");
 /// ```
 #[derive(Clone, Copy, Debug)]
 pub enum ParseError {
@@ -54,10 +56,10 @@ pub enum ParseError {
     /// - `DurationStart`: the text for a duration is empty.
     /// - `DurationDesignator`: a duration ends after its sign.
     /// - `Duration`: a duration ends after its `P`.
-    /// - `DateDurationDesignator`: in the date part of a duration, the letter of a date unit does not follow the digits of
-    ///   a number. This is also the location if the text ends there.
-    /// - `TimeDurationDesignator`: in the time part of a duration, the letter of a time unit is missing after a number, with or
-    ///   without a fraction. This is also the location if the text ends there.
+    /// - `DateDurationDesignator`: in the date part of a duration, the text ends after a number, or another character than
+    ///   the letter of a date unit follows the number.
+    /// - `TimeDurationDesignator`: in the time part of a duration, the text ends after a number or its fraction, or another
+    ///   character than the letter of a time unit follows.
     AbruptEnd {
         /// What was being parsed.
         location: &'static str,
@@ -123,8 +125,8 @@ pub enum ParseError {
     /// In a bracket that is not the first one, the key begins with a character that cannot begin a key. This is also
     /// the error if the text ends there.
     AnnotationKeyLeadingChar,
-    /// The key of an annotation contains a character that a key cannot contain. This is not the error of the `=` after
-    /// the key.
+    /// The key of an annotation contains a character that a key cannot contain. The `=` after the key ends the key, so it
+    /// does not have this error.
     AnnotationKeyChar,
     /// In the value of an annotation, no ASCII letter or digit follows a hyphen. This is also the error if the text
     /// ends there.
@@ -162,7 +164,7 @@ pub enum ParseError {
     /// A duration begins with a character that is neither a sign nor `P` or `p`, or its sign is followed by
     /// another character than `P` or `p`.
     DurationDisgnator,
-    /// A number of a duration is 2^64 or more, or the number of its years, months or weeks is 2^32 or more.
+    /// A number of a duration is `2^64` or more, or the number of its years, months or weeks is `2^32` or more.
     DurationValueExceededRange,
     /// The years, months, weeks and days of a duration are not in this order. Under the strict profile, this is also
     /// the error if one of these units occurs twice.

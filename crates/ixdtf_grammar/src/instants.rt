@@ -37,8 +37,10 @@ impl<'a, T: EncodingType> IxdtfParseRecord<'a, T> {
     /// use ixdtf::Instant;
     /// use ixdtf::parsers::IxdtfParser;
     ///
-    /// let record = IxdtfParser::from_str("2024-03-02T08:48:00.25-05:00[America/New_York]").parse().unwrap();
-    /// assert_eq!(record.instant(), Some(Instant { seconds: 1_709_387_280, nanoseconds: 250_000_000 }));
+    /// let text = "2024-03-02T08:48:00.25-05:00[America/New_York]";
+    /// let record = IxdtfParser::from_str(text).parse().unwrap();
+    /// let instant = Instant { seconds: 1_709_387_280, nanoseconds: 250_000_000 };
+    /// assert_eq!(record.instant(), Some(instant));
     ///
     /// let record = IxdtfParser::from_str("2024-03-02T08:48:00[America/New_York]").parse().unwrap();
     /// assert_eq!(record.instant(), None);

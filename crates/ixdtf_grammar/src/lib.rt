@@ -15,10 +15,10 @@
 //! - The text readers are the five readers of dates, times and durations. Under one profile, the grammar derives a value
 //!   from a text for at most one of these five readers.
 //! - A line of the fault table is about one kind of prefix. Its rows have the errors for what comes after the prefix.
-//!   Suppose that a row of a line fits a text with a *bad code unit*, a 16-bit code unit outside 1 to 126. There are two
-//!   cases. In the first case, the error of the row is `NonAsciiCodePoint`, at the first bad code unit. In the second
-//!   case, the first bad code unit and the code units after it do not matter: whatever replaces them, a row of the same
-//!   line fits the new text, and this row has the same error.
+//!   A *bad code unit* is a 16-bit code unit outside 1 to 126. Suppose that a row of a line fits a text with a bad code
+//!   unit. There are two cases. In the first case, the error of the row is `NonAsciiCodePoint`, and its position is the
+//!   first bad code unit. In the second case, replace the first bad code unit and everything after it by any other code
+//!   units. Then a row of the same line fits the new text, and this row has the same error.
 #![tactic(auto)]
 
 pub mod encoding;

@@ -211,7 +211,7 @@ impl<'a, T: EncodingType> Cursor<'a, T> {
 
     /// Returns the number of the two digits at `index` of the remaining input and at the next index.
     ///
-    /// Returns `None` if one of them is not a digit. Both are read in any case.
+    /// Returns `None` if one of them is not a digit. It reads the second one also if the first one is not a digit.
     #[inline(always)]
     pub fn fixed_number(&mut self, index: usize) -> Option<u8> {
         let tens = self.byte_at(index);

@@ -105,13 +105,16 @@ pub struct TimeZoneAnnotation<'a, T: EncodingType> {
 /// use ixdtf::parsers::IxdtfParser;
 ///
 /// let mut found = None;
-/// let record = IxdtfParser::from_str("2024-03-02[!answer=fortytwo]").parse_with_annotation_handler(|annotation| {
+/// let mut parser = IxdtfParser::from_str("2024-03-02[!answer=fortytwo]");
+/// let record = parser.parse_with_annotation_handler(|annotation| {
 ///     found = Some(annotation);
 ///     None
 /// });
 /// assert!(record.is_ok());
 /// let annotation = found.unwrap();
-/// assert_eq!((annotation.critical, annotation.key, annotation.value), (true, b"answer".as_slice(), b"fortytwo".as_slice()));
+/// assert!(annotation.critical);
+/// assert_eq!(annotation.key, b"answer");
+/// assert_eq!(annotation.value, b"fortytwo");
 /// ```
 #[derive(Clone, Copy, Debug, PartialEq, Eq, Hash)]
 #[cfg_attr(not(feature = "open-records"), non_exhaustive)]
@@ -147,8 +150,10 @@ impl<'a> TimeZoneRecord<'a, Utf8> {
     /// ```rust
     /// use ixdtf::parsers::TimeZoneParser;
     ///
-    /// assert_eq!(TimeZoneParser::from_str("Europe/Berlin").parse_identifier()?.name(), Some("Europe/Berlin"));
-    /// assert_eq!(TimeZoneParser::from_str("+01:00").parse_identifier()?.name(), None);
+    /// let zone = TimeZoneParser::from_str("Europe/Berlin").parse_identifier()?;
+    /// assert_eq!(zone.name(), Some("Europe/Berlin"));
+    /// let zone = TimeZoneParser::from_str("+01:00").parse_identifier()?;
+    /// assert_eq!(zone.name(), None);
     /// # Ok::<(), ixdtf::ParseError>(())
     /// ```
     #[must_use]
@@ -390,10 +395,17 @@ pub struct DateDurationRecord {
 /// fn seconds_of(time: TimeDurationRecord) -> u128 {
 ///     let (hours, minutes, seconds, fraction, unit) = match time {
 ///         TimeDurationRecord::Hours { hours, fraction } => (hours, 0, 0, fraction, 3600),
-///         TimeDurationRecord::Minutes { hours, minutes, fraction } => (hours, minutes, 0, fraction, 60),
-///         TimeDurationRecord::Seconds { hours, minutes, seconds, fraction } => (hours, minutes, seconds, fraction, 1),
+///         TimeDurationRecord::Minutes { hours, minutes, fraction } => {
+///             (hours, minutes, 0, fraction, 60)
+///         }
+///         TimeDurationRecord::Seconds { hours, minutes, seconds, fraction } => {
+///             (hours, minutes, seconds, fraction, 1)
+///         }
 ///     };
-///     let billionths = fraction.map_or(0, |fraction| u64::from(fraction.to_truncated_nanoseconds()));
+///     let billionths = match fraction {
+///         Some(fraction) => u64::from(fraction.to_truncated_nanoseconds()),
+///         None => 0,
+///     };
 ///     let whole = u128::from(hours) * 3600 + u128::from(minutes) * 60 + u128::from(seconds);
 ///     whole + u128::from(billionths * unit / 1_000_000_000)
 /// }

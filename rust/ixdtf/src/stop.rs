@@ -152,8 +152,9 @@ pub struct StopAt {
 
 /// An error that can be made from a `Stop`: `ParseError`, or `LocatedError` with the position.
 ///
-/// A function that calls a handler has a type parameter for its error, with this bound. So the signature of the function
-/// does not name the lifetime `'static`. `ParseError` names it, because it contains a `&'static str`.
+/// A function that calls a handler is generic over the type of its error, with this trait as the bound. `ParseError`
+/// contains a `&'static str`. If the function returned `ParseError` itself, its signature would have to name the lifetime
+/// `'static`.
 pub trait FromStop {
     /// Makes the error from a `Stop` with position `at`.
     fn of_stop(stop: Stop, at: usize) -> Self;

@@ -134,7 +134,7 @@ impl<'a, T: EncodingType> IsoDurationParser<'a, T> {
     ///
     /// All letters can be lowercase. Within the date groups, and within the time groups, no unit can come after a
     /// shorter unit. A unit can be repeated, and then its last number counts. Under [`Profile::Strict`], no unit can be
-    /// repeated. A number must be less than 2^64. The number of years, months or weeks must be less than 2^32.
+    /// repeated. A number must be less than `2^64`. The number of years, months or weeks must be less than `2^32`.
     ///
     /// The record has a date if the text has date groups, and a time if it has a `T`.
     ///
@@ -154,9 +154,11 @@ impl<'a, T: EncodingType> IsoDurationParser<'a, T> {
     /// assert_eq!((duration.sign, duration.time), (Sign::Positive, None));
     ///
     /// let duration = IsoDurationParser::from_str("-pt1h0,5m").parse()?;
-    /// let Some(TimeDurationRecord::Minutes { hours, minutes, fraction }) = duration.time else { panic!("no minutes") };
+    /// let Some(TimeDurationRecord::Minutes { hours, minutes, fraction }) = duration.time else {
+    ///     panic!("no minutes")
+    /// };
     /// assert_eq!((duration.sign, hours, minutes), (Sign::Negative, 1, 0));
-    /// // The fraction is a fraction of a minute. Half a minute is 500,000,000 billionths of a minute.
+    /// // The fraction is a fraction of a minute: half a minute is 500,000,000 billionths of it.
     /// assert_eq!(fraction.unwrap().to_nanoseconds(), Some(500_000_000));
     ///
     /// assert_eq!(IsoDurationParser::from_str("P1Y2Y").parse()?.date.unwrap().years, 2);
@@ -173,7 +175,7 @@ impl<'a, T: EncodingType> IsoDurationParser<'a, T> {
     /// # Errors
     ///
     /// The first wrong part of the text decides the error. In one group, three tests follow each other: the number must be
-    /// less than 2^64, the unit must be in order, and a number of years, months or weeks must be less than 2^32. To get
+    /// less than `2^64`, the unit must be in order, and a number of years, months or weeks must be less than `2^32`. To get
     /// the position of the error, call [`parse_located`](Self::parse_located).
     ///
     /// - `AbruptEnd`: the text is empty (location `DurationStart`), or ends after the sign (`DurationDesignator`) or
@@ -184,7 +186,7 @@ impl<'a, T: EncodingType> IsoDurationParser<'a, T> {
     /// - `TimeDurationDesignator`: no digit follows the `T`. This is also the error if the text ends there.
     /// - `DateDurationPartOrder`, `TimeDurationPartOrder`: a group comes after a group with a shorter unit. Under
     ///   [`Profile::Strict`], this is also the error if a unit is repeated.
-    /// - `DurationValueExceededRange`: a number is 2^64 or more, or the number of years, months or weeks is 2^32 or
+    /// - `DurationValueExceededRange`: a number is `2^64` or more, or the number of years, months or weeks is `2^32` or
     ///   more.
     /// - `FractionPart`: no digit follows the `.` or `,`. This is also the error if the text ends there.
     /// - `InvalidEnd`: `P` or a group is followed by a character that must not follow it.
@@ -201,10 +203,11 @@ impl<'a, T: EncodingType> IsoDurationParser<'a, T> {
     /// Parses the remaining input as a duration, like [`parse`](Self::parse). An error includes its position.
     ///
     /// The position is the number of code units before the error. It is the index of the code unit that does not fit,
-    /// or the end of the input if the input ends too early. There are two exceptions:
+    /// or the end of the input if the input ends too early. There are three exceptions:
     ///
-    /// - If a number is out of range, the position is after the digit with which it becomes 2^64 or more. For years,
-    ///   months and weeks of 2^32 or more, it is after the letter of the unit.
+    /// - If a number is `2^64` or more, the position is after the first digit with which the number is `2^64` or more.
+    /// - If a number of years, months or weeks is `2^32` or more, but less than `2^64`, the position is after the letter of
+    ///   its unit.
     /// - If a group is out of order, the position is after the letter of its unit.
     ///
     /// # Examples

@@ -17,7 +17,8 @@
 /// let mut strict = IxdtfParser::from_str("11-00").with_profile(Profile::Strict);
 /// assert_eq!(strict.parse_month_day(), Err(ParseError::InvalidMonthDay));
 ///
-/// assert_eq!(IxdtfParser::from_str("1200").parse_time(), Err(ParseError::AmbiguousTimeMonthDay));
+/// let time = IxdtfParser::from_str("1200").parse_time();
+/// assert_eq!(time, Err(ParseError::AmbiguousTimeMonthDay));
 /// assert!(IxdtfParser::from_str("1200").with_profile(Profile::Strict).parse_time().is_ok());
 ///
 /// assert!(IsoDurationParser::from_str("P1Y2Y").parse().is_ok());

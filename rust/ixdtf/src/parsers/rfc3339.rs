@@ -274,8 +274,8 @@ fn parse_by_numbers<'a, T: EncodingType>(
 
 /// Reads a date-time of RFC 3339, section 5.6, into the record. Anything can follow it.
 ///
-/// `parse_by_numbers` writes into a record of its own. If it wrote into `found`, the other texts would take more
-/// instructions too, if `rustc` compiles the reader (`docs/PERF.md`).
+/// `parse_by_numbers` writes into a record of its own. If it wrote into `found`, `rustc` would compile the reader so that
+/// also the texts that do not need `parse_by_numbers` take more instructions (`docs/PERF.md`).
 #[inline(always)]
 pub fn parse_internet_date_time<'a, T: EncodingType>(
     cursor: &mut Cursor<'a, T>,
