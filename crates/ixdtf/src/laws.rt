@@ -112,9 +112,9 @@ pub fn hyphens_say_nothing()
 ///   annotations in the outcome of the text.
 /// - `chain`: a text, its annotations, and the replies to them give at most one result, a record or an error.
 /// - `place`: a text, its annotations, and one reply for each annotation give at most one position of an error.
-/// - `replied`: suppose that each reply of a handler depends only on the annotations for which it has been called up to
-///   this reply. Then, for each text, there is exactly one list of annotations for which the handler is called, and exactly
-///   one result.
+/// - `replied`: suppose that each reply of a handler depends only on the annotation for which it is called and on the
+///   annotations of the calls before. Then, for each text, there is exactly one list of annotations for which the handler
+///   is called, and exactly one result.
 ///
 /// The law is about all texts. The clauses `no_row` and `only` in the contract of each reader are about one call: after
 /// `Ok`, no row fits, and after an error, no other error is possible.
@@ -146,9 +146,8 @@ pub fn languages_disjoint()
 ///   its code units.
 /// - If no number is bad, the 8-bit text and the 16-bit text have the same outcome, and the same errors at the same
 ///   positions.
-/// - If a number is bad, the 16-bit text has an error. For a comparison, replace each bad number by 128, and read the new
-///   list as 8-bit text. The error of the 16-bit text is `NonAsciiCodePoint`, or it is the error of this 8-bit text, at
-///   the same position.
+/// - If a number is bad, the 16-bit text has an error. If this error is not `NonAsciiCodePoint`, replace each bad number by
+///   128, and read the new list as 8-bit text. This 8-bit text has the same error, at the same position.
 /// - The position of `NonAsciiCodePoint` is that of the first bad number. No 8-bit text has this error.
 pub fn widths_agree()
     ensures one { OneUnhandledOutcome }
@@ -170,9 +169,9 @@ pub fn exact_nanoseconds_are_the_truncated_ones(fraction: &Fraction)
 
 /// States that `==` of two values is true exactly if the two values have the same content.
 ///
-/// The law is about slices of code units, records and errors, in every encoding. The content of a value is what contracts
-/// say about it. For a slice, it is the list of the numbers of its code units. For a location, it is the list of its
-/// bytes. So `==` is reflexive, symmetric and transitive.
+/// The law is about slices of code units, records and errors, in every encoding. The content of a slice is the list of the
+/// numbers of its code units. The content of a location is the list of its bytes. The content of a record or of another
+/// error is that of its fields. So `==` is reflexive, symmetric and transitive.
 pub fn equality_is_of_what_is_seen<'a, T: EncodingType>()
 where
     T::CodeUnit: 'a,

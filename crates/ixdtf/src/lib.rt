@@ -14,8 +14,8 @@
 //! - [`parsers::TimeZoneParser`] parses a text that is only an offset, or only a time zone.
 //! - [`parsers::IsoDurationParser`] parses a duration, such as `P1Y2M3DT4H`.
 //! - Each method has a variant `*_located`, whose error has a position.
-//! - [`parsers::Profile`] has stricter rules for a month and a day, and for a duration. `parse_time` refuses some texts
-//!   because they could also be a month and a day. So the profile also decides which texts these are.
+//! - [`parsers::Profile`] has stricter rules for a month and a day, and for a duration. `parse_time` refuses a text that
+//!   could also be a month and a day. So the rules for a month and a day also decide which texts `parse_time` refuses.
 //!
 //! The grammar is written down. A *reader* is one of these parsing methods. It accepts every text of its grammar,
 //! unless an annotation must be refused, and accepts no other text. For every text that it does not accept, a

@@ -14,13 +14,13 @@ use ixdtf::records::Annotation;
 /// A caller lists all annotations of a text, replies to them in order, and stops at the first reply that is refused. A
 /// *beginning* of a list is any number of its elements, from the first one on.
 ///
-/// - `gives`, `wide_gives`: The list of annotations has a beginning, and the list of replies has a beginning of the same length.
-///   The text with the annotations and the replies of these two beginnings gives the outcome of the caller. The relation *give*
-///   is `GivesResult`. It is `GivesRecord` for a record, and `GivesFault` for an error. The contracts of the readers with a
-///   handler refer to these two definitions.
-/// - `handling`, `wide_handling`: A reader of the same kind has a handler. Suppose that all replies of the handler, in order, are
-///   a beginning of the list of replies. Then the outcome of the reader is the outcome of the caller, and the reader called the
-///   handler for a beginning of the list of annotations.
+/// - `gives`, `wide_gives`: There is a number of annotations for which the following is true. Take so many annotations and so
+///   many replies, both from the first one on. Then the text, these annotations and these replies together *give* the outcome
+///   of the caller. The definition `GivesResult` says what *give* means: `GivesRecord` for a record, and `GivesFault` for an
+///   error. The contracts of the readers with a handler use the same two definitions.
+/// - `handling`, `wide_handling`: A reader of the same kind, but with a handler, reads the same text. Suppose that the replies
+///   of the handler, in order, are a beginning of the caller's list of replies. Then the outcome of the reader is the outcome of
+///   the caller, and the annotations for which it called the handler are a beginning of the list of annotations.
 pub fn replying_is_handling<'a, T: EncodingType, F>()
 where
     T::CodeUnit: 'a,

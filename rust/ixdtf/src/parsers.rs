@@ -9,7 +9,7 @@
 //! - It returns an error only for one of two reasons: a row of the table of errors has this error and fits the input, or
 //!   an annotation is refused with this error.
 //!
-//! With a handler, the annotations that can be refused are those that the handler returned. In the repository,
+//! If a method has a handler, only an annotation that the handler returned can be refused. In the repository,
 //! `docs/GRAMMAR.md` describes the grammar, and `docs/FAULTS.md` has the table of errors.
 
 mod unhandled;
@@ -155,8 +155,8 @@ impl<'a, T: EncodingType> IxdtfParser<'a, T> {
 
     /// Returns the parser with another profile. The remaining input is unchanged.
     ///
-    /// The profile decides which texts are a month and a day. [`parse_time`](Self::parse_time) refuses some texts because
-    /// they could also be a month and a day. So the profile also decides which texts these are.
+    /// The profile decides which texts [`parse_month_day`](Self::parse_month_day) accepts. So it also decides which texts
+    /// [`parse_time`](Self::parse_time) refuses because they could be a month and a day.
     ///
     /// # Examples
     ///

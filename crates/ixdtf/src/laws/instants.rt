@@ -17,9 +17,9 @@ pub fn next_day_is_a_day_later()
 
 /// States that dates and times, their instants and the counts of these instants have the same order.
 ///
-/// - `counts`: suppose that two dates are dates of the calendar, and that the hours of two times are at most 23, the
-///   minutes at most 59 and the seconds at most 60. Then, at the same offset, one date and time comes before the other
-///   exactly if the count of its instant is smaller. Second 60 counts as second 59.
+/// - `counts`: suppose that two dates are dates of the calendar, and that two times have hours of at most 23, minutes of at
+///   most 59 and seconds of at most 60. Second 60 counts as second 59. Then, at the same offset, one date and time comes
+///   before the other exactly if the count of its instant is smaller.
 /// - `instants`: suppose that the nanoseconds of two instants are below 1,000,000,000. `Ord` compares the seconds, and
 ///   then the nanoseconds. One instant is less than the other in this order exactly if its count is smaller.
 pub fn instants_are_in_order()

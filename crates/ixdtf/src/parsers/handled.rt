@@ -50,7 +50,8 @@ impl<'a, T: EncodingType> IxdtfParser<'a, T> {
     ///
     /// // The handler keeps each annotation. The second one is critical, so it is refused.
     /// let mut calls = 0;
-    /// let read = IxdtfParser::from_str("2020-01-01[a=b][!c=d][e=f]").parse_with_annotation_handler(|annotation| {
+    /// let mut parser = IxdtfParser::from_str("2020-01-01[a=b][!c=d][e=f]");
+    /// let read = parser.parse_with_annotation_handler(|annotation| {
     ///     calls += 1;
     ///     Some(annotation)
     /// });
@@ -58,16 +59,18 @@ impl<'a, T: EncodingType> IxdtfParser<'a, T> {
     ///
     /// // The handler drops each annotation.
     /// let mut keys = Vec::new();
-    /// let read = IxdtfParser::from_str("2020-01-01[a=b][!c=d][e=f]").parse_with_annotation_handler(|annotation| {
+    /// let mut parser = IxdtfParser::from_str("2020-01-01[a=b][!c=d][e=f]");
+    /// let read = parser.parse_with_annotation_handler(|annotation| {
     ///     keys.push(annotation.key);
     ///     None
     /// });
     /// assert!(read.is_ok());
     /// assert_eq!(keys, [b"a", b"c", b"e"]);
     ///
-    /// // The reader calls the handler for both annotations before it reads the wrong text after them.
+    /// // The reader calls the handler for both annotations. Then it reads the wrong text after them.
     /// let mut calls = 0;
-    /// let read = IxdtfParser::from_str("2020-01-01[a=b][c=d]junk").parse_with_annotation_handler(|_| {
+    /// let mut parser = IxdtfParser::from_str("2020-01-01[a=b][c=d]junk");
+    /// let read = parser.parse_with_annotation_handler(|_| {
     ///     calls += 1;
     ///     None
     /// });
@@ -155,7 +158,8 @@ impl<'a, T: EncodingType> IxdtfParser<'a, T> {
     /// ```rust
     /// use ixdtf::parsers::IxdtfParser;
     ///
-    /// let record = IxdtfParser::from_str("2020-11[!a=b][u-ca=hebrew]").parse_year_month_with_annotation_handler(|annotation| {
+    /// let mut parser = IxdtfParser::from_str("2020-11[!a=b][u-ca=hebrew]");
+    /// let record = parser.parse_year_month_with_annotation_handler(|annotation| {
     ///     if annotation.key == b"u-ca" { Some(annotation) } else { None }
     /// });
     /// assert_eq!(record.unwrap().calendar, Some(b"hebrew".as_slice()));
@@ -188,7 +192,8 @@ impl<'a, T: EncodingType> IxdtfParser<'a, T> {
     /// ```rust
     /// use ixdtf::parsers::IxdtfParser;
     ///
-    /// let record = IxdtfParser::from_str("11-07[!a=b][u-ca=hebrew]").parse_month_day_with_annotation_handler(|annotation| {
+    /// let mut parser = IxdtfParser::from_str("11-07[!a=b][u-ca=hebrew]");
+    /// let record = parser.parse_month_day_with_annotation_handler(|annotation| {
     ///     if annotation.key == b"u-ca" { Some(annotation) } else { None }
     /// });
     /// assert_eq!(record.unwrap().calendar, Some(b"hebrew".as_slice()));
@@ -221,7 +226,8 @@ impl<'a, T: EncodingType> IxdtfParser<'a, T> {
     /// ```rust
     /// use ixdtf::parsers::IxdtfParser;
     ///
-    /// let record = IxdtfParser::from_str("T1200[!a=b][u-ca=hebrew]").parse_time_with_annotation_handler(|annotation| {
+    /// let mut parser = IxdtfParser::from_str("T1200[!a=b][u-ca=hebrew]");
+    /// let record = parser.parse_time_with_annotation_handler(|annotation| {
     ///     if annotation.key == b"u-ca" { Some(annotation) } else { None }
     /// });
     /// assert_eq!(record.unwrap().calendar, Some(b"hebrew".as_slice()));
@@ -255,7 +261,8 @@ impl<'a, T: EncodingType> IxdtfParser<'a, T> {
     /// use ixdtf::ParseError;
     /// use ixdtf::parsers::IxdtfParser;
     ///
-    /// let located = IxdtfParser::from_str("2020-11-08[!a=b]").parse_with_annotation_handler_located(Some).unwrap_err();
+    /// let mut parser = IxdtfParser::from_str("2020-11-08[!a=b]");
+    /// let located = parser.parse_with_annotation_handler_located(Some).unwrap_err();
     /// assert_eq!((located.error, located.at), (ParseError::UnrecognizedCritical, 16));
     /// ```
     ///
@@ -287,7 +294,8 @@ impl<'a, T: EncodingType> IxdtfParser<'a, T> {
     /// use ixdtf::ParseError;
     /// use ixdtf::parsers::IxdtfParser;
     ///
-    /// let located = IxdtfParser::from_str("2024-03-02T08:48:00Z[!a=b]").parse_rfc9557_with_annotation_handler_located(Some).unwrap_err();
+    /// let mut parser = IxdtfParser::from_str("2024-03-02T08:48:00Z[!a=b]");
+    /// let located = parser.parse_rfc9557_with_annotation_handler_located(Some).unwrap_err();
     /// assert_eq!((located.error, located.at), (ParseError::UnrecognizedCritical, 26));
     /// ```
     ///
@@ -319,7 +327,8 @@ impl<'a, T: EncodingType> IxdtfParser<'a, T> {
     /// use ixdtf::ParseError;
     /// use ixdtf::parsers::IxdtfParser;
     ///
-    /// let located = IxdtfParser::from_str("2020-11[!a=b]").parse_year_month_with_annotation_handler_located(Some).unwrap_err();
+    /// let mut parser = IxdtfParser::from_str("2020-11[!a=b]");
+    /// let located = parser.parse_year_month_with_annotation_handler_located(Some).unwrap_err();
     /// assert_eq!((located.error, located.at), (ParseError::UnrecognizedCritical, 13));
     /// ```
     ///
@@ -351,7 +360,8 @@ impl<'a, T: EncodingType> IxdtfParser<'a, T> {
     /// use ixdtf::ParseError;
     /// use ixdtf::parsers::IxdtfParser;
     ///
-    /// let located = IxdtfParser::from_str("11-07[!a=b]").parse_month_day_with_annotation_handler_located(Some).unwrap_err();
+    /// let mut parser = IxdtfParser::from_str("11-07[!a=b]");
+    /// let located = parser.parse_month_day_with_annotation_handler_located(Some).unwrap_err();
     /// assert_eq!((located.error, located.at), (ParseError::UnrecognizedCritical, 11));
     /// ```
     ///
@@ -383,7 +393,8 @@ impl<'a, T: EncodingType> IxdtfParser<'a, T> {
     /// use ixdtf::ParseError;
     /// use ixdtf::parsers::IxdtfParser;
     ///
-    /// let located = IxdtfParser::from_str("T1200[!a=b]").parse_time_with_annotation_handler_located(Some).unwrap_err();
+    /// let mut parser = IxdtfParser::from_str("T1200[!a=b]");
+    /// let located = parser.parse_time_with_annotation_handler_located(Some).unwrap_err();
     /// assert_eq!((located.error, located.at), (ParseError::UnrecognizedCritical, 11));
     /// ```
     ///

@@ -36,7 +36,8 @@ impl<'a, T: EncodingType> IxdtfParser<'a, T> {
     /// use ixdtf::parsers::IxdtfParser;
     ///
     /// let text = "2024-03-02T08:48:00.25-05:00";
-    /// assert_eq!(IxdtfParser::from_str(text).parse_rfc3339()?, IxdtfParser::from_str(text).parse()?);
+    /// let record = IxdtfParser::from_str(text).parse_rfc3339()?;
+    /// assert_eq!(record, IxdtfParser::from_str(text).parse()?);
     ///
     /// for (text, error) in [
     ///     ("20240302T084800Z", ParseError::DateSeparator),

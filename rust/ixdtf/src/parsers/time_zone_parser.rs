@@ -91,7 +91,8 @@ impl<'a, T: EncodingType> TimeZoneParser<'a, T> {
     ///
     /// let zone = TimeZoneParser::from_str("Europe/Berlin").parse_identifier()?;
     /// assert_eq!(zone, TimeZoneRecord::Name(b"Europe/Berlin"));
-    /// let TimeZoneRecord::Offset(offset) = TimeZoneParser::from_str("-0430").parse_identifier()? else { panic!("a name") };
+    /// let zone = TimeZoneParser::from_str("-0430").parse_identifier()?;
+    /// let TimeZoneRecord::Offset(offset) = zone else { panic!("the zone is a name") };
     /// assert_eq!((offset.sign, offset.hour, offset.minute), (Sign::Negative, 4, 30));
     /// for (text, error) in [
     ///     ("+04:30:15", ParseError::InvalidMinutePrecisionOffset),
@@ -204,7 +205,8 @@ impl<'a, T: EncodingType> TimeZoneParser<'a, T> {
     /// use ixdtf::ParseError;
     /// use ixdtf::parsers::TimeZoneParser;
     ///
-    /// assert_eq!(TimeZoneParser::from_str("Europe/Berlin").parse_iana_identifier(), Ok(b"Europe/Berlin".as_slice()));
+    /// let name = TimeZoneParser::from_str("Europe/Berlin").parse_iana_identifier()?;
+    /// assert_eq!(name, b"Europe/Berlin");
     /// for (text, error) in [
     ///     ("+05:00", ParseError::TzLeadingChar),
     ///     ("UTC!", ParseError::IanaChar),

@@ -74,9 +74,8 @@ impl<'a, T: EncodingType> IxdtfParser<'a, T> {
     /// the next code unit is read. To get the position of the error, call [`parse_located`](Self::parse_located).
     ///
     /// - `AbruptEnd`: the text ends too early. The location is `Date` if it ends after the year, and `digit` if it ends
-    ///   where a digit is required. It is `AmbiguousAnnotation` if the text ends after the `[` or `[!` of the first
-    ///   bracket. This is also the location if a lowercase letter or `_` follows this `[` or `[!`, and the text ends
-    ///   before the first `=` or `]`.
+    ///   where a digit is required. It is `AmbiguousAnnotation` in two cases: the text ends after the `[` or `[!` of the
+    ///   first bracket, or a lowercase letter or `_` follows, and the text ends before the first `=` or `]`.
     /// - `DateYear`: another character occurs instead of a digit of the year.
     /// - `DateExtendedYear`: another character occurs instead of a digit of a year with a sign, or the year is
     ///   `-000000`.
@@ -164,10 +163,10 @@ impl<'a, T: EncodingType> IxdtfParser<'a, T> {
     /// # Errors
     ///
     /// The first wrong part of the text decides the error. To get the position of the error, call
-    /// [`parse_rfc9557_located`](Self::parse_rfc9557_located). The date-time has the errors that it has in
+    /// [`parse_rfc9557_located`](Self::parse_rfc9557_located). Before the brackets, the text has the errors that it has in
     /// [`parse_rfc3339`](Self::parse_rfc3339), but a `[` can follow the offset. If any other character follows the offset,
-    /// the error is `InvalidEnd`. Brackets have the errors that they have in [`parse`](Self::parse). Two errors are also
-    /// about a zone that [`parse`](Self::parse) accepts, but RFC 9557 does not allow:
+    /// the error is `InvalidEnd`. Brackets have the errors that they have in [`parse`](Self::parse). In addition, a zone
+    /// that [`parse`](Self::parse) accepts has one of these errors if RFC 9557 does not allow the zone:
     ///
     /// - `IanaChar`: a part of the name of the zone begins with a digit, with `+` or with `-`, or is `.` or `..`.
     /// - `InvalidMinutePrecisionOffset`: the offset of the zone does not have the form `+05:30`.
@@ -253,7 +252,12 @@ impl<'a, T: EncodingType> IxdtfParser<'a, T> {
     /// use ixdtf::ParseError;
     /// use ixdtf::parsers::{IxdtfParser, Profile};
     ///
-    /// for (text, month, day) in [("11-07", 11, 7), ("--1107[+04:00]", 11, 7), ("02-29", 2, 29), ("11-00", 11, 0)] {
+    /// for (text, month, day) in [
+    ///     ("11-07", 11, 7),
+    ///     ("--1107[+04:00]", 11, 7),
+    ///     ("02-29", 2, 29),
+    ///     ("11-00", 11, 0),
+    /// ] {
     ///     let date = IxdtfParser::from_str(text).parse_month_day()?.date.unwrap();
     ///     assert_eq!((date.year, date.month, date.day), (0, month, day));
     /// }
@@ -419,11 +423,15 @@ impl<'a, T: EncodingType> IxdtfParser<'a, T> {
     /// use ixdtf::parsers::IxdtfParser;
     ///
     /// for (text, error, at) in [
-    ///     ("2024-03-02 08:48:00Z", ParseError::TimeSeparator, 10), // at the space
-    ///     ("2024-03-02T08:48:00[UTC]", ParseError::OffsetNeedsSign, 19), // at the bracket
-    ///     ("2024-03-02T08:48:00Z[UTC", ParseError::AnnotationClose, 24), // the end
-    ///     ("2024-03-02T08:48:00Z[+05]", ParseError::InvalidMinutePrecisionOffset, 25), // after the bracket
-    ///     ("2024-03-02T08:48:00Z[!a=b]", ParseError::UnrecognizedCritical, 26), // after the bracket
+    ///     // at the space
+    ///     ("2024-03-02 08:48:00Z", ParseError::TimeSeparator, 10),
+    ///     // at the bracket
+    ///     ("2024-03-02T08:48:00[UTC]", ParseError::OffsetNeedsSign, 19),
+    ///     // at the end of the text
+    ///     ("2024-03-02T08:48:00Z[UTC", ParseError::AnnotationClose, 24),
+    ///     // after the bracket
+    ///     ("2024-03-02T08:48:00Z[+05]", ParseError::InvalidMinutePrecisionOffset, 25),
+    ///     ("2024-03-02T08:48:00Z[!a=b]", ParseError::UnrecognizedCritical, 26),
     /// ] {
     ///     let located = IxdtfParser::from_str(text).parse_rfc9557_located().unwrap_err();
     ///     assert_eq!((located.error, located.at), (error, at));
