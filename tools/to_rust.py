@@ -144,7 +144,7 @@ ADDED = {
     ('records', 'Sign'): '#[repr(i8)]',
 }
 OPEN = {name for (_, name), attribute in ADDED.items() if attribute == '#[non_exhaustive]'}
-INLINED = {'parsers', 'parsers/exact', 'parsers/handled', 'parsers/unhandled', 'parsers/time_zone_parser', 'parsers/duration'}
+INLINED = {'parsers', 'parsers/constructors', 'parsers/exact', 'parsers/handled', 'parsers/unhandled', 'parsers/time_zone_parser', 'parsers/duration'}
 MARKED = INLINED | {'error', 'instants', 'located', 'records', 'canonical', 'length'}
 # names in the module above to which doc comments of a module link
 FARTHER = {'parsers/unhandled': ('Profile', 'TimeZoneParser')}
@@ -501,8 +501,10 @@ def of_layers(module, plain, roots):
     first = lines.index(block[0])
     block += [f'{"pub " if name in shown else ""}mod {name};\n' for name in names]
     lines = [line for line in lines if line not in block]
-    # A page of the documentation shows the functions of a type in the order of its modules: those without a handler come first.
-    lines[first:first] = sorted(block, key=lambda line: (line.split()[-1] != 'unhandled;', line.split()[-1]))
+    # A page of the documentation shows the functions of a type in the order of its modules: its constructors come first, and
+    # then the readers without a handler.
+    front = ['constructors;', 'unhandled;']
+    lines[first:first] = sorted(block, key=lambda line: (line.split()[-1] not in front, line.split()[-1]))
     items = ''.join(sorted((of_root(name, roots) for name in shown if name not in names), key=lambda item: (item.startswith('\n'), item)))
     return re.sub(r'(?:pub use crate::(?:\{[A-Za-z,\s_]+\}|[a-z_]+);\n)+', lambda m: items, ''.join(lines))
 

@@ -205,8 +205,8 @@ impl<'a, T: EncodingType> TimeZoneParser<'a, T> {
     /// use ixdtf::ParseError;
     /// use ixdtf::parsers::TimeZoneParser;
     ///
-    /// let name = TimeZoneParser::from_str("Europe/Berlin").parse_iana_identifier()?;
-    /// assert_eq!(name, b"Europe/Berlin");
+    /// let name = TimeZoneParser::from_str("Europe/Berlin").parse_iana_identifier();
+    /// assert_eq!(name, Ok(b"Europe/Berlin".as_slice()));
     /// for (text, error) in [
     ///     ("+05:00", ParseError::TzLeadingChar),
     ///     ("UTC!", ParseError::IanaChar),
