@@ -313,8 +313,8 @@ class TestFile:
 
 PARSERS = {'IxdtfParser': '', 'TimeZoneParser': '', 'IsoDurationParser': 'duration'}
 EACH = re.compile(r'for \(text, error, at\) in (?=\[)')
-LOCATED = re.compile(r'let located = (\w+)::from_str\(("(?:[^"\\]|\\.)*"|text)\)\.(\w+?)(?:_with_annotation_handler)?_located\((?:Some)?\)'
-                     r'\.unwrap_err\(\);')
+LOCATED = re.compile(r'let (?:mut parser|located) = (\w+)::from_str\(("(?:[^"\\]|\\.)*"|text)\)(?:;\s*let located = parser)?'
+                     r'\.(\w+?)(?:_with_annotation_handler)?_located\((?:Some)?\)\.unwrap_err\(\);')
 EQUAL = re.compile(r'\s*assert_eq!\(\(located\.error, located\.at\), (?=\()')
 
 

@@ -254,7 +254,7 @@ class Repository(unittest.TestCase):
         self.assertEqual(self.found('docs/TRUST.md', 'returns. | `handled.rt` |', 'returns. | `parsers.rt` |', check.findings_in_files),
                          ['the contract of `IxdtfParser::parse_month_day_with_annotation_handler` is in crates/ixdtf/src/parsers/handled.rt, '
                           'which the row does not name', '`parsers.rt` has no contract that the row names'])
-        self.assertEqual(self.found('docs/TRUST.md', '`parsers.rt`, `unhandled.rt`, ', '`parsers.rt`, ', check.findings_in_reading_order),
+        self.assertEqual(self.found('docs/TRUST.md', '`constructors.rt`, `unhandled.rt`, ', '`constructors.rt`, ', check.findings_in_reading_order),
                          ['crates/ixdtf/src/parsers/unhandled.rt has contracts that the tables name, but is not one of the files to read'])
 
     def test_snippets(self):
