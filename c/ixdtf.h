@@ -48,11 +48,13 @@
  * If a length or a capacity is 0, the pointer that belongs to it may be NULL, also in a struct. No
  * other pointer that is passed may be NULL.
  *
- * SLICES. A slice is a pointer and a length. A name, a calendar, a key or a value in a record is a
- * slice of the text that was read. It is not NUL-terminated. It is valid as long as the text exists
- * and is unchanged. The library keeps no pointer between calls. A location and the text of an error
- * are valid as long as the program runs. If a function writes a slice, its pointer is never NULL,
- * even if its length is 0.
+ * SLICES. A slice is a pointer and a length. A name or a calendar that a reader writes into a
+ * record is a slice of the text that was read. So are the key and the value of an annotation that a
+ * reader lists. The calendar that ixdtf_keep_calendar writes is the value of a reply that your
+ * program passed to ixdtf_reply. A slice is not NUL-terminated. It is valid as long as the bytes to
+ * which it points exist and are unchanged. The library keeps no pointer between calls. A location
+ * and the text of an error are valid as long as the program runs. If a function writes a slice, its
+ * pointer is never NULL, even if its length is 0.
  * A reader accepts Foo/Bar as the name of a time zone, although no time zone has this name: the
  * library has no list of time zones. The name may have the parts "." and "..": for example,
  * ../../etc/passwd is such a name. Never join a name to a path without a check.
@@ -62,10 +64,10 @@
  * linear in the length of the text, or of the slices of the record. A signal handler may call the
  * library.
  *
- * VERSIONS. Names, numbers, sizes and the offsets of fields do not change within a version of the
- * interface, and none of them is removed. Functions and numbers may be added: this raises the
- * revision. A program that was compiled with this header runs with each library of the same version
- * whose revision is not lower than the revision of the header.
+ * VERSIONS. Within a version of the interface, the names, the numbers, the sizes of the structs and
+ * the positions of their fields do not change, and nothing is removed. Functions and numbers may be
+ * added: this raises the revision. A program that was compiled with this header runs with each
+ * library of the same version whose revision is not lower than the revision of the header.
  * This header has version 2. ixdtf_interface_version() returns the version of the library. It must
  * be equal to IXDTF_INTERFACE_VERSION. The file name of the shared library has the version.
  */
@@ -185,9 +187,9 @@ typedef struct ixdtf_time {
     bool is_there;           /* true if a time is present; if false, the other fields are 0 */
 } ixdtf_time;
 
-/* The values of `form` in an offset. IXDTF_NO_OFFSET says that there is no offset. IXDTF_UTC is Z,
- * which does not say what the local time is. IXDTF_MINUTES is an offset without seconds, and
- * IXDTF_SECONDS is an offset with seconds. */
+/* The values of `form` in an offset. IXDTF_NO_OFFSET says that there is no offset. IXDTF_UTC is Z:
+ * the time is in UTC, and the text does not say what the offset of the local time is. IXDTF_MINUTES
+ * is an offset without seconds, and IXDTF_SECONDS is an offset with seconds. */
 enum { IXDTF_NO_OFFSET = 0, IXDTF_UTC = 1, IXDTF_MINUTES = 2, IXDTF_SECONDS = 3 };
 typedef struct ixdtf_offset {
     uint64_t fraction;       /* as in ixdtf_time; 0 if `form` is not IXDTF_SECONDS */
@@ -351,8 +353,9 @@ IXDTF_CHECKED_ uint32_t ixdtf_parse_duration(const uint8_t *text, size_t length,
 /* Readers that follow the strict profile, a set of stricter rules. ixdtf_parse_month_day_strict
  * refuses the day 00, as in 11-00. ixdtf_parse_duration_strict refuses a repeated duration unit, as
  * in P1Y2Y. ixdtf_parse_time_strict accepts 1200: the strict profile has no day 00, so this text
- * cannot mean month 12, day 00. The other readers have no strict variant, because the strict
- * profile does not change what they do. */
+ * cannot mean month 12, day 00. The other readers above have no strict variant, because the
+ * strict profile does not change what they do. Two of the readers that list annotations have a
+ * strict variant too. */
 IXDTF_CHECKED_ uint32_t ixdtf_parse_month_day_strict(const uint8_t *text, size_t length,
     ixdtf_record *out);
 IXDTF_CHECKED_ uint32_t ixdtf_parse_time_strict(const uint8_t *text, size_t length,
@@ -366,8 +369,8 @@ IXDTF_CHECKED_ uint32_t ixdtf_parse_duration_strict(const uint8_t *text, size_t 
  * - It accepts every annotation that has a key and a value, also a critical one.
  * - It writes no calendar into the record: if it returns 0, has_calendar is false.
  * - It lists the annotations of the text.
- * The reader writes the number of annotations to `count`. If the text is accepted, these are all
- * annotations of the text. If the text is refused, these are the annotations before its error.
+ * If the text is accepted, `count` is the number of all annotations of the text. If the text is
+ * refused, `count` is the number of the annotations before its error.
  * The reader writes the annotations to the array `annotations`, in order. `room` is the capacity of
  * the array, in annotations. If `count` is greater than `room`, the array has only the first `room`
  * annotations. If `count` is less than `room`, the elements after the annotations are unchanged. So
@@ -437,7 +440,8 @@ IXDTF_CHECKED_ uint32_t ixdtf_print(const ixdtf_record *record, uint8_t *out, si
  * function returns IXDTF_NOT_PRINTABLE in these cases:
  * - The duration has neither a date nor a time.
  * - `time_form` has a value that is not named above.
- * - `fraction` has more digits than `fraction_digits` says, or more than 18 digits.
+ * - The duration has a time, `fraction_digits` is not 0, and `fraction` has more digits than
+ *   `fraction_digits` says, or more than 18 digits.
  * If ixdtf_parse_duration wrote the duration for a text of n bytes, a capacity of n bytes is always
  * enough. A capacity of 376 bytes is enough for every duration. */
 IXDTF_CHECKED_ uint32_t ixdtf_print_duration(const ixdtf_duration *duration, uint8_t *out,
@@ -453,8 +457,8 @@ IXDTF_CHECKED_ uint32_t ixdtf_print_duration(const ixdtf_duration *duration, uin
  * - `form` is neither IXDTF_MINUTES nor IXDTF_SECONDS.
  * - `hour` or `minute` is out of range.
  * - `form` is IXDTF_SECONDS, and `second` is out of range.
- * - `form` is IXDTF_SECONDS, and `fraction` has more digits than `fraction_digits` says, or more
- *   than 18 digits.
+ * - `form` is IXDTF_SECONDS, `fraction_digits` is not 0, and `fraction` has more digits than
+ *   `fraction_digits` says, or more than 18 digits.
  * ixdtf_print_zone returns IXDTF_NOT_PRINTABLE in these cases:
  * - `form` is neither IXDTF_NAME nor IXDTF_ZONE_OFFSET.
  * - `form` is IXDTF_ZONE_OFFSET, and `hour` or `minute` is out of range.
@@ -586,8 +590,9 @@ IXDTF_CHECKED_ uint32_t ixdtf16_instant(const ixdtf16_record *record, int64_t *s
  * - IXDTF_OK: the two numbers are exactly the fraction.
  * - IXDTF_NOT_EXACT: the fraction is not a whole number of nanoseconds, as in PT0.0000000001S. The
  *   function also returns this number if the fraction has more than 18 digits, because the struct
- *   has only the first 18 of them. It also does so if `fraction` has more digits than
- *   `fraction_digits` says. After IXDTF_NOT_EXACT, the function has written nothing. */
+ *   has only the first 18 of them. It also does so if `fraction_digits` is not 0, and
+ *   `fraction` has more digits than `fraction_digits` says. After IXDTF_NOT_EXACT, the function has
+ *   written nothing. */
 IXDTF_CHECKED_ uint32_t ixdtf_duration_fraction(const ixdtf_duration *duration, uint32_t *seconds,
     uint32_t *nanoseconds);
 

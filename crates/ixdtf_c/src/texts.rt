@@ -36,7 +36,8 @@ pub trait HasText {
     /// The canonical text of the value.
     ghost canonical: { Self → Text };
 
-    /// States that the reader returns this value for its canonical text, and that no other value has this canonical text.
+    /// States that the reader returns a record for the canonical text, and that no other record of this kind has this
+    /// canonical text. It is the record of the library that the value stands for.
     ghost reads_back: { Self → Type 0 };
 
     /// Prints the value, and returns the length of the text in bytes.

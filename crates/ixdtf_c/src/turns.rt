@@ -89,7 +89,8 @@ fn units_of<'a>(calendar: &Calendar<'a>) -> &'a [u8]
     }
 }
 
-/// Reads a date, or a date and a time, and calls the handler for each annotation, with the functions for C.
+/// Reads a date, or a date and a time, and calls the handler for each annotation. The functions for C read the text and check
+/// the replies.
 ///
 /// This function calls [`ixdtf_parse_with_annotations`], passes each reply of the handler to [`ixdtf_reply`], and stops at the
 /// first reply that is refused. If the array is too short for all annotations, the handler is not called. Otherwise the outcome

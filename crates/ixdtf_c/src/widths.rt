@@ -75,8 +75,8 @@ pub trait RecordOf<'a, T: EncodingType> {
     /// Writes every field of the record. If a part is absent, its fields become 0, false or empty. `location` becomes empty, and
     /// `place` becomes 0.
     ///
-    /// Each part is written directly to the record of the caller, in the match arm that reads it. It took sixty instructions
-    /// more to build a record first and then to copy it.
+    /// The parts are written directly to the record of the caller. It took sixty instructions more to build a record first and
+    /// then to copy it.
     fn write(&mut self, found: &IxdtfParseRecord<'a, T>)
         ensures { contents self.new ≡ record_for (parsed_of T.number found.now) };
 

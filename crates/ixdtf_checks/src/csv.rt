@@ -24,7 +24,7 @@ pub enum Quoting {
     Stray,
 }
 
-/// The position at which a line is no record.
+/// Why a line is no record of RFC 4180.
 #[derive(Clone, Copy)]
 pub struct Broken {
     /// The index of the byte that is wrong.

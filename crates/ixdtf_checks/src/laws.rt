@@ -1,4 +1,4 @@
-//! Laws about the check.
+//! The check with a source and a sink in memory. Its contract says exactly which reports are written.
 ghost use Rattle.std.specs.Prelude.{◌≡◌, ℕ, List, [], ◌++◌, length, Some, Err, OnOk, IfErr};
 ghost use Rattle.ixdtf_buffers.specs.Lines.{lines_of};
 ghost use Rattle.ixdtf_checks.specs.Checks.{ReportsFront, ReportsWhole};

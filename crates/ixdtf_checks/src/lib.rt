@@ -1,7 +1,8 @@
 //! Checks lines of text: which lines are wrong, at which column, and why.
 //!
-//! The function `check` reads lines from a reader, and writes the reports about them to a writer. The program `ixdtf_check` does
-//! the same with files.
+//! The function `check` reads lines from a value with the trait `Read`, and writes the reports about them to a value with the
+//! trait `Write`. The program `ixdtf_check` does the same with files. In the rest of these pages, a *reader* is a function of
+//! the crate `ixdtf` that parses one kind of text.
 #![tactic(auto)]
 
 pub mod arguments;

@@ -15,9 +15,9 @@ const MANY_FIELDS: usize = 4;
 pub struct Part<'a> {
     /// The number of bytes of the line before the part.
     pub start: usize,
-    /// The bytes of the part.
+    /// The text of the part. If the part is a field in quotes, doubled quotes are single quotes here.
     pub text: &'a [u8],
-    /// Whether the line has each quote of the text twice.
+    /// Whether the part is a field in quotes. Then the line has each quote of `text` twice.
     pub is_quoted: bool,
 }
 

@@ -50,7 +50,7 @@ pub enum Reason<'a> {
     Unread(Unread<'a>),
     /// A reader refuses the text of the line, at a space before an offset.
     Spaced(Unread<'a>),
-    /// This text of the line is accepted, but does not name an instant.
+    /// The text of the line, which is this one, is accepted, but does not name an instant.
     NoInstant(&'a [u8]),
     /// The text of the line names an instant that is before the previous instant. The previous instant is that of the nearest
     /// preceding line whose text names an instant.
@@ -90,7 +90,7 @@ impl Verdict<'_> {
         matches!(self, Verdict::Refused(_))
     }
 
-    /// Writes the instant of the text to `last`, if the text was read for its instant and names one.
+    /// If the verdict has an instant, writes it to `last`. Otherwise `last` is unchanged.
     pub fn keep_instant(&self, last: &mut Option<Instant>)
         ensures { (printed : List ℕ) → last.new ≡ latest (instant_in (seen printed self.now)) last.old }
     {
@@ -106,7 +106,7 @@ impl Reason<'_> {
     ghost use Rattle.ixdtf_checks.specs.Order.{latest};
     ghost use Rattle.ixdtf_checks.specs.Seen.{instant_of};
 
-    /// Writes the instant of the text to `last`, if the text was read for its instant and names one.
+    /// If the reason has an instant, writes it to `last`. Otherwise `last` is unchanged.
     fn keep_instant(&self, last: &mut Option<Instant>)
         ensures { last.new ≡ latest (instant_of self.now) last.old }
     {

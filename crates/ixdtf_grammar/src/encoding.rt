@@ -52,7 +52,7 @@ pub trait EncodingType: private::Sealed {
 
     /// Returns the code unit at an index of the source, as a byte. Returns `None` after the end of the source.
     ///
-    /// No reader accepts a byte of 128 or more.
+    /// For [`Utf8`], this can be a byte of 128 or more, which is not ASCII. No reader accepts such a byte.
     ///
     /// # Errors
     ///

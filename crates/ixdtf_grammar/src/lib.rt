@@ -1,8 +1,9 @@
-//! Definitions of the grammar of the Extended Date/Time Format and of its fault table, and the types that they use:
-//! encodings, records, errors and profiles.
+//! Definitions of the grammar of the Extended Date/Time Format and of the *fault table*, and the types that they use:
+//! encodings, records, errors and profiles. The fault table says which error a reader returns for a text that is not in its
+//! grammar.
 //!
-//! This is a layer of the library `ixdtf`. Only the layer `ixdtf_instants` is below it. Callers name `ixdtf`, which
-//! re-exports the items that they need.
+//! This is a layer of the library `ixdtf`. Only the layer `ixdtf_instants` is below it. Callers use the crate `ixdtf`,
+//! which re-exports the items that they need.
 //!
 //! - `specs/language` has the grammar (RFC 3339, section 5.6; RFC 9557, section 4.1; ISO 8601; the Temporal grammar).
 //! - `specs/table` has the fault table.
@@ -17,8 +18,8 @@
 //! - A line of the fault table is about one kind of prefix. Its rows have the errors for what comes after the prefix.
 //!   A *bad code unit* is a 16-bit code unit outside 1 to 126. Suppose that a row of a line fits a text with a bad code
 //!   unit. There are two cases. In the first case, the error of the row is `NonAsciiCodePoint`, and its position is the
-//!   first bad code unit. In the second case, replace the first bad code unit and everything after it by any other code
-//!   units. Then a row of the same line fits the new text, and this row has the same error.
+//!   first bad code unit. In the second case, the error depends only on the code units before the first bad one: for
+//!   every text that begins with these code units, a row of the same line fits, and this row has the same error.
 #![tactic(auto)]
 
 pub mod encoding;

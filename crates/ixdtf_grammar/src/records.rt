@@ -230,7 +230,8 @@ impl MinutePrecisionOffset {
 
 /// An offset from UTC with seconds, such as `-05:00:30.5`.
 ///
-/// `time-numoffset` of RFC 3339, section 5.6, has no seconds. The readers also accept this longer form.
+/// `time-numoffset` of RFC 3339, section 5.6, has no seconds. `parse`, `parse_time` and `parse_offset` also accept this
+/// longer form. A zone in brackets cannot have it.
 #[derive(Clone, Copy, Debug, PartialEq, Eq, Hash)]
 pub struct FullPrecisionOffset {
     /// The sign, the hours and the minutes. The sign is that of the complete offset.
@@ -381,7 +382,7 @@ impl UtcOffsetRecordOrZ {
     }
 }
 
-/// A duration, such as `P1Y2M3DT4H` (`Duration` of the Temporal grammar; ISO 8601, section 5.5.2).
+/// A duration, such as `P1Y2M3DT4H` (ISO 8601, section 5.5.2; `Duration` of the Temporal grammar).
 ///
 /// It keeps the units of the text: no unit is converted to another.
 #[derive(Clone, Copy, Debug, PartialEq, Eq, Hash)]

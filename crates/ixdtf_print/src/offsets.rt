@@ -46,7 +46,7 @@ use std::fmt;
 ///
 /// After an error, the slice is unchanged.
 ///
-/// - [`PrintError::NotPrintable`]: the offset has no canonical text, because a number of it is out of its range.
+/// - [`PrintError::NotPrintable`]: the offset has no canonical text, because its hour, its minute or its second is out of range.
 /// - [`PrintError::TooShort`]: the slice is shorter than the canonical text.
 pub fn print_offset(offset: &UtcOffsetRecord, out: &mut [u8]) -> Result<usize, PrintError>
     ensures prints { PrintsOrRefuses (IsPrintableOffset offset.now) (utc_offset_text offset.now) out.old out.new result }
@@ -78,7 +78,7 @@ pub fn print_offset(offset: &UtcOffsetRecord, out: &mut [u8]) -> Result<usize, P
 ///
 /// After an error, the slice is unchanged.
 ///
-/// - [`PrintError::NotPrintable`]: the offset has no canonical text, because a number of it is out of its range.
+/// - [`PrintError::NotPrintable`]: the offset has no canonical text, because its hour, its minute or its second is out of range.
 /// - [`PrintError::TooShort`]: the slice is shorter than the canonical text.
 pub fn print_offset_utf16(offset: &UtcOffsetRecord, out: &mut [u16]) -> Result<usize, PrintError>
     ensures prints { PrintsOrRefuses (IsPrintableOffset offset.now) (utc_offset_text offset.now) out.old out.new result }

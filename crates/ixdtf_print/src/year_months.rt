@@ -95,7 +95,7 @@ pub fn print_year_month(
 /// After an error, the slice is unchanged.
 ///
 /// - [`PrintError::NotPrintable`]: the record has no canonical text. It has no date, or another day than 1, or a time, or an
-///   offset, or a field whose value no text has.
+///   offset, or a value that `parse_year_month` never returns for 16-bit text.
 /// - [`PrintError::TooShort`]: the slice is shorter than the canonical text.
 #[inline]
 pub fn print_year_month_utf16(
@@ -113,7 +113,7 @@ pub fn print_year_month_utf16(
 /// Returns the number of bytes of the canonical text of a year and a month.
 ///
 /// A slice of this length is long enough for [`print_year_month`](crate::print_year_month). Returns `None` if the record has no
-/// canonical text, or if its text is longer than any slice.
+/// canonical text, or if a `usize` cannot hold its length.
 ///
 /// # Examples
 ///
@@ -136,7 +136,7 @@ pub fn year_month_length(parsed: &IxdtfParseRecord<'_, Utf8>) -> Option<usize>
 /// Returns the number of code units of the canonical text of a year and a month that was read from 16-bit text.
 ///
 /// A slice of this length is long enough for [`print_year_month_utf16`](crate::print_year_month_utf16). Returns `None` if the record has no
-/// canonical text, or if its text is longer than any slice.
+/// canonical text, or if a `usize` cannot hold its length.
 ///
 /// # Examples
 ///

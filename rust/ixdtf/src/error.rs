@@ -37,7 +37,7 @@ use core::fmt;
 pub enum ParseError {
     /// An internal error. No reader returns this error.
     ImplAssert,
-    /// The next code unit is a 16-bit code unit outside 1 to 126. 8-bit text never has this error.
+    /// The code unit at the position of the error is a 16-bit code unit outside 1 to 126. 8-bit text never has this error.
     NonAsciiCodePoint,
     /// No reader returns this error.
     ParseFloat,
@@ -66,21 +66,22 @@ pub enum ParseError {
     /// A complete part is followed by a character that must not follow it. The part is a date, a year and a month, a
     /// month and a day, a time, an offset, a bracket or a duration.
     ///
-    /// If the text must be only a name, a `]` after the name has this error. In a duration, a character after the `P`
-    /// that is neither a digit nor `T` or `t` has this error.
+    /// In `parse_identifier` and `parse_iana_identifier`, a `]` after a name has this error. In a duration, a character after
+    /// the `P` that is neither a digit nor `T` or `t` has this error.
     InvalidEnd,
     /// The month is not 01 to 12.
     InvalidMonthRange,
     /// The day of a date is 00, or is after the last day of this month in this year.
     InvalidDayRange,
-    /// The text begins with a character that is neither a digit nor a sign, or one of the four characters of a year
-    /// without a sign is not a digit. In `parse_rfc3339` and `parse_rfc9557`, this is also the error if the text begins
-    /// with a sign.
+    /// A text that must begin with a year begins with a character that is neither a digit nor a sign. Or one of the four
+    /// characters of a year without a sign is not a digit. In `parse_rfc3339` and `parse_rfc9557`, this is also the error if
+    /// the text begins with a sign.
     DateYear,
     /// One of the six characters after the sign of a year is not a digit, or the year is `-000000`.
     DateExtendedYear,
-    /// A year is followed by a character that is neither a hyphen nor a digit. Or a month contains a character that is
-    /// not a digit. Or a month and a day begin with a character that is neither a digit nor a hyphen.
+    /// In `parse` and `parse_year_month`, a year is followed by a character that is neither a hyphen nor a digit. Or a month
+    /// contains a character that is not a digit. Or a month and a day begin with a character that is neither a digit nor a
+    /// hyphen.
     DateMonth,
     /// A day contains a character that is not a digit. Or, in a month and a day, the month is followed by a character
     /// that is neither a hyphen nor a digit.

@@ -34,8 +34,8 @@ impl LocatedError {
     ///
     /// `text` must be the complete source of the parser. No earlier call of this parser may have returned `Ok`, because such
     /// a call consumes the source. Otherwise the position is not counted from the beginning of `text`. The
-    /// source must be 8-bit text, because the position is used as a number of bytes in `text`. For 16-bit text with a
-    /// character outside ASCII before the position, the mark is in a wrong column.
+    /// source can have 8-bit or 16-bit code units: in 16-bit text, the code units before an error of a reader are all from 1
+    /// to 126, so the position is also a number of bytes in `text`.
     ///
     /// The `Display` of the result writes two lines, without a newline at the end. [`PointedText`] describes what it
     /// writes for a long text, and for control characters.

@@ -5,12 +5,13 @@
 //!
 //! These clauses are in the contracts of the readers:
 //!
-//! - `read`: Each text has one outcome: a record of the grammar, or an error with its position. The outcome decides the number
-//!   that is returned, and every field of the record. There are five *text readers*: `ixdtf_parse`, and the readers of
-//!   a year and a month, of a month and a day, of a time, and of a duration. If a text reader returns 0, no other text reader
-//!   accepts the text under the same profile.
-//! - `lists`: This clause says what `read` says, for a reader that drops each annotation. It also says that `count` is the
-//!   number of annotations before the end of the text, or before its error. If the array has room for `n` annotations, the
+//! - `read`: Each text has one outcome: the record that the grammar gives for the text, or an error with its position. The
+//!   outcome decides the number that is returned. If this number is 0, the outcome also decides every field of the record.
+//!   After an error, it decides only the fields `location` and `place`. There are five *text readers*: `ixdtf_parse`, and the
+//!   readers of a year and a month, of a month and a day, of a time, and of a duration. If a text reader returns 0, no other
+//!   text reader accepts the text under the same profile.
+//! - `lists`: The outcome is that of a reader whose handler drops each annotation. About this outcome, `lists` says what `read`
+//!   says. It also says that `count` is the number of annotations before the end of the text, or before its error. If the array has room for `n` annotations, the
 //!   first `n` of them are in the array, in order, or all of them if there are fewer.
 //! - `few`: Five times the number of annotations is at most the length of the text. So an array of `length / 5` elements is
 //!   always long enough.

@@ -70,7 +70,8 @@ pub enum Wrong {
     CsvWithoutField,
     /// There is `--csv`, and the value of `--separator` is a quote.
     CsvSeparator,
-    /// There is `--ordered`, and the texts of the kind do not name instants.
+    /// There is `--ordered`, and no text of the kind can name an instant. A text names an instant if it has a date, a time, and
+    /// an offset or `Z`.
     OrderedKind,
     /// There is `--ordered` together with `--canonical`.
     OrderedCanonical,
@@ -452,7 +453,8 @@ impl Options {
         }
     }
 
-    /// Returns the field after `before` other fields. The separator is that of `--separator`, or a tab.
+    /// Returns the field after `before` other fields. The separator is that of `--separator`. Without this option, it is a
+    /// comma if there is `--csv`, and otherwise a tab.
     pub fn field_after(&self, before: usize) -> Field {
         Field {
             before,

@@ -7,7 +7,7 @@ use crate::request::{Extent, Field};
 use crate::verdict::LINE_LIMIT;
 use ixdtf_buffers::place::place_of;
 
-/// The reason why `column_named` returns an error: the number of fields with the name is not one.
+/// The reason why `column_named` or `column_in_record` returns an error.
 #[derive(Clone, Copy, Debug, PartialEq)]
 pub enum ColumnError {
     /// No field has the name.

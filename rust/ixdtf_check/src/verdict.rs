@@ -49,7 +49,7 @@ pub enum Reason<'a> {
     Unread(Unread<'a>),
     /// A reader refuses the text of the line, at a space before an offset.
     Spaced(Unread<'a>),
-    /// This text of the line is accepted, but does not name an instant.
+    /// The text of the line, which is this one, is accepted, but does not name an instant.
     NoInstant(&'a [u8]),
     /// The text of the line names an instant that is before the previous instant. The previous instant is that of the nearest
     /// preceding line whose text names an instant.
@@ -81,7 +81,7 @@ impl Verdict<'_> {
         matches!(self, Verdict::Refused(_))
     }
 
-    /// Writes the instant of the text to `last`, if the text was read for its instant and names one.
+    /// If the verdict has an instant, writes it to `last`. Otherwise `last` is unchanged.
     pub fn keep_instant(&self, last: &mut Option<Instant>) {
         match self {
             Verdict::Timed(instant) => *last = Some(*instant),
@@ -92,7 +92,7 @@ impl Verdict<'_> {
 }
 
 impl Reason<'_> {
-    /// Writes the instant of the text to `last`, if the text was read for its instant and names one.
+    /// If the reason has an instant, writes it to `last`. Otherwise `last` is unchanged.
     fn keep_instant(&self, last: &mut Option<Instant>) {
         match self {
             Reason::Early(early) => *last = Some(early.instant),

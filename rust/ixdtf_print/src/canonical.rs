@@ -23,7 +23,7 @@ use core::fmt;
 /// - the calendar.
 ///
 /// Some parts of a parsed text are not in the record, and so not in the canonical text: the `!` of a calendar, and all
-/// annotations other than the zone and the calendar of the record. Digits of a fraction after the first 18 are written as
+/// annotations except the one that gives the record its calendar. Digits of a fraction after the first 18 are written as
 /// zeros.
 ///
 /// A record of `parse_year_month` has the first day of the month, so this function writes `2020-11-01` for `2020-11`. A
@@ -93,8 +93,8 @@ pub fn print(parsed: &IxdtfParseRecord<'_, Utf8>, out: &mut [u8]) -> Result<usiz
 ///
 /// After an error, the slice is unchanged.
 ///
-/// - [`PrintError::NotPrintable`]: the record has no canonical text. It has no date, or an offset without a time, or a field
-///   whose value no text has, such as a name with a code unit that is not ASCII.
+/// - [`PrintError::NotPrintable`]: the record has no canonical text. It has no date, or an offset without a time, or a value
+///   that `parse` never returns for 16-bit text, such as a name with a code unit that is not ASCII.
 /// - [`PrintError::TooShort`]: the slice is shorter than the canonical text.
 #[inline]
 pub fn print_utf16(
@@ -108,8 +108,8 @@ pub fn print_utf16(
 /// Writes the canonical text of the record to the beginning of a slice that is long enough, like [`print`]. Returns the
 /// number of bytes.
 ///
-/// The function tests neither the record nor the length of the slice. A caller can use it if it has just parsed the record
-/// from a text, and knows the greatest length of such a text.
+/// The function tests neither the record nor the length of the slice. A caller can use it for a record that it has just parsed
+/// from a text, if the slice is long enough for each canonical text of such a record.
 // Only other crates of this repository use this item. It is not part of the public interface.
 #[doc(hidden)]
 pub fn print_with_room(parsed: &IxdtfParseRecord<'_, Utf8>, room: &mut [u8]) -> usize {
@@ -119,7 +119,7 @@ pub fn print_with_room(parsed: &IxdtfParseRecord<'_, Utf8>, room: &mut [u8]) -> 
 /// Returns the number of bytes of the canonical text of the record.
 ///
 /// A slice of this length is long enough for [`print`](crate::print). Returns `None` if the record has no canonical
-/// text, or if its text is longer than any slice.
+/// text, or if a `usize` cannot hold its length.
 ///
 /// # Examples
 ///
@@ -140,7 +140,7 @@ pub fn printed_length(parsed: &IxdtfParseRecord<'_, Utf8>) -> Option<usize> {
 /// Returns the number of code units of the canonical text of a record that was read from 16-bit text.
 ///
 /// A slice of this length is long enough for [`print_utf16`](crate::print_utf16). Returns `None` if the record has no
-/// canonical text, or if its text is longer than any slice.
+/// canonical text, or if a `usize` cannot hold its length.
 ///
 /// # Examples
 ///

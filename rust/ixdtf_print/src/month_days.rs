@@ -16,7 +16,8 @@ use core::fmt;
 /// Writes the canonical text of a month and a day, such as `11-07[u-ca=hebrew]`, to the beginning of the slice.
 ///
 /// The record is one that [`IxdtfParser::parse_month_day`](ixdtf::parsers::IxdtfParser::parse_month_day) returns. The
-/// canonical text has the month and the day, without hyphens before them. If the record has a zone or a calendar,
+/// canonical text has the month, a hyphen and the day. The two hyphens with which a text such as `--11-07` begins are not
+/// written. If the record has a zone or a calendar,
 /// they follow the day, as [`print`](crate::print) writes them. The day can be 00, because `parse_month_day` returns such a
 /// record under the default profile.
 ///
@@ -86,7 +87,7 @@ pub fn print_month_day(
 /// After an error, the slice is unchanged.
 ///
 /// - [`PrintError::NotPrintable`]: the record has no canonical text. It has no date, or another year than 0, or a time, or
-///   an offset, or a field whose value no text has.
+///   an offset, or a value that `parse_month_day` never returns for 16-bit text.
 /// - [`PrintError::TooShort`]: the slice is shorter than the canonical text.
 #[inline]
 pub fn print_month_day_utf16(
@@ -100,7 +101,7 @@ pub fn print_month_day_utf16(
 /// Returns the number of bytes of the canonical text of a month and a day.
 ///
 /// A slice of this length is long enough for [`print_month_day`](crate::print_month_day). Returns `None` if the record has no
-/// canonical text, or if its text is longer than any slice.
+/// canonical text, or if a `usize` cannot hold its length.
 ///
 /// # Examples
 ///
@@ -118,7 +119,7 @@ pub fn month_day_length(parsed: &IxdtfParseRecord<'_, Utf8>) -> Option<usize> {
 /// Returns the number of code units of the canonical text of a month and a day that was read from 16-bit text.
 ///
 /// A slice of this length is long enough for [`print_month_day_utf16`](crate::print_month_day_utf16). Returns `None` if the record has no
-/// canonical text, or if its text is longer than any slice.
+/// canonical text, or if a `usize` cannot hold its length.
 ///
 /// # Examples
 ///

@@ -42,7 +42,7 @@ use core::fmt;
 ///
 /// After an error, the slice is unchanged.
 ///
-/// - [`PrintError::NotPrintable`]: the offset has no canonical text, because a number of it is out of its range.
+/// - [`PrintError::NotPrintable`]: the offset has no canonical text, because its hour, its minute or its second is out of range.
 /// - [`PrintError::TooShort`]: the slice is shorter than the canonical text.
 pub fn print_offset(offset: &UtcOffsetRecord, out: &mut [u8]) -> Result<usize, PrintError> {
     text::print(CanonicalOffset { offset }, out)
@@ -71,7 +71,7 @@ pub fn print_offset(offset: &UtcOffsetRecord, out: &mut [u8]) -> Result<usize, P
 ///
 /// After an error, the slice is unchanged.
 ///
-/// - [`PrintError::NotPrintable`]: the offset has no canonical text, because a number of it is out of its range.
+/// - [`PrintError::NotPrintable`]: the offset has no canonical text, because its hour, its minute or its second is out of range.
 /// - [`PrintError::TooShort`]: the slice is shorter than the canonical text.
 pub fn print_offset_utf16(offset: &UtcOffsetRecord, out: &mut [u16]) -> Result<usize, PrintError> {
     text::print_utf16(CanonicalOffset { offset }, out)

@@ -15,7 +15,8 @@ use core::fmt;
 /// time and its offset have at most 265 bytes each, because a fraction has at most 255 digits.
 const MOST_OF_CORE: usize = 543;
 
-/// The end of a canonical text, after its core. The tail can have names, and a name can have any length.
+/// The end of a canonical text. A canonical text has two parts: the core, whose length is limited, and the tail. The tail can
+/// have names, and a name can have any length.
 pub enum Tail<'a> {
     /// There is nothing after the core.
     Nothing,
@@ -28,7 +29,7 @@ pub enum Tail<'a> {
 /// A record of one kind, such as a time or a duration, that can be printed.
 ///
 /// An implementation says what the canonical texts of its kind are. The functions of this module write, count and display
-/// these texts. A canonical text has two parts: the core, whose length is limited, and the tail.
+/// these texts.
 pub trait CanonicalText: Copy {
     /// Returns whether the record has a canonical text.
     fn is_printable(self) -> bool;

@@ -80,8 +80,8 @@ pub fn print_time(parsed: &IxdtfParseRecord<'_, Utf8>, out: &mut [u8]) -> Result
 ///
 /// After an error, the slice is unchanged.
 ///
-/// - [`PrintError::NotPrintable`]: the record has no canonical text. It has a date, or no time, or a field whose value no
-///   text has.
+/// - [`PrintError::NotPrintable`]: the record has no canonical text. It has a date, or no time, or a value that
+///   `parse_time` never returns for 16-bit text.
 /// - [`PrintError::TooShort`]: the slice is shorter than the canonical text.
 #[inline]
 pub fn print_time_utf16(
@@ -95,7 +95,7 @@ pub fn print_time_utf16(
 /// Returns the number of bytes of the canonical text of a time.
 ///
 /// A slice of this length is long enough for [`print_time`](crate::print_time). Returns `None` if the record has no
-/// canonical text, or if its text is longer than any slice.
+/// canonical text, or if a `usize` cannot hold its length.
 ///
 /// # Examples
 ///
@@ -113,7 +113,7 @@ pub fn time_length(parsed: &IxdtfParseRecord<'_, Utf8>) -> Option<usize> {
 /// Returns the number of code units of the canonical text of a time that was read from 16-bit text.
 ///
 /// A slice of this length is long enough for [`print_time_utf16`](crate::print_time_utf16). Returns `None` if the record has no
-/// canonical text, or if its text is longer than any slice.
+/// canonical text, or if a `usize` cannot hold its length.
 ///
 /// # Examples
 ///

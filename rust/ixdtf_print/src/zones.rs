@@ -46,7 +46,7 @@ use core::fmt;
 /// After an error, the slice is unchanged.
 ///
 /// - [`PrintError::NotPrintable`]: the zone has no canonical text. Its name is one that `parse_iana_identifier` refuses,
-///   or a number of its offset is out of its range.
+///   or the hour or the minute of its offset is out of range.
 /// - [`PrintError::TooShort`]: the slice is shorter than the canonical text.
 pub fn print_zone(zone: &TimeZoneRecord<'_, Utf8>, out: &mut [u8]) -> Result<usize, PrintError> {
     text::print(CanonicalZone { zone }, out)
@@ -84,7 +84,7 @@ pub fn print_zone(zone: &TimeZoneRecord<'_, Utf8>, out: &mut [u8]) -> Result<usi
 /// After an error, the slice is unchanged.
 ///
 /// - [`PrintError::NotPrintable`]: the zone has no canonical text. Its name is one that `parse_iana_identifier` refuses,
-///   or a number of its offset is out of its range.
+///   or the hour or the minute of its offset is out of range.
 /// - [`PrintError::TooShort`]: the slice is shorter than the canonical text.
 #[inline]
 pub fn print_zone_utf16(

@@ -67,8 +67,8 @@ impl<'a> IsoDurationParser<'a, Utf16> {
 
     /// Creates a parser of 16-bit code units, as [`from_utf16`](Self::from_utf16) does.
     ///
-    /// The function has this name because it has this name in `ixdtf` 0.6.7. There are two functions `from_utf8`, one for
-    /// each encoding. So a caller must name the encoding: `IsoDurationParser::<Utf16>::from_utf8`.
+    /// The function has this name because the crate `ixdtf` 0.6.7 of ICU4X, of which this one is a port, gives it this name.
+    /// There are two functions `from_utf8`, one for each encoding. So a caller must name the encoding: `IsoDurationParser::<Utf16>::from_utf8`.
     ///
     /// # Examples
     ///
@@ -123,8 +123,9 @@ impl<'a, T: EncodingType> IsoDurationParser<'a, T> {
 
     /// Parses the remaining input as a duration, such as `P1Y2M3DT4H` or `-PT1H30.5M`.
     ///
-    /// The form of a duration is `Duration` of the Temporal grammar (ISO 8601, section 5.5.2). A duration consists of
-    /// these parts, and has at least one group. A group is a number and the letter of its unit.
+    /// The form of a duration comes from ISO 8601, section 5.5.2 (`Duration` of the grammar of Temporal, a proposal for dates
+    /// and times in JavaScript). A duration consists of these parts. Only `P` and one group are required. A group is a number
+    /// and the letter of its unit.
     ///
     /// 1. An optional sign, `+` or `-`.
     /// 2. `P`.
@@ -180,10 +181,11 @@ impl<'a, T: EncodingType> IsoDurationParser<'a, T> {
     ///
     /// - `AbruptEnd`: the text is empty (location `DurationStart`), or ends after the sign (`DurationDesignator`) or
     ///   after `P` (`Duration`). This is also the error if the letter of a unit is missing after a number, with or without
-    ///   a fraction. The location is then `DateDurationDesignator`, or `TimeDurationDesignator` after the `T`.
+    ///   a fraction. The location is then `DateDurationDesignator` in a date group, and `TimeDurationDesignator` in a time
+    ///   group.
     /// - `DurationDisgnator`: the text begins with a character that is neither a sign nor `P`, or the sign is followed
     ///   by another character than `P`.
-    /// - `TimeDurationDesignator`: no digit follows the `T`. This is also the error if the text ends there.
+    /// - The error `TimeDurationDesignator`: no digit follows the `T`. This is also the error if the text ends there.
     /// - `DateDurationPartOrder`, `TimeDurationPartOrder`: a group comes after a group with a shorter unit. Under
     ///   [`Profile::Strict`], this is also the error if a unit is repeated.
     /// - `DurationValueExceededRange`: a number is `2^64` or more, or the number of years, months or weeks is `2^32` or
