@@ -2,8 +2,8 @@
 //!
 //! A law is a function whose contract states the theorem. To use a law, call the function: after the call, the prover
 //! knows what the function ensures. A law without parameters does nothing when it runs. [`parse_unanswered`] is the only
-//! law that parses a text. Its contract has the clauses of [`IxdtfParser::parse_with_annotation_handler`] and those of
-//! the law.
+//! law that parses a text. Its contract has the clauses of [`IxdtfParser::parse_with_annotation_handler`], and the clauses
+//! `calendar`, `unrecognized` and `duplicate` with the theorem.
 
 pub mod instants;
 
@@ -38,7 +38,8 @@ use ixdtf_reading::stop::FromStop;
 /// lowercase.
 ///
 /// The law does not name an encoding, so it is about sources in every encoding. It states that, without a handler, each of
-/// these texts gives a record. By the clause `ok` in the contract of `parse`, `parse` then returns this record.
+/// these texts gives a record. By the clause `reads` in the contract of `parse`, `parse` then returns this
+/// record.
 pub fn every_rfc3339_date_time_is_read()
     ensures { EveryDateTimeIsRead }
 {}
@@ -112,12 +113,12 @@ pub fn hyphens_say_nothing()
 ///   annotations in the outcome of the text.
 /// - `chain`: a text, its annotations, and the replies to them give at most one result, a record or an error.
 /// - `place`: a text, its annotations, and one reply for each annotation give at most one position of an error.
-/// - `replied`: suppose that each reply of a handler depends only on the annotation for which it is called and on the
-///   annotations of the calls before. Then, for each text, there is exactly one list of annotations for which the handler
+/// - `replied`: suppose that each reply of a handler depends only on the annotations with which the handler has been called
+///   so far, the one of this call included. Then, for each text, there is exactly one list of annotations for which the handler
 ///   is called, and exactly one result.
 ///
-/// The law is about all texts. The clauses `no_row` and `only` in the contract of each reader are about one call: after
-/// `Ok`, no row fits, and after an error, no other error is possible.
+/// The law is about all texts. The contract of each reader says the same about one call: after `Ok`, no row fits, and
+/// after an error, no other error is possible.
 pub fn one_outcome()
     ensures outcome { OneOutcome }
     ensures begins { FrontsBegin }
@@ -132,8 +133,7 @@ pub fn one_outcome()
 /// [`IxdtfParser::parse_time`] and [`IsoDurationParser::parse`](crate::parsers::IsoDurationParser::parse).
 ///
 /// The law is about what the grammar derives from a text. So it is also true for the readers with a handler, whatever
-/// the handler replies. The clause `no_other_reader` in the contract of each of these readers says this about a call that
-/// returned `Ok`.
+/// the handler replies. The contract of each of these readers says the same about a call that returned `Ok`.
 pub fn languages_disjoint()
     ensures { LanguagesDisjoint }
 {}
@@ -170,8 +170,8 @@ pub fn exact_nanoseconds_are_the_truncated_ones(fraction: &Fraction)
 /// States that `==` of two values is true exactly if the two values have the same content.
 ///
 /// The law is about slices of code units, records and errors, in every encoding. The content of a slice is the list of the
-/// numbers of its code units. The content of a location is the list of its bytes. The content of a record or of another
-/// error is that of its fields. So `==` is reflexive, symmetric and transitive.
+/// numbers of its code units. The content of a record is that of its fields. The content of an error is its variant and, for
+/// `AbruptEnd`, the bytes of its `location`. So `==` is reflexive, symmetric and transitive.
 pub fn equality_is_of_what_is_seen<'a, T: EncodingType>()
 where
     T::CodeUnit: 'a,

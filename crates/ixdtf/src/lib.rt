@@ -1,21 +1,24 @@
-//! A parser of the Internet Extended Date/Time Format (RFC 9557), proved in Rattle.
+//! A parser of the Internet Extended Date/Time Format (RFC 9557). It is written in Rattle, which is Rust with contracts. A
+//! *contract* says what a function requires and what it ensures. A program, the *prover*, has checked a proof that every
+//! function meets its contract.
 //!
 //! [`parsers::IxdtfParser::parse`] parses a date, or a date and a time. An offset can follow the time. Brackets can
-//! follow at the end. A text has 8-bit or 16-bit code units. The forms of dates and times are those of RFC 3339 and
-//! shorter ones of ISO 8601. The brackets are those of RFC 9557, section 4.1 (`suffix`): a time zone, and annotations
+//! follow at the end. A text has 8-bit or 16-bit code units. The forms of dates and times come from RFC 3339 and from
+//! ISO 8601. The brackets are those of RFC 9557, section 4.1 (`suffix`): a time zone, and annotations
 //! with a key and a value, such as `[u-ca=hebrew]`.
 //!
 //! - `parse_rfc9557` of the same parser accepts only the texts of RFC 9557, and `parse_rfc3339` only the date-times of
 //!   RFC 3339.
 //! - `parse_year_month` parses a year and a month, such as `2020-11`. `parse_month_day` parses a month and a day, such
 //!   as `11-07`. `parse_time` parses a time. The same brackets can follow each of them.
-//! - Each method of this parser except `parse_rfc3339` has a variant `*_with_annotation_handler`. It calls a closure of
+//! - Each of these parsing methods except `parse_rfc3339` has a variant `*_with_annotation_handler`. It calls a closure of
 //!   the caller, the *handler*, with each annotation.
 //! - [`parsers::TimeZoneParser`] parses a text that is only an offset, or only a time zone.
 //! - [`parsers::IsoDurationParser`] parses a duration, such as `P1Y2M3DT4H`.
-//! - Each method has a variant `*_located`, whose error has a position.
-//! - [`parsers::Profile`] has stricter rules for a month and a day, and for a duration. `parse_time` refuses a text that
-//!   could also be a month and a day. So the rules for a month and a day also decide which texts `parse_time` refuses.
+//! - Each parsing method of the three parsers has a variant `*_located`, whose error has a position.
+//! - [`parsers::Profile`] chooses the rules for a month and a day, and for a duration. `Profile::Strict` is stricter than
+//!   `Profile::Crate`, which a new parser has. `parse_time` refuses a text that could also be a month and a day. So the rules
+//!   for a month and a day also decide which texts `parse_time` refuses.
 //!
 //! The grammar is written down. A *reader* is one of these parsing methods. It accepts every text of its grammar,
 //! unless an annotation must be refused, and accepts no other text. For every text that it does not accept, a

@@ -29,8 +29,8 @@ pub fn instants_are_in_order()
 
 /// States when two local times are the same instant. A local time here is a date and a time, and has an offset.
 ///
-/// The two are the same instant exactly if the second local time minus the first is equal to the second offset minus the
-/// first. For example, on one date, `12:00+01:00` and `13:00+02:00` are the same instant: both differences are one hour.
+/// Let `a` and `b` be local times with the offsets `x` and `y`. They are the same instant exactly if `b - a` is equal to
+/// `y - x`. For example, on one date, `12:00+01:00` and `13:00+02:00` are the same instant: both differences are one hour.
 pub fn offsets_make_up()
     ensures { OffsetsMakeUp }
 {}
@@ -44,7 +44,7 @@ pub fn second_60_is_59()
 ///
 /// The law is about each instant that is not before -999999-01-01T00:00:00Z, and is before +1000000-01-01T00:00:00Z. It
 /// states that, without a handler, the text of this instant gives a record with a date, a time and `Z`, and nothing
-/// else. By the clause `ok` in the contract of [`IxdtfParser::parse`](crate::parsers::IxdtfParser::parse), `parse` then
+/// else. By the clause `reads` in the contract of [`IxdtfParser::parse`](crate::parsers::IxdtfParser::parse), `parse` then
 /// returns this record.
 pub fn text_is_read_back()
     ensures { TextIsReadBack }

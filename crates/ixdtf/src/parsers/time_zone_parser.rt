@@ -90,7 +90,8 @@ impl<'a, T: EncodingType> TimeZoneParser<'a, T> {
 
     /// Parses the remaining input as a time zone, such as `Europe/Berlin` or `+05:30`.
     ///
-    /// A time zone is a name (`time-zone-name` of RFC 9557, section 4.1), or an offset without seconds:
+    /// A time zone is a name, or an offset without seconds. More names are accepted than `time-zone-name` of RFC 9557,
+    /// section 4.1, allows: a part after a `/` can begin with a digit, `+` or `-`, and a part can be `.` or `..`.
     ///
     /// - A name consists of ASCII letters, digits, `_`, `.`, `+`, `-` and `/`. Its first character is a letter, `_` or
     ///   `.`. Its last character is not a `/`, and no `/` follows another `/`. The result is a slice of the text. It is
@@ -158,7 +159,8 @@ impl<'a, T: EncodingType> TimeZoneParser<'a, T> {
     /// | hour, minute, second and fraction | `-05:30:45.25`, `-053045,25` | `FullPrecisionOffset` |
     ///
     /// The hour is 00 to 23. The minute and the second are 00 to 59. RFC 3339 has only the form `+05:30`
-    /// (`time-numoffset`, section 5.6). The other forms come from ISO 8601 and from the Temporal grammar.
+    /// (`time-numoffset`, section 5.6). The other forms come from ISO 8601 and from the grammar of Temporal, a proposal for
+    /// dates and times in JavaScript.
     ///
     /// If the call succeeds, no input remains, and a second call returns the error of the empty text. If it fails, the
     /// input is unchanged, and a second call returns the same error.
@@ -199,7 +201,7 @@ impl<'a, T: EncodingType> TimeZoneParser<'a, T> {
     /// - `OffsetNeedsSign`: the text does not begin with `+` or `-`.
     /// - `TimeHour`: the hour contains a character that is not a digit, or is greater than 23.
     /// - `TimeMinuteSecond`: the minute or the second contains a character that is not a digit, or is greater than 59.
-    /// - `UtcTimeSeparator`: the offset has only one of its two colons.
+    /// - `UtcTimeSeparator`: a digit follows an offset such as `+05:30`, or a colon follows an offset such as `+0530`.
     /// - `FractionPart`: no digit follows the `.` or `,`. This is also the error if the text ends there.
     /// - `InvalidEnd`: the offset is followed by a character that must not follow it, and no other error of this list is
     ///   about this character.
@@ -214,9 +216,8 @@ impl<'a, T: EncodingType> TimeZoneParser<'a, T> {
 
     /// Parses the remaining input as the name of a time zone, such as `Europe/Berlin`.
     ///
-    /// A name has the form that it has in [`parse_identifier`](Self::parse_identifier) (`time-zone-name` of RFC 9557,
-    /// section 4.1). The result is the slice with all code units of the remaining input. It is not checked that such a
-    /// zone exists.
+    /// A name has the form that it has in [`parse_identifier`](Self::parse_identifier). The result is the slice with all code
+    /// units of the remaining input. It is not checked that such a zone exists.
     ///
     /// If the call succeeds, no input remains, and a second call returns the error of the empty text. If it fails, the
     /// input is unchanged, and a second call returns the same error.

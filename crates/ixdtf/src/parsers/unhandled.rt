@@ -36,8 +36,8 @@ impl<'a, T: EncodingType> IxdtfParser<'a, T> {
     /// 9557, section 4.1 (`suffix`).
     ///
     /// The record has the fields `date`, `time`, `offset` and `tz` for the parts that the text has. `calendar` is the
-    /// value of the first annotation with the key `u-ca`. An annotation is *critical* if it has the `!`. If the key of an
-    /// annotation is not `u-ca`, the annotation is refused if it is critical, and otherwise ignored. To decide about
+    /// value of the first annotation with the key `u-ca`. An annotation is *critical* if it has the `!`. A critical annotation
+    /// whose key is not `u-ca` is refused. Any other annotation whose key is not `u-ca` is ignored. To decide about
     /// annotations yourself, call [`parse_with_annotation_handler`](Self::parse_with_annotation_handler).
     ///
     /// If the call succeeds, no input remains, and a second call returns the error of the empty text. If it fails, the
@@ -82,8 +82,9 @@ impl<'a, T: EncodingType> IxdtfParser<'a, T> {
     /// the next code unit is read. To get the position of the error, call [`parse_located`](Self::parse_located).
     ///
     /// - `AbruptEnd`: the text ends too early. The location is `Date` if it ends after the year, and `digit` if it ends
-    ///   where a digit is required. It is `AmbiguousAnnotation` in two cases: the text ends after the `[` or `[!` of the
-    ///   first bracket, or a lowercase letter or `_` follows, and the text ends before the first `=` or `]`.
+    ///   where a digit is required. The location is `AmbiguousAnnotation` in two cases. Either the text ends after the `[` or
+    ///   `[!` of the first bracket. Or a lowercase letter or `_` follows this `[` or `[!`, and the text ends before the next
+    ///   `=` or `]`.
     /// - `DateYear`: another character occurs instead of a digit of the year.
     /// - `DateExtendedYear`: another character occurs instead of a digit of a year with a sign, or the year is
     ///   `-000000`.
@@ -96,8 +97,8 @@ impl<'a, T: EncodingType> IxdtfParser<'a, T> {
     ///   59. The second of an offset has this error too.
     /// - `TimeSecond`: another character occurs instead of a digit of the second of the time, or this second is greater
     ///   than 60.
-    /// - `TimeSeparator`: a time has only one of its two colons.
-    /// - `UtcTimeSeparator`: an offset has only one of its two colons.
+    /// - `TimeSeparator`: a digit follows a time such as `12:30`, or a colon follows a time such as `1230`.
+    /// - `UtcTimeSeparator`: a digit follows an offset such as `+05:30`, or a colon follows an offset such as `+0530`.
     /// - `FractionPart`: no digit follows the `.` or `,`. This is also the error if the text ends there.
     /// - `InvalidMinutePrecisionOffset`: a colon or a digit follows the minute of an offset in brackets.
     /// - `TzLeadingChar`: the first bracket begins with a character that can begin neither a zone nor a key.
@@ -193,8 +194,9 @@ impl<'a, T: EncodingType> IxdtfParser<'a, T> {
 
     /// Parses the remaining input as a year and a month, such as `2020-11[u-ca=hebrew]`.
     ///
-    /// A year and a month are `2020-11` or `202011` (ISO 8601; `DateSpecYearMonth` of the Temporal grammar). The year
-    /// has the forms that it has in [`parse`](Self::parse), and the same brackets can follow.
+    /// A year and a month are `2020-11` or `202011` (ISO 8601; `DateSpecYearMonth` of the grammar of Temporal, a
+    /// proposal for dates and times in JavaScript). The year has the forms that it has in [`parse`](Self::parse), and the
+    /// same brackets can follow.
     ///
     /// The record has the field `date`, with the day 1. The fields `tz` and `calendar` are as in
     /// [`parse`](Self::parse).
@@ -298,7 +300,8 @@ impl<'a, T: EncodingType> IxdtfParser<'a, T> {
     /// - `MonthDayHyphen`: the text begins with a hyphen, and another character than a hyphen follows it.
     /// - `DateMonth`, `DateDay`: another character occurs instead of a digit of the month, or of the day.
     /// - `InvalidMonthRange`: the month is not 01 to 12.
-    /// - `InvalidMonthDay`: the month does not have this day in any year, or the day is 00 under [`Profile::Strict`].
+    /// - `InvalidMonthDay`: the day is after the last day of the month (29 for February). Under [`Profile::Strict`], this is
+    ///   also the error of the day 00.
     /// - `InvalidEnd`: another character than `[` follows the day.
     /// - `NonAsciiCodePoint`: 16-bit text has a code unit outside 1 to 126. 8-bit text never has this error.
     #[inline(always)]
@@ -363,12 +366,13 @@ impl<'a, T: EncodingType> IxdtfParser<'a, T> {
     /// The first wrong part of the text decides the error. To get the position of the error, call
     /// [`parse_time_located`](Self::parse_time_located). Times, offsets and brackets have the errors that they have in
     /// [`parse`](Self::parse). The error of the empty text is `AbruptEnd` (location `digit`). If the text begins with a
-    /// character that is neither a digit nor `T` nor `t`, the error is `TimeHour`. In 16-bit text, this character can also
-    /// have the error `NonAsciiCodePoint`.
+    /// character that is neither a digit nor `T` nor `t`, the error is `TimeHour`. But if this character is a 16-bit code unit
+    /// outside 1 to 126, the error is `NonAsciiCodePoint`.
     ///
     /// Two more errors are about an ambiguous text. Such a text does not begin with `T` or `t`. Its part before the first
     /// `[`, or the complete text if it has no `[`, is a time, with or without an offset. But the text also begins like a
-    /// month and a day, or like a year and a month. The brackets of an ambiguous text are not read:
+    /// month and a day, or like a year and a month. The brackets of an ambiguous text are not read.
+    /// These are the two errors:
     ///
     /// - `AmbiguousTimeMonthDay`: the text begins like a month and a day.
     /// - `AmbiguousTimeYearMonth`: the text begins like a year and a month, and not like a month and a day.
@@ -557,7 +561,8 @@ impl<'a, T: EncodingType> IxdtfParser<'a, T> {
     ///
     /// The position is the number of code units before the error. It is the index of the code unit that does not fit,
     /// or the end of the input if the input ends too early. For a number out of its range, the position is after the
-    /// number. For a refused annotation, the position is after its bracket.
+    /// number. For a refused annotation, the position is after its bracket. For an ambiguous text, the position is after
+    /// the month and the day, or after the year and the month, with which the text begins.
     ///
     /// # Examples
     ///

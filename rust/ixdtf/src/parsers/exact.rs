@@ -68,7 +68,7 @@ impl<'a, T: EncodingType> IxdtfParser<'a, T> {
     /// - `InvalidMonthRange`: there is no such month.
     /// - `InvalidDayRange`: the month does not have this day.
     /// - `DateSeparator`: no `-` follows the month, or another character than `-` follows the year.
-    /// - `TimeSeparator`: no `T` follows the date, or no `:` follows the hour or the minute of the time.
+    /// - `TimeSeparator`: neither `T` nor `t` follows the date, or no `:` follows the hour or the minute of the time.
     /// - `FractionPart`: no digit follows the `.`, or a `,` follows the second.
     /// - `OffsetNeedsSign`: another character than a sign, `Z` or `z` is where the offset has to begin. But directly
     ///   after the second, a `.` begins a fraction, and a `,` has the error `FractionPart`.
