@@ -755,7 +755,8 @@ def is_in_the_model(said: Said, listed: places.Example) -> bool:
     """Whether the model has the error at the place: as a row of the line that places.tsv gives, or as the error of an annotation."""
     reader, text = places.READERS[said.strict][listed.reader], places.letters_of(said.units, said.wide)
     if listed.line == 'reply':
-        return places.refused_reply(reader, text, said.fault.place, places.each_replies_for_itself) == said.fault
+        refused = places.refused_reply(reader, text, said.fault.place, places.each_replies_for_itself)
+        return refused is not None and refused.fault == said.fault
     lines = [it for it in reader.lines if it.name == listed.line]
     rows = places.Reader(reader.language, lines, reader.core).rows_that_fit(text)
     return any(row.place == said.fault.place and said.fault.error in (None, row.error) for row in rows)

@@ -1,6 +1,6 @@
 #!/usr/bin/env python3
-"""places.py [--utf16] [FILE..]: prints the error and its position for each line of its input. The lines are those of the program
-ixdtf_lines (docs/PROGRAM.md): a word, a space and a text.
+"""places.py [--utf16] [--reasons] [--reports] [FILE..]: prints the error and its position for each line of its input. The lines are those
+of the program ixdtf_lines (docs/PROGRAM.md): a word, a space and a text.
 
 This is a model of the readers. It was written only from docs/GRAMMAR.md and docs/FAULTS.md, so the library can be compared with it. It
 does not read a text step by step. It has the productions of the grammar and the lines of the fault table as patterns, in the order and
@@ -10,6 +10,10 @@ For each line it prints `ok` if the reader accepts the text. Otherwise it prints
 position. Some lines have an answer that comes from no reader, for example lines with an unknown word. The tool gives the same answers.
 The file `-` is standard input. If there is no file, the tool reads standard input. With --utf16, each text is UTF-8, and the readers of
 16-bit text get it as UTF-16. A byte that is not UTF-8 becomes one bad code unit. The exit status is 0 if all files can be read.
+
+With --reasons, it prints the reason of the error instead of the error. The reason has these parts: the line of the fault table; the way in which
+the text fails in this line, which is the row; the indices at which the part that is wrong begins and ends; and the text of the reason. With
+--reports, more lines follow: the text that is refused, a mark under the part that is wrong, and a hint if there is one.
 
 A *letter* is a code unit as a pattern sees it. A bad code unit has no letter.
 
@@ -21,12 +25,34 @@ that fits, which is called its *front* here. So the place is
     the end of the front, for a whole line: after a number out of its range, after a duration unit out of order, or after the part
     that makes a time ambiguous;
     the index after the `]` of an annotation, if a reply to this annotation is refused.
+
+An error has one place. Its reason has two indices. They say which part of the text is wrong: the part begins at `begin`, and it ends before
+`end`. The place is often one of the two, but not always:
+
+    If a letter does not fit, or if a code unit is bad, the part is this code unit. `begin` is the place, and `end` is one more.
+    If the text ends too early, the part is empty. `begin` and `end` are both the place, which is the length of the text.
+    If a month, a day, an hour, a minute or a second is out of its range, the part is its two digits. `end` is the place.
+    If the year is -000000, the part is the year with its sign. `begin` is 0, and `end` is the place.
+    If a number of a duration is 2^64 or more, the part is all its digits. The place is after the digit with which the number reaches 2^64. More
+        digits can follow this one, so `end` is the place or a later index.
+    If the years, months or weeks of a duration are 2^32 or more, the part is the number without its duration unit. The place is after the
+        duration unit, so `end` is one less than the place.
+    If a duration unit is out of order, the part is its group: the number, the fraction if there is one, and the unit. `end` is the place.
+    If a time is ambiguous, the part is the MonthDay or the YearMonth with which it begins. `begin` is 0, and `end` is the place.
+    If a reply to an annotation is refused, or if `parse_rfc9557` refuses a zone after its `]`, the part is the bracket. `begin` is the index of
+        its `[`, and `end` is the place.
+
+A mark is below the part that is wrong, with one column for each character. If a code unit does not fit, the mark is below the character that
+begins there, even if this character has more code units. If the part is empty, the mark is one column wide, below the end of the text.
 """
 import os
 import re
 import sys
 from functools import cache, cached_property
 from typing import Callable, Iterator, NamedTuple, Optional, Sequence
+
+import hints
+import reasons
 
 
 # ---------------------------------------------------------------------------------------------------------------------------------
@@ -378,6 +404,7 @@ TEXTS = {
 OK = 'ok'                # in a table: the text can end here
 NO_OTHER = 'no other'    # in a table: any letter can follow
 AT_END, AT_BAD, AT_OTHER, WHOLE = 'end', 'bad', 'other', 'whole'
+REFUSED = 'refused'      # if a reply is refused, which no table has
 
 
 class At(NamedTuple):
@@ -385,6 +412,10 @@ class At(NamedTuple):
     letters: str
     error: str
     otherwise: str
+
+
+# for a text and the place of an error: where the part that is wrong begins, and where it ends
+Wrong = Callable[[str, int], tuple[int, int]]
 
 
 class Line(NamedTuple):
@@ -395,6 +426,8 @@ class Line(NamedTuple):
     goes_on: Optional[str]                    # the letters that can follow; None for a whole line
     end: Optional[Error]                      # the error at the end, or the error of a whole line; None if the text can end here
     other: tuple[tuple[str, Error], ...]      # the errors at other letters: that of the first class that contains the letter
+    wrong: Optional[Wrong] = None             # for a whole line, the part that is wrong
+    follow: tuple[str, ...] = ()              # what can follow a complete part in this reader, as the text of a reason names it
 
     def error(self, row: str, letter: str) -> Error:
         """The error of a row at this letter."""
@@ -433,14 +466,47 @@ def line(name: str, front: str, goes_on: str, end, other) -> Line:
     return Line(name, front, either(*rows), goes_on, None if end == OK else error_of(end), errors_of(other))
 
 
-def whole(name: str, front: str, error: str) -> Line:
+def whole(name: str, front: str, error: str, wrong: Wrong) -> Line:
     """A line whose row fits, whatever comes after the front."""
-    return Line(name, front, f'(?P<{WHOLE}>)', None, error_of(error), ())
+    return Line(name, front, f'(?P<{WHOLE}>)', None, error_of(error), (), wrong)
 
 
 def after(before: str, lines: list[Line]) -> list[Line]:
     """The lines, with this text before their fronts."""
     return [it._replace(front=before + it.front) for it in lines]
+
+
+# ---------------------------------------------------------------------------------------------------------------------------------
+# The part that is wrong, if a whole line fits (see the beginning of this file).
+
+def two_digits_before(text: str, place: int) -> tuple[int, int]:
+    """A number of two digits before the place."""
+    return place - 2, place
+
+
+def from_the_beginning(text: str, place: int) -> tuple[int, int]:
+    """All of the text before the place."""
+    return 0, place
+
+
+def number_around(text: str, place: int) -> tuple[int, int]:
+    """The digits before the place, and those that come after it."""
+    return re.search(f'{some(one(DIGIT))}\\Z', text[:place]).start(), re.compile(any_number(one(DIGIT))).match(text, place).end()
+
+
+def number_before_unit(text: str, place: int) -> tuple[int, int]:
+    """The digits before a duration unit. The unit comes just before the place."""
+    return number_around(text, place - 1)
+
+
+def group_before(text: str, place: int) -> tuple[int, int]:
+    """The group of a duration before the place: the number, its fraction and the unit."""
+    return re.search(f'{some(one(DIGIT))}{maybe(FRACTION)}[{DATE_UNIT}{TIME_UNIT}]\\Z', text[:place]).start(), place
+
+
+def bracket_before(text: str, place: int) -> tuple[int, int]:
+    """The bracket before the place."""
+    return text.rindex('[', 0, place), place
 
 
 # ---------------------------------------------------------------------------------------------------------------------------------
@@ -452,14 +518,14 @@ YEAR_LINES = [
     line('year_start',                NOTHING,                                     DIGIT + SIGN,      abrupt('digit'), 'DateYear'),
     line('year_digits',               digits(1, 3),                                DIGIT,             abrupt('digit'), 'DateYear'),
     line('extended_year_digits',      one(SIGN) + digits(0, 5),                    DIGIT,             abrupt('digit'), 'DateExtendedYear'),
-    whole('minus_zero_year',          '-000000',                                                      'DateExtendedYear'),
+    whole('minus_zero_year',          '-000000',                                                      'DateExtendedYear', from_the_beginning),
 ]
 AFTER_YEAR_LINES = [
     line('after_year',                YEAR,                                        HYPHEN + DIGIT,    abrupt('Date'),  'DateMonth'),
 ]
 MONTH_LINES = [
     line('month_digits',              YEAR + either('-' + digits(0, 1), digits(1)), DIGIT,            abrupt('digit'), 'DateMonth'),
-    whole('month_range',              YEAR + maybe('-') + but_not(MONTH, digits(2)),                  'InvalidMonthRange'),
+    whole('month_range',              YEAR + maybe('-') + but_not(MONTH, digits(2)),                  'InvalidMonthRange', two_digits_before),
 ]
 DAY_LINES = [
     line('after_hyphened_month',      YEAR + '-' + MONTH,                          HYPHEN,            'DateSeparator', 'DateSeparator'),
@@ -467,7 +533,7 @@ DAY_LINES = [
          At(HYPHEN, 'DateSeparator', 'DateDay')),
     line('day_digits',                either(YEAR + MONTH + digits(1),
                                              YEAR + '-' + MONTH + '-' + digits(0, 1)), DIGIT,         abrupt('digit'), 'DateDay'),
-    whole('day_range',                but_not(DATE, DATE_SHAPE),                                      'InvalidDayRange'),
+    whole('day_range',                but_not(DATE, DATE_SHAPE),                                      'InvalidDayRange', two_digits_before),
     line('after_date',                DATE,                                        SEPARATOR + OPENING, OK,            'InvalidEnd'),
 ]
 YEAR_MONTH_LINES = [
@@ -483,10 +549,10 @@ def month_day_lines(strict: bool) -> list[Line]:
         line('month_day_start',        NOTHING,                                    HYPHEN + DIGIT,    abrupt('MonthDay'), 'DateMonth'),
         line('month_day_hyphen',       '-',                                        HYPHEN,            abrupt('MonthDay'), 'MonthDayHyphen'),
         line('month_day_month_digits', either('--', hyphens + digits(1)),          DIGIT,             abrupt('digit'), 'DateMonth'),
-        whole('month_day_month_range', hyphens + but_not(MONTH, digits(2)),                           'InvalidMonthRange'),
+        whole('month_day_month_range', hyphens + but_not(MONTH, digits(2)),                           'InvalidMonthRange', two_digits_before),
         line('after_month_day_month',  month,                                      HYPHEN + DIGIT,    abrupt('digit'), 'DateDay'),
         line('month_day_day_digits',   month + either('-', maybe('-') + digits(1)), DIGIT,            abrupt('digit'), 'DateDay'),
-        whole('month_day_range',       but_not(valid, MONTH_DAY_SHAPE),                               'InvalidMonthDay'),
+        whole('month_day_range',       but_not(valid, MONTH_DAY_SHAPE),                               'InvalidMonthDay', two_digits_before),
         line('after_month_day',        valid,                                      OPENING,           OK,              'InvalidEnd'),
     ]
 
@@ -495,16 +561,22 @@ def month_day_lines(strict: bool) -> list[Line]:
 # Times, and offsets after their sign (FAULTS, the section of this name).
 
 class Follow(NamedTuple):
-    """What can follow a complete part, and the errors if something else follows."""
+    """What can follow a complete part, the errors if something else follows, and how reasons name what can follow."""
     letters: str
     end: str
     other: str
+    named: tuple[str, ...]
 
 
-FOLLOWS_TIME = Follow(SIGN + ZULU + OPENING, OK, 'InvalidEnd')
-FOLLOWS_OFFSET = Follow(OPENING, OK, 'InvalidEnd')
-FOLLOWS_BRACKETED_OFFSET = Follow(CLOSING, 'AnnotationClose', 'AnnotationClose')
-NOTHING_FOLLOWS = Follow(NOTHING, OK, 'InvalidEnd')
+FOLLOWS_TIME = Follow(SIGN + ZULU + OPENING, OK, 'InvalidEnd', ('an offset', '`[`', 'the end'))
+FOLLOWS_OFFSET = Follow(OPENING, OK, 'InvalidEnd', ('`[`', 'the end'))
+FOLLOWS_ZONE = Follow(CLOSING, 'AnnotationClose', 'AnnotationClose', ('`]`',))
+NOTHING_FOLLOWS = Follow(NOTHING, OK, 'InvalidEnd', ('the end',))
+
+
+def followed_by(follow: Follow, lines: list[Line]) -> list[Line]:
+    """The lines of a reader in which this can follow a complete part."""
+    return [it._replace(follow=follow.named) for it in lines]
 
 
 def clock_lines(clock: Clock, follow: Follow) -> list[Line]:
@@ -516,14 +588,14 @@ def clock_lines(clock: Clock, follow: Follow) -> list[Line]:
     lines = [
         line('hour_start' + of,         NOTHING,                                   DIGIT,                  abrupt('digit'), 'TimeHour'),
         line('hour_digit' + of,         digits(1),                                 DIGIT,                  abrupt('digit'), 'TimeHour'),
-        whole('hour_range' + of,        but_not(HOUR, digits(2)),                                          'TimeHour'),
+        whole('hour_range' + of,        but_not(HOUR, digits(2)),                                          'TimeHour', two_digits_before),
         line('after_hour' + of,         HOUR,                                      COLON + DIGIT + follow.letters, follow.end, follow.other),
         line('minute_digits' + of,      HOUR + either(':' + digits(0, 1), digits(1)), DIGIT,               abrupt('digit'), 'TimeMinuteSecond'),
-        whole('minute_range' + of,      HOUR + maybe(':') + but_not(MINUTE, digits(2)),                    'TimeMinuteSecond'),
+        whole('minute_range' + of,      HOUR + maybe(':') + but_not(MINUTE, digits(2)),                    'TimeMinuteSecond', two_digits_before),
         line('after_basic_minute' + of, HOUR + MINUTE,                             digit + follow.letters, follow.end,      mixed),
         line('after_colon_minute' + of, HOUR + ':' + MINUTE,                       colon + follow.letters, follow.end,      mixed),
     ]
-    return lines + second_lines(clock, follow, of) if seconds else lines
+    return followed_by(follow, lines + second_lines(clock, follow, of) if seconds else lines)
 
 
 def second_lines(clock: Clock, follow: Follow, of: str) -> list[Line]:
@@ -532,7 +604,7 @@ def second_lines(clock: Clock, follow: Follow, of: str) -> list[Line]:
     too_great = but_not(two_digits(0, clock.greatest_second), digits(2))
     return [
         line('second_digits' + of,  either(basic + digits(1), colon + digits(0, 1)), DIGIT,                abrupt('digit'), clock.second),
-        whole('second_range' + of,  either(basic, colon) + too_great,                                      clock.second),
+        whole('second_range' + of,  either(basic, colon) + too_great,                                      clock.second, two_digits_before),
         line('after_second' + of,   to_the_second,                                 MARK + follow.letters,  follow.end,      follow.other),
         line('fraction_start' + of, to_the_second + one(MARK),                     DIGIT,                  'FractionPart',  'FractionPart'),
         line('after_fraction' + of, to_the_second + FRACTION,                      DIGIT + follow.letters, follow.end,      follow.other),
@@ -551,8 +623,8 @@ def time_alone_lines(strict: bool) -> list[Line]:
     no_month_day = not_ahead(month_day(strict))
     return [
         line('time_start',                NOTHING,                                 DIGIT + TIME_LETTER, abrupt('digit'), 'TimeHour'),
-        whole('time_reads_as_month_day',  READS_AS_TIME + month_day(strict),                            'AmbiguousTimeMonthDay'),
-        whole('time_reads_as_year_month', READS_AS_TIME + no_month_day + YEAR_MONTH,                    'AmbiguousTimeYearMonth'),
+        whole('time_reads_as_month_day',  READS_AS_TIME + month_day(strict),                            'AmbiguousTimeMonthDay', from_the_beginning),
+        whole('time_reads_as_year_month', READS_AS_TIME + no_month_day + YEAR_MONTH,                    'AmbiguousTimeYearMonth', from_the_beginning),
     ]
 
 
@@ -573,12 +645,12 @@ IDENTIFIER_LINES = [
 IANA_LINES = [
     line('zone_name_start',  NOTHING,    ZONE_LEAD,                     'TzLeadingChar',              'TzLeadingChar'),
 ]
-NAME_ALONE_LINES = [
+NAME_ALONE_LINES = followed_by(NOTHING_FOLLOWS, [
     line('in_zone_name',     NAME,       ZONE_CHAR + SLASH,             OK,  At(CLOSING, 'InvalidEnd', 'IanaChar')),
-]
-NAME_IN_BRACKET_LINES = [
+])
+NAME_IN_BRACKET_LINES = followed_by(FOLLOWS_ZONE, [
     line('in_zone_name',     NAME,       ZONE_CHAR + SLASH + CLOSING,   'AnnotationClose',            'IanaChar'),
-]
+])
 AFTER_SLASH_LINES = [
     line('after_zone_slash', NAME + '/', ZONE_CHAR,                     'IanaCharPostSeparator',      'IanaCharPostSeparator'),
 ]
@@ -609,9 +681,10 @@ READS_AS_PAIR = ahead(UP_TO_EQUALS_OR_CLOSING + one(EQUALS))
 
 
 EXACT_LINES = [
-    whole('first_dots_form',     ahead(DOTTED_BRACKET) + OPEN + NAME + one(CLOSING),               'IanaChar'),
-    whole('first_name_form',     not_ahead(DOTTED_BRACKET) + but_not(EXACT_ZONE_BRACKET, OPEN + NAME + one(CLOSING)), 'IanaChar'),
-    whole('first_offset_form',   but_not(EXACT_ZONE_BRACKET, OPEN + MINUTE_OFFSET + one(CLOSING)), 'InvalidMinutePrecisionOffset'),
+    whole('first_dots_form',     ahead(DOTTED_BRACKET) + OPEN + NAME + one(CLOSING),               'IanaChar', bracket_before),
+    whole('first_name_form',     not_ahead(DOTTED_BRACKET) + but_not(EXACT_ZONE_BRACKET, OPEN + NAME + one(CLOSING)), 'IanaChar', bracket_before),
+    whole('first_offset_form',   but_not(EXACT_ZONE_BRACKET, OPEN + MINUTE_OFFSET + one(CLOSING)), 'InvalidMinutePrecisionOffset',
+          bracket_before),
 ]
 
 
@@ -619,7 +692,7 @@ def bracket_lines(core: str, zone_bracket: str) -> list[Line]:
     """The lines of the brackets after a core. `zone_bracket` is the pattern of a bracket with a zone."""
     core_and_open, bracketed = core + OPEN, core + brackets(zone_bracket)
     return (after(core, FIRST_BRACKET_LINES)
-            + after(core_and_open + one(SIGN), clock_lines(MINUTE_OFFSET_CLOCK, FOLLOWS_BRACKETED_OFFSET))
+            + after(core_and_open + one(SIGN), clock_lines(MINUTE_OFFSET_CLOCK, FOLLOWS_ZONE))
             + after(core_and_open + READS_AS_NAME, NAME_IN_BRACKET_LINES + AFTER_SLASH_LINES)
             + after(core_and_open + READS_AS_PAIR, PAIR_LINES)
             + after(bracketed, AFTER_BRACKET_LINES + KEY_START_LINES)
@@ -643,9 +716,9 @@ def date_group_lines(strict: bool) -> list[Line]:
         line('after_duration_designator', DURATION_START,           goes_on,                abrupt('Duration'),           'InvalidEnd'),
         line('after_date_groups',         some_dates,               goes_on,                OK,                           'InvalidEnd'),
         line('group_digits date',         dates + NUMBER,           DIGIT + DATE_UNIT,      unit,                         unit),
-        whole('group_value_range date',   dates + NUMBER_TOO_GREAT,                         'DurationValueExceededRange'),
-        whole('unit_order date',          disorder,                                         'DateDurationPartOrder'),
-        whole('date_unit_range',          too_great,                                        'DurationValueExceededRange'),
+        whole('group_value_range date',   dates + NUMBER_TOO_GREAT,                         'DurationValueExceededRange', number_around),
+        whole('unit_order date',          disorder,                                         'DateDurationPartOrder', group_before),
+        whole('date_unit_range',          too_great,                                        'DurationValueExceededRange', number_before_unit),
     ]
 
 
@@ -661,8 +734,8 @@ def time_group_lines(strict: bool) -> list[Line]:
     return [
         line('after_time_designator', designator,                  DIGIT,             'TimeDurationDesignator', 'TimeDurationDesignator'),
         line('group_digits time',     times + NUMBER,              goes_on,           unit,                     unit),
-        whole('group_value_range time', times + NUMBER_TOO_GREAT,                     'DurationValueExceededRange'),
-        whole('unit_order time',      disorder,                                       'TimeDurationPartOrder'),
+        whole('group_value_range time', times + NUMBER_TOO_GREAT,                     'DurationValueExceededRange', number_around),
+        whole('unit_order time',      disorder,                                       'TimeDurationPartOrder', group_before),
         line('group_fraction_start',  times + NUMBER + one(MARK),  DIGIT,             'FractionPart',           'FractionPart'),
         line('group_fraction_digits', times + NUMBER + FRACTION,   DIGIT + TIME_UNIT, unit,                     unit),
         line('after_time_groups',     some_times,                  DIGIT,             OK,                       'InvalidEnd'),
@@ -673,12 +746,31 @@ def time_group_lines(strict: bool) -> list[Line]:
 # ---------------------------------------------------------------------------------------------------------------------------------
 # Readers (GRAMMAR, "Whole texts"; FAULTS, what comes before the lines of each reader).
 
+class Reason(NamedTuple):
+    """Why a text is refused: the name of the line that fits, the way in which the text fails there, and where the part that is wrong begins
+    and ends. The way is the row of the line: `end`, `other`, `bad` or `whole`. If a reply is refused, `line` is its error, and the way is
+    `refused`. `follow` is what can follow a complete part, if the line has another text in a reader where something else can follow."""
+    line: str
+    way: str
+    begin: int
+    end: int
+    follow: tuple[str, ...] = ()
+
+
 class Row(NamedTuple):
-    """A row that fits a text: the name of its line, which row of the line it is, its error, and the length of its front."""
+    """A row that fits a text: the name of its line, which row of the line it is, its error, the length of its front, and its reason."""
     line: str
     row: str
     error: Error
     place: int
+    reason: Reason
+
+
+def what_is_wrong(it: Line, row: str, text: str, place: int) -> tuple[int, int]:
+    """Where the part of the text that is wrong begins, and where it ends, for a row that fits with a front of this length."""
+    if row == WHOLE:
+        return it.wrong(text, place)
+    return place, place if row == AT_END else place + 1
 
 
 class Reader:
@@ -710,8 +802,9 @@ class Reader:
         for it, pattern in zip(self.lines, self.rows):
             match = pattern.match(text)
             if match:
-                row = match.lastgroup
-                found.append(Row(it.name, row, it.error(row, match[row]), match.start(row)))
+                row, place = match.lastgroup, match.start(match.lastgroup)
+                reason = Reason(it.name, row, *what_is_wrong(it, row, text, place), it.follow)
+                found.append(Row(it.name, row, it.error(row, match[row]), place, reason))
         return found
 
     def row(self, text: str) -> Optional[Row]:
@@ -769,7 +862,7 @@ DATE_TIME = either(THROUGH_TIME + one(ZULU), UNTIL_OFFSET_MINUTE + MINUTE)
 def number_lines(field: str, until: str, number: str, digit: str, out_of_range: str) -> list[Line]:
     """The lines of a number with two digits. `until` is the pattern of the text before the number."""
     return [line(f'field_digits {field}', until + digits(0, 1), DIGIT, abrupt('digit'), digit),
-            whole(f'field_range {field}', until + but_not(number, digits(2)), out_of_range)]
+            whole(f'field_range {field}', until + but_not(number, digits(2)), out_of_range, two_digits_before)]
 
 
 def separator_line(field: str, through: str, goes_on: str, error: str) -> Line:
@@ -777,15 +870,15 @@ def separator_line(field: str, through: str, goes_on: str, error: str) -> Line:
     return line(f'after_field {field}', through, goes_on, error, error)
 
 
-def date_time_lines(follows: str) -> list[Line]:
-    """The lines of date-times. After a date-time, the text can end, or one of the letters `follows` can come."""
-    return [
+def date_time_lines(follow: Follow) -> list[Line]:
+    """The lines of date-times."""
+    return followed_by(follow, [
         line('four_digits', digits(0, 3), DIGIT, abrupt('digit'), 'DateYear'),
         line('after_four_digits', digits(4), HYPHEN, abrupt('Date'), 'DateSeparator'),
         *number_lines('month_field', UNTIL_MONTH, MONTH, 'DateMonth', 'InvalidMonthRange'),
         separator_line('month_field', UNTIL_MONTH + MONTH, HYPHEN, 'DateSeparator'),
         line('field_digits day_field', UNTIL_DAY + digits(0, 1), DIGIT, abrupt('digit'), 'DateDay'),
-        whole('field_range day_field', but_not(FULL_DATE, FULL_DATE_SHAPE), 'InvalidDayRange'),
+        whole('field_range day_field', but_not(FULL_DATE, FULL_DATE_SHAPE), 'InvalidDayRange', two_digits_before),
         separator_line('day_field', FULL_DATE, TIME_LETTER, 'TimeSeparator'),
         *number_lines('hour_field', UNTIL_HOUR, HOUR, 'TimeHour', 'TimeHour'),
         separator_line('hour_field', UNTIL_HOUR + HOUR, COLON, 'TimeSeparator'),
@@ -799,9 +892,9 @@ def date_time_lines(follows: str) -> list[Line]:
         *number_lines('offset_hour_field', UNTIL_OFFSET_HOUR, HOUR, 'TimeHour', 'TimeHour'),
         separator_line('offset_hour_field', UNTIL_OFFSET_HOUR + HOUR, COLON, 'UtcTimeSeparator'),
         *number_lines('offset_minute_field', UNTIL_OFFSET_MINUTE, MINUTE, 'TimeMinuteSecond', 'TimeMinuteSecond'),
-        line('after_field offset_minute_field', UNTIL_OFFSET_MINUTE + MINUTE, follows, OK, 'InvalidEnd'),
-        line('after_utc', THROUGH_TIME + one(ZULU), follows, OK, 'InvalidEnd'),
-    ]
+        line('after_field offset_minute_field', UNTIL_OFFSET_MINUTE + MINUTE, follow.letters, follow.end, follow.other),
+        line('after_utc', THROUGH_TIME + one(ZULU), follow.letters, follow.end, follow.other),
+    ])
 
 
 def readers(strict: bool) -> dict[str, Reader]:
@@ -813,8 +906,8 @@ def readers(strict: bool) -> dict[str, Reader]:
         'parse_year_month': bracketed_reader(YEAR_MONTH, YEAR_LINES + MONTH_LINES + YEAR_MONTH_LINES),
         'parse_month_day': bracketed_reader(month_day(strict), month_day_lines(strict)),
         'parse_time': time_reader(strict),
-        'parse_rfc3339': Reader(DATE_TIME, date_time_lines(NOTHING)),
-        'parse_rfc9557': bracketed_reader(DATE_TIME, date_time_lines(OPENING) + after(DATE_TIME, EXACT_LINES), EXACT_ZONE_BRACKET),
+        'parse_rfc3339': Reader(DATE_TIME, date_time_lines(NOTHING_FOLLOWS)),
+        'parse_rfc9557': bracketed_reader(DATE_TIME, date_time_lines(FOLLOWS_OFFSET) + after(DATE_TIME, EXACT_LINES), EXACT_ZONE_BRACKET),
         'parse_offset': Reader(OFFSET, OFFSET_START_LINES + after_sign),
         'parse_identifier': Reader(ZONE, IDENTIFIER_LINES + NAME_ALONE_LINES + AFTER_SLASH_LINES + minute_after_sign),
         'parse_iana_identifier': Reader(NAME, IANA_LINES + NAME_ALONE_LINES + AFTER_SLASH_LINES),
@@ -847,19 +940,19 @@ FIRST_BRACKET = re.compile(ZONE_BRACKET)
 NEXT_PAIR = re.compile(rf'\[(?P<critical>!?)(?P<key>{KEY})=(?P<value>{VALUE})\]')
 
 
-def pairs_before(reader: Reader, text: str, place: int) -> Iterator[tuple[Annotation, int]]:
-    """The annotations that are complete before a place, each with the end of its bracket."""
+def pairs_before(reader: Reader, text: str, place: int) -> Iterator[tuple[Annotation, int, int]]:
+    """The annotations that are complete before a place, each with the beginning and the end of its bracket."""
     core = reader.core_of_brackets.match(text)
     if not core:
         return
     zone = FIRST_BRACKET.match(text, core.end())
     pair = NEXT_PAIR.match(text, (zone or core).end())
     while pair and pair.end() <= place:
-        yield Annotation(pair['critical'] == '!', pair['key'], pair['value']), pair.end()
+        yield Annotation(pair['critical'] == '!', pair['key'], pair['value']), pair.start(), pair.end()
         pair = NEXT_PAIR.match(text, pair.end())
 
 
-def refusal(reply: Annotation, calendar: Optional[Annotation]) -> Optional[Error]:
+def error_of_reply(reply: Annotation, calendar: Optional[Annotation]) -> Optional[Error]:
     """The error of a reply, if it is refused. `calendar` is the first calendar before it."""
     if reply.key != 'u-ca':
         return Error('UnrecognizedCritical') if reply.critical else None
@@ -877,31 +970,68 @@ class Fault(NamedTuple):
         return f'{self.error} at {self.place}'
 
 
-def refused_reply(reader: Reader, text: str, place: int, handler: Handler) -> Optional[Fault]:
-    """The first error of a reply to the annotations before a place. The handler is called for the annotations up to this reply, and not for
+class Refusal(NamedTuple):
+    """What a reader says about a text that it refuses: the error with its place, and the reason."""
+    fault: Fault
+    reason: Reason
+
+
+def refused_reply(reader: Reader, text: str, place: int, handler: Handler) -> Optional[Refusal]:
+    """The first refusal of a reply to the annotations before a place. The handler is called for the annotations up to this reply, and not for
     those after it."""
     calendar = None
-    for pair, end in pairs_before(reader, text, place):
+    for pair, begin, end in pairs_before(reader, text, place):
         reply = handler(pair)
         if reply is None:
             continue
-        error = refusal(reply, calendar)
+        error = error_of_reply(reply, calendar)
         if error:
-            return Fault(error, end)
+            return Refusal(Fault(error, end), Reason(error.variant, REFUSED, begin, end))
         if reply.key == 'u-ca':
             calendar = calendar or reply
     return None
 
 
-def outcome(name: str, units: Sequence[int], wide: bool = False, strict: bool = False,
-            handler: Handler = each_replies_for_itself) -> 'Fault | str':
-    """`OK`, or the error and its place, that a reader returns for a text of 8-bit code units, or of 16-bit code units if `wide` is true."""
+def refusal(name: str, units: Sequence[int], wide: bool = False, strict: bool = False,
+            handler: Handler = each_replies_for_itself) -> Optional[Refusal]:
+    """What a reader says about a text of 8-bit code units, or of 16-bit code units if `wide` is true. None if it accepts the text."""
     reader, text = READERS[strict][name], letters_of(units, wide)
     row = reader.row(text)
     refused = refused_reply(reader, text, len(text) if row is None else row.place, handler)
-    if refused:
+    if refused or row is None:
         return refused
-    return OK if row is None else Fault(row.error, row.place)
+    return Refusal(Fault(row.error, row.place), row.reason)
+
+
+def outcome(name: str, units: Sequence[int], wide: bool = False, strict: bool = False,
+            handler: Handler = each_replies_for_itself) -> 'Fault | str':
+    """`OK`, or the error and its place, that a reader returns for a text of 8-bit code units, or of 16-bit code units if `wide` is true."""
+    found = refusal(name, units, wide, strict, handler)
+    return found.fault if found else OK
+
+
+def reason_text(reason: Reason, units: Sequence[int], wide: bool = False, strict: bool = False) -> str:
+    """The text of a reason: what stands in the text, and what was expected."""
+    line, way, begin, end, follow = reason
+    letter = letters_of(units[begin:begin + 1], wide)
+    template = reasons.template(reasons.texts_of(line, follow, strict, begin), way, letter)
+    return reasons.filled(template, line, units, begin, end, wide)
+
+
+def hints_of(name: str, found: Refusal, units: Sequence[int], wide: bool = False, strict: bool = False) -> list[str]:
+    """The hints for a text that a reader refuses, at most one."""
+    line, way, begin, _, follow = found.reason
+    texts = reasons.texts_of(line, follow, strict, begin)
+    ends_here = texts.other is not None and texts.end is None
+    text = ''.join(map(chr, units))
+    return hints.hints(hints.Case(name, line, way, text, found.fault.place, ends_here, ends_here and '`[`' in texts.other))
+
+
+def report(name: str, found: Refusal, units: Sequence[int], wide: bool = False, strict: bool = False) -> list[str]:
+    """The lines that tell a person why a reader refuses a text: the text of the reason; the text that was read, with a mark under what is
+    wrong, if it is UTF-8 or UTF-16; and a hint, if there is one."""
+    lines = [reason_text(found.reason, units, wide, strict), *reasons.marked(units, found.reason.begin, found.reason.end, wide)]
+    return lines + [f'hint: {it}' for it in hints_of(name, found, units, wide, strict)]
 
 
 # ---------------------------------------------------------------------------------------------------------------------------------
@@ -918,6 +1048,9 @@ class Example(NamedTuple):
     front: list[int]
     error: Error
     place: int
+    begin: int
+    end: int
+    reason: str
 
 
 def units_of(spelled: str) -> list[int]:
@@ -927,12 +1060,12 @@ def units_of(spelled: str) -> list[int]:
 
 @cache
 def examples() -> list[Example]:
-    """The lines of places.tsv. Each has a text and a place that a person counted."""
+    """The lines of places.tsv. Each has a text, a place that a person counted, and a reason that was found by reading the text."""
     with open(os.path.join(os.path.dirname(os.path.abspath(__file__)), 'places.tsv'), encoding='ascii') as lines:
         cells = [it.rstrip('\n').split('\t') for it in lines][1:]
     return [Example(reader, profile == 'strict', bits == '16', line, row, units_of(text), units_of(front),
-                    Error(*error.split(' ')), int(place))
-            for reader, profile, bits, line, row, text, front, error, place in cells]
+                    Error(*error.split(' ')), int(place), int(begin), int(end), reason)
+            for reader, profile, bits, line, row, text, front, error, place, begin, end, reason in cells]
 
 
 # ---------------------------------------------------------------------------------------------------------------------------------
@@ -952,8 +1085,11 @@ def utf16_units(text: bytes) -> list[int]:
     return [spelled[at] | spelled[at + 1] << 8 for at in range(0, len(spelled), 2)]
 
 
-def answer(protocol_line: bytes, wide: bool = False) -> str:
-    """The answer to a line."""
+REASONS, REPORTS = '--reasons', '--reports'
+
+
+def answer(protocol_line: bytes, wide: bool = False, says: Optional[str] = None) -> str:
+    """The answer to a line. `says` is an option that asks for the reason, or None."""
     if len(protocol_line) > LONGEST_LINE:
         return 'error line too long'
     word, space, text = protocol_line.partition(b' ')
@@ -962,25 +1098,34 @@ def answer(protocol_line: bytes, wide: bool = False) -> str:
     reader = STRICT_WORDS.get(word) if strict else WORDS.get(word)
     if not space or reader is None:
         return 'error unknown reader'
-    found = outcome(reader, utf16_units(text) if wide else text, wide, strict)
-    return OK if found == OK else f'error {found}'
+    units = utf16_units(text) if wide else text
+    found = refusal(reader, units, wide, strict)
+    if found is None:
+        return OK
+    if says is None:
+        return f'error {found.fault}'
+    first, *more = report(reader, found, units, wide, strict)
+    line, way, begin, end, _ = found.reason
+    return '\n'.join([f'error {line} {way} {begin}..{end}: {first}'] + (more if says == REPORTS else []))
 
 
-def answer_file(lines: Iterator[bytes], wide: bool) -> None:
+def answer_file(lines: Iterator[bytes], wide: bool, says: Optional[str]) -> None:
     """Writes the answer to each line."""
     for it in lines:
-        print(answer(it.removesuffix(b'\n'), wide))
+        sys.stdout.write(answer(it.removesuffix(b'\n'), wide, says) + '\n')
 
 
 def main(arguments: list[str]) -> None:
     """Answers the lines of the files that the arguments name."""
+    sys.stdout.reconfigure(encoding='utf-8')
     wide = '--utf16' in arguments
-    for path in [it for it in arguments if it != '--utf16'] or ['-']:
+    says = next((it for it in (REPORTS, REASONS) if it in arguments), None)
+    for path in [it for it in arguments if it not in ('--utf16', REASONS, REPORTS)] or ['-']:
         if path == '-':
-            answer_file(sys.stdin.buffer, wide)
+            answer_file(sys.stdin.buffer, wide, says)
             continue
         with open(path, 'rb') as lines:
-            answer_file(lines, wide)
+            answer_file(lines, wide, says)
 
 
 if __name__ == '__main__':

@@ -1,14 +1,30 @@
 #!/usr/bin/env python3
-"""Tests of places.py. They test each row of the fault table with examples from places.tsv. They also test that exactly one row fits a text, with
-exactly one front. check_documents.py compares the model with docs/FAULTS.md.
+"""Tests of places.py, reasons.py and hints.py. They test each row of the fault table with examples from places.tsv. They also test that exactly
+one row fits a text, with exactly one front. check_documents.py compares the model with docs/FAULTS.md.
 
-Each line of places.tsv has these columns. A person wrote the text, the front and the place. `\\uXXXX` means one code unit.
+Each line of places.tsv has these columns. A person wrote the text, the front and the place. The last three columns were written by reading each
+text, without the model. `\\uXXXX` means one code unit.
 
     reader, profile, bits   the reader, its profile, and the number of bits of a code unit
     line                    the line of the fault table; or `reply`, if a reply to an annotation is refused
     row                     the row of this line: `end`, `bad`, `other` or `whole`; after `reply`, it is `refused`
     text, front             the text, and the part of it before the error
-    error, place            the error and its position"""
+    error, place            the error and its position
+    begin, end              where the part of the text that is wrong begins and ends (see places.py)
+    reason                  the text of the reason
+
+reasons.tsv has each text of a reason, with these columns:
+
+    line                    the line of the fault table; or the error, if a reply to an annotation is refused
+    readers                 the readers that have this text, if other readers have another one
+    way                     the row of this line; or `refused`. The row `bad` has the text of the row `other`, if there is one.
+    at                      the letters for which the line has this text, if it has another text for the other letters
+    text                    the text, with words in braces for the parts that come from the input (see reasons.py)
+    bits, example           an example: the number of bits of a code unit, and a line of the program ixdtf_lines
+    begin, end              where the part of the example that is wrong begins and ends
+    shown                   the text for this example"""
+import contextlib
+import csv
 import itertools
 import os
 import re
@@ -16,11 +32,13 @@ import subprocess
 import sys
 import unittest
 from functools import cache, lru_cache
-from typing import Iterator, Optional
+from typing import Callable, Iterator, NamedTuple, Optional
+from unittest import mock
 
 TOOLS = os.path.dirname(os.path.abspath(__file__))
 sys.path.insert(0, TOOLS)
 import places
+import reasons
 from check_documents import ROOT, Document, Tree
 from places import Annotation, Error, Example, Fault, examples
 
@@ -55,7 +73,7 @@ class Examples(unittest.TestCase):
     def test_row(self):
         for it in examples():
             if it.line != 'reply':
-                self.assertEqual(row_of(it), (it.line, it.row, it.error, it.place), it)
+                self.assertEqual(row_of(it)[:4], (it.line, it.row, it.error, it.place), it)
 
     def test_where_each_kind_of_place_is(self):
         for it in examples():
@@ -78,6 +96,52 @@ class Examples(unittest.TestCase):
         self.assertGreaterEqual(shown, {(it, True) for it in places.STRICT_WORDS.values()})
 
 
+@cache
+def reasons_of_model() -> dict[int, places.Reason]:
+    """The reason that the model finds for each example. The keys are the identities of the examples."""
+    return {id(it): places.refusal(it.reader, it.units, it.wide, it.strict).reason for it in examples()}
+
+
+def model_says(it: Example) -> tuple:
+    """What the model has for the last three columns of an example."""
+    found = reasons_of_model()[id(it)]
+    return found.begin, found.end, places.reason_text(found, it.units, it.wide, it.strict)
+
+
+class Reasons(unittest.TestCase):
+    """Tests of the reasons in places.tsv."""
+
+    def test_reason(self):
+        for it in examples():
+            self.assertEqual(model_says(it), (it.begin, it.end, it.reason), it)
+
+    def test_line_and_way(self):
+        for it in examples():
+            found = reasons_of_model()[id(it)]
+            line = it.error.variant if it.line == 'reply' else it.line
+            self.assertEqual((found.line, found.way), (line, it.row), it)
+
+    def test_where_what_is_wrong_is(self):
+        for it in examples():
+            if it.row == places.AT_END:
+                self.assertEqual((it.begin, it.end), (len(it.units), len(it.units)), it)
+            elif it.row in (places.AT_OTHER, places.AT_BAD):
+                self.assertEqual((it.begin, it.end), (it.place, it.place + 1), it)
+            else:
+                self.assertTrue(it.begin < it.end and it.begin < it.place, it)
+                self.assertTrue(it.end == it.place or it.error.variant == 'DurationValueExceededRange', it)
+
+    def test_bad_code_units_have_the_text_of_others(self):
+        """The code unit 127 is bad in 16-bit text. It has the same text in 8-bit text, except in a first bracket that the reader scans."""
+        for it in (it for it in plain_examples() if it.row == places.AT_OTHER):
+            units = it.units[:it.place] + [127]
+            narrow, wide = (places.refusal(it.reader, units, wide, it.strict).reason for wide in (False, True))
+            self.assertEqual(wide.way, places.AT_BAD, it)
+            if wide.line != 'first_bracket_scan':
+                self.assertEqual(narrow, wide._replace(way=places.AT_OTHER), it)
+                self.assertEqual(places.reason_text(narrow, units, False, it.strict), places.reason_text(wide, units, True, it.strict), it)
+
+
 def rows_of(line: places.Line) -> Iterator[tuple[str, Error]]:
     """The rows of a line, each with its error."""
     if line.goes_on is None:
@@ -88,6 +152,383 @@ def rows_of(line: places.Line) -> Iterator[tuple[str, Error]]:
         yield places.AT_END, line.end
     for _, error in line.other:
         yield places.AT_OTHER, error
+
+
+# ---------------------------------------------------------------------------------------------------------------------------------
+# The texts of reasons
+
+class ReasonText(NamedTuple):
+    """A line of reasons.tsv."""
+    line: str
+    way: str
+    at: str
+    text: str
+    wide: bool
+    word: str
+    units: list[int]
+    begin: int
+    end: int
+    shown: str
+
+    def spelled(self) -> bytes:
+        """The example as a line for the program, in UTF-8."""
+        return f'{self.word} {"".join(map(chr, self.units))}'.encode()
+
+
+# the letters in the column `at`
+LETTERS = {'digit': reasons.DIGITS, ': digit': ':' + reasons.DIGITS}
+
+
+@cache
+def reason_texts() -> list[ReasonText]:
+    """The lines of reasons.tsv."""
+    with open(os.path.join(TOOLS, 'reasons.tsv'), encoding='ascii', newline='') as file:
+        return [ReasonText(row['line'], row['way'], LETTERS.get(row['at'], row['at']), row['text'], row['bits'] == '16',
+                           row['example'].split(' ')[0], places.units_of(row['example'].partition(' ')[2]), int(row['begin']), int(row['end']),
+                           row['shown'])
+                for row in csv.DictReader(file, delimiter='\t', quoting=csv.QUOTE_NONE)]
+
+
+def texts_of_model() -> Iterator[tuple[str, str, str, str]]:
+    """The texts of the model: for each one the line, the way, the letters at which it is said, and the text."""
+    for strict, its_readers in places.READERS.items():
+        for line, begin in itertools.product([line for reader in its_readers.values() for line in reader.lines], (0, 1)):
+            texts = reasons.texts_of(line.name, line.follow, strict, begin)
+            ways = {row for row, _ in rows_of(line)}
+            if places.AT_OTHER in ways:
+                ways.remove(places.AT_BAD)
+                yield from ((line.name, places.AT_OTHER, letters, text) for letters, text in texts.at)
+            yield from ((line.name, way, '', reasons.template(texts, way, places.BAD)) for way in ways)
+    for error in ('UnrecognizedCritical', 'CriticalDuplicateCalendar'):
+        yield error, places.REFUSED, '', reasons.template(reasons.texts_of(error), places.REFUSED, '')
+
+
+class Texts(unittest.TestCase):
+    """Tests of the lines of reasons.tsv."""
+
+    def test_model_has_these_texts_and_no_others(self):
+        self.assertEqual(set(texts_of_model()), {(it.line, it.way, it.at, it.text) for it in reason_texts()})
+
+    def test_numbers(self):
+        lines = {it.line for it in reason_texts()} - {'UnrecognizedCritical', 'CriticalDuplicateCalendar'}
+        self.assertEqual(lines, {line.name for reader in places.READERS[False].values() for line in reader.lines})
+        self.assertEqual((len(lines), len({it.text for it in reason_texts()})), (120, 155))
+
+    def test_examples(self):
+        for it in reason_texts():
+            said = f'error {it.line} {it.way} {it.begin}..{it.end}: {it.shown}'
+            self.assertEqual(places.answer(it.spelled(), it.wide, places.REASONS), said, it)
+
+    def test_marks(self):
+        for it in reason_texts():
+            text = ''.join(map(chr, it.units))
+            self.assertEqual(reasons.marked(it.units if it.wide else text.encode(), it.begin, it.end, it.wide),
+                             [text, ' ' * it.begin + '^' * max(1, it.end - it.begin)], it)
+
+    def test_what_is_shown_of_the_input(self):
+        parts = {'{char}': '(`[!-~]`|a space|U\\+00FC)', '{number}': '[0-9]{2}', '{last}': '(28|29|30|31)', '{front}': '[0-9-]{4,7}'}
+        for it in reason_texts():
+            pattern = re.sub(r'\\\{\w+\\\}', lambda part: parts[part[0].replace('\\', '')], re.escape(it.text))
+            self.assertRegex(it.shown, f'\\A{pattern}\\Z', it)
+
+    def test_style(self):
+        for it in reason_texts():
+            self.assertRegex(it.shown, r'\A[ -~]{10,80}(?<!\.)\Z')
+            if it.way in (places.AT_OTHER, places.AT_BAD):
+                self.assertRegex(it.text, r'\A(expected|a time zone).* found (\{char\}|`.`)\Z|\Afound `.` before .* none before')
+            if it.way == places.AT_END:
+                self.assertRegex(it.text, r'\Athe text (is empty|ends) ?.*; expected ')
+
+    def test_each_text_is_in_the_list_of_places(self):
+        """Each text of reasons.tsv is also the reason of an example of places.tsv for the same line."""
+        for it in reason_texts():
+            pattern = re.sub(r'\\\{\w+\\\}', '.+', re.escape(it.text))
+            line = 'reply' if it.way == places.REFUSED else it.line
+            self.assertTrue(any(re.fullmatch(pattern, example.reason) for example in examples() if example.line == line), it)
+
+
+# lines for the program, and their reports
+REPORTS = """
+$ parse 2024-13-01
+the month is 13, and has to be 01 to 12
+2024-13-01
+     ^^
+$ parse 2024
+the text ends after the year; expected `-` and the month
+2024
+    ^
+$ parse 2024-3-2
+expected a digit of the month, which has two, found `-`
+2024-3-2
+      ^
+hint: write the month as `03`
+$ parse 02/03/2024
+expected a digit of the year, which has four, found `/`
+02/03/2024
+  ^
+hint: write a date as year, month and day, like 2024-03-02
+$ parse 1709369280
+the month is 36, and has to be 01 to 12
+1709369280
+    ^^
+hint: a Unix time is not read; write it as a date and a time
+$ parse 2023-02-29
+the day is 29, and has to be 01 to 28
+2023-02-29
+        ^^
+$ parse 2024-W09-6
+expected a digit of the month, which has two, found `W`
+2024-W09-6
+     ^
+hint: a week is not read; write the month and the day
+$ parse 202403-02
+found `-` before the day, but none before the month
+202403-02
+      ^
+$ parse 2024-03-02T24:00
+the hour is 24, and has to be 00 to 23
+2024-03-02T24:00
+           ^^
+hint: the end of a day is 00:00 of the next day
+$ parse 2024-03-02 08:48:00 +0100
+expected `.`, an offset, `[` or the end after the second, found a space
+2024-03-02 08:48:00 +0100
+                   ^
+hint: remove the space before `+`
+$ parse 2024-03-02 08:48 UTC
+expected `:`, an offset, `[` or the end after the minute, found a space
+2024-03-02 08:48 UTC
+                ^
+hint: write `Z` for UTC
+$ parse 2024-03-02T08:48:00\u221205:00
+expected `.`, an offset, `[` or the end after the second, found U+2212 (minus sign)
+2024-03-02T08:48:00\u221205:00
+                   ^
+$ parse 2024-03-02Z
+expected `T`, a space, `[` or the end after the date, found `Z`
+2024-03-02Z
+          ^
+hint: an offset needs a time before it
+$ parse 2024-03-02T08:48+05:30:60
+the offset's second is 60, and has to be 00 to 59
+2024-03-02T08:48+05:30:60
+                       ^^
+$ parse 2024-03-02T08:48Z[America/S\u00e3o_Paulo]
+expected `]` or more of the time zone's name, found U+00E3
+2024-03-02T08:48Z[America/S\u00e3o_Paulo]
+                           ^
+$ parse 2024-03-02T08:48[U-CA=hebrew]
+expected `]` or more of the time zone's name, found `=`
+2024-03-02T08:48[U-CA=hebrew]
+                     ^
+hint: write an annotation's key in lower-case letters
+$ parse 2024-03-02[Europe/Berlin
+the text ends in the time zone's name; expected `]`
+2024-03-02[Europe/Berlin
+                        ^
+$ parse 2024-03-02T08:48:00-05:00[America/New_York][u-ca=hebrew][key=a_b]
+expected `]` or more of the annotation's value, found `_`
+..48:00-05:00[America/New_York][u-ca=hebrew][key=a_b]
+                                                  ^
+$ parse 2024-03-02[!knort=blue]
+the annotation is critical (`!`), and its key is not known
+2024-03-02[!knort=blue]
+          ^^^^^^^^^^^^^
+$ parse 2024-03-02[u-ca=hebrew][!u-ca=iso8601]
+a later calendar differs from the first, and one is critical (`!`)
+2024-03-02[u-ca=hebrew][!u-ca=iso8601]
+                       ^^^^^^^^^^^^^^^
+$ time 1214
+`1214` may be a month and a day; write `T` before a time
+1214
+^^^^
+$ duration P1.5D
+expected a digit, `Y`, `M`, `W` or `D` after the number, found `.`
+P1.5D
+  ^
+hint: only hours, minutes and seconds have a fraction
+$ duration P1D2H
+expected a digit, `Y`, `M`, `W` or `D` after the number, found `H`
+P1D2H
+    ^
+hint: write `T` before hours, minutes and seconds
+$ duration P1W2Y
+the unit `Y` stands too late; the order is Y, M, W, D
+P1W2Y
+   ^^
+$ duration P99999999999999999999999D
+the number is too great, and has to be at most 18446744073709551615
+P99999999999999999999999D
+ ^^^^^^^^^^^^^^^^^^^^^^^
+$ parse 2024-03-02T08:48:00Z\U0001f600
+expected `[` or the end after `Z`, found U+1F600
+2024-03-02T08:48:00Z\U0001f600
+                    ^
+$ rfc9557 2024-03-02T08:48:00-05:00[Europe/1berlin-is-a-name-that-is-cut][u-ca=hebrew]
+a part of the time zone's name does not begin with a letter, and has to
+2024-03-02T08:48:00-05:00[Europe/1berlin-is-a-nam..
+                         ^^^^^^^^^^^^^^^^^^^^^^^^
+"""
+
+# lines for the program, and their hints
+HINTS = {
+    'parse 2024-3-2': 'write the month as `03`', 'parse 2024-03-2T08:48': 'write the day as `02`', 'month-day 3-02': 'write the month as `03`',
+    'parse 2024-03-02T8:48': 'write the hour as `08`', 'parse 2024-03-02T08:48:5Z': 'write the second as `05`',
+    'offset -5:00': "write the offset's hour as `05`", 'rfc3339 2024-03-02T08:48:00+5:00': "write the offset's hour as `05`",
+    'parse 2024-03-02T24': 'the end of a day is 00:00 of the next day', 'rfc3339 2024-03-02T24:00:00Z': 'the end of a day is 00:00 of the next day',
+    'parse 2024/03/02': 'write a date as year, month and day, like 2024-03-02', 'year-month 03/2024': 'write a year and a month like 2024-03',
+    'rfc3339 02.03.2024': 'write a date as year, month and day, like 2024-03-02',
+    'parse 1709369280.25': 'a Unix time is not read; write it as a date and a time',
+    'rfc3339 1709369280123': 'a Unix time is not read; write it as a date and a time',
+    'time 14:58\t': 'remove the tab at the end', 'parse 2024-03-02\r': 'remove the carriage return at the end',
+    'duration P1D ': 'remove the space at the end', 'parse 2024-03-02 ': 'remove the space at the end',
+    'parse 2024-03-02T08:48 +01': 'remove the space before `+`', 'rfc3339 2024-03-02T08:48:00 Z': 'remove the space before `Z`',
+    'parse 2024-03-02 [UTC]': 'remove the space before `[`', 'parse 2024-03-02T08:48Z [UTC]': 'remove the space before `[`',
+    'iana  UTC': 'remove the space at the start', 'parse 2024-03-02T08:48GMT[UTC]': 'write `Z` for GMT',
+    'parse 2024W096': 'a week is not read; write the month and the day',
+    'parse 2024-062': 'a day of the year is not read; write the month and the day',
+    'parse 2024-366T12': 'a day of the year is not read; write the month and the day',
+    'rfc3339 2024-062T08:48:00Z': 'a day of the year is not read; write the month and the day',
+    'parse 2024-03-02[u-CA=hebrew]': "write an annotation's key in lower-case letters",
+    'parse 2024-03-02[UTC][U-CA=hebrew]': "write an annotation's key in lower-case letters",
+    'parse 2024-03-02T08:48.5': 'only the second has a fraction', 'offset +05,5': 'only the second has a fraction',
+    'duration P2D5M': '`M` before `T` is months; write `T` before minutes',
+    'duration PT1D': 'write years, months, weeks and days before `T`',
+    'parse 2024-03-02+01:00': 'an offset needs a time before it', 'rfc3339 2024-03-02Z': 'an offset needs a time before it',
+    'parse 2024-03-02 08:48 PM': 'write the hour as 00 to 23, without AM or PM',
+    'parse 2024-03-02T08:48:00am': 'write the hour as 00 to 23, without AM or PM',
+    # texts without a hint, each of which is nearly one of those above
+    'parse 2024-0-2': '', 'parse 2024-3/2': '', 'parse 2024-03-02T24:30': '', 'parse 2024/x': '', 'parse 1909369280': '', 'parse 170936928': '',
+    'parse 2024-03-02\tx': '', 'parse 2024-03-02  [UTC]': '', 'parse 2024-03-02T08:48 Zulu': '', 'parse 2024-03-02T08:48 UTC+1': '',
+    'parse 2024-Wed': '', 'parse 2024-0622': '', 'parse 2024-03-02[UTC][u-CA]': '', 'duration P1.D': '', 'parse 2024-03-02T08:48.': '',
+    'duration P1DX': '', 'parse 2024-03-02Zulu': '', 'parse 2024-03-02T08:48 PMx': '',
+}
+
+
+class Reports(unittest.TestCase):
+    """Tests of whole reports: a text, a mark and a hint."""
+
+    def report(self, line: bytes, wide: bool = False) -> list[str]:
+        """The report of a line for the program."""
+        return places.answer(line, wide, places.REPORTS).split(': ', 1)[1].split('\n')
+
+    def test_reports(self):
+        whole = REPORTS.split('\n$ ')[1:]
+        for line, *said in (it.strip('\n').split('\n') for it in whole):
+            for wide in (False, True):
+                self.assertEqual(self.report(line.encode(), wide), said, (line, wide))
+        self.assertEqual(len(whole), 27)
+
+    def test_text_that_is_not_utf8(self):
+        for line, wide, *said in [
+                (b'parse 2024-03-02T08:48Z[Am\xe9rica]', False, "expected `]` or more of the time zone's name, found the byte 0xE9"),
+                (b'parse 2024-3-2\xff', False, 'expected a digit of the month, which has two, found `-`', 'hint: write the month as `03`'),
+                (b'offset +05\xe2', True, "expected `:`, a digit or the end after the offset's hour, found the code unit 0xDCE2")]:
+            self.assertEqual(self.report(line, wide), said)
+
+    def test_control_characters(self):
+        self.assertEqual(self.report(b'parse 2024-03-02\x1bT08'), ['expected `T`, a space, `[` or the end after the date, found U+001B',
+                                                                   '2024-03-02.T08', '          ^'])
+
+    def test_hints(self):
+        for line, hint in HINTS.items():
+            found = [it.removeprefix('hint: ') for it in self.report(line.encode()) if it.startswith('hint: ')]
+            self.assertEqual(found, [hint] if hint else [], line)
+
+    def test_each_hint_has_an_example(self):
+        functions = {hint: set() for hint in places.hints.HINTS}
+        for line in HINTS:
+            with mock.patch.object(places.hints, 'hints', lambda it: [functions[hint].add(line) for hint in functions if hint(it)] and []):
+                self.report(line.encode())
+        self.assertEqual([hint for hint, lines in functions.items() if not lines], [])
+
+    def test_other_letters(self):
+        """Each text that is refused has the text of a reason and at most one hint, also with another code unit at the position of the error."""
+        for it in examples():
+            for unit, wide in itertools.product(b'0Zz[]=!+-:./ TtW\n\x00\xc3', (False, True)):
+                units = it.units[:it.place] + [unit] + it.units[it.place + 1:]
+                found = None if max(units) > 255 and not wide else places.refusal(it.reader, units, wide, it.strict)
+                if found:
+                    self.assertRegex(places.reason_text(found.reason, units, wide, it.strict), r'\A[ -~]{10,90}\Z')
+                    self.assertLessEqual(len(places.hints_of(it.reader, found, units, wide, it.strict)), 1, (it, unit))
+
+
+class WrongModels(unittest.TestCase):
+    """Tests that places.tsv finds each of these mistakes in the model."""
+
+    def differences(self, shown: list[Example], says: Callable[[Example], tuple] = model_says) -> int:
+        """The number of examples for which a model says something else than places.tsv."""
+        return sum(says(it) != (it.begin, it.end, it.reason) for it in shown)
+
+    def of_each_row(self) -> Iterator[tuple[tuple, list[Example]]]:
+        """The examples of each row, with the line and the row."""
+        key = lambda it: (it.line, it.row)
+        yield from ((row, list(shown)) for row, shown in itertools.groupby(sorted(examples(), key=key), key))
+
+    def test_no_difference(self):
+        self.assertEqual(self.differences(examples()), 0)
+
+    def test_one_off(self):
+        def moved(begin: int, end: int) -> Callable[[Example], tuple]:
+            return lambda it: (model_says(it)[0] + begin, model_says(it)[1] + end, model_says(it)[2])
+        for (row, shown), off in itertools.product(self.of_each_row(), ((-1, 0), (1, 0), (0, -1), (0, 1))):
+            self.assertEqual(self.differences(shown, moved(*off)), len(shown), (row, off))
+
+    def test_text_of_a_neighbour(self):
+        """If a line has the text of a line next to it, this is found, unless both lines have the same text."""
+        right = reasons.texts_of
+        for reader in places.READERS[False].values():
+            for pair in zip(reader.lines, reader.lines[1:]):
+                for line, other in (pair, pair[::-1]):
+                    if right(line.name, line.follow) != right(other.name, other.follow):
+                        self.assertTrue(self.is_found(line, other), (line.name, other.name))
+
+    def is_found(self, line: places.Line, other: places.Line) -> bool:
+        """Whether an example shows that a line has the text of another line."""
+        right = reasons.texts_of
+
+        def swapped(name, follow=(), strict=False, begin=0):
+            return right(other.name, other.follow or follow, strict, begin) if name == line.name else right(name, follow, strict, begin)
+        shown = [it for it in examples() if it.line == line.name]
+        with mock.patch.object(reasons, 'texts_of', swapped):
+            try:
+                return self.differences(shown) > 0
+            except AttributeError:
+                return True  # the other line has no text for this row
+
+    def test_text_of_the_end_within_a_text(self):
+        right = reasons.template
+        for (row, shown) in self.of_each_row():
+            if row[1] not in (places.AT_OTHER, places.AT_BAD):
+                continue
+            with mock.patch.object(reasons, 'template', lambda texts, way, letter: texts.end or right(texts, way, letter)):
+                ends = [it for it in shown if reasons.texts_of(it.line, reasons_of_model()[id(it)].follow).end]
+                self.assertEqual(self.differences(shown), len(ends), row)
+
+    # for each function that says what is wrong for a whole line: wrong ones that are nearly the same
+    NEARLY = [
+        (places.two_digits_before, lambda text, place: (place - 1, place)),
+        (places.two_digits_before, lambda text, place: (place - 2, place + 1)),
+        (places.from_the_beginning, lambda text, place: (1, place)),
+        (places.number_around, lambda text, place: (places.number_around(text, place)[0], place)),
+        (places.number_around, lambda text, place: (place - 20, places.number_around(text, place)[1])),
+        (places.number_before_unit, lambda text, place: (places.number_before_unit(text, place)[0], place)),
+        (places.group_before, lambda text, place: (place - 1, place)),
+        (places.group_before, lambda text, place: (places.number_before_unit(text, place)[0], place)),
+        (places.group_before, lambda text, place: (places.group_before(text, place)[0], place - 1)),
+        (places.bracket_before, lambda text, place: (places.bracket_before(text, place)[0] + 1, place)),
+        (places.bracket_before, lambda text, place: (text.index('['), place)),
+    ]
+
+    def test_part_of_a_whole_line(self):
+        for right, wrong in self.NEARLY:
+            found = 0
+            for it in (it for it in examples() if it.row == places.WHOLE or it.line == 'reply'):
+                reader, text = places.READERS[it.strict][it.reader], places.letters_of(it.units, it.wide)
+                if right is next((line.wrong for line in reader.lines if line.name == it.line), places.bracket_before):
+                    self.assertEqual(right(text, it.place), (it.begin, it.end), it)
+                    found += wrong(text, it.place) != (it.begin, it.end)
+            self.assertGreater(found, 0, self.NEARLY.index((right, wrong)))
 
 
 class Grammar(unittest.TestCase):
@@ -332,6 +773,14 @@ class Program(unittest.TestCase):
             'ok', 'error Parsed month value not in a valid range. at 7', 'error MonthDay was not valid. at 5',
             'error Parsing ended abruptly while parsing Date at 4', 'error unknown reader', 'error unknown reader',
             'error Invalid chracter while parsing year value. at 0', 'ok'])
+
+    def test_reasons(self):
+        given = b'parse 2024-03-02\nparse 2024-13-01\nhello x\nduration P4294967296y'
+        reasons_of = ['ok', 'error month_range whole 5..7: the month is 13, and has to be 01 to 12', 'error unknown reader',
+                      'error date_unit_range whole 1..11: the number before `y` is too great, and has to be at most 4294967295']
+        self.assertEqual(self.run_on(given, '--reasons'), reasons_of)
+        marks = [['2024-13-01', '     ^^'], ['P4294967296y', ' ^^^^^^^^^^']]
+        self.assertEqual(self.run_on(given, '--reports'), reasons_of[:2] + marks[0] + reasons_of[2:] + marks[1])
 
     def test_every_byte_of_the_text_counts(self):
         self.assertEqual(places.answer(b'parse 2024-03-02\r'), 'error Unexpected character found after parsing was completed. at 10')

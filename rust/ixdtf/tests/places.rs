@@ -20,7 +20,7 @@ struct Row {
 impl Row {
     fn of(line: &'static str) -> Row {
         let cells: Vec<&'static str> = line.split('\t').collect();
-        let [reader, profile, bits, _, _, text, _, error, place] = cells[..] else {
+        let [reader, profile, bits, _, _, text, _, error, place, ..] = cells[..] else {
             panic!("{line}");
         };
         Row {
