@@ -3,4 +3,5 @@ pub mod FixedMonths
 pub mod FixedOffsets
 pub mod HourDigits
 pub mod LoneTimes
+pub mod ThroughSecond
 pub mod YearDigits

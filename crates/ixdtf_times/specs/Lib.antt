@@ -1,1 +1,2 @@
+pub mod ThroughSecond
 pub mod TimeTypes

@@ -6,9 +6,9 @@
 //! The readers of the library allow different things after a date-time. So only [`parse_rfc3339_text`] expects the end
 //! of the input.
 
-#![tactic(auto, unfolding(ixdtf_reading::specs::reading::DateTimes::date_time_line_readings, ixdtf_reading::specs::reading::Looks::number_by))]
+#![tactic(auto, unfolding(ixdtf_reading::specs::reading::DateTimes::date_time_line_readings, ixdtf_reading::specs::reading::Looks::number_by, crate::specs::ThroughSecond::through_second_readings))]
 
-ghost use Rattle.std.specs.Prelude.{◌≡◌, ◌+◌, ◌<◌, ◌≤◌, map, length, Some, None, IfOk, IfSome, OnOk, IsTrue, pos};
+ghost use Rattle.std.specs.Prelude.{◌≡◌, ◌+◌, ◌<◌, ◌≤◌, map, length, Some, None, Err, IfOk, IfSome, OnOk, IsTrue, pos};
 ghost use Rattle.ixdtf_grammar.specs.declared.records.DateRecord.{DateRecord};
 ghost use Rattle.ixdtf_grammar.specs.declared.records.TimeRecord.{TimeRecord};
 ghost use Rattle.ixdtf_grammar.specs.language.Languages.{parsed_with};
@@ -20,8 +20,8 @@ ghost use Rattle.ixdtf_grammar.specs.table.LineNames.DateTimeLine.{after_secfrac
 ghost use Rattle.ixdtf_reading.specs.reading.Clauses.{Reads, Spends, SpendsOr, KeepsBrackets, core_in, fault_of_stop};
 ghost use Rattle.ixdtf_reading.specs.reading.Looks.{error_of, as_number, digit_look, digits_by, look_for, next_by, letter_at};
 ghost use Rattle.ixdtf_reading.specs.reading.DateTimes.{field_at, is_month, is_day, numeric_core, secfrac_digits_at, num_offset_at, time_offset_at, secfrac_at, after_whole_second_at};
-ghost use Rattle.ixdtf_reading.specs.reading.DateTimes.{full_time_at, full_day_at, full_month_at};
 ghost use Rattle.ixdtf_reading.specs.reading.DateTimes.{open_end, date_time_by, rfc_3339_at};
+ghost use Rattle.ixdtf_times.specs.ThroughSecond.{time_through_second, day_through_second, date_time_through_second, NoDateTime};
 
 use crate::date_times::take_fixed_date_time;
 use crate::dates::{check_month, has_day};
@@ -246,13 +246,14 @@ fn parse_after_seconds<'a, T: EncodingType>(
 }
 
 /// Consumes a date, `T` or `t`, and a time in the first nineteen columns. Returns `None`, and consumes nothing, if they
-/// do not fit.
+/// do not fit. Then the text has an error.
 #[inline(always)]
 fn take_fixed_rfc3339<'a, T: EncodingType>(
     cursor: &mut Cursor<'a, T>,
 ) -> Option<(DateRecord, WholeTime)>
     ensures read { IfSome result (λ found. date_time_by error_of open_end (map T.letter cursor.old.rest) ≡
         after_whole_second_at error_of open_end found.0 found.1.hour found.1.minute found.1.second (map T.letter cursor.new.rest)) }
+    ensures none { result ≡ None → NoDateTime (map T.letter cursor.old.rest) }
     ensures rest { result ≡ None → cursor.new.rest ≡ cursor.old.rest }
     ensures looks { Spends 20 cursor.old cursor.new }
 {
@@ -285,92 +286,67 @@ fn parse_offset_by_numbers<'a, T: EncodingType>(
     })
 }
 
-/// Reads the time after a date and its `T` or `t`, and what follows the time.
+/// Consumes the time after a date and its `T` or `t`, and returns its second.
 #[inline(always)]
-fn parse_time_by_numbers<'a, T: EncodingType>(
-    cursor: &mut Cursor<'a, T>,
-    date: DateRecord,
-    found: &mut IxdtfParseRecord<'a, T>,
-) -> Result<(), Stop>
-    ensures time { Reads T.letter (λ _. core_in found.new) cursor.old result cursor.new
-        (full_time_at error_of open_end date) }
-    ensures kept { KeepsBrackets found.old found.new }
-    ensures looks { Spends 14 cursor.old cursor.new }
+fn pass_time<'a, T: EncodingType>(cursor: &mut Cursor<'a, T>) -> Result<u8, Stop>
+    ensures time { Reads T.letter (λ second. second) cursor.old result cursor.new
+        time_through_second }
+    ensures looks { Spends 4 cursor.old cursor.new }
 {
-    let hour = next_number(cursor, 23, Stop::TimeHour)?;
+    next_number(cursor, 23, Stop::TimeHour)?;
     take_colon(cursor, Stop::TimeSeparator)?;
-    let minute = next_number(cursor, 59, Stop::TimeMinuteSecond)?;
+    next_number(cursor, 59, Stop::TimeMinuteSecond)?;
     take_colon(cursor, Stop::TimeSeparator)?;
-    let second = next_number(cursor, 60, Stop::TimeSecond)?;
-    let whole = WholeTime {
-        hour,
-        minute,
-        second,
-    };
-    parse_after_seconds(cursor, date, whole, found)
+    next_number(cursor, 60, Stop::TimeSecond)
 }
 
-/// Reads the day after a month and its hyphen, and what follows the day.
+/// Consumes the day after a month and its hyphen, `T` or `t`, and a time. Returns the second.
 #[inline(always)]
-fn parse_day_by_numbers<'a, T: EncodingType>(
+fn pass_day_and_time<'a, T: EncodingType>(
     cursor: &mut Cursor<'a, T>,
     year: u16,
     month: u8,
-    found: &mut IxdtfParseRecord<'a, T>,
-) -> Result<(), Stop>
-    ensures day { Reads T.letter (λ _. core_in found.new) cursor.old result cursor.new
-        (full_day_at error_of open_end (pos year) month) }
-    ensures kept { KeepsBrackets found.old found.new }
-    ensures looks { Spends 15 cursor.old cursor.new }
+) -> Result<u8, Stop>
+    ensures day { Reads T.letter (λ second. second) cursor.old result cursor.new
+        (day_through_second (pos year) month) }
+    ensures looks { Spends 5 cursor.old cursor.new }
 {
-    let day = parse_day(cursor, year, month)?;
+    parse_day(cursor, year, month)?;
     take_time_letter(cursor)?;
-    let date = DateRecord {
-        year: i32::from(year),
-        month,
-        day,
-    };
-    parse_time_by_numbers(cursor, date, found)
+    pass_time(cursor)
 }
 
-/// Reads the month after a year and its hyphen, and what follows the month.
+/// Consumes a date, `T` or `t`, and a time number by number. Returns the second.
 #[inline(always)]
-fn parse_month_by_numbers<'a, T: EncodingType>(
-    cursor: &mut Cursor<'a, T>,
-    year: u16,
-    found: &mut IxdtfParseRecord<'a, T>,
-) -> Result<(), Stop>
-    ensures month { Reads T.letter (λ _. core_in found.new) cursor.old result cursor.new
-        (full_month_at error_of open_end (pos year)) }
-    ensures kept { KeepsBrackets found.old found.new }
-    ensures looks { Spends 16 cursor.old cursor.new }
-{
-    let month = parse_month(cursor)?;
-    take_date_hyphen(cursor, Stop::DateSeparator)?;
-    parse_day_by_numbers(cursor, year, month, found)
-}
-
-/// Reads a date-time number by number. The function is not inlined, because it is called only for a text with an error.
-#[inline(never)]
-#[tactic(auto, using(ixdtf_reading::proofs::code::FixedDateTimes::year_then), unfolding(ixdtf_reading::specs::reading::Looks::look_readings))]
-fn parse_by_numbers<'a, T: EncodingType>(
-    cursor: &mut Cursor<'a, T>,
-    found: &mut IxdtfParseRecord<'a, T>,
-) -> Result<(), Stop>
-    ensures date_time { Reads T.letter (λ _. core_in found.new) cursor.old result cursor.new
-        (date_time_by error_of open_end) }
-    ensures kept { KeepsBrackets found.old found.new }
-    ensures looks { Spends 17 cursor.old cursor.new }
+fn pass_date_and_time<'a, T: EncodingType>(cursor: &mut Cursor<'a, T>) -> Result<u8, Stop>
+    ensures date_time { Reads T.letter (λ second. second) cursor.old result cursor.new
+        date_time_through_second }
+    ensures looks { Spends 7 cursor.old cursor.new }
 {
     let year = parse_year(cursor)?;
     take_date_hyphen(cursor, Stop::AbruptDate)?;
-    parse_month_by_numbers(cursor, year, found)
+    let month = parse_month(cursor)?;
+    take_date_hyphen(cursor, Stop::DateSeparator)?;
+    pass_day_and_time(cursor, year, month)
+}
+
+/// Returns the first error of a text that does not begin with a date, `T` or `t`, and a time. The text is read number by
+/// number. The function is not inlined, because it is called only for a text with an error.
+#[inline(never)]
+fn first_stop<'a, T: EncodingType>(cursor: &mut Cursor<'a, T>) -> Stop
+    requires no_date_time { NoDateTime (map T.letter cursor.old.rest) }
+    ensures stop { date_time_by error_of open_end (map T.letter cursor.old.rest) ≡
+        Err (fault_of_stop result, map T.letter cursor.new.rest) }
+    ensures looks { Spends 7 cursor.old cursor.new }
+{
+    match pass_date_and_time(cursor) {
+        // This does not happen: it is proved that such a text has an error.
+        Ok(_) => Stop::InvalidEnd,
+        Err(stop) => stop,
+    }
 }
 
 /// Reads a date-time of RFC 3339, section 5.6, into the record. Anything can follow it.
-///
-/// `parse_by_numbers` writes into a record of its own. If it wrote into `found`, `rustc` would compile the reader so that
-/// also the texts that do not need `parse_by_numbers` take more instructions (`docs/PERF.md`).
 #[inline(always)]
 pub fn parse_internet_date_time<'a, T: EncodingType>(
     cursor: &mut Cursor<'a, T>,
@@ -385,14 +361,9 @@ pub fn parse_internet_date_time<'a, T: EncodingType>(
         Some((date, whole)) => parse_after_seconds(cursor, date, whole, found),
         None => {
             let mut here = cursor.fork();
-            let mut slow = IxdtfParseRecord::default();
-            let read = parse_by_numbers(&mut here, &mut slow);
+            let stop = first_stop(&mut here);
             *cursor = here;
-            read?;
-            found.date = slow.date;
-            found.time = slow.time;
-            found.offset = slow.offset;
-            Ok(())
+            Err(stop)
         }
     }
 }

@@ -182,7 +182,7 @@ fn parse_after_seconds<'a, T: EncodingType>(
 }
 
 /// Consumes a date, `T` or `t`, and a time in the first nineteen columns. Returns `None`, and consumes nothing, if they
-/// do not fit.
+/// do not fit. Then the text has an error.
 #[inline(always)]
 fn take_fixed_rfc3339<'a, T: EncodingType>(
     cursor: &mut Cursor<'a, T>,
@@ -211,71 +211,50 @@ fn parse_offset_by_numbers<'a, T: EncodingType>(
     })
 }
 
-/// Reads the time after a date and its `T` or `t`, and what follows the time.
+/// Consumes the time after a date and its `T` or `t`, and returns its second.
 #[inline(always)]
-fn parse_time_by_numbers<'a, T: EncodingType>(
-    cursor: &mut Cursor<'a, T>,
-    date: DateRecord,
-    found: &mut IxdtfParseRecord<'a, T>,
-) -> Result<(), Stop> {
-    let hour = next_number(cursor, 23, Stop::TimeHour)?;
+fn pass_time<'a, T: EncodingType>(cursor: &mut Cursor<'a, T>) -> Result<u8, Stop> {
+    next_number(cursor, 23, Stop::TimeHour)?;
     take_colon(cursor, Stop::TimeSeparator)?;
-    let minute = next_number(cursor, 59, Stop::TimeMinuteSecond)?;
+    next_number(cursor, 59, Stop::TimeMinuteSecond)?;
     take_colon(cursor, Stop::TimeSeparator)?;
-    let second = next_number(cursor, 60, Stop::TimeSecond)?;
-    let whole = WholeTime {
-        hour,
-        minute,
-        second,
-    };
-    parse_after_seconds(cursor, date, whole, found)
+    next_number(cursor, 60, Stop::TimeSecond)
 }
 
-/// Reads the day after a month and its hyphen, and what follows the day.
+/// Consumes the day after a month and its hyphen, `T` or `t`, and a time. Returns the second.
 #[inline(always)]
-fn parse_day_by_numbers<'a, T: EncodingType>(
+fn pass_day_and_time<'a, T: EncodingType>(
     cursor: &mut Cursor<'a, T>,
     year: u16,
     month: u8,
-    found: &mut IxdtfParseRecord<'a, T>,
-) -> Result<(), Stop> {
-    let day = parse_day(cursor, year, month)?;
+) -> Result<u8, Stop> {
+    parse_day(cursor, year, month)?;
     take_time_letter(cursor)?;
-    let date = DateRecord {
-        year: i32::from(year),
-        month,
-        day,
-    };
-    parse_time_by_numbers(cursor, date, found)
+    pass_time(cursor)
 }
 
-/// Reads the month after a year and its hyphen, and what follows the month.
+/// Consumes a date, `T` or `t`, and a time number by number. Returns the second.
 #[inline(always)]
-fn parse_month_by_numbers<'a, T: EncodingType>(
-    cursor: &mut Cursor<'a, T>,
-    year: u16,
-    found: &mut IxdtfParseRecord<'a, T>,
-) -> Result<(), Stop> {
-    let month = parse_month(cursor)?;
-    take_date_hyphen(cursor, Stop::DateSeparator)?;
-    parse_day_by_numbers(cursor, year, month, found)
-}
-
-/// Reads a date-time number by number. The function is not inlined, because it is called only for a text with an error.
-#[inline(never)]
-fn parse_by_numbers<'a, T: EncodingType>(
-    cursor: &mut Cursor<'a, T>,
-    found: &mut IxdtfParseRecord<'a, T>,
-) -> Result<(), Stop> {
+fn pass_date_and_time<'a, T: EncodingType>(cursor: &mut Cursor<'a, T>) -> Result<u8, Stop> {
     let year = parse_year(cursor)?;
     take_date_hyphen(cursor, Stop::AbruptDate)?;
-    parse_month_by_numbers(cursor, year, found)
+    let month = parse_month(cursor)?;
+    take_date_hyphen(cursor, Stop::DateSeparator)?;
+    pass_day_and_time(cursor, year, month)
+}
+
+/// Returns the first error of a text that does not begin with a date, `T` or `t`, and a time. The text is read number by
+/// number. The function is not inlined, because it is called only for a text with an error.
+#[inline(never)]
+fn first_stop<'a, T: EncodingType>(cursor: &mut Cursor<'a, T>) -> Stop {
+    match pass_date_and_time(cursor) {
+        // This does not happen: it is proved that such a text has an error.
+        Ok(_) => Stop::InvalidEnd,
+        Err(stop) => stop,
+    }
 }
 
 /// Reads a date-time of RFC 3339, section 5.6, into the record. Anything can follow it.
-///
-/// `parse_by_numbers` writes into a record of its own. If it wrote into `found`, `rustc` would compile the reader so that
-/// also the texts that do not need `parse_by_numbers` take more instructions (`docs/PERF.md`).
 #[inline(always)]
 pub fn parse_internet_date_time<'a, T: EncodingType>(
     cursor: &mut Cursor<'a, T>,
@@ -285,14 +264,9 @@ pub fn parse_internet_date_time<'a, T: EncodingType>(
         Some((date, whole)) => parse_after_seconds(cursor, date, whole, found),
         None => {
             let mut here = cursor.fork();
-            let mut slow = IxdtfParseRecord::default();
-            let read = parse_by_numbers(&mut here, &mut slow);
+            let stop = first_stop(&mut here);
             *cursor = here;
-            read?;
-            found.date = slow.date;
-            found.time = slow.time;
-            found.offset = slow.offset;
-            Ok(())
+            Err(stop)
         }
     }
 }

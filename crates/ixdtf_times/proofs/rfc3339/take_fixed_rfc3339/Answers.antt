@@ -1,9 +1,12 @@
 use Rattle.ixdtf_times.proofs.rfc3339.take_fixed_rfc3339.Goals as goal
-use Rattle.std.proofs.Common.{◌≡◌, IsTrue, IfSome, Option, Some, None, map, sym, ap, ◌∙◌}
+use Rattle.ixdtf_times.proofs.rfc3339.take_fixed_rfc3339.Goals.{then-remaining-lt19-via-then-remaining-lt19}
+use Rattle.ixdtf_times.proofs.rfc3339.take_fixed_rfc3339.Goals.{then-remaining-lt19-via-else-remaining-lt19+then-not-is_time_designator}
+use Rattle.std.proofs.{Common.{◌≡◌, IsTrue, IfSome, Option, Some, None, map, sym, ap, ◌∙◌, arith}, lemmas.List.length-map}
 use Rattle.ixdtf_grammar.specs.{declared.records.DateRecord.DateRecord, language.{Letters.{Text, time_letter}, FixedPlaces.FixedDateTime}}
 use Rattle.ixdtf_reading.specs.reading.{Looks.error_of, FixedPlaces.byte_place, DateTimes.{after_whole_second_at, open_end, date_time_by}}
 use Rattle.ixdtf_reading.proofs.code.FixedDateTimes.{fixed_date_time}
 use Rattle.ixdtf_times.specs.{declared.time.WholeTime.WholeTime, TimeTypes.time_to_second}
+use Rattle.ixdtf_times.proofs.code.ThroughSecond.{none_if_short, none_without_letter, none_if_unfixed}
 
 -- If the separator is `T` or `t`, what was found in the fixed columns is what the reading function reads.
 found_read : (text rest : Text) (found : Option (DateRecord × WholeTime)) → IsTrue (time_letter (byte_place 10 text))
@@ -17,3 +20,18 @@ returns-clause-read g c =
     let text = map g.T.EncodingType.letter c.args.cursor.now.rest in
     let letter : IsTrue (time_letter (byte_place 10 text)) = ap time_letter (sym c.byte_at.ensures.there) ∙ sym c.if-not-is_time_designator.ensures in
     found_read text _ c.take_fixed_date_time.result letter (rw c.byte_at.ensures.rest at c.take_fixed_date_time.ensures.at_place)
+
+-- The text is too short, or has another code unit than `T` and `t` after the date.
+pub returns-then-remaining-lt19-clause-none : goal.returns-then-remaining-lt19-clause-none
+returns-then-remaining-lt19-clause-none g c none =
+    let letter = g.T.EncodingType.letter in
+    let units = c.args.cursor.now.rest in
+    let text = map letter units in
+    elim c.then-remaining-lt19.branch [
+      | then-remaining-lt19-via-then-remaining-lt19 w ↦ none_if_short text (omega (arith, length-map units letter))
+      | then-remaining-lt19-via-else-remaining-lt19+then-not-is_time_designator w ↦ none_without_letter text (ap time_letter (sym w.byte_at.ensures.there) ∙ sym w.if-not-is_time_designator.ensures)
+    ]
+
+pub returns-clause-none : goal.returns-clause-none
+returns-clause-none g c none = none_if_unfixed (map g.T.EncodingType.letter c.args.cursor.now.rest)
+    (rw c.byte_at.ensures.rest at c.take_fixed_date_time.ensures.none none)
