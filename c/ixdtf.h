@@ -13,8 +13,8 @@
  * whose names begin with ixdtf16_. A function reads no memory before or after the text, and does
  * not write to the text. A text need not be NUL-terminated. A NUL within the length counts as a
  * code unit. A text need not be valid UTF-8 or UTF-16. If the length is 0, the pointer may be NULL.
- * A text of 16-bit code units must have the alignment of uint16_t. A text must not have more than
- * PTRDIFF_MAX bytes.
+ * A text of 16-bit code units must have the alignment of uint16_t, and so must an array to which a
+ * function writes such a text. A text must not have more than PTRDIFF_MAX bytes.
  *
  * RESULTS. A reader is a function that reads a text. A reader returns 0 (IXDTF_OK) if it accepts
  * the text. Otherwise it returns the number of the error, from 1 to 46. If a program ignores the
@@ -84,7 +84,7 @@ extern "C" {
 /* The version of the interface that this header describes. */
 #define IXDTF_INTERFACE_VERSION 2
 /* The revision: how many times functions or numbers were added within this version. */
-#define IXDTF_INTERFACE_REVISION 3
+#define IXDTF_INTERFACE_REVISION 4
 
 /* Marks a function whose result the caller must test. If the caller ignores the result, the
  * compiler warns. */
@@ -492,10 +492,9 @@ IXDTF_CHECKED_ uint32_t ixdtf_print_year_month(const ixdtf_record *record, uint8
 IXDTF_CHECKED_ uint32_t ixdtf_print_month_day(const ixdtf_record *record, uint8_t *out, size_t room,
     size_t *count);
 
-/* The readers and ixdtf_reply for 16-bit text. There are no printers for 16-bit text. No reader of
- * 16-bit text accepts a code unit outside 1 to 126. If a reader comes to such a code unit, the
- * error is IXDTF_NON_ASCII_CODE_POINT. Otherwise these functions do what the functions for 8-bit
- * text do. */
+/* The readers and ixdtf_reply for 16-bit text. No reader of 16-bit text accepts a code unit outside
+ * 1 to 126. If a reader comes to such a code unit, the error is IXDTF_NON_ASCII_CODE_POINT.
+ * Otherwise these functions do what the functions for 8-bit text do. */
 IXDTF_CHECKED_ uint32_t ixdtf16_parse(const uint16_t *text, size_t length, ixdtf16_record *out);
 IXDTF_CHECKED_ uint32_t ixdtf16_parse_year_month(const uint16_t *text, size_t length,
     ixdtf16_record *out);
@@ -541,6 +540,30 @@ IXDTF_CHECKED_ uint32_t ixdtf16_parse_time_with_annotations_strict(const uint16_
     size_t length, ixdtf16_annotation *annotations, size_t room, size_t *count,
     ixdtf16_record *out);
 IXDTF_CHECKED_ uint32_t ixdtf16_reply(ixdtf16_calendar *calendar, const ixdtf16_annotation *reply);
+
+/* The printers for 16-bit text. They write the canonical text to the array `out`, as 16-bit code
+ * units: the code unit of each ASCII character is its number. `room` is the capacity of the array,
+ * and a printer writes the length of the text to `count`. Both are numbers of code units. Otherwise
+ * each printer does what the printer of 8-bit text with the same name does, without the 16. For
+ * example, ixdtf16_print does what ixdtf_print does, and ixdtf16_parse reads the text as the same
+ * record. If a name or a calendar has a code unit outside 1 to 126, no reader of 16-bit text writes
+ * this record. Then the printer returns IXDTF_NOT_PRINTABLE.
+ * A duration or an offset has no code units. So you can also print one that a reader of 8-bit text
+ * wrote. */
+IXDTF_CHECKED_ uint32_t ixdtf16_print(const ixdtf16_record *record, uint16_t *out, size_t room,
+    size_t *count);
+IXDTF_CHECKED_ uint32_t ixdtf16_print_duration(const ixdtf_duration *duration, uint16_t *out,
+    size_t room, size_t *count);
+IXDTF_CHECKED_ uint32_t ixdtf16_print_offset(const ixdtf_offset *offset, uint16_t *out, size_t room,
+    size_t *count);
+IXDTF_CHECKED_ uint32_t ixdtf16_print_zone(const ixdtf16_zone *zone, uint16_t *out, size_t room,
+    size_t *count);
+IXDTF_CHECKED_ uint32_t ixdtf16_print_time(const ixdtf16_record *record, uint16_t *out, size_t room,
+    size_t *count);
+IXDTF_CHECKED_ uint32_t ixdtf16_print_year_month(const ixdtf16_record *record, uint16_t *out,
+    size_t room, size_t *count);
+IXDTF_CHECKED_ uint32_t ixdtf16_print_month_day(const ixdtf16_record *record, uint16_t *out,
+    size_t room, size_t *count);
 
 /* Writes the text of an error to `out`, as a slice. `error` is the number of the error, from 1 to
  * 46. The text is the one that ixdtf_error_message returns, but it is not NUL-terminated. For every
@@ -620,6 +643,16 @@ IXDTF_CHECKED_ size_t ixdtf_printed_zone_length(const ixdtf_zone *zone);
 IXDTF_CHECKED_ size_t ixdtf_printed_time_length(const ixdtf_record *record);
 IXDTF_CHECKED_ size_t ixdtf_printed_year_month_length(const ixdtf_record *record);
 IXDTF_CHECKED_ size_t ixdtf_printed_month_day_length(const ixdtf_record *record);
+
+/* Return the length of the canonical text that ixdtf16_print and the other printers of 16-bit text
+ * write, in code units. Each of them returns 0 if its printer cannot print the record or the zone,
+ * or if a size_t cannot hold the length. For a duration or an offset, ixdtf_printed_duration_length
+ * and ixdtf_printed_offset_length return the number of code units too. */
+IXDTF_CHECKED_ size_t ixdtf16_printed_length(const ixdtf16_record *record);
+IXDTF_CHECKED_ size_t ixdtf16_printed_zone_length(const ixdtf16_zone *zone);
+IXDTF_CHECKED_ size_t ixdtf16_printed_time_length(const ixdtf16_record *record);
+IXDTF_CHECKED_ size_t ixdtf16_printed_year_month_length(const ixdtf16_record *record);
+IXDTF_CHECKED_ size_t ixdtf16_printed_month_day_length(const ixdtf16_record *record);
 
 /* Returns the version of the interface of the library. It must be IXDTF_INTERFACE_VERSION. */
 IXDTF_CHECKED_ uint32_t ixdtf_interface_version(void);

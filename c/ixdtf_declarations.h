@@ -1,4 +1,4 @@
-/* The declarations of ixdtf.h, version 2.3 of the interface, made by tools/declarations.py. Do not edit. */
+/* The declarations of ixdtf.h, version 2.4 of the interface, made by tools/declarations.py. Do not edit. */
 enum { IXDTF_OK = 0, IXDTF_IMPL_ASSERT = 1, IXDTF_NON_ASCII_CODE_POINT = 2, IXDTF_PARSE_FLOAT = 3, IXDTF_ABRUPT_END = 4, IXDTF_INVALID_END = 5, IXDTF_INVALID_MONTH_RANGE = 6, IXDTF_INVALID_DAY_RANGE = 7, IXDTF_DATE_YEAR = 8, IXDTF_DATE_EXTENDED_YEAR = 9, IXDTF_DATE_MONTH = 10, IXDTF_DATE_DAY = 11, IXDTF_DATE_UNEXPECTED_END = 12, IXDTF_TIME_REQUIRED = 13, IXDTF_TIME_HOUR = 14, IXDTF_TIME_MINUTE_SECOND = 15, IXDTF_TIME_SECOND = 16, IXDTF_FRACTION_PART = 17, IXDTF_DATE_SEPARATOR = 18, IXDTF_TIME_SEPARATOR = 19, IXDTF_DECIMAL_SEPARATOR = 20, IXDTF_INVALID_ANNOTATION = 21, IXDTF_ANNOTATION_OPEN = 22, IXDTF_ANNOTATION_CLOSE = 23, IXDTF_ANNOTATION_CHAR = 24, IXDTF_ANNOTATION_KEY_VALUE_SEPARATOR = 25, IXDTF_ANNOTATION_KEY_LEADING_CHAR = 26, IXDTF_ANNOTATION_KEY_CHAR = 27, IXDTF_ANNOTATION_VALUE_CHAR_POST_HYPHEN = 28, IXDTF_ANNOTATION_VALUE_CHAR = 29, IXDTF_INVALID_MINUTE_PRECISION_OFFSET = 30, IXDTF_CRITICAL_DUPLICATE_CALENDAR = 31, IXDTF_UNRECOGNIZED_CRITICAL = 32, IXDTF_TZ_LEADING_CHAR = 33, IXDTF_IANA_CHAR_POST_SEPARATOR = 34, IXDTF_IANA_CHAR = 35, IXDTF_UTC_TIME_SEPARATOR = 36, IXDTF_OFFSET_NEEDS_SIGN = 37, IXDTF_MONTH_DAY_HYPHEN = 38, IXDTF_DURATION_DISGNATOR = 39, IXDTF_DURATION_VALUE_EXCEEDED_RANGE = 40, IXDTF_DATE_DURATION_PART_ORDER = 41, IXDTF_TIME_DURATION_PART_ORDER = 42, IXDTF_TIME_DURATION_DESIGNATOR = 43, IXDTF_AMBIGUOUS_TIME_MONTH_DAY = 44, IXDTF_AMBIGUOUS_TIME_YEAR_MONTH = 45, IXDTF_INVALID_MONTH_DAY = 46 };
 enum { IXDTF_NOT_PRINTABLE = 101, IXDTF_TOO_SHORT = 102, IXDTF_NO_INSTANT = 103, IXDTF_NOT_EXACT = 104 };
 typedef struct ixdtf_text { const char *at; size_t length; } ixdtf_text;
@@ -68,6 +68,13 @@ uint32_t ixdtf16_parse_rfc9557_with_annotations(const uint16_t *text, size_t len
 uint32_t ixdtf16_parse_month_day_with_annotations_strict(const uint16_t *text, size_t length, ixdtf16_annotation *annotations, size_t room, size_t *count, ixdtf16_record *out);
 uint32_t ixdtf16_parse_time_with_annotations_strict(const uint16_t *text, size_t length, ixdtf16_annotation *annotations, size_t room, size_t *count, ixdtf16_record *out);
 uint32_t ixdtf16_reply(ixdtf16_calendar *calendar, const ixdtf16_annotation *reply);
+uint32_t ixdtf16_print(const ixdtf16_record *record, uint16_t *out, size_t room, size_t *count);
+uint32_t ixdtf16_print_duration(const ixdtf_duration *duration, uint16_t *out, size_t room, size_t *count);
+uint32_t ixdtf16_print_offset(const ixdtf_offset *offset, uint16_t *out, size_t room, size_t *count);
+uint32_t ixdtf16_print_zone(const ixdtf16_zone *zone, uint16_t *out, size_t room, size_t *count);
+uint32_t ixdtf16_print_time(const ixdtf16_record *record, uint16_t *out, size_t room, size_t *count);
+uint32_t ixdtf16_print_year_month(const ixdtf16_record *record, uint16_t *out, size_t room, size_t *count);
+uint32_t ixdtf16_print_month_day(const ixdtf16_record *record, uint16_t *out, size_t room, size_t *count);
 void ixdtf_error_text(uint32_t error, ixdtf_text *out);
 void ixdtf_error_constant(uint32_t error, ixdtf_text *out);
 uint32_t ixdtf_nanoseconds(uint64_t fraction, uint8_t digits);
@@ -84,4 +91,9 @@ size_t ixdtf_printed_zone_length(const ixdtf_zone *zone);
 size_t ixdtf_printed_time_length(const ixdtf_record *record);
 size_t ixdtf_printed_year_month_length(const ixdtf_record *record);
 size_t ixdtf_printed_month_day_length(const ixdtf_record *record);
+size_t ixdtf16_printed_length(const ixdtf16_record *record);
+size_t ixdtf16_printed_zone_length(const ixdtf16_zone *zone);
+size_t ixdtf16_printed_time_length(const ixdtf16_record *record);
+size_t ixdtf16_printed_year_month_length(const ixdtf16_record *record);
+size_t ixdtf16_printed_month_day_length(const ixdtf16_record *record);
 uint32_t ixdtf_interface_version(void);

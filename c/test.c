@@ -282,6 +282,57 @@ static const struct { const char *text; uint32_t result; int64_t seconds; uint32
     { "2024-03-02T08:48[UTC]", IXDTF_NO_INSTANT, 0, 0 },
 };
 
+/* Texts, and the canonical texts of what the readers write for them. A person wrote the canonical texts by the rules of docs/GRAMMAR.md. */
+struct printed_row { const char *text, *canonical; };
+static const struct printed_row printed_durations[] = {
+    { "+p1y0m03dt04,50m", "P1Y3DT4.50M" }, { "-P0Y", "-P0D" }, { "P0WT0H0S", "P0DT0S" }, { "PT0H", "PT0H" }, { "PT0H0M", "PT0M" },
+    { "P1Y2Y", "P2Y" }, { "-P1Y2M3W4DT5H6M7.890S", "-P1Y2M3W4DT5H6M7.890S" }, { "PT0.000000000000000001H", "PT0.000000000000000001H" },
+    { "P00018446744073709551615D", "P18446744073709551615D" }, { "pt18446744073709551615h0m0,0s", "PT18446744073709551615H0.0S" },
+    { "P4294967295Y4294967295M4294967295W", "P4294967295Y4294967295M4294967295W" }, { "PT1.1234567890123456789S", "PT1.1234567890123456780S" },
+};
+static const struct printed_row printed_offsets[] = {
+    { "+05", "+05:00" }, { "-0530", "-05:30" }, { "-00:00", "-00:00" }, { "+053010", "+05:30:10" }, { "-23:59:59,50", "-23:59:59.50" },
+    { "+00:00:00.1234567890123456789", "+00:00:00.1234567890123456780" },
+};
+static const struct printed_row printed_zones[] = {
+    { "Europe/Berlin", "Europe/Berlin" }, { "etc/utc", "etc/utc" }, { "+05", "+05:00" }, { "-0000", "-00:00" }, { "../_a-b+1", "../_a-b+1" },
+};
+static const struct printed_row printed_times[] = {
+    { "T1214", "12:14:00" }, { "084800,25z", "08:48:00.25Z" }, { "12+01[!+01][x=y][u-ca=hebrew]", "12:00:00+01:00[!+01:00][u-ca=hebrew]" },
+};
+static const struct printed_row printed_year_months[] = {
+    { "202011[+01]", "2020-11[+01:00]" }, { "+00202011", "2020-11" }, { "-000001-12[u-ca=a]", "-000001-12[u-ca=a]" },
+};
+static const struct printed_row printed_month_days[] = {
+    { "1107[+01]", "11-07[+01:00]" }, { "--0229", "02-29" }, { "--01-00[u-ca=a]", "01-00[u-ca=a]" },
+};
+static const struct printed_row printed_records[] = {
+    { "20240302", "2024-03-02" },
+    { "+002024-03-02", "2024-03-02" },
+    { "-000001-12-31", "-000001-12-31" },
+    { "+010000-01-01", "+010000-01-01" },
+    { "0000-01-01", "0000-01-01" },
+    { "-271821-04-20", "-271821-04-20" },
+    { "2024-02-29 08", "2024-02-29T08:00:00" },
+    { "20240302t084800,250", "2024-03-02T08:48:00.250" },
+    { "2024-03-02T23:59:60.000000000000000001", "2024-03-02T23:59:60.000000000000000001" },
+    { "2024-03-02T00:00:00.00000000000000000123", "2024-03-02T00:00:00.00000000000000000100" },
+    { "2024-03-02T08:48z", "2024-03-02T08:48:00Z" },
+    { "2024-03-02T08:48-05", "2024-03-02T08:48:00-05:00" },
+    { "2024-03-02T08:48-00:00", "2024-03-02T08:48:00-00:00" },
+    { "2024-03-02T084800+053010", "2024-03-02T08:48:00+05:30:10" },
+    { "2024-03-02T08:48:00+05:30:10,50", "2024-03-02T08:48:00+05:30:10.50" },
+    { "2024-03-02[Europe/Paris]", "2024-03-02[Europe/Paris]" },
+    { "2024-03-02[!etc/utc][a=b]", "2024-03-02[!etc/utc]" },
+    { "2024-03-02[+0530]", "2024-03-02[+05:30]" },
+    { "2024-03-02[!-00]", "2024-03-02[!-00:00]" },
+    { "2024-03-02[!u-ca=hebrew]", "2024-03-02[u-ca=hebrew]" },
+    { "-123456-07-08T09:10:11.1213-14:15:16.17181[!Abc/d][u-ca=ef-g]", "-123456-07-08T09:10:11.1213-14:15:16.17181[!Abc/d][u-ca=ef-g]" },
+};
+
+/* What a printer prints. */
+enum printer { OF_RECORD, OF_DURATION, OF_OFFSET, OF_ZONE, OF_TIME, OF_YEAR_MONTH, OF_MONTH_DAY };
+
 #define UNIT uint8_t
 #define CALL(name) ixdtf_##name
 #define OWN(name) narrow_##name
@@ -289,6 +340,7 @@ static const struct { const char *text; uint32_t result; int64_t seconds; uint32
 #define NEW_ANNOTATION IXDTF_ANNOTATION
 #define NEW_CALENDAR IXDTF_CALENDAR
 #include "test_width.h"
+#include "test_printing.h"
 
 #define UNIT uint16_t
 #define CALL(name) ixdtf16_##name
@@ -297,6 +349,7 @@ static const struct { const char *text; uint32_t result; int64_t seconds; uint32
 #define NEW_ANNOTATION IXDTF16_ANNOTATION
 #define NEW_CALENDAR IXDTF16_CALENDAR
 #include "test_width.h"
+#include "test_printing.h"
 
 static void test_errors(void) {
     static const uint32_t others[] = { 0, 47, 100, 101, 102, 103, 104, 105, 0x80000000u, 0xffffffffu };
@@ -309,6 +362,12 @@ static void test_errors(void) {
         ixdtf_error_text(error_rows[i].number, &text);
         check(text.length == strlen(error_rows[i].text) && !memcmp(text.at, error_rows[i].text, text.length), "ixdtf_error_text writes the text of the error");
         check(!strcmp(ixdtf_error_message(error_rows[i].number), error_rows[i].text), "ixdtf_error_message returns the text of the error");
+    }
+    {
+        ixdtf_text text;
+        memset(&text, 0, sizeof text);
+        ixdtf_error_text(IXDTF_DATE_MONTH, &text);
+        check(text.length == 44 && !memcmp(text.at, ixdtf_error_message(IXDTF_DATE_MONTH), 44), "ixdtf_error_text writes to a slice of zeros");
     }
     row_shown = "";
     for (i = 0; i < COUNT(others); i++) {
@@ -557,244 +616,6 @@ static void test_layout(void) {
     }
 }
 
-/* Tests ixdtf_print with every capacity from 0 to one byte more than the length of the text. The array ends before memory that cannot be accessed.
- * `wanted` is the expected result if the array is long enough. */
-static void test_printed(const ixdtf_record *record, uint32_t wanted, const char *canonical) {
-    ixdtf_record before = *record;
-    size_t length = strlen(canonical), places, i;
-    for (places = 0; places <= length + 1; places++) {
-        uint8_t *out = room + ROOM - places;
-        size_t count = 7;
-        uint32_t error, found = wanted == IXDTF_OK && places < length ? (uint32_t)IXDTF_TOO_SHORT : wanted;
-        memset(room, 0xa5, ROOM);
-        error = ixdtf_print(record, out, places, &count);
-        check(error == found, "ixdtf_print returns the expected number");
-        check(count == (wanted == IXDTF_OK ? length : 7), "count is the length of the text, or unchanged if the value cannot be printed");
-        check(error != IXDTF_OK || !memcmp(out, canonical, length), "the canonical text is written");
-        for (i = error == IXDTF_OK ? length : 0; i < places; i++) {
-            check(out[i] == 0xa5, "the other bytes of the array are unchanged");
-        }
-        check(places == ROOM || out[-1] == 0xa5, "the byte before the array is unchanged");
-    }
-    check(ixdtf_printed_length(record) == length, "the function for the length returns the length, or 0 if the value cannot be printed");
-    check(narrow_same_but_error(&before, record) && same_text(before.location, record->location) && before.place == record->place, "the printer does not change the record");
-}
-
-/* Tests ixdtf_print_duration with every capacity from 0 to one byte more than the length of the text. `wanted` is the expected result if the array is
- * long enough. */
-static void test_printed_duration(const ixdtf_duration *duration, uint32_t wanted, const char *canonical) {
-    size_t length = strlen(canonical), places, i;
-    for (places = 0; places <= length + 1; places++) {
-        uint8_t *out = room + ROOM - places;
-        size_t count = 7;
-        uint32_t error, found = wanted == IXDTF_OK && places < length ? (uint32_t)IXDTF_TOO_SHORT : wanted;
-        memset(room, 0xa5, ROOM);
-        error = ixdtf_print_duration(duration, out, places, &count);
-        check(error == found, "ixdtf_print_duration returns the expected number");
-        check(count == (wanted == IXDTF_OK ? length : 7), "count is the length of the text, or unchanged if the value cannot be printed");
-        check(error != IXDTF_OK || !memcmp(out, canonical, length), "the canonical text of the duration is written");
-        for (i = error == IXDTF_OK ? length : 0; i < places; i++) {
-            check(out[i] == 0xa5, "the other bytes of the array are unchanged");
-        }
-        check(places == ROOM || out[-1] == 0xa5, "the byte before the array is unchanged");
-    }
-    check(ixdtf_printed_duration_length(duration) == length, "the function for the length returns the length, or 0 if the value cannot be printed");
-}
-
-/* Tests the printer of durations. A person wrote the canonical texts by the rules of docs/GRAMMAR.md. Then some fields of a duration are changed, and
- * the durations of the rows are printed and read again. */
-static void test_durations(void) {
-    static const struct { const char *text, *canonical; } texts[] = {
-        { "+p1y0m03dt04,50m", "P1Y3DT4.50M" }, { "-P0Y", "-P0D" }, { "P0WT0H0S", "P0DT0S" }, { "PT0H", "PT0H" }, { "PT0H0M", "PT0M" },
-        { "P1Y2Y", "P2Y" }, { "-P1Y2M3W4DT5H6M7.890S", "-P1Y2M3W4DT5H6M7.890S" }, { "PT0.000000000000000001H", "PT0.000000000000000001H" },
-        { "P00018446744073709551615D", "P18446744073709551615D" }, { "pt18446744073709551615h0m0,0s", "PT18446744073709551615H0.0S" },
-        { "P4294967295Y4294967295M4294967295W", "P4294967295Y4294967295M4294967295W" }, { "PT1.1234567890123456789S", "PT1.1234567890123456780S" },
-    };
-    ixdtf_duration full = IXDTF_DURATION, it;
-    size_t i;
-    for (i = 0; i < COUNT(texts); i++) {
-        ixdtf_duration duration = used_duration();
-        row_shown = texts[i].text;
-        check(ixdtf_parse_duration_text(texts[i].text, &duration) == IXDTF_OK, "the text of the duration is accepted");
-        test_printed_duration(&duration, IXDTF_OK, texts[i].canonical);
-    }
-    test_printed_duration(&full, IXDTF_NOT_PRINTABLE, "");
-    memset(&it, 0, sizeof it);
-    test_printed_duration(&it, IXDTF_NOT_PRINTABLE, "");
-    check(ixdtf_parse_duration_text("P1DT2H3M4.5S", &full) == IXDTF_OK, "a duration with a date and a time is accepted");
-#define CHANGED(change, wanted, text) \
-    it = full; \
-    change; \
-    row_shown = #change; \
-    test_printed_duration(&it, wanted, text)
-    CHANGED(it.has_date = false, IXDTF_OK, "PT2H3M4.5S");
-    CHANGED(it.time_form = IXDTF_NO_TIME, IXDTF_OK, "P1D");
-    CHANGED((it.time_form = IXDTF_NO_TIME, it.fraction = UINT64_MAX), IXDTF_OK, "P1D");
-    CHANGED((it.has_date = false, it.time_form = IXDTF_NO_TIME), IXDTF_NOT_PRINTABLE, "");
-    CHANGED(it.time_form = IXDTF_LAST_HOURS, IXDTF_OK, "P1DT2.5H");
-    CHANGED(it.time_form = IXDTF_LAST_MINUTES, IXDTF_OK, "P1DT2H3.5M");
-    CHANGED(it.time_form = 4, IXDTF_NOT_PRINTABLE, "");
-    CHANGED(it.time_form = 255, IXDTF_NOT_PRINTABLE, "");
-    CHANGED(it.fraction = 10, IXDTF_NOT_PRINTABLE, "");
-    CHANGED((it.fraction = 10, it.fraction_digits = 0), IXDTF_OK, "P1DT2H3M4S");
-    CHANGED(it.fraction_digits = 3, IXDTF_OK, "P1DT2H3M4.005S");
-    CHANGED(it.is_negative = true, IXDTF_OK, "-P1DT2H3M4.5S");
-    CHANGED((it.location.at = behind, it.location.length = 4, it.place = 99), IXDTF_OK, "P1DT2H3M4.5S");
-#undef CHANGED
-    row_shown = "";
-    for (i = 0; i < COUNT(rows); i++) {
-        ixdtf_duration duration = IXDTF_DURATION, again = IXDTF_DURATION;
-        ixdtf_record none = IXDTF_RECORD;
-        struct line line;
-        uint8_t out[1024];
-        size_t count = 0;
-        row_shown = rows[i].text;
-        if (strcmp(rows[i].reader, "duration") || rows[i].length > sizeof out
-            || ixdtf_parse_duration((const uint8_t *)rows[i].text, rows[i].length, &duration) != IXDTF_OK) {
-            continue;
-        }
-        check(ixdtf_print_duration(&duration, out, rows[i].length, &count) == IXDTF_OK && count <= rows[i].length, "a duration that was read is printed, and its text is not longer than the text that was read");
-        check(ixdtf_parse_duration(out, count, &again) == IXDTF_OK, "the canonical text is accepted");
-        narrow_show_outcome(&line, "duration", 0, &none, &again);
-        is(line.text, rows[i].answer, "the record of the canonical text", rows[i].text);
-    }
-    row_shown = "";
-}
-
-/* Tests another printer and its function for the length, with every capacity from 0 to one byte more than the length of the text. `wanted` is the
- * expected result if the array is long enough. */
-#define TEST_PRINTED_PART(printer, printed_length, part, wanted, canonical) do { \
-        size_t length_ = strlen(canonical), places_; \
-        for (places_ = 0; places_ <= length_ + 1; places_++) { \
-            uint8_t *out_ = room + ROOM - places_; \
-            size_t count_ = 7; \
-            uint32_t error_; \
-            memset(room, 0xa5, ROOM); \
-            error_ = printer(part, out_, places_, &count_); \
-            check(error_ == ((uint32_t)(wanted) == 0 && places_ < length_ ? (uint32_t)IXDTF_TOO_SHORT : (uint32_t)(wanted)), "the printer returns the expected number"); \
-            check(count_ == ((uint32_t)(wanted) == 0 ? length_ : 7), "count is the length of the text, or unchanged if the value cannot be printed"); \
-            check(error_ != IXDTF_OK || !memcmp(out_, canonical, length_), "the printer writes the canonical text"); \
-            check(places_ <= length_ || error_ != IXDTF_OK || out_[length_] == 0xa5, "the other bytes of the array are unchanged"); \
-        } \
-        check(printed_length(part) == length_, "the function for the length returns the length, or 0 if the value cannot be printed"); \
-    } while (0)
-#define TEST_OFFSET(wanted, canonical) TEST_PRINTED_PART(ixdtf_print_offset, ixdtf_printed_offset_length, &record.offset, wanted, canonical)
-#define TEST_ZONE(wanted, canonical) TEST_PRINTED_PART(ixdtf_print_zone, ixdtf_printed_zone_length, &record.zone, wanted, canonical)
-
-/* Tests the printers of offsets and zones. A person wrote the canonical texts by the rules of docs/GRAMMAR.md. */
-static void test_parts(void) {
-    static const struct { const char *text, *canonical; } offsets[] = {
-        { "+05", "+05:00" }, { "-0530", "-05:30" }, { "-00:00", "-00:00" }, { "+053010", "+05:30:10" }, { "-23:59:59,50", "-23:59:59.50" },
-        { "+00:00:00.1234567890123456789", "+00:00:00.1234567890123456780" },
-    };
-    static const struct { const char *text, *canonical; } zones[] = {
-        { "Europe/Berlin", "Europe/Berlin" }, { "etc/utc", "etc/utc" }, { "+05", "+05:00" }, { "-0000", "-00:00" }, { "../_a-b+1", "../_a-b+1" },
-    };
-    ixdtf_record record = narrow_used_record();
-    size_t i;
-    for (i = 0; i < COUNT(offsets); i++) {
-        row_shown = offsets[i].text;
-        check(ixdtf_parse_offset_text(offsets[i].text, &record) == IXDTF_OK, "the text of the offset is accepted");
-        TEST_OFFSET(IXDTF_OK, offsets[i].canonical);
-    }
-    for (i = 0; i < COUNT(zones); i++) {
-        row_shown = zones[i].text;
-        check(ixdtf_parse_identifier_text(zones[i].text, &record) == IXDTF_OK, "the text of the zone is accepted");
-        TEST_ZONE(IXDTF_OK, zones[i].canonical);
-        record.zone.is_critical = true;
-        TEST_ZONE(IXDTF_OK, zones[i].canonical);
-    }
-    row_shown = "";
-    memset(&record, 0, sizeof record);
-    TEST_OFFSET(IXDTF_NOT_PRINTABLE, "");
-    TEST_ZONE(IXDTF_NOT_PRINTABLE, "");
-    record.offset.form = IXDTF_UTC;
-    TEST_OFFSET(IXDTF_NOT_PRINTABLE, "");
-    record.offset.form = 4;
-    TEST_OFFSET(IXDTF_NOT_PRINTABLE, "");
-    record.offset.form = IXDTF_MINUTES;
-    TEST_OFFSET(IXDTF_OK, "+00:00");
-    record.offset.hour = 24;
-    TEST_OFFSET(IXDTF_NOT_PRINTABLE, "");
-    record.zone.form = IXDTF_NAME;
-    TEST_ZONE(IXDTF_NOT_PRINTABLE, "");
-    record.zone.form = IXDTF_ZONE_OFFSET;
-    TEST_ZONE(IXDTF_OK, "+00:00");
-    record.zone.minute = 60;
-    TEST_ZONE(IXDTF_NOT_PRINTABLE, "");
-    record.zone.form = 3;
-    TEST_ZONE(IXDTF_NOT_PRINTABLE, "");
-}
-
-#define TEST_TIME(wanted, canonical) TEST_PRINTED_PART(ixdtf_print_time, ixdtf_printed_time_length, &record, wanted, canonical)
-#define TEST_YEAR_MONTH(wanted, canonical) TEST_PRINTED_PART(ixdtf_print_year_month, ixdtf_printed_year_month_length, &record, wanted, canonical)
-#define TEST_MONTH_DAY(wanted, canonical) TEST_PRINTED_PART(ixdtf_print_month_day, ixdtf_printed_month_day_length, &record, wanted, canonical)
-
-/* Tests the printers of times, of years with months, and of months with days. A person wrote the canonical texts by the rules of docs/GRAMMAR.md. */
-static void test_times_and_parts_of_dates(void) {
-    static const struct { const char *text, *canonical; } times[] = {
-        { "T1214", "12:14:00" }, { "084800,25z", "08:48:00.25Z" }, { "12+01[!+01][x=y][u-ca=hebrew]", "12:00:00+01:00[!+01:00][u-ca=hebrew]" },
-    };
-    static const struct { const char *text, *canonical; } year_months[] = {
-        { "202011[+01]", "2020-11[+01:00]" }, { "+00202011", "2020-11" }, { "-000001-12[u-ca=a]", "-000001-12[u-ca=a]" },
-    };
-    static const struct { const char *text, *canonical; } month_days[] = {
-        { "1107[+01]", "11-07[+01:00]" }, { "--0229", "02-29" }, { "--01-00[u-ca=a]", "01-00[u-ca=a]" },
-    };
-    ixdtf_record record = narrow_used_record();
-    size_t i;
-    for (i = 0; i < COUNT(times); i++) {
-        row_shown = times[i].text;
-        check(ixdtf_parse_time_text(times[i].text, &record) == IXDTF_OK, "the text of the time is accepted");
-        TEST_TIME(IXDTF_OK, times[i].canonical);
-        TEST_YEAR_MONTH(IXDTF_NOT_PRINTABLE, "");
-        TEST_MONTH_DAY(IXDTF_NOT_PRINTABLE, "");
-    }
-    for (i = 0; i < COUNT(year_months); i++) {
-        row_shown = year_months[i].text;
-        check(ixdtf_parse_year_month_text(year_months[i].text, &record) == IXDTF_OK, "the text of the year and the month is accepted");
-        TEST_YEAR_MONTH(IXDTF_OK, year_months[i].canonical);
-        TEST_TIME(IXDTF_NOT_PRINTABLE, "");
-        TEST_MONTH_DAY(IXDTF_NOT_PRINTABLE, "");
-    }
-    for (i = 0; i < COUNT(month_days); i++) {
-        row_shown = month_days[i].text;
-        check(ixdtf_parse_month_day_text(month_days[i].text, &record) == IXDTF_OK, "the text of the month and the day is accepted");
-        TEST_MONTH_DAY(IXDTF_OK, month_days[i].canonical);
-        TEST_TIME(IXDTF_NOT_PRINTABLE, "");
-        TEST_YEAR_MONTH(IXDTF_NOT_PRINTABLE, "");
-    }
-    row_shown = "";
-    memset(&record, 0, sizeof record);
-    TEST_TIME(IXDTF_NOT_PRINTABLE, "");
-    TEST_YEAR_MONTH(IXDTF_NOT_PRINTABLE, "");
-    TEST_MONTH_DAY(IXDTF_NOT_PRINTABLE, "");
-    record.time.is_there = true;
-    TEST_TIME(IXDTF_OK, "00:00:00");
-    record.time.fraction = 100;
-    record.time.fraction_digits = 2;
-    TEST_TIME(IXDTF_NOT_PRINTABLE, "");
-    record.time.fraction_digits = 3;
-    TEST_TIME(IXDTF_OK, "00:00:00.100");
-    record.offset.form = 4;
-    TEST_TIME(IXDTF_NOT_PRINTABLE, "");
-    record.offset.form = IXDTF_NO_OFFSET;
-    record.zone.form = 3;
-    TEST_TIME(IXDTF_NOT_PRINTABLE, "");
-    record.zone.form = IXDTF_NO_ZONE;
-    record.date.is_there = true;
-    record.date.month = 2;
-    record.date.day = 1;
-    TEST_TIME(IXDTF_NOT_PRINTABLE, "");
-    TEST_YEAR_MONTH(IXDTF_NOT_PRINTABLE, "");
-    record.time.is_there = false;
-    TEST_YEAR_MONTH(IXDTF_OK, "0000-02");
-    TEST_MONTH_DAY(IXDTF_OK, "02-01");
-    record.date.day = 30;
-    TEST_YEAR_MONTH(IXDTF_NOT_PRINTABLE, "");
-    TEST_MONTH_DAY(IXDTF_NOT_PRINTABLE, "");
-}
-
 /* Tests ixdtf_duration_fraction. A person calculated the seconds and the nanoseconds. */
 static void test_last_fractions(void) {
     static const struct { const char *text; uint32_t result, seconds, nanoseconds; } texts[] = {
@@ -831,180 +652,6 @@ static void test_last_fractions(void) {
     check(ixdtf_duration_fraction(&it, &seconds, &nanoseconds) == IXDTF_OK && seconds == 0 && nanoseconds == 0, "0 seconds and 0 nanoseconds for a fraction without digits");
 }
 
-/* Tests ixdtf_set_annotations and ixdtf_keep_calendar. If ixdtf_reply kept a calendar, it is printed with the record, and otherwise no calendar is. */
-static void test_kept_calendar(void) {
-    static const char *text = "2024-03-02T08:48[!u-ca=hebrew][a=b]";
-    ixdtf_annotation list[8];
-    ixdtf_calendar calendar = IXDTF_CALENDAR;
-    ixdtf_record record = IXDTF_RECORD;
-    size_t count = 0, i;
-    memset(list, 0xa5, sizeof list);
-    ixdtf_set_annotations(list, 7);
-    for (i = 0; i < 7; i++) {
-        check(list[i].key.at != NULL && list[i].key.length == 0 && list[i].value.at != NULL && list[i].value.length == 0 && !list[i].is_critical,
-            "each of the first seven elements is set");
-    }
-    check(list[7].key.length != 0, "the element after them is unchanged");
-    check(ixdtf_parse_with_annotations((const uint8_t *)text, strlen(text), list, 7, &count, &record) == IXDTF_OK && count == 2, "the text has two annotations");
-    ixdtf_keep_calendar(&record, &calendar);
-    test_printed(&record, IXDTF_OK, "2024-03-02T08:48:00");
-    check(ixdtf_reply(&calendar, &list[0]) == IXDTF_OK && ixdtf_reply(&calendar, &list[1]) == IXDTF_OK, "both replies are accepted");
-    ixdtf_keep_calendar(&record, &calendar);
-    test_printed(&record, IXDTF_OK, "2024-03-02T08:48:00[u-ca=hebrew]");
-    calendar.is_there = false;
-    ixdtf_keep_calendar(&record, &calendar);
-    check(!record.has_calendar && record.calendar.length == 0 && record.calendar.at != NULL, "without a kept calendar, has_calendar is false, and calendar is a slice of length 0");
-}
-
-/* Tests ixdtf_print with records that were read. A person wrote the canonical texts by the rules of docs/GRAMMAR.md. */
-static void test_canonical(void) {
-    static const struct { const char *text, *canonical; } texts[] = {
-        { "20240302", "2024-03-02" },
-        { "+002024-03-02", "2024-03-02" },
-        { "-000001-12-31", "-000001-12-31" },
-        { "+010000-01-01", "+010000-01-01" },
-        { "0000-01-01", "0000-01-01" },
-        { "-271821-04-20", "-271821-04-20" },
-        { "2024-02-29 08", "2024-02-29T08:00:00" },
-        { "20240302t084800,250", "2024-03-02T08:48:00.250" },
-        { "2024-03-02T23:59:60.000000000000000001", "2024-03-02T23:59:60.000000000000000001" },
-        { "2024-03-02T00:00:00.00000000000000000123", "2024-03-02T00:00:00.00000000000000000100" },
-        { "2024-03-02T08:48z", "2024-03-02T08:48:00Z" },
-        { "2024-03-02T08:48-05", "2024-03-02T08:48:00-05:00" },
-        { "2024-03-02T08:48-00:00", "2024-03-02T08:48:00-00:00" },
-        { "2024-03-02T084800+053010", "2024-03-02T08:48:00+05:30:10" },
-        { "2024-03-02T08:48:00+05:30:10,50", "2024-03-02T08:48:00+05:30:10.50" },
-        { "2024-03-02[Europe/Paris]", "2024-03-02[Europe/Paris]" },
-        { "2024-03-02[!etc/utc][a=b]", "2024-03-02[!etc/utc]" },
-        { "2024-03-02[+0530]", "2024-03-02[+05:30]" },
-        { "2024-03-02[!-00]", "2024-03-02[!-00:00]" },
-        { "2024-03-02[!u-ca=hebrew]", "2024-03-02[u-ca=hebrew]" },
-        { "-123456-07-08T09:10:11.1213-14:15:16.17181[!Abc/d][u-ca=ef-g]", "-123456-07-08T09:10:11.1213-14:15:16.17181[!Abc/d][u-ca=ef-g]" },
-    };
-    size_t i;
-    for (i = 0; i < COUNT(texts); i++) {
-        ixdtf_record record = narrow_used_record();
-        row_shown = texts[i].text;
-        check(ixdtf_parse((const uint8_t *)texts[i].text, strlen(texts[i].text), &record) == IXDTF_OK, "the text is accepted");
-        test_printed(&record, IXDTF_OK, texts[i].canonical);
-    }
-    row_shown = "";
-}
-
-/* Tests that ixdtf_print prints the record of each row of ixdtf_parse, in at most 14 bytes more than the text of the row, and that ixdtf_parse reads the
- * canonical text as the same record. */
-static void test_read_back(void) {
-    size_t i;
-    for (i = 0; i < COUNT(rows); i++) {
-        ixdtf_record record = IXDTF_RECORD, again = IXDTF_RECORD;
-        ixdtf_duration none = IXDTF_DURATION;
-        struct line line;
-        uint8_t out[1024];
-        size_t count = 0;
-        row_shown = rows[i].text;
-        if (strcmp(rows[i].reader, "parse") || rows[i].length + 14 > sizeof out
-            || ixdtf_parse((const uint8_t *)rows[i].text, rows[i].length, &record) != IXDTF_OK) {
-            continue;
-        }
-        check(ixdtf_print(&record, out, rows[i].length + 14, &count) == IXDTF_OK && count <= rows[i].length + 14, "a record that was read is printed, in at most 14 bytes more than its text");
-        check(ixdtf_parse(out, count, &again) == IXDTF_OK, "the canonical text is accepted");
-        narrow_show_outcome(&line, "parse", 0, &again, &none);
-        is(line.text, rows[i].answer, "the record of the canonical text", rows[i].text);
-    }
-    row_shown = "";
-}
-
-/* Tests ixdtf_print with records whose fields were changed. A record that no text gives is not printed. The printer does not read the fields of a part
- * that is not present. */
-static void test_by_hand(void) {
-    static const char *whole = "2024-02-29T23:59:60.5-23:59:59.25[!Abc/d][u-ca=ef-g]";
-    ixdtf_record full = IXDTF_RECORD, it = IXDTF_RECORD;
-    check(ixdtf_parse((const uint8_t *)whole, strlen(whole), &full) == IXDTF_OK, "a text with every part is accepted");
-    test_printed(&full, IXDTF_OK, whole);
-    test_printed(&it, IXDTF_NOT_PRINTABLE, ""); /* The record has no date. */
-    it = narrow_used_record();
-    it.zone.form = IXDTF_ZONE_OFFSET;
-    it.has_calendar = false;
-    test_printed(&it, IXDTF_OK, "-271821-04-20T23:59:60.987654321-11:22:33.123[!-12:34]");
-#define CHANGED(change, wanted, text) \
-    it = full; \
-    change; \
-    row_shown = #change; \
-    test_printed(&it, wanted, text)
-    CHANGED(it.date.is_there = false, IXDTF_NOT_PRINTABLE, "");
-    CHANGED(it.date.year = 2023, IXDTF_NOT_PRINTABLE, "");
-    CHANGED(it.date.year = 1000000, IXDTF_NOT_PRINTABLE, "");
-    CHANGED(it.date.year = INT32_MIN, IXDTF_NOT_PRINTABLE, "");
-    CHANGED(it.date.month = 0, IXDTF_NOT_PRINTABLE, "");
-    CHANGED(it.date.month = 13, IXDTF_NOT_PRINTABLE, "");
-    CHANGED(it.date.day = 0, IXDTF_NOT_PRINTABLE, "");
-    CHANGED(it.date.day = 30, IXDTF_NOT_PRINTABLE, "");
-    CHANGED(it.time.hour = 24, IXDTF_NOT_PRINTABLE, "");
-    CHANGED(it.time.minute = 60, IXDTF_NOT_PRINTABLE, "");
-    CHANGED(it.time.second = 61, IXDTF_NOT_PRINTABLE, "");
-    CHANGED(it.time.fraction = 10, IXDTF_NOT_PRINTABLE, "");
-    CHANGED(it.time.fraction = UINT64_MAX, IXDTF_NOT_PRINTABLE, "");
-    CHANGED((it.time.fraction = UINT64_MAX, it.time.fraction_digits = 255), IXDTF_NOT_PRINTABLE, "");
-    CHANGED((it.time.fraction = UINT64_MAX, it.time.fraction_digits = 0), IXDTF_OK, "2024-02-29T23:59:60-23:59:59.25[!Abc/d][u-ca=ef-g]");
-    CHANGED(it.time.fraction_digits = 3, IXDTF_OK, "2024-02-29T23:59:60.005-23:59:59.25[!Abc/d][u-ca=ef-g]");
-    CHANGED(it.time.is_there = false, IXDTF_NOT_PRINTABLE, ""); /* An offset needs a time. */
-    CHANGED((it.time.is_there = false, it.offset.form = IXDTF_NO_OFFSET), IXDTF_OK, "2024-02-29[!Abc/d][u-ca=ef-g]");
-    CHANGED(it.offset.form = IXDTF_NO_OFFSET, IXDTF_OK, "2024-02-29T23:59:60.5[!Abc/d][u-ca=ef-g]");
-    CHANGED(it.offset.form = IXDTF_UTC, IXDTF_OK, "2024-02-29T23:59:60.5Z[!Abc/d][u-ca=ef-g]");
-    CHANGED(it.offset.form = IXDTF_MINUTES, IXDTF_OK, "2024-02-29T23:59:60.5-23:59[!Abc/d][u-ca=ef-g]");
-    CHANGED(it.offset.form = 4, IXDTF_NOT_PRINTABLE, "");
-    CHANGED(it.offset.form = 200, IXDTF_NOT_PRINTABLE, "");
-    CHANGED(it.offset.is_negative = false, IXDTF_OK, "2024-02-29T23:59:60.5+23:59:59.25[!Abc/d][u-ca=ef-g]");
-    CHANGED(it.offset.hour = 24, IXDTF_NOT_PRINTABLE, "");
-    CHANGED(it.offset.minute = 60, IXDTF_NOT_PRINTABLE, "");
-    CHANGED(it.offset.second = 60, IXDTF_NOT_PRINTABLE, "");
-    CHANGED((it.offset.second = 60, it.offset.form = IXDTF_MINUTES), IXDTF_OK, "2024-02-29T23:59:60.5-23:59[!Abc/d][u-ca=ef-g]");
-    CHANGED(it.offset.fraction = 100, IXDTF_NOT_PRINTABLE, "");
-    CHANGED((it.offset.fraction = 100, it.offset.form = IXDTF_UTC), IXDTF_OK, "2024-02-29T23:59:60.5Z[!Abc/d][u-ca=ef-g]");
-    CHANGED(it.zone.form = IXDTF_NO_ZONE, IXDTF_OK, "2024-02-29T23:59:60.5-23:59:59.25[u-ca=ef-g]");
-    CHANGED((it.zone.form = IXDTF_ZONE_OFFSET, it.zone.hour = 1, it.zone.minute = 2), IXDTF_OK, "2024-02-29T23:59:60.5-23:59:59.25[!+01:02][u-ca=ef-g]");
-    CHANGED(it.zone.form = 3, IXDTF_NOT_PRINTABLE, "");
-    CHANGED(it.zone.form = 255, IXDTF_NOT_PRINTABLE, "");
-    CHANGED((it.zone.form = IXDTF_ZONE_OFFSET, it.zone.hour = 24), IXDTF_NOT_PRINTABLE, "");
-    CHANGED(it.zone.is_critical = false, IXDTF_OK, "2024-02-29T23:59:60.5-23:59:59.25[Abc/d][u-ca=ef-g]");
-    CHANGED(it.zone.name.length = 3, IXDTF_OK, "2024-02-29T23:59:60.5-23:59:59.25[!Abc][u-ca=ef-g]");
-    CHANGED(it.zone.name.length = 4, IXDTF_NOT_PRINTABLE, "");
-    CHANGED(it.zone.name.length = 0, IXDTF_NOT_PRINTABLE, "");
-    CHANGED(it.calendar.length = 2, IXDTF_OK, "2024-02-29T23:59:60.5-23:59:59.25[!Abc/d][u-ca=ef]");
-    CHANGED(it.calendar.length = 3, IXDTF_NOT_PRINTABLE, "");
-    CHANGED(it.calendar.length = 0, IXDTF_NOT_PRINTABLE, "");
-    CHANGED(it.has_calendar = false, IXDTF_OK, "2024-02-29T23:59:60.5-23:59:59.25[!Abc/d]");
-    CHANGED((it.has_calendar = false, it.calendar.at = (const uint8_t *)behind), IXDTF_OK, "2024-02-29T23:59:60.5-23:59:59.25[!Abc/d]");
-    CHANGED((it.zone.form = IXDTF_NO_ZONE, it.zone.name.at = (const uint8_t *)behind), IXDTF_OK, "2024-02-29T23:59:60.5-23:59:59.25[u-ca=ef-g]");
-    CHANGED((it.location.at = behind, it.location.length = 4, it.place = 99), IXDTF_OK, whole);
-#undef CHANGED
-    row_shown = "";
-}
-
-/* Tests structs that were initialised with zeros. No text has a name or a calendar of length 0, so such a record is not printed. */
-static void test_zeros(void) {
-    ixdtf_record record;
-    ixdtf_text text;
-    size_t count = 7;
-    memset(&record, 0, sizeof record);
-    memset(&text, 0, sizeof text);
-    ixdtf_error_text(IXDTF_DATE_MONTH, &text);
-    check(text.length == 44 && !memcmp(text.at, ixdtf_error_message(IXDTF_DATE_MONTH), 44), "ixdtf_error_text writes to a slice of zeros");
-    test_printed(&record, IXDTF_NOT_PRINTABLE, "");
-    record.date.is_there = true;
-    record.date.month = 3;
-    record.date.day = 2;
-    test_printed(&record, IXDTF_OK, "0000-03-02");
-    check(ixdtf_print(&record, NULL, 0, &count) == IXDTF_TOO_SHORT && count == 10, "the array may be NULL if its capacity is 0");
-    record.zone.form = IXDTF_ZONE_OFFSET;
-    test_printed(&record, IXDTF_OK, "0000-03-02[+00:00]");
-    record.zone.form = IXDTF_NAME;
-    test_printed(&record, IXDTF_NOT_PRINTABLE, "");
-    record.zone.form = IXDTF_NO_ZONE;
-    record.has_calendar = true;
-    test_printed(&record, IXDTF_NOT_PRINTABLE, "");
-}
-
 /* Tests that the rows have each error that a reader can return. The errors in `never` must not occur. */
 static void test_met(void) {
     static const unsigned char never[] = { 1, 3, 12, 13, 20, 21, 22, 24 };
@@ -1035,16 +682,10 @@ int main(int count, char **arguments) {
     test_layout();
     narrow_test_all();
     wide_test_all();
+    narrow_test_printing();
+    wide_test_printing();
     test_places(arguments[1]);
-    test_canonical();
-    test_kept_calendar();
-    test_read_back();
-    test_by_hand();
-    test_zeros();
-    test_durations();
     test_last_fractions();
-    test_parts();
-    test_times_and_parts_of_dates();
     test_met();
     printf("%lu checks, %lu failed\n", checks, failures);
     return failures == 0 ? 0 : 1;

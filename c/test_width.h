@@ -1,4 +1,5 @@
-/* The tests for one width of code units. test.c includes this file twice, for 8-bit and for 16-bit text. Before, it defines these macros:
+/* The tests for one width of code units, except those of the printers. test.c includes this file twice, for 8-bit and for 16-bit text. After it, test.c
+ * includes test_printing.h. Before, it defines these macros:
  *
  *     UNIT         the type of a code unit
  *     CALL(name)   a function or a type of the header: ixdtf_name or ixdtf16_name
@@ -568,10 +569,3 @@ static void OWN(test_all)(void) {
     }
     row_shown = "";
 }
-
-#undef UNIT
-#undef CALL
-#undef OWN
-#undef NEW_RECORD
-#undef NEW_ANNOTATION
-#undef NEW_CALENDAR

@@ -2,20 +2,20 @@
 use Rattle.ixdtf_grammar.specs.declared.records.UtcOffsetRecord.TheVariants as offsets
 use Rattle.ixdtf_grammar.specs.declared.records.UtcOffsetRecordOrZ.TheVariants as shifts
 use Rattle.std.proofs.Common.{refl, sym, true≢false, ◌∙◌, ◌≡◌, ◌≢◌, ◌≤◌, ◌+◌, ℕ, Bool, false, not, inl, inr, ap, if◌then◌else◌, List, length, Option, Some, None, IfSome}
-use Rattle.std.proofs.{Common.{IsSomeAnd, Result, Ok, Err, OnOk, arith}, lemmas.Bool.Decides.eqb_tells}
+use Rattle.std.proofs.{Common.{IsSomeAnd, Result, Ok, Err, IfOk, OnOk, map, take, arith}, lemmas.Bool.Decides.eqb_tells}
 use Rattle.ixdtf_grammar.specs.declared.records.DurationParseRecord.{DurationParseRecord}
 use Rattle.ixdtf_grammar.specs.declared.{profile.Profile.{Profile, TheVariants.Crate}, records.{DateRecord.DateRecord, MinutePrecisionOffset.MinutePrecisionOffset, Sign.Sign}}
 use Rattle.ixdtf_grammar.specs.declared.records.{Sign.TheVariants.{Positive, Negative}, TimeDurationRecord.TimeDurationRecord, TimeRecord.TimeRecord}
 use Rattle.ixdtf_grammar.specs.declared.records.UtcOffsetRecordOrZ.{UtcOffsetRecordOrZ}
-use Rattle.ixdtf.specs.language.{Brackets.ZoneNote, Fractions.FractionParts, Languages.Parsed, Letters.Text, OffsetRecords.sign_for, Readers.{parse, CoreKind.date_time}}
-use Rattle.ixdtf.specs.{language.ZoneNames.{Zone as SomeZone, Zone.{Name, Offset as ByOffset}}, Handlers.UnhandledRecord}
+use Rattle.ixdtf.specs.language.{Brackets.ZoneNote, Fractions.FractionParts, Languages.Parsed, Letters.{Letter, Text, byte_letter, wide_letter}, OffsetRecords.sign_for, Readers.{parse, CoreKind.date_time}}
+use Rattle.ixdtf.specs.{language.ZoneNames.{Zone as SomeZone, Zone.{Name, Offset as ByOffset}}, Handlers.UnhandledRecord, Widths.wide_text}
 use Rattle.ixdtf_c.specs.Crossing.{Contents, DurationContents, digits_for, value_for, is_negative, date_for, time_for, offset_for, area_for, zone_for, units_for, is_there}
-use Rattle.ixdtf_c.specs.{Crossing.record_for, Instants.shift_fraction, Outcomes.GivesRecord, Printing.{HaveDigits, text_where}}
+use Rattle.ixdtf_c.specs.{Crossing.record_for, Instants.shift_fraction, Outcomes.GivesRecord, Printing.{HaveDigits, PrintsText, text_where}}
 use Rattle.ixdtf_c.specs.Standing.{where_there, fraction_by, date_by, time_by, minutes_by, offset_by, zone_by, parsed_by, record_by, lasting_by, shift_alone}
 use Rattle.ixdtf_c.proofs.Numbers.{number_some}
 use Rattle.ixdtf_print.specs.{Canonical.canonical_text, Durations.{duration_text, IsPrintableDuration, IsDurationReadBack}, Printable.IsPrintable, Spelled.{HasTime, HasDigits, IsDayTime, IsShift}}
 use Rattle.ixdtf_print.specs.{Times.IsPrintableTime, YearMonths.IsPrintableYearMonth, MonthDays.IsPrintableMonthDay, SpelledCores.{HasLoneTime, HasLoneMonth, HasLoneDay}}
-use Rattle.ixdtf_print.{specs.declared.error.PrintError.TheVariants.NotPrintable, proofs.theorems.ShortDurations.duration_most}
+use Rattle.ixdtf_print.{specs.declared.error.PrintError.{PrintError, TheVariants.NotPrintable}, proofs.theorems.ShortDurations.duration_most}
 use Rattle.ixdtf_print.proofs.theorems.{PrintableTimes.tests_time, PrintableYearMonths.tests_year_month, PrintableMonthDays.tests_month_day}
 use Rattle.ixdtf_print.specs.{Offsets.IsPrintableOffset, Printing.{HasText, HasOneText, PrintsOrRefuses}, SpelledDurations.HasTimeUnits}
 use Rattle.ixdtf_print.proofs.{parts.ParsedParts.to_parts, theorems.{PrintableDurations.printable_duration, PrintableOffsets.printable_offset, PrintableRecords.{printable_iff, of_record}}}
@@ -205,7 +205,8 @@ printed_units d (Some time) is = ((printable_duration _).0 is).time
 printed_units d None is = absurd is
 
 -- What a printer returns for a value that is not printable.
-pub refused : {printable : Type 0} {canonical : Text} {bytes : List ℕ} → ¬ printable → PrintsOrRefuses printable canonical bytes bytes (Err NotPrintable)
+pub refused : {U : Type 0} {letter : U → Letter} {printable : Type 0} {canonical : Text} {units : List U}
+    → ¬ printable → PrintsText letter printable canonical units units (Err NotPrintable)
 refused none = record {
   count = tt;
   fits = tt;
@@ -215,6 +216,44 @@ refused none = record {
   too_short = (λ e. absurd cc, λ p. absurd (none p.0));
   unchanged = refl;
 }
+
+-- What a printer of the library for 8-bit text ensures, and what one for 16-bit text ensures.
+module _ {printable : Type 0} {canonical : Text} {old new : List ℕ} {result : Result ℕ PrintError} (prints : PrintsOrRefuses printable canonical old new result) where
+  pub prints_bytes : PrintsText byte_letter printable canonical old new result
+  prints_bytes = record {
+    count = prints.count;
+    fits = prints.fits;
+    text = prints.text;
+    rest = prints.rest;
+    not_printable = prints.not_printable;
+    too_short = prints.too_short;
+    unchanged = prints.unchanged;
+  }
+
+  pub prints_wide : IfOk result (λ n. wide_text (take n new) ≡ canonical) → PrintsText wide_letter printable canonical old new result
+  prints_wide wide = record {
+    count = prints.count;
+    fits = prints.fits;
+    text = wide;
+    rest = prints.rest;
+    not_printable = prints.not_printable;
+    too_short = prints.too_short;
+    unchanged = prints.unchanged;
+  }
+
+-- A statement about a value, if one is present, and about its text.
+module _ {A : Type 0} (text_of : A → Text) (Q : Text → Type 0) (P : A → Type 0) where
+  pub text_some : (x : Option A) → IsSomeAnd x P → Q (text_where text_of x) → IsSomeAnd x (λ a. Q (text_of a))
+  text_some None is q = absurd is
+  text_some (Some a) is q = q
+
+  pub both_some : (x : Option A) → IsSomeAnd x P × Q (text_where text_of x) → IsSomeAnd x (λ a. P a × Q (text_of a))
+  both_some None is = absurd is.0
+  both_some (Some a) is = is
+
+  pub some_both : (x : Option A) → IsSomeAnd x (λ a. P a × Q (text_of a)) → IsSomeAnd x P × Q (text_where text_of x)
+  some_both None is = absurd is
+  some_both (Some a) is = is
 
 -- The canonical text of a duration has at most 376 code units.
 pub short_text : (duration : Option DurationParseRecord) → IsSomeAnd duration IsPrintableDuration → length (text_where duration_text duration) ≤ 376

@@ -10,9 +10,9 @@ ghost use Rattle.ixdtf_print.specs.Printable.{IsPrintable};
 
 use crate::forms::Offset;
 use crate::narrow::Record;
-use crate::printing::record_of;
+use crate::texts::{AsDateTime, length_into};
+use ixdtf::encoding::Utf8;
 use ixdtf::records::Fraction;
-use ixdtf_print::printed_length;
 
 /// Returns the nanoseconds of a fraction of a second, such as 250000000 for `fraction` 25 and `digits` 2.
 ///
@@ -72,8 +72,5 @@ pub extern "C" fn ixdtf_printed_length(given: &Record<'_>) -> usize
     ensures none { ¬ (IsSomeAnd (record_by (contents given.now))
         (λ found. IsPrintable found × (length (canonical_text found) ≤ usize.MAX))) → result ≡ 0 }
 {
-    let Some(found) = record_of(given) else {
-        return 0;
-    };
-    printed_length(&found).unwrap_or(0)
+    length_into::<Utf8, _>(&AsDateTime { record: given })
 }

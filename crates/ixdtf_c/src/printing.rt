@@ -1,26 +1,21 @@
-//! The function that prints a record for C, and the conversion of the structs of C into records of the library.
+//! The conversion of the structs of C into records of the library, which prints them.
 
-ghost use Rattle.std.specs.Prelude.{◌≡◌, ◌≢◌, ◌↔◌, ◌<◌, ◌≤◌, Some, None, length, map, min, take, drop};
-ghost use Rattle.std.specs.Prelude.{option_map, IfSome, IfNone, OnSome, IsSomeAnd};
-ghost use Rattle.ixdtf.specs.language.Letters.{byte_letter};
+ghost use Rattle.std.specs.Prelude.{◌≡◌, Some, None, map, option_map, IfSome, IfNone, OnSome, IsSomeAnd};
 ghost use Rattle.ixdtf.specs.Views.{parsed_of, note_of};
 ghost use Rattle.ixdtf_c.specs.Instants.{shift_fraction};
-ghost use Rattle.ixdtf_c.specs.Narrow.{contents, zone_contents};
 ghost use Rattle.ixdtf_c.specs.Printing.{HaveDigits};
 ghost use Rattle.ixdtf_c.specs.Standing.{fraction_by, date_by, time_by, minutes_by, offset_by, zone_by, record_by};
-ghost use Rattle.ixdtf_print.specs.Canonical.{canonical_text};
-ghost use Rattle.ixdtf_print.specs.Printable.{IsPrintable, IsReadBack};
+ghost use Rattle.ixdtf_print.specs.Printable.{IsPrintable};
 ghost use Rattle.ixdtf_print.specs.Spelled.{HasDigits};
 
 use crate::forms::{Date, Offset, Time};
-use crate::narrow::{Record, Zone};
-use crate::slices::from_c;
-use ixdtf::encoding::Utf8;
+use crate::slices::{Slice, from_c};
+use crate::widths::RecordOf;
+use ixdtf::encoding::EncodingType;
 use ixdtf::records::{
     DateRecord, Fraction, FullPrecisionOffset, IxdtfParseRecord, MinutePrecisionOffset, Sign,
     TimeRecord, TimeZoneAnnotation, TimeZoneRecord, UtcOffsetRecord, UtcOffsetRecordOrZ,
 };
-use ixdtf_print::{PrintError, length_of, print};
 
 /// Returns the fraction with `digits` digits, whose first 18 digits are the number `value`.
 ///
@@ -122,127 +117,75 @@ pub fn offset_of(offset: &Offset) -> Option<Option<UtcOffsetRecordOrZ>>
     }
 }
 
-/// Returns the time zone, or `Some(None)` if it is absent. Returns `None` if `form` is not 0 to 2.
-pub fn zone_of<'a>(zone: &Zone<'a>) -> Option<Option<TimeZoneAnnotation<'a, Utf8>>>
-    ensures found { IfSome result (λ found.
-        zone_by (zone_contents zone.now) ≡ Some (option_map (note_of (λ unit. unit)) found)) }
-    ensures none { IfNone result (zone_by (zone_contents zone.now) ≡ None) }
+/// Returns the time zone with these fields, or `Some(None)` if it is absent. Returns `None` if `form` is not 0 to 2.
+pub fn zone_of<'a, T: EncodingType>(
+    name: Slice<'a, T::CodeUnit>,
+    form: u8,
+    is_critical: bool,
+    is_negative: bool,
+    hour: u8,
+    minute: u8,
+) -> Option<Option<TimeZoneAnnotation<'a, T>>>
+    ensures found { IfSome result (λ found. zone_by (record {
+      name = map T.number name.now;
+      form = form;
+      is_critical = is_critical;
+      is_negative = is_negative;
+      hour = hour;
+      minute = minute;
+    }) ≡ Some (option_map (note_of T.number) found)) }
+    ensures none { IfNone result (zone_by (record {
+      name = map T.number name.now;
+      form = form;
+      is_critical = is_critical;
+      is_negative = is_negative;
+      hour = hour;
+      minute = minute;
+    }) ≡ None) }
 {
-    if zone.form == 0 {
+    if form == 0 {
         return Some(None);
     }
-    if zone.form == 1 {
+    if form == 1 {
         return Some(Some(TimeZoneAnnotation {
-            critical: zone.is_critical,
-            tz: TimeZoneRecord::Name(from_c(zone.name)),
+            critical: is_critical,
+            tz: TimeZoneRecord::Name(from_c(name)),
         }));
     }
-    if zone.form != 2 {
+    if form != 2 {
         return None;
     }
     Some(Some(TimeZoneAnnotation {
-        critical: zone.is_critical,
-        tz: TimeZoneRecord::Offset(minutes_of(zone.is_negative, zone.hour, zone.minute)),
+        critical: is_critical,
+        tz: TimeZoneRecord::Offset(minutes_of(is_negative, hour, minute)),
     }))
 }
 
 /// Returns the record of the library with the parts of `given`.
 ///
-/// Returns `None` if a `form` or a fraction is not valid. There is no text for which `ixdtf_parse` writes such a record.
-pub fn record_of<'a>(given: &Record<'a>) -> Option<IxdtfParseRecord<'a, Utf8>>
+/// Returns `None` if a `form` or a fraction is not valid. There is no text for which a reader writes such a record.
+pub fn record_of<'a, T: EncodingType, R: RecordOf<'a, T>>(
+    given: &R,
+) -> Option<IxdtfParseRecord<'a, T>>
     ensures found { IfSome result
-        (λ found. record_by (contents given.now) ≡ Some (parsed_of (λ unit. unit) found)) }
-    ensures digits { IfNone result (¬ (IsSomeAnd (record_by (contents given.now)) HaveDigits)) }
-    ensures none { IfNone result (¬ (IsSomeAnd (record_by (contents given.now)) IsPrintable)) }
+        (λ found. record_by (R.contents given.now) ≡ Some (parsed_of T.number found)) }
+    ensures digits { IfNone result (¬ (IsSomeAnd (record_by (R.contents given.now)) HaveDigits)) }
+    ensures none { IfNone result (¬ (IsSomeAnd (record_by (R.contents given.now)) IsPrintable)) }
 {
-    let Some(time) = time_of(&given.time) else {
+    let Some(time) = time_of(given.time_part()) else {
         return None;
     };
-    let Some(offset) = offset_of(&given.offset) else {
+    let Some(offset) = offset_of(given.offset_part()) else {
         return None;
     };
-    let Some(tz) = zone_of(&given.zone) else {
+    let Some(tz) = given.zone_part() else {
         return None;
-    };
-    let calendar = if given.has_calendar {
-        Some(from_c(given.calendar))
-    } else {
-        None
     };
     Some(IxdtfParseRecord {
-        date: date_of(&given.date),
+        date: date_of(given.date_part()),
         time,
         offset,
         tz,
-        calendar,
+        calendar: given.calendar_part(),
     })
-}
-
-/// Does what [`ixdtf_print`] does, for a record of the library.
-#[inline(always)]
-fn print_found(found: &IxdtfParseRecord<'_, Utf8>, out: &mut [u8], count: &mut usize) -> u32
-    ensures printed { (result ≡ 0) ↔ (IsPrintable (parsed_of (λ unit. unit) found.now) ×
-        (length (canonical_text (parsed_of (λ unit. unit) found.now)) ≤ length out.old)) }
-    ensures not_printable { (result ≡ 101) ↔ ¬ (IsPrintable (parsed_of (λ unit. unit) found.now)) }
-    ensures too_short { (result ≡ 102) ↔ (IsPrintable (parsed_of (λ unit. unit) found.now) ×
-        (length out.old < length (canonical_text (parsed_of (λ unit. unit) found.now)))) }
-    ensures count { result ≡ 0 →
-        count.new ≡ length (canonical_text (parsed_of (λ unit. unit) found.now)) }
-    ensures fits { result ≡ 0 → count.new ≤ length out.new }
-    ensures text { result ≡ 0 → map byte_letter (take count.new out.new) ≡
-        canonical_text (parsed_of (λ unit. unit) found.now) }
-    ensures read_back { result ≡ 0 → IsReadBack (parsed_of (λ unit. unit) found.now) }
-    ensures rest { result ≡ 0 → drop count.new out.new ≡ drop count.new out.old }
-    ensures unchanged { result ≢ 0 → out.new ≡ out.old }
-    ensures uncounted { result ≡ 101 → count.new ≡ count.old }
-    ensures needed { result ≡ 102 → count.new ≡
-        min (length (canonical_text (parsed_of (λ unit. unit) found.now))) usize.MAX }
-{
-    match print(found, out) {
-        Ok(written) => {
-            *count = written;
-            0
-        }
-        Err(PrintError::NotPrintable) => 101,
-        Err(PrintError::TooShort) => {
-            *count = length_of(found).min(usize::MAX as u128) as usize;
-            102
-        }
-    }
-}
-
-/// Prints a date, or a date and a time, with its offset, its zone and its calendar, such as `2024-03-02T08:48:00Z`.
-///
-/// Writes the text to the first bytes of `out`, and its length to `count`. Returns 0 if the text is written. Returns 101 if
-/// there is no text for which `ixdtf_parse` writes this record. Returns 102 if `out` is too short. Then `count` is the length of
-/// the text, or `usize::MAX` if the length is greater.
-#[unsafe(no_mangle)]
-pub extern "C" fn ixdtf_print(given: &Record<'_>, out: &mut [u8], count: &mut usize) -> u32
-    // For each record and each length of `out`, exactly one of these three numbers is returned.
-    ensures printed { (result ≡ 0) ↔ IsSomeAnd (record_by (contents given.now)) (λ found.
-        IsPrintable found × (length (canonical_text found) ≤ length out.old)) }
-    ensures not_printable { (result ≡ 101) ↔
-        ¬ (IsSomeAnd (record_by (contents given.now)) IsPrintable) }
-    ensures too_short { (result ≡ 102) ↔ IsSomeAnd (record_by (contents given.now)) (λ found.
-        IsPrintable found × (length out.old < length (canonical_text found))) }
-    // After 0, the first bytes of `out` are the canonical text of the record, and the other bytes are unchanged. `parse` reads
-    // the same record from this text.
-    ensures count { result ≡ 0 → IsSomeAnd (record_by (contents given.now))
-        (λ found. count.new ≡ length (canonical_text found)) }
-    ensures fits { result ≡ 0 → count.new ≤ length out.new }
-    ensures text { result ≡ 0 → IsSomeAnd (record_by (contents given.now))
-        (λ found. map byte_letter (take count.new out.new) ≡ canonical_text found) }
-    ensures read_back { result ≡ 0 → IsSomeAnd (record_by (contents given.now)) IsReadBack }
-    ensures rest { result ≡ 0 → drop count.new out.new ≡ drop count.new out.old }
-    // After 101 or 102, `out` is unchanged. After 101, `count` is unchanged too. After 102, `count` is the length of the text,
-    // or the greatest `usize` if the length is greater.
-    ensures unchanged { result ≢ 0 → out.new ≡ out.old }
-    ensures uncounted { result ≡ 101 → count.new ≡ count.old }
-    ensures needed { result ≡ 102 → IsSomeAnd (record_by (contents given.now))
-        (λ found. count.new ≡ min (length (canonical_text found)) usize.MAX) }
-{
-    let Some(found) = record_of(given) else {
-        return 101;
-    };
-    print_found(&found, out, count)
 }

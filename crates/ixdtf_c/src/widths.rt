@@ -1,6 +1,6 @@
 //! Traits of the structs for 8-bit and for 16-bit text. Code that is generic in the encoding uses them.
 
-ghost use Rattle.std.specs.Prelude.{◌≡◌, ◌≢◌, Option, map, option_map, IfSome};
+ghost use Rattle.std.specs.Prelude.{◌≡◌, ◌≢◌, Option, Some, None, map, option_map, IfSome, IfNone};
 ghost use Rattle.ixdtf.specs.Handlers.{calendar_key, pair_of};
 ghost use Rattle.ixdtf.specs.language.Brackets.{Pair};
 ghost use Rattle.ixdtf.specs.table.ErrorEquality.{location_of};
@@ -9,8 +9,9 @@ ghost use Rattle.ixdtf.specs.Views.{note_of, parsed_of};
 ghost use Rattle.ixdtf_c.specs.Crossing.{Contents, ZoneContents, record_for, zone_for};
 ghost use Rattle.ixdtf_c.specs.Fielded.{keyed};
 ghost use Rattle.ixdtf_c.specs.Numbers.{number_for};
+ghost use Rattle.ixdtf_c.specs.Standing.{where_there, zone_by};
 
-use crate::forms::is_negative;
+use crate::forms::{Date, Offset, Time, is_negative};
 use ixdtf::LocatedError;
 use ixdtf::encoding::EncodingType;
 use ixdtf::records::{self, IxdtfParseRecord, TimeZoneAnnotation, TimeZoneRecord};
@@ -38,6 +39,12 @@ pub trait ZoneOf<'a, T: EncodingType> {
           hour = hour;
           minute = minute;
         } };
+
+    /// Returns the zone in the type of the library, or `Some(None)` if it is absent. Returns `None` if `form` is not 0 to 2.
+    fn read(&self) -> Option<Option<TimeZoneAnnotation<'a, T>>>
+        ensures found { IfSome result (λ found.
+            zone_by (contents self.now) ≡ Some (option_map (note_of T.number) found)) }
+        ensures none { IfNone result (zone_by (contents self.now) ≡ None) };
 }
 
 /// Writes a zone. If there is none, each field becomes 0, false or empty.
@@ -89,6 +96,29 @@ pub trait RecordOf<'a, T: EncodingType> {
           place = located.at;
         } }
         ensures unchanged { same_but_error self.old self.new };
+
+    /// Returns the date as C has it.
+    fn date_part(&self) -> &Date
+        ensures { result.now ≡ (contents self.now).date };
+
+    /// Returns the time as C has it.
+    fn time_part(&self) -> &Time
+        ensures { result.now ≡ (contents self.now).time };
+
+    /// Returns the offset as C has it.
+    fn offset_part(&self) -> &Offset
+        ensures { result.now ≡ (contents self.now).offset };
+
+    /// Returns the zone in the type of the library, or `Some(None)` if it is absent. Returns `None` if its `form` is not 0 to 2.
+    fn zone_part(&self) -> Option<Option<TimeZoneAnnotation<'a, T>>>
+        ensures found { IfSome result (λ found.
+            zone_by (contents self.now).zone ≡ Some (option_map (note_of T.number) found)) }
+        ensures none { IfNone result (zone_by (contents self.now).zone ≡ None) };
+
+    /// Returns the code units of the calendar, or `None` if it is absent.
+    fn calendar_part(&self) -> Option<&'a [T::CodeUnit]>
+        ensures { option_map (λ units. map T.number units.now) result ≡
+            where_there (contents self.now).has_calendar (contents self.now).calendar };
 }
 
 /// An annotation whose key and value have code units of the encoding `T`.

@@ -4,9 +4,9 @@
 
 use crate::forms::Offset;
 use crate::narrow::Record;
-use crate::printing::record_of;
+use crate::texts::{AsDateTime, length_into};
+use ixdtf::encoding::Utf8;
 use ixdtf::records::Fraction;
-use ixdtf_print::printed_length;
 
 /// Returns the nanoseconds of a fraction of a second, such as 250000000 for `fraction` 25 and `digits` 2.
 ///
@@ -50,8 +50,5 @@ pub extern "C" fn ixdtf_offset_seconds(offset: &Offset) -> i32 {
 /// Returns 0 if the record cannot be printed, or if the length is greater than `usize::MAX`.
 #[unsafe(no_mangle)]
 pub extern "C" fn ixdtf_printed_length(given: &Record<'_>) -> usize {
-    let Some(found) = record_of(given) else {
-        return 0;
-    };
-    printed_length(&found).unwrap_or(0)
+    length_into::<Utf8, _>(&AsDateTime { record: given })
 }

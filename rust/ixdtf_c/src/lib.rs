@@ -15,6 +15,7 @@
 
 mod duration_texts;
 mod durations;
+mod encodings;
 mod errors;
 mod exports;
 mod fields;
@@ -33,6 +34,7 @@ mod texts;
 mod version;
 pub mod wide;
 mod wide_annotations;
+mod wide_printers;
 mod widths;
 
 pub use durations::Duration;

@@ -3,9 +3,9 @@
 //! The conversion of the offsets and time zones of C into those of the library, which prints them.
 
 use crate::forms::Offset;
-use crate::narrow::Zone;
-use crate::printing::{offset_of, zone_of};
-use ixdtf::encoding::Utf8;
+use crate::printing::offset_of;
+use crate::widths::ZoneOf;
+use ixdtf::encoding::EncodingType;
 use ixdtf::records::{TimeZoneRecord, UtcOffsetRecord, UtcOffsetRecordOrZ};
 
 /// Returns the offset. Returns `None` if `form` is neither 2 nor 3, or if the fraction is not valid.
@@ -21,8 +21,8 @@ pub fn shift_of(given: &Offset) -> Option<UtcOffsetRecord> {
 }
 
 /// Returns the time zone. Returns `None` if `form` is neither 1 nor 2.
-pub fn area_of<'a>(given: &Zone<'a>) -> Option<TimeZoneRecord<'a, Utf8>> {
-    let Some(found) = zone_of(given) else {
+pub fn area_of<'a, T: EncodingType, Z: ZoneOf<'a, T>>(given: &Z) -> Option<TimeZoneRecord<'a, T>> {
+    let Some(found) = given.read() else {
         return None;
     };
     match found {

@@ -1,16 +1,15 @@
 // Made by tools/to_rust.py of crates/ixdtf_c/src/printing.rt. Do not edit.
 
-//! The function that prints a record for C, and the conversion of the structs of C into records of the library.
+//! The conversion of the structs of C into records of the library, which prints them.
 
 use crate::forms::{Date, Offset, Time};
-use crate::narrow::{Record, Zone};
-use crate::slices::from_c;
-use ixdtf::encoding::Utf8;
+use crate::slices::{Slice, from_c};
+use crate::widths::RecordOf;
+use ixdtf::encoding::EncodingType;
 use ixdtf::records::{
     DateRecord, Fraction, FullPrecisionOffset, IxdtfParseRecord, MinutePrecisionOffset, Sign,
     TimeRecord, TimeZoneAnnotation, TimeZoneRecord, UtcOffsetRecord, UtcOffsetRecordOrZ,
 };
-use ixdtf_print::{PrintError, length_of, print};
 
 /// Returns the fraction with `digits` digits, whose first 18 digits are the number `value`.
 ///
@@ -94,80 +93,53 @@ pub fn offset_of(offset: &Offset) -> Option<Option<UtcOffsetRecordOrZ>> {
     }
 }
 
-/// Returns the time zone, or `Some(None)` if it is absent. Returns `None` if `form` is not 0 to 2.
-pub fn zone_of<'a>(zone: &Zone<'a>) -> Option<Option<TimeZoneAnnotation<'a, Utf8>>> {
-    if zone.form == 0 {
+/// Returns the time zone with these fields, or `Some(None)` if it is absent. Returns `None` if `form` is not 0 to 2.
+pub fn zone_of<'a, T: EncodingType>(
+    name: Slice<'a, T::CodeUnit>,
+    form: u8,
+    is_critical: bool,
+    is_negative: bool,
+    hour: u8,
+    minute: u8,
+) -> Option<Option<TimeZoneAnnotation<'a, T>>> {
+    if form == 0 {
         return Some(None);
     }
-    if zone.form == 1 {
+    if form == 1 {
         return Some(Some(TimeZoneAnnotation {
-            critical: zone.is_critical,
-            tz: TimeZoneRecord::Name(from_c(zone.name)),
+            critical: is_critical,
+            tz: TimeZoneRecord::Name(from_c(name)),
         }));
     }
-    if zone.form != 2 {
+    if form != 2 {
         return None;
     }
     Some(Some(TimeZoneAnnotation {
-        critical: zone.is_critical,
-        tz: TimeZoneRecord::Offset(minutes_of(zone.is_negative, zone.hour, zone.minute)),
+        critical: is_critical,
+        tz: TimeZoneRecord::Offset(minutes_of(is_negative, hour, minute)),
     }))
 }
 
 /// Returns the record of the library with the parts of `given`.
 ///
-/// Returns `None` if a `form` or a fraction is not valid. There is no text for which `ixdtf_parse` writes such a record.
-pub fn record_of<'a>(given: &Record<'a>) -> Option<IxdtfParseRecord<'a, Utf8>> {
-    let Some(time) = time_of(&given.time) else {
+/// Returns `None` if a `form` or a fraction is not valid. There is no text for which a reader writes such a record.
+pub fn record_of<'a, T: EncodingType, R: RecordOf<'a, T>>(
+    given: &R,
+) -> Option<IxdtfParseRecord<'a, T>> {
+    let Some(time) = time_of(given.time_part()) else {
         return None;
     };
-    let Some(offset) = offset_of(&given.offset) else {
+    let Some(offset) = offset_of(given.offset_part()) else {
         return None;
     };
-    let Some(tz) = zone_of(&given.zone) else {
+    let Some(tz) = given.zone_part() else {
         return None;
-    };
-    let calendar = if given.has_calendar {
-        Some(from_c(given.calendar))
-    } else {
-        None
     };
     Some(IxdtfParseRecord {
-        date: date_of(&given.date),
+        date: date_of(given.date_part()),
         time,
         offset,
         tz,
-        calendar,
+        calendar: given.calendar_part(),
     })
-}
-
-/// Does what [`ixdtf_print`] does, for a record of the library.
-#[inline(always)]
-fn print_found(found: &IxdtfParseRecord<'_, Utf8>, out: &mut [u8], count: &mut usize) -> u32 {
-    match print(found, out) {
-        Ok(written) => {
-            *count = written;
-            0
-        }
-        Err(PrintError::NotPrintable) => 101,
-        Err(PrintError::TooShort) => {
-            *count = length_of(found).min(usize::MAX as u128) as usize;
-            102
-        }
-    }
-}
-
-/// Prints a date, or a date and a time, with its offset, its zone and its calendar, such as `2024-03-02T08:48:00Z`.
-///
-/// Writes the text to the first bytes of `out`, and its length to `count`. Returns 0 if the text is written. Returns 101 if
-/// there is no text for which `ixdtf_parse` writes this record. Returns 102 if `out` is too short. Then `count` is the length of
-/// the text, or `usize::MAX` if the length is greater.
-#[unsafe(no_mangle)]
-pub unsafe extern "C" fn ixdtf_print(given: &Record<'_>, out: *mut u8, out_length: usize, count: &mut usize) -> u32 {
-    // SAFETY: the header requires this of the caller.
-    let out = unsafe { crate::slices::slice_mut(out, out_length) };
-    let Some(found) = record_of(given) else {
-        return 101;
-    };
-    print_found(&found, out, count)
 }

@@ -1,58 +1,70 @@
 // Made by tools/to_rust.py of crates/ixdtf_c/src/texts.rt. Do not edit.
 
-//! The functions that print durations, offsets, time zones, times, years with months, and months with days. The functions of the
-//! module `printers` call them.
+//! The functions that print each kind of value, for 8-bit and for 16-bit text. The functions of the modules `printers` and
+//! `wide_printers` call them.
 
 use crate::duration_texts::duration_of;
 use crate::durations::Duration;
+use crate::encodings::Printers;
 use crate::forms::Offset;
-use crate::narrow::{Record, Zone};
 use crate::part_texts::{area_of, shift_of};
 use crate::printing::record_of;
-use ixdtf_print::{
-    PrintError, duration_length, month_day_length, offset_length, print_duration, print_month_day,
-    print_offset, print_time, print_year_month, print_zone, time_length, year_month_length,
-    zone_length,
-};
+use crate::widths::{RecordOf, ZoneOf};
+use ixdtf::encoding::EncodingType;
+use ixdtf_print::{PrintError, duration_length, offset_length};
 
-/// A value of C that a printer of the library can print.
-pub trait HasText {
-    /// Prints the value, and returns the length of the text in bytes.
-    fn print(&self, out: &mut [u8]) -> Result<usize, PrintError>;
+/// A value of C that a printer of the library can print in code units of the encoding `T`.
+pub trait HasText<T: EncodingType> {
+    /// Prints the value, and returns the length of the text in code units.
+    fn print(&self, out: &mut [T::CodeUnit]) -> Result<usize, PrintError>;
 
-    /// Returns the length of the canonical text in bytes.
+    /// Returns the length of the canonical text in code units.
     ///
     /// Returns `None` if the value cannot be printed, or if the length is greater than `usize::MAX`.
     fn needs(&self) -> Option<usize>;
 }
 
-/// A record that is printed as a time. Its offset, its zone and its calendar are printed too, if they are present.
-/// `ixdtf_parse_time` reads such texts.
+/// A record that is printed as a date, or as a date and a time. Its offset, its zone and its calendar are printed too, if they
+/// are present. `ixdtf_parse` and `ixdtf16_parse` read such texts.
 #[derive(Clone, Copy)]
-pub struct AsTime<'a> {
-    pub record: &'a Record<'a>,
+pub struct AsDateTime<'a, R> {
+    pub record: &'a R,
+}
+
+/// A record that is printed as a time. Its offset, its zone and its calendar are printed too, if they are present.
+/// `ixdtf_parse_time` and `ixdtf16_parse_time` read such texts.
+#[derive(Clone, Copy)]
+pub struct AsTime<'a, R> {
+    pub record: &'a R,
 }
 
 /// A record that is printed as a year and a month. Its zone and its calendar are printed too, if they are present.
-/// `ixdtf_parse_year_month` reads such texts.
+/// `ixdtf_parse_year_month` and `ixdtf16_parse_year_month` read such texts.
 #[derive(Clone, Copy)]
-pub struct AsYearMonth<'a> {
-    pub record: &'a Record<'a>,
+pub struct AsYearMonth<'a, R> {
+    pub record: &'a R,
 }
 
 /// A record that is printed as a month and a day. Its zone and its calendar are printed too, if they are present.
-/// `ixdtf_parse_month_day` reads such texts.
+/// `ixdtf_parse_month_day` and `ixdtf16_parse_month_day` read such texts.
 #[derive(Clone, Copy)]
-pub struct AsMonthDay<'a> {
-    pub record: &'a Record<'a>,
+pub struct AsMonthDay<'a, R> {
+    pub record: &'a R,
 }
 
-impl<'a> HasText for Duration<'a> {
+/// A zone that is printed without its brackets and without its `!`. `ixdtf_parse_identifier` and `ixdtf16_parse_identifier` read
+/// such texts.
+#[derive(Clone, Copy)]
+pub struct AsZone<'a, Z> {
+    pub zone: &'a Z,
+}
+
+impl<'a, T: Printers> HasText<T> for Duration<'a> {
     #[inline(always)]
-    fn print(&self, out: &mut [u8]) -> Result<usize, PrintError> {
+    fn print(&self, out: &mut [T::CodeUnit]) -> Result<usize, PrintError> {
         match duration_of(self) {
             None => Err(PrintError::NotPrintable),
-            Some(found) => print_duration(&found, out),
+            Some(found) => T::print_duration(&found, out),
         }
     }
 
@@ -65,12 +77,12 @@ impl<'a> HasText for Duration<'a> {
     }
 }
 
-impl HasText for Offset {
+impl<T: Printers> HasText<T> for Offset {
     #[inline(always)]
-    fn print(&self, out: &mut [u8]) -> Result<usize, PrintError> {
+    fn print(&self, out: &mut [T::CodeUnit]) -> Result<usize, PrintError> {
         match shift_of(self) {
             None => Err(PrintError::NotPrintable),
-            Some(found) => print_offset(&found, out),
+            Some(found) => T::print_offset(&found, out),
         }
     }
 
@@ -83,48 +95,36 @@ impl HasText for Offset {
     }
 }
 
-impl<'a> HasText for Zone<'a> {
+impl<'a, T: Printers, Z: ZoneOf<'a, T>> HasText<T> for AsZone<'a, Z>
+where
+    T::CodeUnit: 'a,
+{
     #[inline(always)]
-    fn print(&self, out: &mut [u8]) -> Result<usize, PrintError> {
-        match area_of(self) {
+    fn print(&self, out: &mut [T::CodeUnit]) -> Result<usize, PrintError> {
+        match area_of(self.zone) {
             None => Err(PrintError::NotPrintable),
-            Some(found) => print_zone(&found, out),
+            Some(found) => T::print_zone(&found, out),
         }
     }
 
     #[inline(always)]
     fn needs(&self) -> Option<usize> {
-        match area_of(self) {
+        match area_of(self.zone) {
             None => None,
-            Some(found) => zone_length(&found),
+            Some(found) => T::zone_length(&found),
         }
     }
 }
 
-impl<'a> HasText for AsTime<'a> {
+impl<'a, T: Printers, R: RecordOf<'a, T>> HasText<T> for AsDateTime<'a, R>
+where
+    T::CodeUnit: 'a,
+{
     #[inline(always)]
-    fn print(&self, out: &mut [u8]) -> Result<usize, PrintError> {
+    fn print(&self, out: &mut [T::CodeUnit]) -> Result<usize, PrintError> {
         match record_of(self.record) {
             None => Err(PrintError::NotPrintable),
-            Some(found) => print_time(&found, out),
-        }
-    }
-
-    #[inline(always)]
-    fn needs(&self) -> Option<usize> {
-        match record_of(self.record) {
-            None => None,
-            Some(found) => time_length(&found),
-        }
-    }
-}
-
-impl<'a> HasText for AsYearMonth<'a> {
-    #[inline(always)]
-    fn print(&self, out: &mut [u8]) -> Result<usize, PrintError> {
-        match record_of(self.record) {
-            None => Err(PrintError::NotPrintable),
-            Some(found) => print_year_month(&found, out),
+            Some(found) => T::print_date_time(&found, out),
         }
     }
 
@@ -132,17 +132,20 @@ impl<'a> HasText for AsYearMonth<'a> {
     fn needs(&self) -> Option<usize> {
         match record_of(self.record) {
             None => None,
-            Some(found) => year_month_length(&found),
+            Some(found) => T::date_time_length(&found),
         }
     }
 }
 
-impl<'a> HasText for AsMonthDay<'a> {
+impl<'a, T: Printers, R: RecordOf<'a, T>> HasText<T> for AsTime<'a, R>
+where
+    T::CodeUnit: 'a,
+{
     #[inline(always)]
-    fn print(&self, out: &mut [u8]) -> Result<usize, PrintError> {
+    fn print(&self, out: &mut [T::CodeUnit]) -> Result<usize, PrintError> {
         match record_of(self.record) {
             None => Err(PrintError::NotPrintable),
-            Some(found) => print_month_day(&found, out),
+            Some(found) => T::print_time(&found, out),
         }
     }
 
@@ -150,17 +153,63 @@ impl<'a> HasText for AsMonthDay<'a> {
     fn needs(&self) -> Option<usize> {
         match record_of(self.record) {
             None => None,
-            Some(found) => month_day_length(&found),
+            Some(found) => T::time_length(&found),
         }
     }
 }
 
-/// Prints a value to the first bytes of `out`, and writes the length of the text to `count`. Returns 0.
+impl<'a, T: Printers, R: RecordOf<'a, T>> HasText<T> for AsYearMonth<'a, R>
+where
+    T::CodeUnit: 'a,
+{
+    #[inline(always)]
+    fn print(&self, out: &mut [T::CodeUnit]) -> Result<usize, PrintError> {
+        match record_of(self.record) {
+            None => Err(PrintError::NotPrintable),
+            Some(found) => T::print_year_month(&found, out),
+        }
+    }
+
+    #[inline(always)]
+    fn needs(&self) -> Option<usize> {
+        match record_of(self.record) {
+            None => None,
+            Some(found) => T::year_month_length(&found),
+        }
+    }
+}
+
+impl<'a, T: Printers, R: RecordOf<'a, T>> HasText<T> for AsMonthDay<'a, R>
+where
+    T::CodeUnit: 'a,
+{
+    #[inline(always)]
+    fn print(&self, out: &mut [T::CodeUnit]) -> Result<usize, PrintError> {
+        match record_of(self.record) {
+            None => Err(PrintError::NotPrintable),
+            Some(found) => T::print_month_day(&found, out),
+        }
+    }
+
+    #[inline(always)]
+    fn needs(&self) -> Option<usize> {
+        match record_of(self.record) {
+            None => None,
+            Some(found) => T::month_day_length(&found),
+        }
+    }
+}
+
+/// Prints a value to the first code units of `out`, and writes the length of the text to `count`. Returns 0.
 ///
 /// Returns 101 if the value cannot be printed. Returns 102 if `out` is too short. Then `count` is the length of the text, or
 /// `usize::MAX` if the length is greater.
 #[inline(always)]
-pub fn print_into<P: HasText>(found: &P, out: &mut [u8], count: &mut usize) -> u32 {
+pub fn print_into<T: EncodingType, P: HasText<T>>(
+    found: &P,
+    out: &mut [T::CodeUnit],
+    count: &mut usize,
+) -> u32 {
     match found.print(out) {
         Ok(written) => {
             *count = written;
@@ -174,10 +223,10 @@ pub fn print_into<P: HasText>(found: &P, out: &mut [u8], count: &mut usize) -> u
     }
 }
 
-/// Returns the length of the canonical text in bytes.
+/// Returns the length of the canonical text in code units.
 ///
 /// Returns 0 if the value cannot be printed, or if the length is greater than `usize::MAX`.
 #[inline(always)]
-pub fn length_into<P: HasText>(found: &P) -> usize {
+pub fn length_into<T: EncodingType, P: HasText<T>>(found: &P) -> usize {
     found.needs().unwrap_or(0)
 }

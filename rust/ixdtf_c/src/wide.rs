@@ -6,11 +6,12 @@
 
 use crate::errors::number_and_location;
 use crate::forms::{Date, Offset, Time};
+use crate::printing::zone_of;
 use crate::slices::{Slice, from_c, to_c};
 use crate::widths::{AnnotationOf, CalendarOf, RecordOf, ZoneOf, put_zone};
 use ixdtf::LocatedError;
 use ixdtf::encoding::Utf16;
-use ixdtf::records::{self, IxdtfParseRecord};
+use ixdtf::records::{self, IxdtfParseRecord, TimeZoneAnnotation};
 
 /// A time zone. A reader writes 0, false or an empty slice to each field that does not belong to its `form`.
 #[derive(Clone, Copy)]
@@ -100,6 +101,18 @@ impl<'a> ZoneOf<'a, Utf16> for Zone<'a> {
         self.hour = hour;
         self.minute = minute;
     }
+
+    #[inline(always)]
+    fn read(&self) -> Option<Option<TimeZoneAnnotation<'a, Utf16>>> {
+        zone_of(
+            self.name,
+            self.form,
+            self.is_critical,
+            self.is_negative,
+            self.hour,
+            self.minute,
+        )
+    }
 }
 
 impl<'a> RecordOf<'a, Utf16> for Record<'a> {
@@ -129,6 +142,35 @@ impl<'a> RecordOf<'a, Utf16> for Record<'a> {
         self.location = to_c(location);
         self.place = located.at;
         number
+    }
+
+    #[inline(always)]
+    fn date_part(&self) -> &Date {
+        &self.date
+    }
+
+    #[inline(always)]
+    fn time_part(&self) -> &Time {
+        &self.time
+    }
+
+    #[inline(always)]
+    fn offset_part(&self) -> &Offset {
+        &self.offset
+    }
+
+    #[inline(always)]
+    fn zone_part(&self) -> Option<Option<TimeZoneAnnotation<'a, Utf16>>> {
+        self.zone.read()
+    }
+
+    #[inline(always)]
+    fn calendar_part(&self) -> Option<&'a [u16]> {
+        if self.has_calendar {
+            Some(from_c(self.calendar))
+        } else {
+            None
+        }
     }
 }
 

@@ -2,7 +2,7 @@
 
 //! Traits of the structs for 8-bit and for 16-bit text. Code that is generic in the encoding uses them.
 
-use crate::forms::is_negative;
+use crate::forms::{Date, Offset, Time, is_negative};
 use ixdtf::LocatedError;
 use ixdtf::encoding::EncodingType;
 use ixdtf::records::{self, IxdtfParseRecord, TimeZoneAnnotation, TimeZoneRecord};
@@ -19,6 +19,9 @@ pub trait ZoneOf<'a, T: EncodingType> {
         hour: u8,
         minute: u8,
     );
+
+    /// Returns the zone in the type of the library, or `Some(None)` if it is absent. Returns `None` if `form` is not 0 to 2.
+    fn read(&self) -> Option<Option<TimeZoneAnnotation<'a, T>>>;
 }
 
 /// Writes a zone. If there is none, each field becomes 0, false or empty.
@@ -55,6 +58,21 @@ pub trait RecordOf<'a, T: EncodingType> {
 
     /// Writes the location and the position of an error, and returns the number of the error.
     fn refuse(&mut self, located: LocatedError) -> u32;
+
+    /// Returns the date as C has it.
+    fn date_part(&self) -> &Date;
+
+    /// Returns the time as C has it.
+    fn time_part(&self) -> &Time;
+
+    /// Returns the offset as C has it.
+    fn offset_part(&self) -> &Offset;
+
+    /// Returns the zone in the type of the library, or `Some(None)` if it is absent. Returns `None` if its `form` is not 0 to 2.
+    fn zone_part(&self) -> Option<Option<TimeZoneAnnotation<'a, T>>>;
+
+    /// Returns the code units of the calendar, or `None` if it is absent.
+    fn calendar_part(&self) -> Option<&'a [T::CodeUnit]>;
 }
 
 /// An annotation whose key and value have code units of the encoding `T`.

@@ -2,19 +2,20 @@
 
 use super::narrow::RECORD;
 use super::rows::DURATION;
+use super::wide::{self, units_of};
 use crate::exports::{
     ixdtf_parse, ixdtf_parse_duration, ixdtf_parse_identifier, ixdtf_parse_month_day,
-    ixdtf_parse_offset, ixdtf_parse_time, ixdtf_parse_year_month,
+    ixdtf_parse_offset, ixdtf_parse_time, ixdtf_parse_year_month, ixdtf16_parse,
 };
 use crate::forms::{Date, Offset, Time};
 use crate::narrow::Record;
 use crate::printers::{
-    ixdtf_print_duration, ixdtf_print_month_day, ixdtf_print_offset, ixdtf_print_time,
+    ixdtf_print, ixdtf_print_duration, ixdtf_print_month_day, ixdtf_print_offset, ixdtf_print_time,
     ixdtf_print_year_month, ixdtf_print_zone, ixdtf_printed_duration_length,
     ixdtf_printed_month_day_length, ixdtf_printed_offset_length, ixdtf_printed_time_length,
     ixdtf_printed_year_month_length, ixdtf_printed_zone_length,
 };
-use crate::printing::ixdtf_print;
+use crate::wide_printers::{ixdtf16_print, ixdtf16_printed_length};
 use std::process::Abort;
 
 /// Checks that a record is printed as `canonical`, and that it is not printed if the array is one byte too short.
@@ -244,4 +245,20 @@ fn prints_a_month_and_a_day(rt: HostRuntime) {
     assert_eq!(rt; ixdtf_print_month_day(&record, &mut out, &mut count), 0);
     assert_eq!(rt; &out[..count.min(16)], b"11-07".as_slice());
     assert_eq!(rt; ixdtf_print_time(&record, &mut out, &mut count), 101);
+}
+
+#[test]
+fn prints_16_bit_code_units(rt: HostRuntime) {
+    let units = units_of(b"20240302 0848z[Europe/Paris][u-ca=hebrew]");
+    let mut record = wide::RECORD;
+    assert_eq!(rt; ixdtf16_parse(&units[..41], &mut record), 0);
+    let canonical = units_of(b"2024-03-02T08:48:00Z[Europe/Paris][u-ca=hebrew]");
+    let mut out = [7; 64];
+    let mut count = 9;
+    assert_eq!(rt; ixdtf16_printed_length(&record), 47);
+    assert_eq!(rt; ixdtf16_print(&record, &mut out[..46], &mut count), 102);
+    assert_eq!(rt; (count, out[0]), (47, 7));
+    assert_eq!(rt; ixdtf16_print(&record, &mut out, &mut count), 0);
+    assert_eq!(rt; (count, out[47]), (47, 7));
+    assert_eq!(rt; out[..47], canonical[..47]);
 }

@@ -31,7 +31,7 @@ const ANNOTATION: Annotation<'static> = Annotation {
 };
 
 /// Returns the bytes as 16-bit code units. The code units after them are 0.
-fn units_of(bytes: &[u8]) -> [u16; 64] {
+pub(super) fn units_of(bytes: &[u8]) -> [u16; 64] {
     let mut units = [0u16; 64];
     for (unit, byte) in units.iter_mut().zip(bytes) {
         *unit = u16::from(*byte);
