@@ -63,10 +63,39 @@ static size_t OWN(printed_length)(enum printer printer, const void *value) {
     }
 }
 
-/* The number of bytes of the value that a printer prints. */
-static size_t OWN(printed_size)(enum printer printer) {
-    return printer == OF_DURATION ? sizeof(ixdtf_duration) : printer == OF_OFFSET ? sizeof(ixdtf_offset)
-        : printer == OF_ZONE ? sizeof(CALL(zone)) : sizeof(CALL(record));
+/* A value that a printer prints. */
+union OWN(printed_value) { CALL(record) record; CALL(zone) zone; ixdtf_duration duration; ixdtf_offset offset; };
+
+/* Copies the value that a printer prints. */
+static union OWN(printed_value) OWN(copied)(enum printer printer, const void *value) {
+    union OWN(printed_value) copy;
+    if (printer == OF_DURATION) {
+        copy.duration = *(const ixdtf_duration *)value;
+    } else if (printer == OF_OFFSET) {
+        copy.offset = *(const ixdtf_offset *)value;
+    } else if (printer == OF_ZONE) {
+        copy.zone = *(const CALL(zone) *)value;
+    } else {
+        copy.record = *(const CALL(record) *)value;
+    }
+    return copy;
+}
+
+/* Whether the value that a printer prints is equal to its copy. */
+static int OWN(is_unchanged)(enum printer printer, const union OWN(printed_value) *copy, const void *value) {
+    CALL(record) a = NEW_RECORD, b = NEW_RECORD;
+    if (printer == OF_DURATION) {
+        return same_duration_but_error(&copy->duration, (const ixdtf_duration *)value);
+    } else if (printer == OF_OFFSET) {
+        return same_offset(&copy->offset, (const ixdtf_offset *)value);
+    } else if (printer == OF_ZONE) {
+        b.calendar = a.calendar;
+        b.zone = *(const CALL(zone) *)value;
+        a.zone = copy->zone;
+        return OWN(same_but_error)(&a, &b);
+    }
+    b = *(const CALL(record) *)value;
+    return OWN(same_but_error)(&copy->record, &b) && same_text(copy->record.location, b.location) && copy->record.place == b.place;
 }
 
 /* Whether the code units are those of the text. */
@@ -84,9 +113,8 @@ static int OWN(is_text)(const UNIT *units, const char *text, size_t length) {
  * memory that cannot be accessed. `wanted` is the expected result if the array is long enough. */
 static void OWN(test_printed)(enum printer printer, const void *value, uint32_t wanted, const char *canonical) {
     const UNIT unset = (UNIT)0xa5a5;
-    unsigned char before[sizeof(CALL(record))];
+    const union OWN(printed_value) before = OWN(copied)(printer, value);
     size_t length = strlen(canonical), places, i;
-    memcpy(before, value, OWN(printed_size)(printer));
     for (places = 0; places <= length + 1; places++) {
         UNIT *out = (UNIT *)(void *)(room + ROOM - places * sizeof(UNIT));
         size_t count = 7;
@@ -102,7 +130,7 @@ static void OWN(test_printed)(enum printer printer, const void *value, uint32_t 
         check(out[-1] == unset, "the code unit before the array is unchanged");
     }
     check(OWN(printed_length)(printer, value) == length, "the function for the length returns the length, or 0 if the value cannot be printed");
-    check(!memcmp(before, value, OWN(printed_size)(printer)), "the printer does not change the value");
+    check(OWN(is_unchanged)(printer, &before, value), "the printer does not change the value");
 }
 
 /* Tests the printer of durations. After the texts of the table, some fields of a duration are changed. */

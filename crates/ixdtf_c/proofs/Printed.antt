@@ -2,7 +2,7 @@
 use Rattle.ixdtf_grammar.specs.declared.records.UtcOffsetRecord.TheVariants as offsets
 use Rattle.ixdtf_grammar.specs.declared.records.UtcOffsetRecordOrZ.TheVariants as shifts
 use Rattle.std.proofs.Common.{refl, sym, true≢false, ◌∙◌, ◌≡◌, ◌≢◌, ◌≤◌, ◌+◌, ℕ, Bool, false, not, inl, inr, ap, if◌then◌else◌, List, length, Option, Some, None, IfSome}
-use Rattle.std.proofs.{Common.{IsSomeAnd, Result, Ok, Err, IfOk, OnOk, map, take, arith}, lemmas.Bool.Decides.eqb_tells}
+use Rattle.std.proofs.{Common.{IsSomeAnd, Result, Ok, Err, IfOk, OnOk, take, arith}, lemmas.Bool.Decides.eqb_tells}
 use Rattle.ixdtf_grammar.specs.declared.records.DurationParseRecord.{DurationParseRecord}
 use Rattle.ixdtf_grammar.specs.declared.{profile.Profile.{Profile, TheVariants.Crate}, records.{DateRecord.DateRecord, MinutePrecisionOffset.MinutePrecisionOffset, Sign.Sign}}
 use Rattle.ixdtf_grammar.specs.declared.records.{Sign.TheVariants.{Positive, Negative}, TimeDurationRecord.TimeDurationRecord, TimeRecord.TimeRecord}

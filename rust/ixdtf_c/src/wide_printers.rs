@@ -8,11 +8,12 @@ use crate::texts::{AsDateTime, AsMonthDay, AsTime, AsYearMonth, AsZone, length_i
 use crate::wide::{Record, Zone};
 use ixdtf::encoding::Utf16;
 
-/// Prints a date, or a date and a time, with its offset, its zone and its calendar, in 16-bit code units. An example is `2024-03-02T08:48:00Z`.
+/// Prints a date, or a date and a time, with its offset, its zone and its calendar, in 16-bit code units. An example is
+/// `2024-03-02T08:48:00Z`.
 ///
-/// Writes the text to the first code units of `out`, and its length to `count`. Returns 0 if the text is written. Returns 101 if
-/// there is no text for which `ixdtf16_parse` writes this record. Returns 102 if `out` is too short. Then `count` is the length of
-/// the text, or `usize::MAX` if the length is greater.
+/// Writes the text to the first code units of `out`, and its length to `count`. Returns 0 if the text is written. Returns 101
+/// if there is no text for which `ixdtf16_parse` writes this record. Returns 102 if `out` is too short. Then `count` is the
+/// length of the text, or `usize::MAX` if the length is greater.
 #[unsafe(no_mangle)]
 pub unsafe extern "C" fn ixdtf16_print(given: &Record<'_>, out: *mut u16, out_length: usize, count: &mut usize) -> u32 {
     // SAFETY: the header requires this of the caller.
@@ -30,9 +31,9 @@ pub extern "C" fn ixdtf16_printed_length(given: &Record<'_>) -> usize {
 
 /// Prints a time with its offset, its zone and its calendar, in 16-bit code units, such as `08:48:00Z[u-ca=hebrew]`.
 ///
-/// Writes the text to the first code units of `out`, and its length to `count`. Returns 0 if the text is written. Returns 101 if
-/// there is no text for which `ixdtf16_parse_time` writes this record. Returns 102 if `out` is too short. Then `count` is the length of
-/// the text, or `usize::MAX` if the length is greater.
+/// Writes the text to the first code units of `out`, and its length to `count`. Returns 0 if the text is written. Returns 101
+/// if there is no text for which `ixdtf16_parse_time` writes this record. Returns 102 if `out` is too short. Then `count` is
+/// the length of the text, or `usize::MAX` if the length is greater.
 #[unsafe(no_mangle)]
 pub unsafe extern "C" fn ixdtf16_print_time(given: &Record<'_>, out: *mut u16, out_length: usize, count: &mut usize) -> u32 {
     // SAFETY: the header requires this of the caller.
@@ -50,9 +51,9 @@ pub extern "C" fn ixdtf16_printed_time_length(given: &Record<'_>) -> usize {
 
 /// Prints a year and a month with their zone and their calendar, in 16-bit code units, such as `2024-03[Europe/Berlin]`.
 ///
-/// Writes the text to the first code units of `out`, and its length to `count`. Returns 0 if the text is written. Returns 101 if
-/// there is no text for which `ixdtf16_parse_year_month` writes this record. Returns 102 if `out` is too short. Then `count` is the length of
-/// the text, or `usize::MAX` if the length is greater.
+/// Writes the text to the first code units of `out`, and its length to `count`. Returns 0 if the text is written. Returns 101
+/// if there is no text for which `ixdtf16_parse_year_month` writes this record. Returns 102 if `out` is too short. Then `count`
+/// is the length of the text, or `usize::MAX` if the length is greater.
 #[unsafe(no_mangle)]
 pub unsafe extern "C" fn ixdtf16_print_year_month(
     given: &Record<'_>,
@@ -75,9 +76,9 @@ pub extern "C" fn ixdtf16_printed_year_month_length(given: &Record<'_>) -> usize
 
 /// Prints a month and a day with their zone and their calendar, in 16-bit code units, such as `03-02[u-ca=iso8601]`.
 ///
-/// Writes the text to the first code units of `out`, and its length to `count`. Returns 0 if the text is written. Returns 101 if
-/// there is no text for which `ixdtf16_parse_month_day` writes this record. Returns 102 if `out` is too short. Then `count` is the length of
-/// the text, or `usize::MAX` if the length is greater.
+/// Writes the text to the first code units of `out`, and its length to `count`. Returns 0 if the text is written. Returns 101
+/// if there is no text for which `ixdtf16_parse_month_day` writes this record. Returns 102 if `out` is too short. Then `count`
+/// is the length of the text, or `usize::MAX` if the length is greater.
 #[unsafe(no_mangle)]
 pub unsafe extern "C" fn ixdtf16_print_month_day(
     given: &Record<'_>,
@@ -100,9 +101,9 @@ pub extern "C" fn ixdtf16_printed_month_day_length(given: &Record<'_>) -> usize 
 
 /// Prints a time zone without brackets in 16-bit code units, such as `Europe/Berlin`.
 ///
-/// Writes the text to the first code units of `out`, and its length to `count`. Returns 0 if the text is written. Returns 101 if
-/// there is no text for which `ixdtf16_parse_identifier` writes this name or this offset. Returns 102 if `out` is too short. Then `count` is the length of
-/// the text, or `usize::MAX` if the length is greater.
+/// Writes the text to the first code units of `out`, and its length to `count`. Returns 0 if the text is written. Returns 101
+/// if there is no text for which `ixdtf16_parse_identifier` writes this name or this offset. Returns 102 if `out` is too short.
+/// Then `count` is the length of the text, or `usize::MAX` if the length is greater. `is_critical` does not matter.
 #[unsafe(no_mangle)]
 pub unsafe extern "C" fn ixdtf16_print_zone(given: &Zone<'_>, out: *mut u16, out_length: usize, count: &mut usize) -> u32 {
     // SAFETY: the header requires this of the caller.
@@ -120,9 +121,9 @@ pub extern "C" fn ixdtf16_printed_zone_length(given: &Zone<'_>) -> usize {
 
 /// Prints a duration in 16-bit code units, such as `P1Y2DT3H`.
 ///
-/// Writes the text to the first code units of `out`, and its length to `count`. Returns 0 if the text is written. Returns 101 if
-/// there is no text for which `ixdtf16_parse_duration` writes this duration. Returns 102 if `out` is too short. Then `count` is the length of
-/// the text, or `usize::MAX` if the length is greater.
+/// Writes the text to the first code units of `out`, and its length to `count`. Returns 0 if the text is written. Returns 101
+/// if there is no text for which `ixdtf16_parse_duration` writes this duration. Returns 102 if `out` is too short. Then `count`
+/// is the length of the text, or `usize::MAX` if the length is greater.
 #[unsafe(no_mangle)]
 pub unsafe extern "C" fn ixdtf16_print_duration(
     given: &Duration<'_>,
@@ -137,9 +138,9 @@ pub unsafe extern "C" fn ixdtf16_print_duration(
 
 /// Prints an offset in 16-bit code units, such as `-05:00`.
 ///
-/// Writes the text to the first code units of `out`, and its length to `count`. Returns 0 if the text is written. Returns 101 if
-/// there is no text for which `ixdtf16_parse_offset` writes this offset. Returns 102 if `out` is too short. Then `count` is the length of
-/// the text, or `usize::MAX` if the length is greater.
+/// Writes the text to the first code units of `out`, and its length to `count`. Returns 0 if the text is written. Returns 101
+/// if there is no text for which `ixdtf16_parse_offset` writes this offset. Returns 102 if `out` is too short. Then `count` is
+/// the length of the text, or `usize::MAX` if the length is greater.
 #[unsafe(no_mangle)]
 pub unsafe extern "C" fn ixdtf16_print_offset(given: &Offset, out: *mut u16, out_length: usize, count: &mut usize) -> u32 {
     // SAFETY: the header requires this of the caller.

@@ -247,18 +247,26 @@ fn prints_a_month_and_a_day(rt: HostRuntime) {
     assert_eq!(rt; ixdtf_print_time(&record, &mut out, &mut count), 101);
 }
 
+/// A text with a name and a calendar.
+const NAMED: &[u8] = b"20240302 0848z[Europe/Paris][u-ca=hebrew]";
+
+/// The canonical text of the record of `NAMED`. It has 47 code units.
+const CANONICAL_NAMED: &[u8] = b"2024-03-02T08:48:00Z[Europe/Paris][u-ca=hebrew]";
+
 #[test]
 fn prints_16_bit_code_units(rt: HostRuntime) {
-    let units = units_of(b"20240302 0848z[Europe/Paris][u-ca=hebrew]");
+    let units = units_of(NAMED);
     let mut record = wide::RECORD;
-    assert_eq!(rt; ixdtf16_parse(&units[..41], &mut record), 0);
-    let canonical = units_of(b"2024-03-02T08:48:00Z[Europe/Paris][u-ca=hebrew]");
-    let mut out = [7; 64];
-    let mut count = 9;
+    assert_eq!(rt;
+        ixdtf16_parse(&units[..NAMED.len().min(64)], &mut record),
+        0
+    );
     assert_eq!(rt; ixdtf16_printed_length(&record), 47);
+    let mut out = [0; 64];
+    let mut count = 9;
     assert_eq!(rt; ixdtf16_print(&record, &mut out[..46], &mut count), 102);
-    assert_eq!(rt; (count, out[0]), (47, 7));
+    assert_eq!(rt; (count, out[0]), (47, 0));
     assert_eq!(rt; ixdtf16_print(&record, &mut out, &mut count), 0);
-    assert_eq!(rt; (count, out[47]), (47, 7));
-    assert_eq!(rt; out[..47], canonical[..47]);
+    assert_eq!(rt; count, 47);
+    assert_eq!(rt; out, units_of(CANONICAL_NAMED));
 }
