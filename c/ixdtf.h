@@ -86,8 +86,8 @@ extern "C" {
 /* The revision: how many times functions or numbers were added within this version. */
 #define IXDTF_INTERFACE_REVISION 4
 
-/* Marks a function whose result the caller must test. If the caller ignores the result, the
- * compiler warns. */
+/* Marks a function whose result the caller must test. If the caller ignores the result, a
+ * compiler such as GCC or Clang warns. */
 #if defined(__cplusplus) && __cplusplus >= 201703L
 #define IXDTF_CHECKED_ [[nodiscard]]
 #elif !defined(__cplusplus) && defined(__STDC_VERSION__) && __STDC_VERSION__ >= 202311L
@@ -404,7 +404,8 @@ IXDTF_CHECKED_ uint32_t ixdtf_parse_time_with_annotations_strict(const uint8_t *
  * After an error, `calendar` is unchanged.
  * Initialise `calendar` before the first reply. Pass the replies in the order of the list, and pass
  * no reply after the first error. If the function keeps a reply, calendar->value is the slice that
- * you passed as the value of this reply. It is valid as long as the memory to which it points.
+ * you passed as the value of this reply. It is valid as long as the memory to which it points exists
+ * and is unchanged.
  * ixdtf_keep_calendar writes the calendar into a record. ixdtf_reply_place returns the position of
  * the error of a refused reply. */
 IXDTF_CHECKED_ uint32_t ixdtf_reply(ixdtf_calendar *calendar, const ixdtf_annotation *reply);
@@ -544,8 +545,8 @@ IXDTF_CHECKED_ uint32_t ixdtf16_reply(ixdtf16_calendar *calendar, const ixdtf16_
 /* The printers for 16-bit text. They write the canonical text to the array `out`, as 16-bit code
  * units: the code unit of each ASCII character is its number. `room` is the capacity of the array,
  * and a printer writes the length of the text to `count`. Both are numbers of code units. Otherwise
- * each printer does what the printer of 8-bit text with the same name does, without the 16. For
- * example, ixdtf16_print does what ixdtf_print does, and ixdtf16_parse reads the text as the same
+ * each printer does what a printer for 8-bit text does. To get the name of that printer, leave out
+ * the 16. For example, ixdtf16_print does what ixdtf_print does, and ixdtf16_parse reads the text as the same
  * record. If a name or a calendar has a code unit outside 1 to 126, no reader of 16-bit text writes
  * this record. Then the printer returns IXDTF_NOT_PRINTABLE.
  * A duration or an offset has no code units. So you can also print one that a reader of 8-bit text

@@ -8,9 +8,10 @@
 //!   After an error, it decides only the fields `location` and `place`. There are five *text readers*: `ixdtf_parse`, and the
 //!   readers of a year and a month, of a month and a day, of a time, and of a duration. If a text reader returns 0, no other
 //!   text reader accepts the text under the same profile.
-//! - `lists`: The outcome is that of a reader whose handler drops each annotation. About this outcome, `lists` says what `read`
-//!   says. It also says that `count` is the number of annotations before the end of the text, or before its error. If the array has room for `n` annotations, the
-//!   first `n` of them are in the array, in order, or all of them if there are fewer.
+//! - `lists`: The outcome is that of a reader whose handler drops each annotation. As in `read`, this outcome decides the
+//!   number that is returned, and the fields of the record. The clause also says that `count` is the number of annotations
+//!   before the end of the text, or before its error. If the array has room for `n` annotations, the first `n` of them are in
+//!   the array, in order, or all of them if there are fewer.
 //! - `few`: Five times the number of annotations is at most the length of the text. So an array of `length / 5` elements is
 //!   always long enough.
 //! - `unchanged`: After an error, the record is unchanged, also its slices, except for `location` and `place`.

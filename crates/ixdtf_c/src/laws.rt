@@ -14,8 +14,8 @@ use ixdtf::records::Annotation;
 /// A caller lists all annotations of a text, replies to them in order, and stops at the first reply that is refused. A
 /// *beginning* of a list is any number of its elements, from the first one on.
 ///
-/// - `gives`, `wide_gives`: For some number n, the text, the first n annotations and the first n replies together *give* the
-///   outcome of the caller. The definition `GivesResult` says what *give* means: `GivesRecord` for a record, and `GivesFault` for an
+/// - `gives`, `wide_gives`: There is a number n for which this is true: the text, with the first n annotations and the first n
+///   replies, *gives* the outcome of the caller. The definition `GivesResult` says what *gives* means: `GivesRecord` for a record, and `GivesFault` for an
 ///   error. The contracts of the readers with a handler use the same two definitions.
 /// - `handling`, `wide_handling`: A reader of the same kind, but with a handler, reads the same text. Suppose that the replies
 ///   of the handler, in order, are a beginning of the caller's list of replies. Then the reader has the same outcome as the

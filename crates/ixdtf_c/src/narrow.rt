@@ -228,7 +228,7 @@ impl<'a> CalendarOf<'a, Utf8> for Calendar<'a> {
     }
 }
 
-/// Writes the calendar that was kept from the replies into a record. If none was kept, the record then has no calendar.
+/// Writes into a record the calendar that `ixdtf_reply` kept. If it kept none, the record then has no calendar.
 #[unsafe(no_mangle)]
 pub extern "C" fn ixdtf_keep_calendar<'a>(out: &mut Record<'a>, calendar: &Calendar<'a>)
     ensures units { map (λ unit. unit) out.new.calendar.now ≡

@@ -15,18 +15,18 @@ pub enum Task {
     Order(InstantKind),
 }
 
-/// Says which field of a line is the text that is read, or with which field this text begins.
+/// Says where the text of a line is. The text is one field of the line, or several fields in a row.
 #[derive(Clone, Copy, Debug, PartialEq)]
 pub struct Field {
-    /// The number of fields before it.
+    /// The number of fields before the text.
     pub before: usize,
     /// The byte between two fields.
     pub separator: u8,
-    /// Which bytes from the beginning of the field on are the text.
+    /// Where the text ends.
     pub extent: Extent,
 }
 
-/// Which bytes of a line are the text, from the beginning of a field on.
+/// Says where a text ends that begins at the beginning of a field.
 #[derive(Clone, Copy, Debug, PartialEq)]
 pub enum Extent {
     /// The field.
@@ -57,7 +57,7 @@ pub struct Request<'n> {
     pub task: Task,
     /// The profile that the readers use.
     pub profile: Profile,
-    /// Says which field of a line is the text that is read, or with which field this text begins. If this is `None`, the complete line is the text.
+    /// Says where the text of a line is. If this is `None`, the complete line is the text.
     pub field: Option<Field>,
     /// Which lines are skipped. If it is `None`, no line is skipped.
     pub skips: Option<Skips>,

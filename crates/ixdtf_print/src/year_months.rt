@@ -57,8 +57,8 @@ use std::fmt;
 ///
 /// After an error, the slice is unchanged.
 ///
-/// - [`PrintError::NotPrintable`]: the record has no canonical text. It has no date, or another day than 1, or a time, or an
-///   offset, or a value that `parse_year_month` never returns, such as the month 13.
+/// - [`PrintError::NotPrintable`]: the record has no canonical text. This is so if it has no date, if its day is not 1, if
+///   it has a time or an offset, or if it has a value that `parse_year_month` never returns, such as the month 13.
 /// - [`PrintError::TooShort`]: the slice is shorter than the canonical text.
 pub fn print_year_month(
     parsed: &IxdtfParseRecord<'_, Utf8>,
@@ -94,8 +94,8 @@ pub fn print_year_month(
 ///
 /// After an error, the slice is unchanged.
 ///
-/// - [`PrintError::NotPrintable`]: the record has no canonical text. It has no date, or another day than 1, or a time, or an
-///   offset, or a value that `parse_year_month` never returns for 16-bit text.
+/// - [`PrintError::NotPrintable`]: the record has no canonical text. This is so if it has no date, if its day is not 1, if
+///   it has a time or an offset, or if it has a value that `parse_year_month` never returns for 16-bit text.
 /// - [`PrintError::TooShort`]: the slice is shorter than the canonical text.
 #[inline]
 pub fn print_year_month_utf16(

@@ -58,7 +58,7 @@ pub enum Wrong {
     InvalidSeparator,
     /// The value of `--comment` is not one byte.
     InvalidComment,
-    /// The value of `--max-reports` is not a number.
+    /// The value of `--max-reports` is not a number below `2^64`.
     InvalidCount,
     /// There is `--separator`, but neither `--field` nor `--fields`.
     SeparatorWithoutField,
@@ -453,7 +453,7 @@ impl Options {
         }
     }
 
-    /// Returns the field after `before` other fields. The separator is that of `--separator`. Without this option, it is a
+    /// Returns the field that has `before` fields before it. The separator is that of `--separator`. Without this option, it is a
     /// comma if there is `--csv`, and otherwise a tab.
     pub fn field_after(&self, before: usize) -> Field {
         Field {

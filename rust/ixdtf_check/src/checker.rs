@@ -21,7 +21,7 @@ pub struct Checked {
     pub end: Result<(), RunError>,
 }
 
-/// Checks each line of the reader, and writes the reports to the writer.
+/// Checks each line that is read from `reader`, and writes the reports to `writer`.
 pub fn check<R: Read, W: Write>(reader: &mut R, writer: &mut W, request: &Request<'_>) -> Checked {
     check_lines(reader, writer, request)
 }

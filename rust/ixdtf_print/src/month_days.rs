@@ -52,8 +52,8 @@ use core::fmt;
 ///
 /// After an error, the slice is unchanged.
 ///
-/// - [`PrintError::NotPrintable`]: the record has no canonical text. It has no date, or another year than 0, or a time, or
-///   an offset, or a value that `parse_month_day` never returns, such as the month 13.
+/// - [`PrintError::NotPrintable`]: the record has no canonical text. This is so if it has no date, if its year is not 0, if
+///   it has a time or an offset, or if it has a value that `parse_month_day` never returns, such as the month 13.
 /// - [`PrintError::TooShort`]: the slice is shorter than the canonical text.
 pub fn print_month_day(
     parsed: &IxdtfParseRecord<'_, Utf8>,
@@ -86,8 +86,8 @@ pub fn print_month_day(
 ///
 /// After an error, the slice is unchanged.
 ///
-/// - [`PrintError::NotPrintable`]: the record has no canonical text. It has no date, or another year than 0, or a time, or
-///   an offset, or a value that `parse_month_day` never returns for 16-bit text.
+/// - [`PrintError::NotPrintable`]: the record has no canonical text. This is so if it has no date, if its year is not 0, if
+///   it has a time or an offset, or if it has a value that `parse_month_day` never returns for 16-bit text.
 /// - [`PrintError::TooShort`]: the slice is shorter than the canonical text.
 #[inline]
 pub fn print_month_day_utf16(
