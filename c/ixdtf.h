@@ -546,9 +546,9 @@ IXDTF_CHECKED_ uint32_t ixdtf16_reply(ixdtf16_calendar *calendar, const ixdtf16_
  * units: the code unit of each ASCII character is its number. `room` is the capacity of the array,
  * and a printer writes the length of the text to `count`. Both are numbers of code units. Otherwise
  * each printer does what a printer for 8-bit text does. To get the name of that printer, leave out
- * the 16. For example, ixdtf16_print does what ixdtf_print does, and ixdtf16_parse reads the text as the same
- * record. If a name or a calendar has a code unit outside 1 to 126, no reader of 16-bit text writes
- * this record. Then the printer returns IXDTF_NOT_PRINTABLE.
+ * the 16. For example, ixdtf16_print does what ixdtf_print does, and ixdtf16_parse reads the text
+ * as the same record. If a name or a calendar has a code unit outside 1 to 126, no reader of 16-bit
+ * text writes this record. Then the printer returns IXDTF_NOT_PRINTABLE.
  * A duration or an offset has no code units. So you can also print one that a reader of 8-bit text
  * wrote. */
 IXDTF_CHECKED_ uint32_t ixdtf16_print(const ixdtf16_record *record, uint16_t *out, size_t room,

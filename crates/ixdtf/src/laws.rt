@@ -2,8 +2,8 @@
 //!
 //! A law is a function whose contract states the theorem. To use a law, call the function: after the call, the prover
 //! knows what the function ensures. A law without parameters does nothing when it runs. [`parse_unanswered`] is the only
-//! law that parses a text. Its contract has the clauses of [`IxdtfParser::parse_with_annotation_handler`], and the clauses
-//! `calendar`, `unrecognized` and `duplicate` with the theorem.
+//! law that parses a text. Its contract has the clauses of [`IxdtfParser::parse_with_annotation_handler`]. Three more clauses,
+//! `calendar`, `unrecognized` and `duplicate`, state the theorem.
 
 pub mod instants;
 
@@ -38,7 +38,7 @@ use ixdtf_reading::stop::FromStop;
 /// lowercase.
 ///
 /// The law does not name an encoding, so it is about sources in every encoding. It states that, without a handler, each of
-/// these texts gives a record. By the clause `reads` in the contract of `parse`, `parse` then returns this
+/// these texts gives a record. The clause `reads` in the contract of `parse` says that it then returns this
 /// record.
 pub fn every_rfc3339_date_time_is_read()
     ensures { EveryDateTimeIsRead }
@@ -113,8 +113,8 @@ pub fn hyphens_say_nothing()
 ///   annotations in the outcome of the text.
 /// - `chain`: a text, its annotations, and the replies to them give at most one result, a record or an error.
 /// - `place`: a text, its annotations, and one reply for each annotation give at most one position of an error.
-/// - `replied`: suppose that each reply of a handler depends only on the annotations with which the handler has been called
-///   so far, the one of this call included. Then, for each text, there is exactly one list of annotations for which the handler
+/// - `replied`: suppose that each reply of a handler depends only on the annotation of this call and on the annotations of
+///   the earlier calls. Then, for each text, there is exactly one list of annotations for which the handler
 ///   is called, and exactly one result.
 ///
 /// The law is about all texts. The contract of each reader says the same about one call: after `Ok`, no row fits, and

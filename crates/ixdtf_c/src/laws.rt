@@ -15,8 +15,8 @@ use ixdtf::records::Annotation;
 /// *beginning* of a list is any number of its elements, from the first one on.
 ///
 /// - `gives`, `wide_gives`: There is a number n for which this is true: the text, with the first n annotations and the first n
-///   replies, *gives* the outcome of the caller. The definition `GivesResult` says what *gives* means: `GivesRecord` for a record, and `GivesFault` for an
-///   error. The contracts of the readers with a handler use the same two definitions.
+///   replies, *gives* the outcome of the caller. The definition `GivesResult` says what *gives* means: `GivesRecord` for a
+///   record, and `GivesFault` for an error. The contracts of the readers with a handler use the same two definitions.
 /// - `handling`, `wide_handling`: A reader of the same kind, but with a handler, reads the same text. Suppose that the replies
 ///   of the handler, in order, are a beginning of the caller's list of replies. Then the reader has the same outcome as the
 ///   caller. The annotations for which the reader called the handler are a beginning of the list of annotations.

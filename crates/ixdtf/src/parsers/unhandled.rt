@@ -83,8 +83,7 @@ impl<'a, T: EncodingType> IxdtfParser<'a, T> {
     ///
     /// - `AbruptEnd`: the text ends too early. The location is `Date` if it ends after the year, and `digit` if it ends
     ///   where a digit is required. The location is `AmbiguousAnnotation` in two cases. Either the text ends after the `[` or
-    ///   `[!` of the first bracket. Or a lowercase letter or `_` follows this `[` or `[!`, and the text ends before the next
-    ///   `=` or `]`.
+    ///   `[!` of the first bracket. Or a lowercase letter or `_` follows it, and the rest of the text has neither `=` nor `]`.
     /// - `DateYear`: another character occurs instead of a digit of the year.
     /// - `DateExtendedYear`: another character occurs instead of a digit of a year with a sign, or the year is
     ///   `-000000`.

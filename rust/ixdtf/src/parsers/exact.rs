@@ -70,7 +70,7 @@ impl<'a, T: EncodingType> IxdtfParser<'a, T> {
     /// - `DateSeparator`: no `-` follows the month, or another character than `-` follows the year.
     /// - `TimeSeparator`: neither `T` nor `t` follows the date, or no `:` follows the hour or the minute of the time.
     /// - `FractionPart`: no digit follows the `.`, or a `,` follows the second.
-    /// - `OffsetNeedsSign`: another character than a sign, `Z` or `z` is where the offset has to begin. But directly
+    /// - `OffsetNeedsSign`: the character where the offset has to begin is not a sign, `Z` or `z`. But directly
     ///   after the second, a `.` begins a fraction, and a `,` has the error `FractionPart`.
     /// - `UtcTimeSeparator`: no `:` follows the hour of the offset.
     /// - `InvalidEnd`: any character follows the offset.
