@@ -404,10 +404,9 @@ IXDTF_CHECKED_ uint32_t ixdtf_parse_time_with_annotations_strict(const uint8_t *
  * After an error, `calendar` is unchanged.
  * Initialise `calendar` before the first reply. Pass the replies in the order of the list, and pass
  * no reply after the first error. If the function keeps a reply, calendar->value is the slice that
- * you passed as the value of this reply. It is valid as long as the memory to which it points exists
- * and is unchanged.
- * ixdtf_keep_calendar writes the calendar into a record. ixdtf_reply_place returns the position of
- * the error of a refused reply. */
+ * you passed as the value of this reply. It is valid as long as the memory to which it points
+ * exists and is unchanged. ixdtf_keep_calendar writes the calendar into a record. ixdtf_reply_place
+ * returns the position of the error of a refused reply. */
 IXDTF_CHECKED_ uint32_t ixdtf_reply(ixdtf_calendar *calendar, const ixdtf_annotation *reply);
 
 /* Writes the canonical text of a record to the array `out`, in ASCII. The canonical text is the one
