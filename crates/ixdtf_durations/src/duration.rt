@@ -98,8 +98,7 @@ impl<'a> IsoDurationParser<'a, Utf16> {
 
     /// Creates a parser of 16-bit code units, as [`from_utf16`](Self::from_utf16) does.
     ///
-    /// The function has this name because the crate `ixdtf` 0.6.7 of ICU4X, of which this one is a port, gives it this name.
-    /// There are two functions `from_utf8`, one for each encoding. So a caller must name the encoding: `IsoDurationParser::<Utf16>::from_utf8`.
+    /// This crate is a port of the crate `ixdtf` 0.6.7 of ICU4X, which gives the function this name. There are two functions `from_utf8`, one for each encoding. So a caller must name the encoding: `IsoDurationParser::<Utf16>::from_utf8`.
     ///
     /// # Examples
     ///

@@ -64,8 +64,8 @@ pub enum ParseError {
         /// What was being parsed.
         location: &'static str,
     },
-    /// A complete part is followed by a character that must not follow it. The part is a date, a year and a month, a
-    /// month and a day, a time, an offset, a bracket or a duration.
+    /// A complete part is followed by a character that must not follow it. The part is a date, a year-month, a month-day,
+    /// a time, an offset, a bracket or a duration.
     ///
     /// In `parse_identifier` and `parse_iana_identifier`, a `]` after a name has this error. In a duration, a character after
     /// the `P` that is neither a digit nor `T` or `t` has this error.
@@ -74,15 +74,15 @@ pub enum ParseError {
     InvalidMonthRange,
     /// The day of a date is 00, or is after the last day of this month in this year.
     InvalidDayRange,
-    /// A text that must begin with a year begins with a character that is neither a digit nor a sign. Or one of the four
+    /// The text must begin with a year, but its first character is neither a digit nor a sign. Or one of the four
     /// characters of a year without a sign is not a digit. In `parse_rfc3339` and `parse_rfc9557`, this is also the error if
     /// the text begins with a sign.
     DateYear,
     /// One of the six characters after the sign of a year is not a digit, or the year is `-000000`.
     DateExtendedYear,
     /// In `parse` and `parse_year_month`, a year is followed by a character that is neither a hyphen nor a digit. Or a month
-    /// contains a character that is not a digit. Or a month and a day begin with a character that is neither a digit nor a
-    /// hyphen.
+    /// contains a character that is not a digit. Or the text for `parse_month_day` begins with a character that is neither a
+    /// digit nor a hyphen.
     DateMonth,
     /// A day contains a character that is not a digit. Or, in a month and a day, the month is followed by a character
     /// that is neither a hyphen nor a digit.
@@ -181,7 +181,7 @@ pub enum ParseError {
     /// The text for `parse_time` is ambiguous: up to its first `[` it is a time, but it begins like a year and a month,
     /// and not like a month and a day, as in `200112`.
     AmbiguousTimeYearMonth,
-    /// The day of a month and a day is after the last day of the month. February has 29 days here. Under the strict
+    /// In the text for `parse_month_day`, the day is after the last day of the month. February has 29 days here. Under the strict
     /// profile, this is also the error of the day 00.
     InvalidMonthDay,
 }

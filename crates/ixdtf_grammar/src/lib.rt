@@ -18,8 +18,8 @@
 //! - A line of the fault table is about one kind of prefix. Its rows have the errors for what comes after the prefix.
 //!   A *bad code unit* is a 16-bit code unit outside 1 to 126. Suppose that a row of a line fits a text with a bad code
 //!   unit. There are two cases. In the first case, the error of the row is `NonAsciiCodePoint`, and its position is the
-//!   first bad code unit. In the second case, the error depends only on the code units before the first bad one: for
-//!   every text that begins with these code units, a row of the same line fits, and this row has the same error.
+//!   first bad code unit. In the second case, the code units before the first bad one decide the error: every
+//!   text that begins with them has the same error, by a row of the same line.
 #![tactic(auto)]
 
 pub mod encoding;

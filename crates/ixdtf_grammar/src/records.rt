@@ -178,7 +178,8 @@ impl<'a> TimeZoneRecord<'a, Utf8> {
 /// The sign of an offset or of a duration.
 #[derive(Clone, Copy, Debug, PartialEq, Eq, Hash)]
 pub enum Sign {
-    /// The text has a `-`.
+    /// The text has a `-`, or an unknown offset is represented by `-00:00` (see
+    /// [`resolve_rfc_9557`](UtcOffsetRecordOrZ::resolve_rfc_9557)).
     Negative = -1,
     /// The text has a `+`, or has no sign and needs none.
     Positive = 1,

@@ -169,7 +169,8 @@ impl<'a> TimeZoneRecord<'a, Utf8> {
 #[derive(Clone, Copy, Debug, PartialEq, Eq, Hash)]
 #[repr(i8)]
 pub enum Sign {
-    /// The text has a `-`.
+    /// The text has a `-`, or an unknown offset is represented by `-00:00` (see
+    /// [`resolve_rfc_9557`](UtcOffsetRecordOrZ::resolve_rfc_9557)).
     Negative = -1,
     /// The text has a `+`, or has no sign and needs none.
     Positive = 1,
