@@ -51,7 +51,7 @@ pub enum Walked {
     Behind(usize),
     /// To the end of the line, which has too few fields.
     Ended,
-    /// To the position at which the line is no record.
+    /// To a field that is wrong. `Broken` says which byte is wrong.
     Lost(Broken),
 }
 

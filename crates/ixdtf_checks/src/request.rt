@@ -26,14 +26,14 @@ pub struct Field {
     pub extent: Extent,
 }
 
-/// Says where a text ends that begins at the beginning of a field.
+/// Says where a text ends. The text begins where a field begins.
 #[derive(Clone, Copy, Debug, PartialEq)]
 pub enum Extent {
-    /// The field.
+    /// At the end of this field.
     One,
-    /// The field and this number of fields after it, with the separators between them.
+    /// At the end of the field that comes so many fields later. The separators between the fields belong to the text.
     More(usize),
-    /// The field of a record of RFC 4180, which may be in quotes.
+    /// At the end of this field of a record of RFC 4180. The field may be in quotes.
     Csv,
 }
 
