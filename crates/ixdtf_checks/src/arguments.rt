@@ -60,11 +60,11 @@ pub enum Wrong {
     InvalidCount,
     /// There is `--separator`, but neither `--field` nor `--fields`.
     SeparatorWithoutField,
-    /// The value of `--fields` is not the numbers of two fields in order, with a `-` between them.
+    /// The value of `--fields` does not have the form `FIRST-LAST`. Both are numbers of fields, and LAST is not less than FIRST.
     InvalidFields,
     /// There is `--fields`, and the value of `--separator` is not a space.
     FieldsSeparator,
-    /// There is `--csv`, but no `--field`.
+    /// There is `--csv`, but the text is not set by `--field`.
     CsvWithoutField,
     /// There is `--csv`, and the value of `--separator` is a quote.
     CsvSeparator,
@@ -196,7 +196,7 @@ pub struct Options {
 }
 
 impl Options {
-    /// Creates options to which no word was applied yet, so that none is set.
+    /// Creates the options before the first word: no option is set.
     pub fn new() -> Options {
         Options {
             awaited: Awaited::Anything,
@@ -427,7 +427,8 @@ impl Options {
         }
     }
 
-    /// Returns the position of the name in `--field NAME`. Returns `None` if `--field` has a number, or is missing.
+    /// Returns the position of the name in `--field NAME`. Returns `None` if `--field` has a number or is
+    /// missing, or if `--fields` comes after it.
     pub fn field_name(&self) -> Option<FieldName> {
         match self.column {
             Some(Column::Named(field_name)) => Some(field_name),

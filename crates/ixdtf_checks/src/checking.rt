@@ -21,8 +21,8 @@ pub struct Checking<'n> {
     pub request: Request<'n>,
     /// The canonical text that the check printed last.
     pub printed: PrintedText,
-    /// The array in which a report is made. It is kept between lines, because clearing it for each report would take as long as
-    /// filling it.
+    /// The array in which a report is made. It is kept between lines. A new array for each report would first have to be filled
+    /// with zeros, which takes as long as writing the report.
     pub room: [u8; ROOM],
     /// A buffer for the text of a field in quotes, if the field has doubled quotes. The text of the field is copied into it,
     /// with one quote for each two.

@@ -165,7 +165,7 @@ fn walk(separator: u8, count: usize, line: &[u8]) -> Walked
     Walked::Behind(start)
 }
 
-/// Returns the field after `before` other fields. Returns an error if the line is no record, or has too few fields.
+/// Returns the field that has `before` fields before it in the line. Returns an error if the line is no record, or has too few fields.
 pub fn field_in_record<'a>(
     separator: u8,
     before: usize,

@@ -25,8 +25,8 @@ pub struct Part<'a> {
 impl Part<'_> {
     ghost use Rattle.ixdtf_checks.specs.Parts.{seen_part, width_of};
 
-    /// Returns how many bytes the first `count` bytes of the text take in the line. If the part is a field in
-    /// quotes, each quote of the text takes two bytes.
+    /// Returns the number of bytes in the line from which the first `count` bytes of the text come. If the part is a field in
+    /// quotes, each quote of the text comes from two bytes.
     #[inline(always)]
     pub fn width_of(self, count: usize) -> usize
         requires within { count ≤ length self.text.now }
@@ -83,7 +83,7 @@ pub fn without_return(line: &[u8]) -> &[u8]
     }
 }
 
-/// Returns the text of the line, which begins with the given field. Returns an error if the line has no text.
+/// Returns the text of the line. The text begins where the given field begins. Returns an error if the line has no text.
 #[inline(always)]
 pub fn part_of<'a>(
     field: Field,
@@ -102,7 +102,8 @@ pub fn part_of<'a>(
     }
 }
 
-/// Returns the field after `before` other fields of a record of RFC 4180. Returns an error if the line is no record, or has too few fields.
+/// Returns the field that has `before` fields before it in a record of RFC 4180. Returns an error if the line is no record, or has
+/// too few fields.
 ///
 /// In a line without quotes, each field is what is between two separators.
 #[inline(never)]
@@ -123,7 +124,8 @@ fn csv_field<'a>(
     }
 }
 
-/// Returns the field after `before` other fields. It is what is between two separators. Returns an error if there are too few fields.
+/// Returns the field that has `before` fields before it. A field is what is between two separators. Returns an error if there are
+/// too few fields.
 #[inline(always)]
 fn plain_field(separator: u8, before: usize, line: &[u8]) -> Result<Part<'_>, Lost>
     ensures text { IfOk result (λ part. field_text separator before line.now ≡ Some (seen_part part)) }
@@ -140,7 +142,7 @@ fn plain_field(separator: u8, before: usize, line: &[u8]) -> Result<Part<'_>, Lo
     }
 }
 
-/// Returns the field after `before` other fields, with `more` fields after it. Returns an error if there are too few fields.
+/// Returns the field that has `before` fields before it, together with `more` fields after it. Returns an error if there are too few fields.
 #[inline(never)]
 fn plain_fields(separator: u8, before: usize, more: usize, line: &[u8]) -> Result<Part<'_>, Lost>
     ensures text { IfOk result (λ part. fields_text separator before more line.now ≡ Some (seen_part part)) }

@@ -26,7 +26,7 @@ use ixdtf::records::TimeZoneRecord;
 /// Reads the text as a text of the kind, and prints its canonical text to `printed`. Returns the error with its position, if the
 /// text is refused.
 ///
-/// Only the function for date-times is inlined, because most canonical texts are those of date-times.
+/// Of the functions that this one calls, only the one for date-times is inlined, because most texts are date-times.
 #[inline(always)]
 pub fn read_to_print(
     kind: Kind,

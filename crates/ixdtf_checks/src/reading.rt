@@ -1,4 +1,4 @@
-//! Reads a text, and returns only whether it is accepted.
+//! Reads a text, and returns no record: only whether the text is accepted, or the error with its position.
 ghost use Rattle.std.specs.Prelude.{◌≡◌, IfErr, OnOk};
 ghost use Rattle.ixdtf_grammar.specs.Places.{HasUnhandledFaultAt};
 ghost use Rattle.ixdtf_grammar.specs.Widths.{byte_text};

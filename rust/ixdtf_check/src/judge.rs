@@ -18,7 +18,8 @@ use ixdtf::{Instant, LocatedError};
 /// preceding line whose text names an instant. If the task is `Task::Order` and the text of this line names an instant, `last`
 /// becomes this instant.
 ///
-/// The verdict is written through a reference, and not returned. Most lines are accepted, and their verdict needs only one byte.
+/// The verdict is written through a reference, because a verdict that is returned is copied completely. Through a reference,
+/// only one byte is written for an accepted line, and most lines are accepted.
 pub fn judge<'a>(
     request: &Request<'_>,
     is_first: bool,

@@ -16,8 +16,8 @@ const FROM_PLACE: usize = 24;
 
 /// The greatest number of bytes of a report after the name of the file.
 ///
-/// The line and the column have at most 44 bytes, a message has at most 70 bytes, and the lines under it have at most 345 bytes.
-/// The lines have `..`, 72 characters of four bytes, `..`, a newline, 50 spaces, `^` and a newline.
+/// The numbers of the line and of the column have at most 44 bytes, with the colons and the space. A message has at most 70 bytes.
+/// The two lines under the message have at most 345 bytes: `..`, 72 characters of four bytes, `..`, a newline, 50 spaces, `^` and a newline.
 pub const ROOM: usize = 459;
 
 /// A newline, and the greatest number of spaces before a mark.

@@ -1,6 +1,6 @@
 // Made by tools/to_rust.py of crates/ixdtf_checks/src/reading.rt. Do not edit.
 
-//! Reads a text, and returns only whether it is accepted.
+//! Reads a text, and returns no record: only whether the text is accepted, or the error with its position.
 
 use crate::kind::Kind;
 use ixdtf::LocatedError;

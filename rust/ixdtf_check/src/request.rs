@@ -17,7 +17,7 @@ pub enum Task {
     Order(InstantKind),
 }
 
-/// Says where the text of a line is. The text is one field of the line, or several fields in a row.
+/// Says where the text of a line is. The text is one field of the line, or several consecutive fields.
 #[derive(Clone, Copy, Debug, PartialEq)]
 pub struct Field {
     /// The number of fields before the text.
@@ -33,13 +33,15 @@ pub struct Field {
 pub enum Extent {
     /// At the end of this field.
     One,
-    /// At the end of the field that comes so many fields later. The separators between the fields belong to the text.
+    /// At the end of a later field. The value is the number of fields from this field to that one. The separators between them
+    /// belong to the text.
     More(usize),
     /// At the end of this field of a record of RFC 4180. The field may be in quotes.
     Csv,
 }
 
-/// Which lines have no text. These lines are skipped: nothing is written about them.
+/// Which lines have no text. These lines are skipped: nothing is written about them. But a line that is too long is refused, and
+/// not skipped.
 #[derive(Clone, Copy, Debug, PartialEq)]
 pub struct Skips {
     /// Whether the first line is skipped, because it has the names of the fields.

@@ -49,7 +49,7 @@ pub enum Reason<'a> {
     Unread(Unread<'a>),
     /// A reader refuses the text of the line, at a space before an offset.
     Spaced(Unread<'a>),
-    /// This text of the line is accepted, but does not name an instant.
+    /// A reader accepts this text of the line, but the text does not name an instant.
     NoInstant(&'a [u8]),
     /// The text of the line names an instant that is before the previous instant. The previous instant is that of the nearest
     /// preceding line whose text names an instant.
