@@ -60,11 +60,12 @@ pub enum Wrong {
     InvalidCount,
     /// There is `--separator`, but neither `--field` nor `--fields`.
     SeparatorWithoutField,
-    /// The value of `--fields` does not have the form `FIRST-LAST`. Both are numbers of fields, and LAST is not less than FIRST.
+    /// The value of `--fields` does not have the form `FIRST-LAST`, where FIRST and LAST are the numbers of two fields, and LAST
+    /// is not less than FIRST.
     InvalidFields,
     /// There is `--fields`, and the value of `--separator` is not a space.
     FieldsSeparator,
-    /// There is `--csv`, but the text is not set by `--field`.
+    /// There is `--csv`, but there is no `--field`, or `--fields` comes after it.
     CsvWithoutField,
     /// There is `--csv`, and the value of `--separator` is a quote.
     CsvSeparator,
@@ -76,7 +77,7 @@ pub enum Wrong {
 }
 
 impl Wrong {
-    /// Returns the message for the user: what is wrong, and what was expected.
+    /// Returns the message for the user: what is wrong, or what was expected.
     pub fn message(self) -> &'static str {
         match self {
             Wrong::UnknownOption => "there is no such option",

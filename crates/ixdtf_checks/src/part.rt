@@ -15,8 +15,8 @@ const MANY_FIELDS: usize = 4;
 pub struct Part<'a> {
     /// The number of bytes of the line before the part.
     pub start: usize,
-    /// The text of the part. If the part is a field in quotes, it has one quote for each doubled quote of the
-    /// line.
+    /// The text of the part. If the part is a field in quotes, each doubled quote of the field is one quote in this
+    /// text.
     pub text: &'a [u8],
     /// Whether the part is a field in quotes. Then the line has each quote of `text` twice.
     pub is_quoted: bool,
@@ -25,8 +25,8 @@ pub struct Part<'a> {
 impl Part<'_> {
     ghost use Rattle.ixdtf_checks.specs.Parts.{seen_part, width_of};
 
-    /// Returns the number of bytes in the line from which the first `count` bytes of the text come. If the part is a field in
-    /// quotes, each quote of the text comes from two bytes.
+    /// Returns how many bytes of the line the first `count` bytes of the text take up. If the part is a field in quotes, each
+    /// quote of the text takes up two bytes.
     #[inline(always)]
     pub fn width_of(self, count: usize) -> usize
         requires within { count ≤ length self.text.now }

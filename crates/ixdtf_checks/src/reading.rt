@@ -1,4 +1,5 @@
-//! Reads a text, and returns no record: only whether the text is accepted, or the error with its position.
+//! Reads a text to decide whether it is accepted. If it is refused, the error is returned with its position. The parts of the
+//! text are not returned.
 ghost use Rattle.std.specs.Prelude.{◌≡◌, IfErr, OnOk};
 ghost use Rattle.ixdtf_grammar.specs.Places.{HasUnhandledFaultAt};
 ghost use Rattle.ixdtf_grammar.specs.Widths.{byte_text};

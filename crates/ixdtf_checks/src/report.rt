@@ -20,7 +20,7 @@ use ixdtf_print::error_parts;
 const MOST_AT_ONCE: usize = 4096;
 
 /// Writes the report of the line to the output. `number` is the number of the line, from 1. `refusals` is the number of refused
-/// lines up to this line, and counts this line too. `printed` is the canonical text of the line, if the line was printed.
+/// lines so far. If this line is refused, it is included. `printed` is the canonical text of the line, if the line was printed.
 ///
 /// The function is inlined, because most lines are accepted and have no report.
 #[inline(always)]

@@ -31,8 +31,8 @@ pub struct Field {
 pub enum Extent {
     /// At the end of this field.
     One,
-    /// At the end of a later field. The value is the number of fields from this field to that one. The separators between them
-    /// belong to the text.
+    /// At the end of a later field. The value is the number of fields of the text after its first field: it is 1 if the text is
+    /// two fields. The separators between the fields belong to the text.
     More(usize),
     /// At the end of this field of a record of RFC 4180. The field may be in quotes.
     Csv,

@@ -1,6 +1,7 @@
 // Made by tools/to_rust.py of crates/ixdtf_checks/src/reading.rt. Do not edit.
 
-//! Reads a text, and returns no record: only whether the text is accepted, or the error with its position.
+//! Reads a text to decide whether it is accepted. If it is refused, the error is returned with its position. The parts of the
+//! text are not returned.
 
 use crate::kind::Kind;
 use ixdtf::LocatedError;

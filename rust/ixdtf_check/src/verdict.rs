@@ -26,7 +26,7 @@ pub enum Verdict<'a> {
 /// The column at which a line is refused, and the reason.
 #[derive(Clone, Copy)]
 pub struct Refusal<'a> {
-    /// The number of the byte in the line, counted from 1.
+    /// The position in the line at which it is refused, in bytes, counted from 1.
     pub column: usize,
     /// The reason why the line is refused.
     pub reason: Reason<'a>,
