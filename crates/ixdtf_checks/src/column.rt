@@ -11,7 +11,7 @@ use ixdtf_buffers::place::place_of;
 /// The reason why `column_named` or `column_in_record` returns an error.
 #[derive(Clone, Copy, Debug, PartialEq)]
 pub enum ColumnError {
-    /// No field has the name.
+    /// No field has the name, or the line is too long.
     Missing,
     /// Two or more fields have the name.
     Twice,

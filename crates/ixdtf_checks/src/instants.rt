@@ -11,7 +11,7 @@ use ixdtf::parsers::IxdtfParser;
 use ixdtf::{Instant, LocatedError};
 
 /// Reads the text as a text of the kind, and returns the instant that the text names. The instant is `None` if the text has no
-/// date, no time, or no offset. Returns the error with its position, if the text is refused.
+/// date, no time, or neither an offset nor `Z`. Returns the error with its position, if the text is refused.
 pub fn read_instant(kind: InstantKind, text: &[u8]) -> Result<Option<Instant>, LocatedError>
     ensures ok { IfOk result (λ instant. HasInstant (instant_reader_of kind) text.now instant) }
     ensures err { IfErr result (λ error. HasUnhandledFaultAt (instant_reader_of kind)

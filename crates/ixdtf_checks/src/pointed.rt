@@ -45,8 +45,8 @@ const LEAD: u8 = 0xC2;
 
 /// Adds the lines under a message, if the bytes are UTF-8. Returns the index after the added bytes.
 ///
-/// First tests whether the bytes near the position are ASCII: at most 48 bytes before it, and at most 24 bytes that begin with
-/// it. If they are all ASCII, they are the part that is shown.
+/// First tests whether the bytes near the position are ASCII: at most 48 bytes before it, and at most 24 bytes from it on.
+/// If they are all ASCII, they are the part that is shown.
 pub fn add_lines(room: &mut [u8; ROOM], at: usize, bytes: &[u8], place: usize) -> usize
     requires { at + 345 ≤ 459 }
     ensures place { result ≤ 459 }

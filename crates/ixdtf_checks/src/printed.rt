@@ -1,6 +1,6 @@
 //! The buffer for the canonical text of a line.
 
-/// The size of the buffer in bytes. The canonical text of a record that was read from a line is shorter.
+/// The size of the buffer in bytes. The canonical text of a line has fewer bytes than this.
 pub const MOST_PRINTED: usize = 65792;
 
 /// A buffer for one canonical text and the newline after it.

@@ -67,7 +67,7 @@ pub enum Wrong {
     InvalidFields,
     /// There is `--fields`, and the value of `--separator` is not a space.
     FieldsSeparator,
-    /// There is `--csv`, but there is no `--field`, or `--fields` comes after it.
+    /// There is `--csv`, but the text is not one field: there is no `--field`, or a later `--fields` replaces it.
     CsvWithoutField,
     /// There is `--csv`, and the value of `--separator` is a quote.
     CsvSeparator,

@@ -7,7 +7,7 @@ use ixdtf::parsers::IxdtfParser;
 use ixdtf::{Instant, LocatedError};
 
 /// Reads the text as a text of the kind, and returns the instant that the text names. The instant is `None` if the text has no
-/// date, no time, or no offset. Returns the error with its position, if the text is refused.
+/// date, no time, or neither an offset nor `Z`. Returns the error with its position, if the text is refused.
 pub fn read_instant(kind: InstantKind, text: &[u8]) -> Result<Option<Instant>, LocatedError> {
     match kind {
         InstantKind::DateTime => match IxdtfParser::from_utf8(text).parse_located() {

@@ -23,7 +23,7 @@ pub struct Part<'a> {
 }
 
 impl Part<'_> {
-    /// Returns how many bytes of the line the first `count` bytes of the text take up. If the part is a field in quotes, each
+    /// Returns the number of bytes that the first `count` bytes of the text take up in the line. If the part is a field in quotes, each
     /// quote of the text takes up two bytes.
     #[inline(always)]
     pub fn width_of(self, count: usize) -> usize {
