@@ -475,6 +475,74 @@ pub enum TimeDurationRecord {
     },
 }
 
+/// The first digits of a fraction, at most 18. This type is only for crates of this repository, and not a part of the public
+/// interface.
+///
+/// While digits are read one by one, their value is an ordinary number. A [`Fraction`] has it in eight bytes that are packed, and
+/// Rattle's compiler takes about 50 instructions to pack it.
+#[doc(hidden)]
+#[derive(Clone, Copy, Debug)]
+pub struct LeadingDigits {
+    count: u8,
+    value: u64,
+}
+
+impl Model for LeadingDigits {
+    ghost Value = { FractionParts };
+
+    ghost view = { λ d. record { count = d.count; value = d.value } };
+
+    ghost invariant = { λ d. (1 ≤ d.count) × (d.count ≤ 18) × (d.value < 10 ^ min d.count 18) };
+
+    ghost inverse = { λ p. record { count = p.count; value = p.value } };
+}
+
+impl LeadingDigits {
+    /// Creates one digit, given as an ASCII byte.
+    #[inline(always)]
+    pub fn start(digit: u8) -> LeadingDigits
+        requires { (48 ≤ digit) × (digit ≤ 57) }
+        ensures { result ≡ record { count = 1; value = digit - 48 } }
+    {
+        LeadingDigits {
+            count: 1,
+            value: u64::from(digit - b'0'),
+        }
+    }
+
+    /// Returns whether there are fewer than 18 digits. Then one more digit changes the value.
+    #[inline(always)]
+    pub fn is_short(self) -> bool
+        ensures { result ≡ nat_le self.count 17 }
+    {
+        self.count < 18
+    }
+
+    /// Returns the digits with one more digit at their end, given as an ASCII byte. There must be fewer than 18 digits.
+    #[inline(always)]
+    pub fn with_digit(self, digit: u8) -> LeadingDigits
+        requires digit { (48 ≤ digit) × (digit ≤ 57) }
+        requires short { self.count < 18 }
+        ensures { result ≡ record { count = self.count + 1; value = self.value * 10 + (digit - 48) } }
+    {
+        LeadingDigits {
+            count: self.count + 1,
+            value: self.value * 10 + u64::from(digit - b'0'),
+        }
+    }
+
+    /// Returns the fraction with these digits.
+    #[inline(always)]
+    pub fn fraction(self) -> Fraction
+        ensures { result ≡ self }
+    {
+        Fraction {
+            digits: self.count,
+            value: PackedNumber::of(self.value),
+        }
+    }
+}
+
 /// A fraction: the digits after a `.` or a `,`.
 ///
 /// It is a fraction of a second (`time-secfrac` of RFC 3339, section 5.6), or of the last unit of a duration. If it is
@@ -515,18 +583,6 @@ impl Model for Fraction {
 const _: () = prove!(size_of::<Fraction>() == 9);
 
 impl Fraction {
-    /// Creates the fraction with one digit, given as an ASCII byte.
-    #[doc(hidden)]
-    pub fn start(digit: u8) -> Fraction
-        requires { (48 ≤ digit) × (digit ≤ 57) }
-        ensures { result ≡ record { count = 1; value = digit - 48 } }
-    {
-        Fraction {
-            digits: 1,
-            value: PackedNumber::of(u64::from(digit - b'0')),
-        }
-    }
-
     /// Creates the fraction with `count` digits, the first 18 of which have the value `value`.
     ///
     /// Returns `None` if there is no such fraction. If `count` is less than 18, `value` is the value of all digits.
@@ -543,30 +599,6 @@ impl Fraction {
             digits: count,
             value: PackedNumber::of(value),
         })
-    }
-
-    /// Returns whether the fraction has fewer than 18 digits. Then one more digit changes its value.
-    #[inline(always)]
-    #[doc(hidden)]
-    pub fn is_short(self) -> bool
-        ensures { result ≡ nat_le self.count 17 }
-    {
-        self.digits < 18
-    }
-
-    /// Returns the fraction with one more digit at its end, given as an ASCII byte. It must have fewer than 18 digits.
-    #[inline(always)]
-    #[doc(hidden)]
-    pub fn with_digit(self, digit: u8) -> Fraction
-        requires digit { (48 ≤ digit) × (digit ≤ 57) }
-        requires short { self.count < 18 }
-        ensures { result ≡ record { count = self.count + 1; value = self.value * 10 + (digit - 48) } }
-    {
-        let value = self.value.number();
-        Fraction {
-            digits: self.digits + 1,
-            value: PackedNumber::of(value * 10 + u64::from(digit - b'0')),
-        }
     }
 
     /// Returns the fraction with one more digit at its end. It must have 18 digits or more, so the digit is only

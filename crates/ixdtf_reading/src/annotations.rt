@@ -153,7 +153,7 @@ fn parse_pair<'a, T: EncodingType>(
     })
 }
 
-/// Reads an annotation after its `[`. Its bracket is not the first one.
+/// Reads an annotation after its `[`. The annotation is not in the first bracket of the text.
 #[inline(always)]
 fn parse_later_pair<'a, T: EncodingType>(
     cursor: &mut Cursor<'a, T>,
@@ -174,7 +174,7 @@ fn parse_later_pair<'a, T: EncodingType>(
     }
 }
 
-/// Reads an annotation after its `[!`. Its bracket is not the first one.
+/// Reads an annotation after its `[!`. The annotation is not in the first bracket of the text.
 #[inline(always)]
 fn parse_critical_pair<'a, T: EncodingType>(
     cursor: &mut Cursor<'a, T>,

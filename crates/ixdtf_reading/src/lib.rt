@@ -5,9 +5,9 @@
 //! - `annotations` reads keys, values and annotations.
 //! - `stop` has the one-byte errors that the library uses inside.
 //!
-//! This is a layer of the library `ixdtf`, above `ixdtf_grammar`. `specs/reading` has the *reading functions*. The code
-//! reads code units in memory, and a reading function does the same with a list of code units. This crate proves three
-//! things about the reading functions:
+//! This is a layer of the library `ixdtf`, above `ixdtf_grammar`. `specs/reading` has the *reading functions*. A reading
+//! function is not code, but a definition: it says which result a function of the code must have for each list of code
+//! units. This crate proves three things about the reading functions:
 //!
 //! - If the grammar derives a value for a text, the reading function returns this value, and the other way round
 //!   (`proofs/to_reading`, `proofs/to_grammar`).

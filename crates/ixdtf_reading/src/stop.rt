@@ -6,9 +6,10 @@ ghost use Rattle.ixdtf_reading.specs.reading.Clauses.{fault_of_stop};
 
 use ixdtf_grammar::{LocatedError, ParseError};
 
-/// The reason why a function stopped: an error of a reader, with one variant for each location of `AbruptEnd`.
+/// The reason why a function stopped. There is one variant for each error that a reader can return. The error
+/// `ParseError::AbruptEnd` has a location, and there is one variant for each of its locations.
 ///
-/// A `Stop` has a size of one byte. Only the public readers make a `ParseError` from it.
+/// A `Stop` has a size of one byte. It is turned into a `ParseError` only where a public reader returns.
 #[derive(Clone, Copy)]
 pub enum Stop {
     NonAsciiCodePoint,
@@ -156,11 +157,9 @@ pub struct StopAt {
 
 /// An error that can be made from a `Stop`: `ParseError`, or `LocatedError` with the position.
 ///
-/// A function that calls a handler is generic over the type of its error, with this trait as the bound. `ParseError`
-/// contains a `&'static str`. If the function returned `ParseError` itself, its signature would have to name the lifetime
-/// `'static`.
+/// A function that can return either of the two is generic in the type of its error, with this trait as the bound.
 pub trait FromStop {
-    /// The fault of an error. `Fault` is the type of errors in the definitions.
+    /// The fault of an error. `Fault` is the type that contracts use for errors.
     ghost fault: { Self → Fault };
 
     /// The statement about a number and an error: if the error has a position, its position is the number.
@@ -205,7 +204,8 @@ impl FromStop for ParseError {
 
 /// Makes the error from a `Stop` with position `at`.
 ///
-/// The function is not inlined, so that a loop over a name stays small. But it is generic, so the compiler knows its body
+/// The function is not inlined, so that the code of its callers stays small. But it is generic, so the compiler knows its
+/// body
 /// when it compiles a caller. If the caller does not use the error, the compiler can remove the call.
 #[cold]
 #[inline(never)]

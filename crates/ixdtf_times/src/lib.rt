@@ -1,8 +1,8 @@
 //! Functions that read dates, year-months, month-days, times and offsets.
 //!
-//! This is a layer of the library `ixdtf`, above `ixdtf_grammar` and `ixdtf_reading`. Each module reads one kind of
-//! part. The module reads a part in fixed columns if the part fits them, and otherwise digit by digit. The contract of a
-//! function promises two things to the layers above. First, the function does what the reading function of its part does,
+//! This is a layer of the library `ixdtf`, above `ixdtf_grammar` and `ixdtf_reading`. It reads a part of a text in fixed
+//! columns if the part fits them, and otherwise number by number. The contract of a function promises two things to the
+//! layers above. First, the function does what the reading function of its part does,
 //! whatever comes after the part. Second, it makes at most a certain number of accesses.
 #![tactic(auto)]
 

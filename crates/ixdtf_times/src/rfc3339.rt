@@ -265,7 +265,7 @@ fn take_fixed_rfc3339<'a, T: EncodingType>(
 
 // ==== Number by number ====
 
-/// Reads an offset after its sign, and returns the complete date-time.
+/// Reads the hour and the minute of an offset after its sign, number by number, and returns the offset.
 #[inline(always)]
 fn parse_offset_by_numbers<'a, T: EncodingType>(
     cursor: &mut Cursor<'a, T>,
@@ -286,7 +286,7 @@ fn parse_offset_by_numbers<'a, T: EncodingType>(
     })
 }
 
-/// Consumes the time after a date and its `T` or `t`, and returns its second.
+/// Consumes a time, and returns the second of this time. The `T` or `t` before it has been consumed.
 #[inline(always)]
 fn pass_time<'a, T: EncodingType>(cursor: &mut Cursor<'a, T>) -> Result<u8, Stop>
     ensures time { Reads T.letter (λ second. second) cursor.old result cursor.new
@@ -300,7 +300,8 @@ fn pass_time<'a, T: EncodingType>(cursor: &mut Cursor<'a, T>) -> Result<u8, Stop
     next_number(cursor, 60, Stop::TimeSecond)
 }
 
-/// Consumes the day after a month and its hyphen, `T` or `t`, and a time. Returns the second.
+/// Consumes a day, then `T` or `t`, and then a time. Returns the second of the time. The month and the hyphen before the
+/// day have been consumed.
 #[inline(always)]
 fn pass_day_and_time<'a, T: EncodingType>(
     cursor: &mut Cursor<'a, T>,

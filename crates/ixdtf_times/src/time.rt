@@ -15,7 +15,7 @@ ghost use Rattle.ixdtf_reading.specs.reading.Looks.{error_of, before, digit_look
 ghost use Rattle.ixdtf_reading.specs.reading.Times.{time_of, second_start, clock_at, minute_at, second_at, after_second_at, fraction_at};
 
 use ixdtf_grammar::encoding::EncodingType;
-use ixdtf_grammar::records::{Fraction, TimeRecord};
+use ixdtf_grammar::records::{Fraction, LeadingDigits, TimeRecord};
 use ixdtf_reading::classes::{is_decimal_separator, is_time_separator};
 use ixdtf_reading::cursor::Cursor;
 use ixdtf_reading::stop::Stop;
@@ -45,7 +45,7 @@ impl Clock {
         }
     }
 
-    /// Returns the `Stop` for a colon or a digit after a minute, if no second may follow in this way.
+    /// Returns the `Stop` for a colon or a digit that follows a minute but does not begin a second.
     #[inline(always)]
     fn mixed(self) -> Stop
         ensures { fault_of_stop result ≡ mixed (clock_of self) }
@@ -359,17 +359,17 @@ fn parse_more_digits<'a, T: EncodingType>(
         (more_digits_at (Plain first ∷ [])) }
     ensures looks { Spends 1 cursor.old cursor.new }
 {
-    let mut fraction = Fraction::start(first);
-    while fraction.is_short() {
+    let mut digits = LeadingDigits::start(first);
+    while digits.is_short() {
         match cursor.look()? {
             Some(byte) if byte.is_ascii_digit() => {
                 cursor.advance();
-                fraction = fraction.with_digit(byte);
+                digits = digits.with_digit(byte);
             }
-            _ => return Ok(fraction),
+            _ => return Ok(digits.fraction()),
         }
     }
-    count_more_digits(cursor, fraction)
+    count_more_digits(cursor, digits.fraction())
 }
 
 /// Counts the digits of a fraction after the first 18.

@@ -62,8 +62,8 @@ impl<'a, T: EncodingType> Cursor<'a, T> {
     /// Returns a second cursor at the same position. `self` keeps its remaining input.
     ///
     /// A function that must consume nothing on failure works on the second cursor. A function with a loop, or with a call
-    /// that is not inlined, also works on it: a local cursor can stay in registers. At the end, the function stores the
-    /// second cursor in `self`.
+    /// that is not inlined, also works on the second cursor: a local cursor can stay in registers. When it ends, it stores
+    /// the second cursor in `self`.
     #[inline(always)]
     pub fn fork(&mut self) -> Self {
         Cursor {
@@ -225,13 +225,13 @@ impl<'a, T: EncodingType> Cursor<'a, T> {
 
     /// Tests whether two slices have equal code units.
     ///
-    /// No other function compares code units of a text with each other. `is_calendar_key` compares a key with `u-ca`.
+    /// In this crate and in the layers above it, code units of texts are compared with each other only by this function.
     #[inline(always)]
     pub fn has_same_units(&mut self, left: &[T::CodeUnit], right: &[T::CodeUnit]) -> bool {
         are_equal::<T>(left, right)
     }
 
-    /// Tests whether a key is `u-ca`, the key of calendars. No other function calls `check_calendar_key`.
+    /// Tests whether a key is `u-ca`, the key of calendars. In the library, only this function calls `check_calendar_key`.
     #[inline(always)]
     pub fn is_calendar_key(&mut self, key: &[T::CodeUnit]) -> bool {
         T::check_calendar_key(key)

@@ -446,6 +446,57 @@ pub enum TimeDurationRecord {
     },
 }
 
+/// The first digits of a fraction, at most 18. This type is only for crates of this repository, and not a part of the public
+/// interface.
+///
+/// While digits are read one by one, their value is an ordinary number. A [`Fraction`] has it in eight bytes that are packed, and
+/// Rattle's compiler takes about 50 instructions to pack it.
+#[doc(hidden)]
+#[derive(Clone, Copy, Debug)]
+pub struct LeadingDigits {
+    count: u8,
+    value: u64,
+}
+
+impl LeadingDigits {
+    /// Creates one digit, given as an ASCII byte.
+    #[inline(always)]
+    #[must_use]
+    pub fn start(digit: u8) -> LeadingDigits {
+        LeadingDigits {
+            count: 1,
+            value: u64::from(digit - b'0'),
+        }
+    }
+
+    /// Returns whether there are fewer than 18 digits. Then one more digit changes the value.
+    #[inline(always)]
+    #[must_use]
+    pub fn is_short(self) -> bool {
+        self.count < 18
+    }
+
+    /// Returns the digits with one more digit at their end, given as an ASCII byte. There must be fewer than 18 digits.
+    #[inline(always)]
+    #[must_use]
+    pub fn with_digit(self, digit: u8) -> LeadingDigits {
+        LeadingDigits {
+            count: self.count + 1,
+            value: self.value * 10 + u64::from(digit - b'0'),
+        }
+    }
+
+    /// Returns the fraction with these digits.
+    #[inline(always)]
+    #[must_use]
+    pub fn fraction(self) -> Fraction {
+        Fraction {
+            digits: self.count,
+            value: PackedNumber::of(self.value),
+        }
+    }
+}
+
 /// A fraction: the digits after a `.` or a `,`.
 ///
 /// It is a fraction of a second (`time-secfrac` of RFC 3339, section 5.6), or of the last unit of a duration. If it is
@@ -476,14 +527,6 @@ pub struct Fraction {
 const _: () = assert!(size_of::<Fraction>() == 9);
 
 impl Fraction {
-    /// Creates the fraction with one digit, given as an ASCII byte.
-    pub(crate) fn start(digit: u8) -> Fraction {
-        Fraction {
-            digits: 1,
-            value: PackedNumber::of(u64::from(digit - b'0')),
-        }
-    }
-
     /// Creates the fraction with `count` digits, the first 18 of which have the value `value`.
     ///
     /// Returns `None` if there is no such fraction. If `count` is less than 18, `value` is the value of all digits.
@@ -497,22 +540,6 @@ impl Fraction {
             digits: count,
             value: PackedNumber::of(value),
         })
-    }
-
-    /// Returns whether the fraction has fewer than 18 digits. Then one more digit changes its value.
-    #[inline(always)]
-    pub(crate) fn is_short(self) -> bool {
-        self.digits < 18
-    }
-
-    /// Returns the fraction with one more digit at its end, given as an ASCII byte. It must have fewer than 18 digits.
-    #[inline(always)]
-    pub(crate) fn with_digit(self, digit: u8) -> Fraction {
-        let value = self.value.number();
-        Fraction {
-            digits: self.digits + 1,
-            value: PackedNumber::of(value * 10 + u64::from(digit - b'0')),
-        }
     }
 
     /// Returns the fraction with one more digit at its end. It must have 18 digits or more, so the digit is only

@@ -96,8 +96,8 @@ pub fn fixed_year<'a, T: EncodingType>(cursor: &mut Cursor<'a, T>) -> Option<u16
     Some(100 * u16::from(century) + u16::from(year))
 }
 
-/// Returns the date of a year, with the month and the day in their columns after a hyphen. Returns `None` if a column
-/// does not fit. The month and the day are not checked.
+/// Reads the month and the day in their columns of `YYYY-MM-DD`, and returns the date with the year `year`. Returns `None`
+/// if a column does not fit. The month and the day are not checked.
 #[inline(always)]
 fn fixed_days<'a, T: EncodingType>(cursor: &mut Cursor<'a, T>, year: u16) -> Option<DateRecord> {
     if cursor.remaining() < 10 {
@@ -113,7 +113,7 @@ fn fixed_days<'a, T: EncodingType>(cursor: &mut Cursor<'a, T>, year: u16) -> Opt
     })
 }
 
-/// Returns the date of a year, with the month and the day in their columns in a date without hyphens. Returns `None` if
+/// Reads the month and the day in their columns of `YYYYMMDD`, and returns the date with the year `year`. Returns `None` if
 /// a column does not fit. The month and the day are not checked.
 #[inline(always)]
 fn fixed_basic_days<'a, T: EncodingType>(

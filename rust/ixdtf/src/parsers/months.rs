@@ -173,9 +173,10 @@ fn parse_day_of_month<'a, T: EncodingType>(
     check_month_day(profile, month, day)
 }
 
-/// Consumes two hyphens, if one is next, and returns whether it did.
+/// If a hyphen is next, consumes it and a second hyphen, and returns `true`. If a digit is next, consumes nothing, and
+/// returns `false`.
 ///
-/// If a digit is next, returns `false` and consumes nothing. Returns `AbruptMonthDay` at the end of the input,
+/// Returns `AbruptMonthDay` at the end of the input,
 /// `NonAsciiCodePoint` at a bad code unit, `MonthDayHyphen` at any other code unit after one hyphen, and `DateMonth` at any
 /// other first code unit.
 #[inline(always)]

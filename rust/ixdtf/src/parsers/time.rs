@@ -3,7 +3,7 @@
 //! Functions that read times of day, and offsets after their sign. Both are written in the same way.
 
 use crate::encoding::EncodingType;
-use crate::records::{Fraction, TimeRecord};
+use crate::records::{Fraction, LeadingDigits, TimeRecord};
 use crate::classes::{is_decimal_separator, is_time_separator};
 use crate::cursor::Cursor;
 use crate::stop::Stop;
@@ -31,7 +31,7 @@ impl Clock {
         }
     }
 
-    /// Returns the `Stop` for a colon or a digit after a minute, if no second may follow in this way.
+    /// Returns the `Stop` for a colon or a digit that follows a minute but does not begin a second.
     #[inline(always)]
     fn mixed(self) -> Stop {
         match self {
@@ -286,17 +286,17 @@ fn parse_more_digits<'a, T: EncodingType>(
     cursor: &mut Cursor<'a, T>,
     first: u8,
 ) -> Result<Fraction, Stop> {
-    let mut fraction = Fraction::start(first);
-    while fraction.is_short() {
+    let mut digits = LeadingDigits::start(first);
+    while digits.is_short() {
         match cursor.look()? {
             Some(byte) if byte.is_ascii_digit() => {
                 cursor.advance();
-                fraction = fraction.with_digit(byte);
+                digits = digits.with_digit(byte);
             }
-            _ => return Ok(fraction),
+            _ => return Ok(digits.fraction()),
         }
     }
-    count_more_digits(cursor, fraction)
+    count_more_digits(cursor, digits.fraction())
 }
 
 /// Counts the digits of a fraction after the first 18.
