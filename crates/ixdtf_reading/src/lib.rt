@@ -11,8 +11,8 @@
 //!
 //! - If the grammar derives a value for a text, the reading function returns this value, and the other way round
 //!   (`proofs/to_reading`, `proofs/to_grammar`).
-//! - For any other text, the reading function returns the error of the one row of the fault table that fits
-//!   (`proofs/theorems`).
+//! - For any other text, exactly one row of the fault table of `ixdtf_grammar` fits, and the reading function returns the
+//!   error of this row (`proofs/theorems`).
 //! - If all code units are 1 to 126, the result is the same for 8-bit and for 16-bit text (`proofs/widths`).
 //!
 //! So the layers above only have to prove that their functions do what the reading functions do.

@@ -65,7 +65,7 @@ pub enum Stop {
 impl Stop {
     /// Returns the `ParseError` of this `Stop`.
     ///
-    /// The function is inlined, so that the readers of `IxdtfParser` need no function call for it.
+    /// The function is inlined, so that a reader that calls it needs no function call.
     #[inline(always)]
     pub fn error(self) -> ParseError
         ensures { fault_of result ≡ fault_of_stop self }
@@ -159,7 +159,7 @@ pub struct StopAt {
 ///
 /// A function that can return either of the two is generic in the type of its error, with this trait as the bound.
 pub trait FromStop {
-    /// The fault of an error. `Fault` is the type that contracts use for errors.
+    /// The value of the type `Fault` for an error. Contracts describe errors by values of this type.
     ghost fault: { Self → Fault };
 
     /// The statement about a number and an error: if the error has a position, its position is the number.
@@ -205,8 +205,7 @@ impl FromStop for ParseError {
 /// Makes the error from a `Stop` with position `at`.
 ///
 /// The function is not inlined, so that the code of its callers stays small. But it is generic, so the compiler knows its
-/// body
-/// when it compiles a caller. If the caller does not use the error, the compiler can remove the call.
+/// body when it compiles a caller. If the caller does not use the error, the compiler can remove the call.
 #[cold]
 #[inline(never)]
 pub fn error_of_stop<E: FromStop>(stop: Stop, at: usize) -> E

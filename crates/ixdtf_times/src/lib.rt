@@ -2,8 +2,8 @@
 //!
 //! This is a layer of the library `ixdtf`, above `ixdtf_grammar` and `ixdtf_reading`. It reads a part of a text in fixed
 //! columns if the part fits them, and otherwise number by number. The contract of a function promises two things to the
-//! layers above. First, the function does what the reading function of its part does,
-//! whatever comes after the part. Second, it makes at most a certain number of accesses.
+//! layers above. First, the function does what the reading function of its part does. Second, it makes at most a certain
+//! number of accesses.
 #![tactic(auto)]
 
 pub mod date_times;
