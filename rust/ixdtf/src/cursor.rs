@@ -2,9 +2,9 @@
 
 //! A cursor: the remaining code units of a source.
 //!
-//! A cursor has no index. It keeps the remaining code units as one slice, so it cannot point past the end. When a
-//! private function returns an error, its cursor is at the position of the error. A public reader works on a second
-//! cursor. If it fails, the cursor of the parser is unchanged (`settle`).
+//! A cursor has no index. It keeps the remaining code units as one slice, so it cannot point past the end. When a function
+//! of this crate or of a layer above it returns an error, its cursor is at the position of the error. The readers that users
+//! call work on a second cursor. If such a reader fails, the cursor of the parser is unchanged.
 
 use crate::classes::two_digit_number;
 use crate::stop::{FromStop, Stop, error_of_stop};
@@ -62,8 +62,8 @@ impl<'a, T: EncodingType> Cursor<'a, T> {
     /// Returns a second cursor at the same position. `self` keeps its remaining input.
     ///
     /// A function that must consume nothing on failure works on the second cursor. A function with a loop, or with a call
-    /// that is not inlined, also works on the second cursor: a local cursor can stay in registers. When it ends, it stores
-    /// the second cursor in `self`.
+    /// that is not inlined, also works on the second cursor: a local cursor can stay in registers. When a function of this
+    /// second kind ends, it stores the second cursor in `self`, also after an error.
     #[inline(always)]
     pub fn fork(&mut self) -> Self {
         Cursor {

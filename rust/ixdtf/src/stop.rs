@@ -63,7 +63,7 @@ pub enum Stop {
 impl Stop {
     /// Returns the `ParseError` of this `Stop`.
     ///
-    /// The function is inlined, so that the readers of `IxdtfParser` need no function call for it.
+    /// The function is inlined, so that a reader that calls it needs no function call.
     #[inline(always)]
     pub fn error(self) -> ParseError {
         ERRORS[self as usize]
@@ -181,8 +181,7 @@ impl FromStop for ParseError {
 /// Makes the error from a `Stop` with position `at`.
 ///
 /// The function is not inlined, so that the code of its callers stays small. But it is generic, so the compiler knows its
-/// body
-/// when it compiles a caller. If the caller does not use the error, the compiler can remove the call.
+/// body when it compiles a caller. If the caller does not use the error, the compiler can remove the call.
 #[cold]
 #[inline(never)]
 pub fn error_of_stop<E: FromStop>(stop: Stop, at: usize) -> E {

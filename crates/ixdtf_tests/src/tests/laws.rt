@@ -13,18 +13,20 @@ use super::{Record, check, dated, fraction_of};
 use ixdtf::encoding::{EncodingType, Utf8, Utf16};
 use ixdtf::laws::instants::{
     instants_are_in_order, next_day_is_a_day_later, offsets_make_up, second_60_is_59,
+    text_is_read_back,
 };
 use ixdtf::laws::{
     clones_are_equal, defaults_are_zero, equality_is_of_what_is_seen, every_name_is_an_identifier,
     every_rfc3339_date_time_is_read, exact_nanoseconds_are_the_truncated_ones, hyphens_say_nothing,
-    languages_disjoint, offsets_agree, one_outcome, parse_unanswered, widths_agree,
+    languages_disjoint, offsets_agree, one_outcome, parse_unanswered,
+    rfc3339_date_times_are_read_alike, rfc9557_texts_are_read_alike, widths_agree,
 };
 use ixdtf::parsers::{IsoDurationParser, IxdtfParser, TimeZoneParser};
 use ixdtf::records::{
     DateDurationRecord, DateRecord, DurationParseRecord, Fraction, IxdtfParseRecord, TimeRecord,
     TimeZoneAnnotation, TimeZoneRecord,
 };
-use ixdtf::{ParseError, ParserResult};
+use ixdtf::{Instant, ParseError, ParserResult};
 
 // A caller concludes from the law: the reader returns no error for a date-time of RFC 3339.
 fn read_date_time<'a>(bytes: &'a [u8]) -> ParserResult<IxdtfParseRecord<'a, Utf8>>
@@ -264,6 +266,38 @@ fn reads_date_times(rt: HostRuntime) {
     let found = read_date_time(b"2024-02-29t23:59:60.25-05:30");
     let is_read = matches!(found, Ok(IxdtfParseRecord { calendar: None, .. }));
     check(&rt, "a date-time", is_read);
+}
+
+#[test]
+fn reads_date_times_alike(rt: HostRuntime) {
+    rfc3339_date_times_are_read_alike();
+    let text = b"2024-03-02T08:48:00.25-05:30";
+    let exact = IxdtfParser::from_utf8(text).parse_rfc3339();
+    check(&rt, "a date-time", exact.is_ok());
+    let found = IxdtfParser::from_utf8(text).parse();
+    check(&rt, "the same date-time", exact == found);
+}
+
+#[test]
+fn reads_texts_with_brackets_alike(rt: HostRuntime) {
+    rfc9557_texts_are_read_alike();
+    let text = b"2024-03-02T08:48:00Z[Europe/Paris][u-ca=hebrew]";
+    let exact = IxdtfParser::from_utf8(text).parse_rfc9557();
+    check(&rt, "a text with brackets", exact.is_ok());
+    let found = IxdtfParser::from_utf8(text).parse();
+    check(&rt, "the same text", exact == found);
+}
+
+#[test]
+fn reads_the_text_of_an_instant(rt: HostRuntime) {
+    text_is_read_back();
+    let wanted = Some(Instant {
+        seconds: 1_709_369_280,
+        nanoseconds: 250_000_000,
+    });
+    let found = IxdtfParser::from_utf8(b"2024-03-02T08:48:00.25Z").parse();
+    let is_read = matches!(found, Ok(found) if found.instant() == wanted);
+    check(&rt, "an instant", is_read);
 }
 
 #[test]

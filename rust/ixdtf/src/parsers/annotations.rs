@@ -27,7 +27,7 @@ impl Letters for KeyLetters {
 /// Reads a key and the `=` after it, and returns the code units of the key.
 ///
 /// The caller has tested the first code unit of the key. Returns `AnnotationKeyValueSeparator` at the end of the input,
-/// `NonAsciiCodePoint` at a bad code unit, and `AnnotationKeyChar` at any other code unit that a key cannot contain.
+/// `NonAsciiCodePoint` at a bad code unit, and `AnnotationKeyChar` at any other code unit that is neither `=` nor in a key.
 #[inline(always)]
 pub fn parse_annotation_key<'a, T: EncodingType>(
     cursor: &mut Cursor<'a, T>,

@@ -70,7 +70,8 @@ fn take_fixed_date<'a, T: EncodingType>(
     Some(parse_days(cursor, year))
 }
 
-/// Consumes a date and checks it. Its month ends at index `month_end`, and its day at index `day_end`.
+/// Consumes a date and checks it. `month_end` is the index directly after its month, and `day_end` the index directly after
+/// its day.
 ///
 /// If the month is not 1 to 12, only the code units up to the end of the month are consumed.
 #[inline(always)]

@@ -101,8 +101,8 @@ pub fn parse_month_day_date<'a, T: EncodingType>(
     parse_month_day_parts(cursor, profile)
 }
 
-/// Reads the month-day whose month is at index `start` and at the next index: in fixed columns if they fit, and
-/// otherwise part by part from there on.
+/// Reads the month-day whose month begins at index `start`, in fixed columns if they fit. If the month does not fit,
+/// everything from `start` on is read part by part. If only the day does not fit, the text after the month is.
 #[inline(always)]
 fn parse_month_day_at<'a, T: EncodingType>(
     cursor: &mut Cursor<'a, T>,
@@ -176,9 +176,9 @@ fn parse_day_of_month<'a, T: EncodingType>(
 /// If a hyphen is next, consumes it and a second hyphen, and returns `true`. If a digit is next, consumes nothing, and
 /// returns `false`.
 ///
-/// Returns `AbruptMonthDay` at the end of the input,
-/// `NonAsciiCodePoint` at a bad code unit, `MonthDayHyphen` at any other code unit after one hyphen, and `DateMonth` at any
-/// other first code unit.
+/// Returns `AbruptMonthDay` at the end of the input, and `NonAsciiCodePoint` at a bad code unit. If the first code unit is
+/// neither a hyphen nor a digit, returns `DateMonth`. If a hyphen is next, and no hyphen follows it, returns
+/// `MonthDayHyphen`.
 #[inline(always)]
 fn take_marks<'a, T: EncodingType>(cursor: &mut Cursor<'a, T>) -> Result<bool, Stop> {
     if !take_hyphen(cursor, Stop::AbruptMonthDay, Stop::DateMonth)? {

@@ -54,7 +54,8 @@ fn take_date_hyphen<'a, T: EncodingType>(
     }
 }
 
-/// Consumes `T` or `t`. Returns `NonAsciiCodePoint` at a bad code unit, and otherwise `TimeSeparator`.
+/// Consumes `T` or `t`. Returns `NonAsciiCodePoint` at a bad code unit, and `TimeSeparator` at the end of the input and at
+/// any other code unit.
 #[inline(always)]
 fn take_time_letter<'a, T: EncodingType>(cursor: &mut Cursor<'a, T>) -> Result<u8, Stop> {
     match cursor.look()? {
@@ -66,7 +67,10 @@ fn take_time_letter<'a, T: EncodingType>(cursor: &mut Cursor<'a, T>) -> Result<u
     }
 }
 
-/// Reads the four digits of a year, and returns their number. Returns `DateYear` at a code unit that is not a digit.
+/// Reads the four digits of a year, and returns their number.
+///
+/// Returns `AbruptDigit` at the end of the input, `NonAsciiCodePoint` at a bad code unit, and `DateYear` at any other code
+/// unit that is not a digit.
 #[inline(always)]
 fn parse_year<'a, T: EncodingType>(cursor: &mut Cursor<'a, T>) -> Result<u16, Stop> {
     let thousands = cursor.next_digit(Stop::DateYear)?;
@@ -234,7 +238,7 @@ fn pass_day_and_time<'a, T: EncodingType>(
     pass_time(cursor)
 }
 
-/// Consumes a date, `T` or `t`, and a time number by number. Returns the second.
+/// Consumes a date, then `T` or `t`, and then a time. They are read number by number. Returns the second of the time.
 #[inline(always)]
 fn pass_date_and_time<'a, T: EncodingType>(cursor: &mut Cursor<'a, T>) -> Result<u8, Stop> {
     let year = parse_year(cursor)?;
@@ -244,8 +248,8 @@ fn pass_date_and_time<'a, T: EncodingType>(cursor: &mut Cursor<'a, T>) -> Result
     pass_day_and_time(cursor, year, month)
 }
 
-/// Returns the first error of a text that does not begin with a date, `T` or `t`, and a time. The text is read number by
-/// number. The function is not inlined, because it is called only for a text with an error.
+/// Returns the first error of a text. The text must begin with a date, then `T` or `t`, and then a time, and this text does
+/// not. It is read number by number. The function is not inlined, because it is called only for a text with an error.
 #[inline(never)]
 fn first_stop<'a, T: EncodingType>(cursor: &mut Cursor<'a, T>) -> Stop {
     match pass_date_and_time(cursor) {

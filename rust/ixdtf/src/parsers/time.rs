@@ -21,7 +21,7 @@ pub enum Clock {
 
 impl Clock {
     /// Returns whether a second begins at the byte after a minute: at a colon if the time has colons, and otherwise at
-    /// a digit.
+    /// a digit. An offset without seconds has no second, so the result is `false` for it.
     #[inline(always)]
     fn starts_second(self, colons: bool, byte: u8) -> bool {
         match self {
@@ -253,8 +253,8 @@ pub fn parse_after_second<'a, T: EncodingType>(
 
 /// Reads the digits of a fraction after its `.` or `,`.
 ///
-/// Returns `NonAsciiCodePoint` at a bad code unit, also after the digits. Returns `FractionPart` if the input ends after
-/// the `.` or `,`, or if a code unit follows that is neither a digit nor bad.
+/// Returns `NonAsciiCodePoint` at a bad code unit, also after the digits. At least one digit must follow the `.` or the
+/// `,`. Returns `FractionPart` if the input ends there, or if the code unit there is neither a digit nor bad.
 #[inline(always)]
 pub fn parse_fraction<'a, T: EncodingType>(cursor: &mut Cursor<'a, T>) -> Result<Fraction, Stop> {
     let mut here = cursor.fork();
