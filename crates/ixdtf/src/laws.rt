@@ -37,9 +37,8 @@ use ixdtf_reading::stop::FromStop;
 /// States that [`IxdtfParser::parse`] accepts every date-time of RFC 3339, section 5.6. Its `T` and `Z` may be
 /// lowercase.
 ///
-/// The law does not name an encoding, so it is about sources in every encoding. It states that, without a handler, each of
-/// these texts gives a record. The clause `reads` in the contract of `parse` says that it then returns this
-/// record.
+/// The law does not name an encoding, so it is about sources in every encoding. It states that, without a handler, each
+/// of these texts gives a record. By the clause `reads` in its contract, `parse` then returns this record.
 pub fn every_rfc3339_date_time_is_read()
     ensures { EveryDateTimeIsRead }
 {}
@@ -100,9 +99,9 @@ pub fn hyphens_say_nothing()
 
 /// States that each text has exactly one outcome in each reader.
 ///
-/// Either the grammar derives one value from the text, or one row of the table of errors (`docs/FAULTS.md`) fits the
-/// text. There are never two values, two rows, both, or neither. A row contains its position, so there are never two
-/// positions.
+/// There are two cases. In the first case, the grammar derives exactly one value from the text, and no row of the table
+/// of errors (`docs/FAULTS.md`) fits the text. In the second case, exactly one row of this table fits the text, and the
+/// grammar derives no value from the text. A row contains its position, so the error has exactly one position.
 ///
 /// The outcome contains annotations. If the grammar derives a value, these are the annotations of the text. Otherwise
 /// they are the complete annotations before the position of the row. The outcome does not contain the replies of a

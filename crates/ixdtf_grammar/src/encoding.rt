@@ -74,7 +74,7 @@ pub trait EncodingType: private::Sealed {
     /// Two code units with the same number are the same.
     ghost injective: { (a b : Self.CodeUnit) → number a ≡ number b → a ≡ b };
 
-    /// Two code units are equal exactly if their numbers are equal.
+    /// The comparison `==` of two code units is true exactly if their numbers are equal.
     ghost equal: { (a b : Self.CodeUnit) → IsTrue (Self.CodeUnit.eq a b) ↔ (number a ≡ number b) };
 }
 

@@ -10,16 +10,19 @@
 //! - `specs/Handlers` says how the replies of a handler change the result. A reply is what a handler returns for one
 //!   annotation.
 //!
+//! The *text readers* are five of the readers: `parse`, `parse_year_month`, `parse_month_day` and `parse_time` of
+//! `IxdtfParser`, and `parse` of `IsoDurationParser`. They read dates, times and durations. The rows of the fault table
+//! are in groups, which are called *lines*. A line is about one kind of prefix of a text. Its rows have the errors for
+//! what comes after the prefix. A *bad code unit* is a 16-bit code unit outside 1 to 126.
+//!
 //! For the layers above, this crate also proves three facts about the definitions:
 //!
 //! - No row of the fault table fits a text that the grammar derives.
-//! - The text readers are the five readers of dates, times and durations. Under one profile, the grammar derives a value
-//!   from a text for at most one of these five readers.
-//! - A line of the fault table is about one kind of prefix. Its rows have the errors for what comes after the prefix.
-//!   A *bad code unit* is a 16-bit code unit outside 1 to 126. Suppose that a row of a line fits a text with a bad code
-//!   unit. There are two cases. In the first case, the error of the row is `NonAsciiCodePoint`, and its position is the
-//!   first bad code unit. In the second case, the code units before the first bad one decide the error: every
-//!   text that begins with them has the same error, by a row of the same line.
+//! - Under one profile, a text is in the grammar of at most one text reader.
+//! - Suppose that a row of a line fits a text with a bad code unit. There are two cases. In the first case, the error
+//!   of the row is `NonAsciiCodePoint`, and its position is the first bad code unit. In the second case, the code units
+//!   before the first bad one decide the error: every text that begins with them has the same error, by a row of the
+//!   same line.
 #![tactic(auto)]
 
 pub mod encoding;

@@ -1,7 +1,7 @@
 //! Instants, and the conversion between dates and numbers of days since 1970-01-01.
 //!
-//! All other layers of the library `ixdtf` are above this crate. It uses only the standard library. Callers name `ixdtf`,
-//! which re-exports [`Instant`].
+//! All other layers of the library `ixdtf` are above this crate. It uses only the standard library. Callers use the
+//! crate `ixdtf`, which re-exports [`Instant`].
 //!
 //! - `specs/Calendar` defines the number of a day. It adds up the lengths of the years and the months before a date.
 //! - `specs/CivilDates` defines the date that has a given day number. The definition counts day by day from

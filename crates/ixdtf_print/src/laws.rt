@@ -9,8 +9,9 @@ ghost use Rattle.ixdtf_print.specs.Zones.{ZoneFits, ZoneIsReadBack};
 
 /// States that a canonical text has at most 14 bytes more than the text that was parsed.
 ///
-/// The law is about the records that [`IxdtfParser::parse`](ixdtf::parsers::IxdtfParser::parse) returns. To use it,
-/// call the function, which does nothing.
+/// The law is about the records that [`IxdtfParser::parse`](ixdtf::parsers::IxdtfParser::parse) returns. To use the law
+/// in a proof, call the function: after the call, the prover knows the law. The function does nothing when the program
+/// runs.
 pub fn canonical_fits()
     ensures { CanonicalFits }
 {}
@@ -36,7 +37,8 @@ pub fn rfc9557_is_read_back()
 /// States that the canonical text of a duration is at most as long as the text that was parsed.
 ///
 /// The law is about the durations that [`IsoDurationParser::parse`](ixdtf::parsers::IsoDurationParser::parse) returns,
-/// under either profile. To use it, call the function, which does nothing.
+/// under either profile. To use the law in a proof, call the function: after the call, the prover knows the law. The
+/// function does nothing when the program runs.
 pub fn duration_fits()
     ensures { DurationFits }
 {}
@@ -53,7 +55,8 @@ pub fn duration_is_read_back()
 /// States that the canonical text of an offset has at most 3 bytes more than the text that was parsed.
 ///
 /// The law is about the offsets that [`TimeZoneParser::parse_offset`](ixdtf::parsers::TimeZoneParser::parse_offset)
-/// returns. To use it, call the function, which does nothing.
+/// returns. To use the law in a proof, call the function: after the call, the prover knows the law. The function does
+/// nothing when the program runs.
 pub fn offset_fits()
     ensures { OffsetFits }
 {}
@@ -70,8 +73,8 @@ pub fn offset_is_read_back()
 /// States that the canonical text of a zone has at most 3 bytes more than the text that was parsed.
 ///
 /// The law is about the zones that
-/// [`TimeZoneParser::parse_identifier`](ixdtf::parsers::TimeZoneParser::parse_identifier) returns. To use it, call the
-/// function, which does nothing.
+/// [`TimeZoneParser::parse_identifier`](ixdtf::parsers::TimeZoneParser::parse_identifier) returns. To use the law in a
+/// proof, call the function: after the call, the prover knows the law. The function does nothing when the program runs.
 pub fn zone_fits()
     ensures { ZoneFits }
 {}
@@ -87,8 +90,9 @@ pub fn zone_is_read_back()
 
 /// States that the canonical text of a time has at most 12 bytes more than the text that was parsed.
 ///
-/// The law is about the records that [`IxdtfParser::parse_time`](ixdtf::parsers::IxdtfParser::parse_time) returns, under
-/// either profile. To use it, call the function, which does nothing.
+/// The law is about the records that [`IxdtfParser::parse_time`](ixdtf::parsers::IxdtfParser::parse_time) returns,
+/// under either profile. To use the law in a proof, call the function: after the call, the prover knows the law. The
+/// function does nothing when the program runs.
 pub fn time_fits()
     ensures { TimeFits }
 {}
@@ -104,9 +108,9 @@ pub fn time_is_read_back()
 
 /// States that the canonical text of a year and a month has at most 4 bytes more than the text that was parsed.
 ///
-/// The law is about the records that
-/// [`IxdtfParser::parse_year_month`](ixdtf::parsers::IxdtfParser::parse_year_month) returns. To use it, call the function,
-/// which does nothing.
+/// The law is about the records that [`IxdtfParser::parse_year_month`](ixdtf::parsers::IxdtfParser::parse_year_month)
+/// returns. To use the law in a proof, call the function: after the call, the prover knows the law. The function does
+/// nothing when the program runs.
 pub fn year_month_fits()
     ensures { YearMonthFits }
 {}
@@ -122,9 +126,9 @@ pub fn year_month_is_read_back()
 
 /// States that the canonical text of a month and a day has at most 4 bytes more than the text that was parsed.
 ///
-/// The law is about the records that
-/// [`IxdtfParser::parse_month_day`](ixdtf::parsers::IxdtfParser::parse_month_day) returns, under either profile. To use it,
-/// call the function, which does nothing.
+/// The law is about the records that [`IxdtfParser::parse_month_day`](ixdtf::parsers::IxdtfParser::parse_month_day)
+/// returns, under either profile. To use the law in a proof, call the function: after the call, the prover knows the
+/// law. The function does nothing when the program runs.
 pub fn month_day_fits()
     ensures { MonthDayFits }
 {}

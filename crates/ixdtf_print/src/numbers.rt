@@ -1,4 +1,4 @@
-//! Functions that write numbers without leading zeros into a slice.
+//! Functions that write a number without leading zeros into a slice, and a function that counts its digits.
 ghost use Rattle.std.specs.Prelude.{◌≡◌, ◌<◌, ◌≤◌, length};
 ghost use Rattle.ixdtf.specs.language.Digits.{padded_digits};
 ghost use Rattle.ixdtf_print.specs.Durations.{number_text};
@@ -49,7 +49,8 @@ fn put_long(out: &mut [u8], at: usize, number: u64) -> usize
     put_eight(out, last, number % 100_000_000)
 }
 
-/// Writes the part of a number before its last eight digits at index `at`. Returns the index after it.
+/// Writes a number below 1,000,000,000,000 without leading zeros at index `at`. Returns the index after it. The number
+/// is the part of a longer number before its last eight digits.
 fn put_front(out: &mut [u8], at: usize, number: u64) -> usize
     requires room { HasRoom out.old at (number_text number) }
     requires small { number < 1000000000000 }
@@ -62,7 +63,8 @@ fn put_front(out: &mut [u8], at: usize, number: u64) -> usize
     put_eight(out, last, number % 100_000_000)
 }
 
-/// Writes a number below 100,000,000 with eight digits at index `at`. Returns the index after them.
+/// Writes a number below 100,000,000 as eight digits, with leading zeros, at index `at`. Returns the index after them.
+/// The digits are the last eight digits of a longer number.
 fn put_eight(out: &mut [u8], at: usize, number: u64) -> usize
     requires room { HasRoom out.old at (padded_digits 8 number) }
     requires small { number < 100000000 }

@@ -109,7 +109,7 @@ pub fn write_bytes<W: fmt::Write>(f: &mut fmt::Formatter<W>, bytes: &[u8]) -> fm
     Ok(())
 }
 
-/// Writes the byte as the character with its number.
+/// Writes the character whose code point is the value of the byte.
 fn write_byte<W: fmt::Write>(f: &mut fmt::Formatter<W>, byte: u8) -> fmt::Result
     ensures { WritesStyledOnOk W.write_str_gives f.old result (encode_utf8 byte) f.new }
 {

@@ -8,6 +8,9 @@ ghost use Rattle.ixdtf_grammar.specs.InstantLaws.{CountsAreInOrder, CountsBeginI
 
 /// States that the next day, at the same time and offset, is 86,400 seconds later.
 ///
+/// The count of an instant is computed from the *day number* of a date. This is the number of days from 1 January 1970
+/// to the date.
+///
 /// - `first`: the day number of 1 January 1970 is 0.
 /// - `next`: if a date of the calendar is replaced by the next day, the instant is 86,400 seconds later.
 pub fn next_day_is_a_day_later()
