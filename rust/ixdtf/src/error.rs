@@ -41,13 +41,15 @@ pub enum ParseError {
     NonAsciiCodePoint,
     /// No reader returns this error.
     ParseFloat,
-    /// The text ends too early. `location` says what was being parsed:
+    /// The text ends too early. If `location` is `DateDurationDesignator` or `TimeDurationDesignator`, it is also
+    /// possible that a wrong character follows. `location` says what was being parsed:
     ///
     /// - `digit`: a digit must follow, as in `2020-1`.
     /// - `Date`: the text ends after the year of a date, as in `2020`.
     /// - `AmbiguousAnnotation`: the first bracket is not closed, and it is not known whether it is a zone or an
-    ///   annotation. There are two cases. Either the text ends after `[` or `[!`. Or a lowercase letter or `_` follows,
-    ///   and the text ends before the first `=` or `]`, as in `2020-01-01[cet`.
+    ///   annotation. There are two cases. In the first case, the text ends after `[` or `[!`. In the second case, a
+    ///   lowercase letter or `_` follows the `[` or `[!`, and the text ends before the first `=` or `]`, as in
+    ///   `2020-01-01[cet`.
     /// - `MonthDay`: the text for `parse_month_day` is empty, or is one hyphen.
     /// - `time-numoffset`: the text for `parse_offset` is empty, or the text for `parse_rfc3339` or `parse_rfc9557`
     ///   ends where the offset must begin.
@@ -63,11 +65,11 @@ pub enum ParseError {
         /// What was being parsed.
         location: &'static str,
     },
-    /// A complete part is followed by a character that must not follow it. The part is a date, a year-month, a month-day,
-    /// a time, an offset, a bracket or a duration.
+    /// A complete part is followed by a character that must not follow it. The part is a date, a year-month such as
+    /// `2020-11`, a month-day such as `11-07`, a time, an offset, a bracket or a duration.
     ///
-    /// In `parse_identifier` and `parse_iana_identifier`, a `]` after a name has this error. In a duration, a character after
-    /// the `P` that is neither a digit nor `T` or `t` has this error.
+    /// In `parse_identifier` and `parse_iana_identifier`, a `]` after a name has this error. In a duration, a character
+    /// directly after the `P` that is neither a digit nor `T` or `t` has this error.
     InvalidEnd,
     /// The month is not 01 to 12.
     InvalidMonthRange,
@@ -83,8 +85,8 @@ pub enum ParseError {
     /// contains a character that is not a digit. Or the text for `parse_month_day` begins with a character that is neither a
     /// digit nor a hyphen.
     DateMonth,
-    /// A day contains a character that is not a digit. Or, in a month and a day, the month is followed by a character
-    /// that is neither a hyphen nor a digit.
+    /// A day contains a character that is not a digit. Or, in a month-day, the month is followed by a character that is
+    /// neither a hyphen nor a digit.
     DateDay,
     /// No reader returns this error.
     DateUnexpectedEnd,
@@ -115,12 +117,13 @@ pub enum ParseError {
     InvalidAnnotation,
     /// No reader returns this error.
     AnnotationOpen,
-    /// A bracket is not closed: the text ends after the name of a zone or after the value of an annotation, or no `]`
-    /// follows the offset in the bracket.
+    /// A bracket is not closed. This is the error if the text ends after the value in a bracket or after the offset in
+    /// a bracket, or if another character than `]`, a colon or a digit follows this offset. This is also the error if
+    /// the text ends after the name of a zone, and the name does not begin with a lowercase letter or `_`.
     AnnotationClose,
     /// No reader returns this error.
     AnnotationChar,
-    /// The text ends in the key of an annotation, before its `=`.
+    /// In a bracket that is not the first one, the text ends in the key, before the `=`.
     AnnotationKeyValueSeparator,
     /// In a bracket that is not the first one, the key begins with a character that cannot begin a key. This is also
     /// the error if the text ends there.
@@ -153,13 +156,14 @@ pub enum ParseError {
     /// The name of a time zone contains a character that a name cannot contain, and that is not the `]` of its bracket.
     /// In `parse_rfc9557`, this is also the error of a name that RFC 9557 does not allow, such as `a/1` or `..`.
     IanaChar,
-    /// An offset has only one of its two colons: a digit follows `+05:00`, or a colon follows `+0500`. In
-    /// `parse_rfc3339` and `parse_rfc9557`, this is the error if no colon follows the hour of the offset.
+    /// An offset that can have seconds has only one of its two colons: a digit follows `+05:00`, or a colon follows
+    /// `+0500`. In `parse_rfc3339` and `parse_rfc9557`, this is the error if no colon follows the hour of the offset.
     UtcTimeSeparator,
     /// The text for `parse_offset` begins with a character that is not a sign. In `parse_rfc3339` and `parse_rfc9557`,
     /// this is the error if another character than a sign, `Z` or `z` is where the offset must begin.
     OffsetNeedsSign,
-    /// A month and a day begin with one hyphen and another character. Two hyphens or none are allowed.
+    /// A month-day begins with a hyphen, and the next character is not a hyphen. A month-day can begin with two hyphens
+    /// or with none.
     MonthDayHyphen,
     /// A duration begins with a character that is neither a sign nor `P` or `p`, or its sign is followed by
     /// another character than `P` or `p`.
@@ -174,11 +178,11 @@ pub enum ParseError {
     TimeDurationPartOrder,
     /// No digit follows the `T` of a duration. This is also the error if the text ends there.
     TimeDurationDesignator,
-    /// The text for `parse_time` is ambiguous: up to its first `[` it is a time, but it begins like a month and a day,
-    /// as in `1200`.
+    /// The text for `parse_time` is ambiguous: up to its first `[` it is a time, but it begins like a month-day, as in
+    /// `1200`.
     AmbiguousTimeMonthDay,
-    /// The text for `parse_time` is ambiguous: up to its first `[` it is a time, but it begins like a year and a month,
-    /// and not like a month and a day, as in `200112`.
+    /// The text for `parse_time` is ambiguous: up to its first `[` it is a time, but it begins like a year-month, and
+    /// not like a month-day, as in `200112`.
     AmbiguousTimeYearMonth,
     /// In the text for `parse_month_day`, the day is after the last day of the month. February has 29 days here. Under the strict
     /// profile, this is also the error of the day 00.

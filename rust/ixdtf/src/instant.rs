@@ -12,18 +12,20 @@ const BILLION: u32 = 1_000_000_000;
 /// Instants are ordered by the seconds, and then by the nanoseconds. If the nanoseconds of two instants are below
 /// 1,000,000,000, the earlier instant is the smaller one.
 ///
-/// `Display` writes the date and the time in UTC, such as `2024-03-02T08:48:00.25Z`. Years from 0 to 9999 have four digits.
-/// Other years have a sign and six digits, as in `+010000-01-01T00:00:00Z`. The fraction has no zeros at its end. If the
+/// `Display` writes the date and the time in UTC, such as `2024-03-02T08:48:00.25Z`. Years from 0 to 9999 have four
+/// digits. Other years have a sign and six digits, as in `+010000-01-01T00:00:00Z`. If six digits are not enough, the
+/// year has a sign and twelve digits, and no reader accepts this text. The fraction has no zeros at its end. If the
 /// nanoseconds are 0, no fraction is written. `Display` ignores width and fill.
 ///
-/// The fields are public, so a program can make an instant that no record has. If its year has more than six digits, `Display`
-/// writes a sign and twelve digits, and no reader accepts this text. If the nanoseconds are 1,000,000,000 or more, `Display`
-/// adds the complete seconds in them to the seconds.
+/// A year of more than six digits can come from the offset of a record: in UTC, `+999999-12-31T23:59:59-23:59` is in
+/// the year 1000000. Such a year can also come from a program, because the fields are public. A program can also make
+/// an instant with 1,000,000,000 nanoseconds or more. `Display` adds the complete seconds in these nanoseconds to the
+/// seconds.
 #[derive(Clone, Copy, Debug, PartialEq, Eq, PartialOrd, Ord, Hash)]
 pub struct Instant {
     /// The complete seconds since 1970-01-01T00:00:00Z, rounded down. The number is below zero for an instant before 1970.
     pub seconds: i64,
-    /// The nanoseconds after these seconds, 0 to 999,999,999.
+    /// The nanoseconds after these seconds. In the instant of a record, they are 0 to 999,999,999.
     pub nanoseconds: u32,
 }
 

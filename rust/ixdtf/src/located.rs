@@ -32,10 +32,10 @@ pub struct LocatedError {
 impl LocatedError {
     /// Returns the text with a mark under the position of the error, so that people can see where the text is wrong.
     ///
-    /// `text` must be the complete source of the parser. This parser must not have returned `Ok` before, because such a call
-    /// consumes the source. Otherwise the position is not counted from the beginning of `text`. For a source of 16-bit code
-    /// units, `text` is the same text as a `str`. All code units before an error of a reader are from 1 to 126, so the position
-    /// is also a number of bytes in `text`.
+    /// `text` must be the complete source of the parser that returned this error. An earlier call on this parser must
+    /// not have returned `Ok`: such a call consumes the source, so the position of this error would not be counted from
+    /// the beginning of `text`. For a source of 16-bit code units, `text` is the same text as a `str`. All code units
+    /// before an error of a reader are from 1 to 126, so the position is also a number of bytes in `text`.
     ///
     /// The `Display` of the result writes two lines, without a newline at the end. [`PointedText`] describes what it
     /// writes for a long text, and for control characters.

@@ -29,8 +29,8 @@ pub struct IxdtfParseRecord<'a, T: EncodingType> {
     pub tz: Option<TimeZoneAnnotation<'a, T>>,
     /// The calendar: the value of the first annotation with the key `u-ca` (`suffix-tag` of RFC 9557, section 4.1).
     ///
-    /// With a handler, this is the first such annotation that the handler returned. It is not checked that such a
-    /// calendar exists.
+    /// With a handler, this is the value of the first such annotation that the handler returned. It is not checked that
+    /// such a calendar exists.
     pub calendar: Option<&'a [T::CodeUnit]>,
 }
 
@@ -169,8 +169,8 @@ impl<'a> TimeZoneRecord<'a, Utf8> {
 #[derive(Clone, Copy, Debug, PartialEq, Eq, Hash)]
 #[repr(i8)]
 pub enum Sign {
-    /// The text has a `-`, or an unknown offset is represented by `-00:00` (see
-    /// [`resolve_rfc_9557`](UtcOffsetRecordOrZ::resolve_rfc_9557)).
+    /// The text has a `-`. This is also the sign of the `-00:00` that
+    /// [`resolve_rfc_9557`](UtcOffsetRecordOrZ::resolve_rfc_9557) returns for `Z`.
     Negative = -1,
     /// The text has a `+`, or has no sign and needs none.
     Positive = 1,
@@ -446,11 +446,12 @@ pub enum TimeDurationRecord {
     },
 }
 
-/// The first digits of a fraction, at most 18. This type is only for crates of this repository, and not a part of the public
-/// interface.
+/// The first digits of a fraction, at most 18. This type is only for crates of this repository, and not a part of the
+/// public interface.
 ///
-/// While digits are read one by one, their value is an ordinary number. A [`Fraction`] has it in eight bytes that are packed, and
-/// Rattle's compiler takes about 50 instructions to pack it.
+/// While digits are read one by one, their value is an ordinary number. A [`Fraction`] stores its value in a packed
+/// form, as eight bytes. Code that the compiler of Rattle makes takes about 50 instructions to pack a value. So the
+/// value is packed only once, after the last of these digits.
 #[doc(hidden)]
 #[derive(Clone, Copy, Debug)]
 pub struct LeadingDigits {
@@ -469,7 +470,7 @@ impl LeadingDigits {
         }
     }
 
-    /// Returns whether there are fewer than 18 digits. Then one more digit changes the value.
+    /// Returns whether there are fewer than 18 digits. If so, one more digit becomes a part of the value.
     #[inline(always)]
     #[must_use]
     pub fn is_short(self) -> bool {
@@ -542,8 +543,8 @@ impl Fraction {
         })
     }
 
-    /// Returns the fraction with one more digit at its end. It must have 18 digits or more, so the digit is only
-    /// counted.
+    /// Returns the fraction with one more digit at its end. There must be 18 digits or more already, so the new digit
+    /// is only counted. If the count is 255, it does not change.
     #[inline(always)]
     pub(crate) fn with_more(self) -> Fraction {
         Fraction {

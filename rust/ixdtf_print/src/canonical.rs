@@ -27,10 +27,10 @@ use core::fmt;
 /// zeros.
 ///
 /// A record of `parse_year_month` has the first day of the month, so this function writes `2020-11-01` for `2020-11`. A
-/// record of `parse_month_day` has the year 0, so this function writes `0000-11-07` for `11-07`. A record of `parse_time`
-/// has no date, so this function refuses it. To print these records in their own forms, call
-/// [`print_year_month`](crate::print_year_month), [`print_month_day`](crate::print_month_day) and
-/// [`print_time`](crate::print_time).
+/// record of `parse_month_day` has the year 0, so this function writes `0000-11-07` for `11-07`. If the day of such a
+/// record is 00, this function refuses the record. A record of `parse_time` has no date, so this function refuses it.
+/// To print these records in their own forms, call [`print_year_month`](crate::print_year_month),
+/// [`print_month_day`](crate::print_month_day) and [`print_time`](crate::print_time).
 ///
 /// Returns the number of bytes that were written.
 ///
@@ -60,8 +60,8 @@ use core::fmt;
 ///
 /// After an error, the slice is unchanged.
 ///
-/// - [`PrintError::NotPrintable`]: the record has no canonical text. It has no date, or an offset without a time, or a value
-///   that `parse` never returns, such as the month 13 or February 30.
+/// - [`PrintError::NotPrintable`]: the record has no canonical text. This is so if it has no date, if it has an offset
+///   without a time, or if it has a value that `parse` never returns, such as the month 13 or February 30.
 /// - [`PrintError::TooShort`]: the slice is shorter than the canonical text.
 pub fn print(parsed: &IxdtfParseRecord<'_, Utf8>, out: &mut [u8]) -> Result<usize, PrintError> {
     text::print(Canonical { parsed }, out)
@@ -93,8 +93,9 @@ pub fn print(parsed: &IxdtfParseRecord<'_, Utf8>, out: &mut [u8]) -> Result<usiz
 ///
 /// After an error, the slice is unchanged.
 ///
-/// - [`PrintError::NotPrintable`]: the record has no canonical text. It has no date, or an offset without a time, or a value
-///   that `parse` never returns for 16-bit text, such as a name with a code unit that is not ASCII.
+/// - [`PrintError::NotPrintable`]: the record has no canonical text. This is so if it has no date, if it has an offset
+///   without a time, or if it has a value that `parse` never returns for 16-bit text, such as a name with a code unit
+///   that is not ASCII.
 /// - [`PrintError::TooShort`]: the slice is shorter than the canonical text.
 #[inline]
 pub fn print_utf16(
@@ -108,8 +109,9 @@ pub fn print_utf16(
 /// Writes the canonical text of the record to the beginning of a slice that is long enough, like [`print`]. Returns the
 /// number of bytes.
 ///
-/// The function tests neither the record nor the length of the slice. A caller can use it for a record that it has just parsed
-/// from a text, if the slice is long enough for each canonical text of such a record.
+/// The function tests neither the record nor the length of the slice. A caller can use it for a record that `parse` has
+/// just returned. The canonical text of such a record has at most 14 bytes more than the text that was parsed. So a
+/// slice that is 14 bytes longer than the parsed text is long enough.
 // Only other crates of this repository use this item. It is not part of the public interface.
 #[doc(hidden)]
 pub fn print_with_room(parsed: &IxdtfParseRecord<'_, Utf8>, room: &mut [u8]) -> usize {

@@ -17,7 +17,8 @@ fn is_day(date: DateRecord) -> bool {
     1 <= date.day && date.day <= days_in_month(date.year, date.month)
 }
 
-/// Returns whether the numbers are a time whose greatest second is `last`. The fraction is not tested.
+/// Returns whether the hour is at most 23, the minute is at most 59, and the second is at most `last`. The fraction is
+/// not tested.
 fn is_clock(last: u8, hour: u8, minute: u8, second: u8, fraction: Option<Fraction>) -> bool {
     hour <= 23 && minute <= 59 && second <= last
 }
@@ -27,7 +28,7 @@ fn is_day_time(time: TimeRecord) -> bool {
     is_clock(60, time.hour, time.minute, time.second, time.fraction)
 }
 
-/// Returns whether the numbers are an offset with hours and minutes.
+/// Returns whether the hours of the offset are at most 23, and its minutes are at most 59.
 pub fn is_minute_clock(offset: MinutePrecisionOffset) -> bool {
     offset.hour <= 23 && offset.minute <= 59
 }
@@ -54,7 +55,8 @@ pub fn is_shift(offset: UtcOffsetRecordOrZ) -> bool {
     }
 }
 
-/// Returns whether there is a date, and this date is a day of the Gregorian calendar.
+/// Returns whether there is a date, and this date is a day of the Gregorian calendar, in a year with at most six
+/// digits.
 fn has_day(date: Option<DateRecord>) -> bool {
     match date {
         None => false,
@@ -62,7 +64,8 @@ fn has_day(date: Option<DateRecord>) -> bool {
     }
 }
 
-/// Returns whether the time and the offset have texts. An offset without a time has none.
+/// Returns whether the time and the offset have texts. A time or an offset that the record does not have needs no text.
+/// But an offset without a time has no text.
 #[inline(always)]
 pub fn has_time(time: Option<TimeRecord>, offset: Option<UtcOffsetRecordOrZ>) -> bool {
     match (time, offset) {
@@ -123,7 +126,8 @@ fn has_calendar(calendar: Option<&[u8]>) -> bool {
     }
 }
 
-/// Returns whether the zone and the calendar have texts.
+/// Returns whether the zone and the calendar have texts. A zone or a calendar that the record does not have needs no
+/// text.
 #[inline(always)]
 pub fn has_brackets(parsed: &IxdtfParseRecord<'_, Utf8>) -> bool {
     has_zone(&parsed.tz) && has_calendar(parsed.calendar)

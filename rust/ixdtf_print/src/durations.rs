@@ -56,8 +56,9 @@ pub fn print_duration(duration: &DurationParseRecord, out: &mut [u8]) -> Result<
 
 /// Writes the canonical text of a duration as 16-bit code units, like [`print_duration`](crate::print_duration).
 ///
-/// Each code unit is the number of an ASCII character, so [`IsoDurationParser::from_utf16`](ixdtf::parsers::IsoDurationParser::from_utf16)
-/// reads the text. The number of code units is the number of bytes that `print_duration` writes.
+/// Each code unit is the number of an ASCII character, so
+/// [`IsoDurationParser::from_utf16`](ixdtf::parsers::IsoDurationParser::from_utf16) makes a parser that reads the text.
+/// The number of code units is the number of bytes that `print_duration` writes.
 ///
 /// # Examples
 ///

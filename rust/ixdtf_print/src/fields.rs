@@ -96,7 +96,8 @@ fn put_seconds(out: &mut [u8], at: usize, mark: u8, hour: u8, minute: u8, second
     )
 }
 
-/// Writes a separator and a clock at index `at`. Returns the index after them.
+/// Writes a separator, an hour, a minute, a second and, if there is one, a fraction at index `at`. Returns the index
+/// after them.
 fn put_clock(
     out: &mut [u8],
     at: usize,
@@ -174,7 +175,8 @@ pub fn opening_of(critical: bool) -> &'static [u8] {
     }
 }
 
-/// Writes what comes before a zone at index `at`: one or two bytes, in one step. Returns the index after it.
+/// Writes the beginning of the bracket of a zone at index `at`: `[!` if the zone is critical, and otherwise `[`. The
+/// two bytes of `[!` are written in one step. Returns the index after the beginning.
 fn put_opening(out: &mut [u8], at: usize, critical: bool) -> usize {
     if critical {
         return put(out, at, b"[!");

@@ -8,8 +8,10 @@ use ixdtf::records::{
     UtcOffsetRecord, UtcOffsetRecordOrZ,
 };
 
-/// An upper bound of the number of bytes of a canonical text without the name of its zone and its calendar. The date,
-/// the time and the offset have at most 543 bytes, the bracket of a zone 9, and the bracket of a calendar 7.
+/// An upper bound of the number of bytes of a canonical text, without the name of its zone and without the value of its
+/// calendar. The date, the time and the offset together have at most 543 bytes. A zone that is an offset has at most 9
+/// bytes with its bracket, as in `[!+01:00]`, and the bracket of a name has at most 3 bytes without the name. The
+/// bracket of a calendar has 7 bytes without the value.
 const MOST_BESIDES_NAMES: usize = 560;
 
 /// Returns the number of bytes of the fraction, with its point.
@@ -108,9 +110,10 @@ pub fn core_length(parsed: &IxdtfParseRecord<'_, Utf8>) -> u16 {
 
 /// Tests quickly whether the canonical text of a record fits into `room` bytes. The record must have a canonical text.
 ///
-/// `true` means that the text fits. `false` means that the caller must count the length, because the text may fit or not.
-/// `MOST_BESIDES_NAMES` bytes of `room` are enough for everything except the name of the zone and the calendar. The result is
-/// `true` if the name and the calendar each have at most half of the remaining bytes of `room`.
+/// `true` means that the text fits. `false` means that the caller must count the length, because the text may fit or
+/// not. `MOST_BESIDES_NAMES` bytes of `room` are enough for everything except the name of the zone and the value of the
+/// calendar. The result is `true` if `room` is at least `MOST_BESIDES_NAMES`, and if the name and the value each have
+/// at most half of the remaining bytes of `room`.
 #[inline(always)]
 #[must_use]
 pub fn has_plenty(parsed: &IxdtfParseRecord<'_, Utf8>, room: usize) -> bool {

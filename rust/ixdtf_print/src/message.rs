@@ -4,7 +4,8 @@
 
 use ixdtf::ParseError;
 
-/// Returns the two parts of the text that `Display` writes for an error: the message, and the location of an `AbruptEnd`.
+/// Returns the text that `Display` writes for an error, in two parts. For an `AbruptEnd`, the second part is its
+/// location. For any other error, the second part is empty.
 ///
 /// With these two parts, a program can write the error into a line without `Display`.
 // Only other crates of this repository use this item. It is not part of the public interface.

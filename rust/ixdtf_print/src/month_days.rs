@@ -116,10 +116,11 @@ pub fn month_day_length(parsed: &IxdtfParseRecord<'_, Utf8>) -> Option<usize> {
     text::printed_length(CanonicalMonthDay { parsed })
 }
 
-/// Returns the number of code units of the canonical text of a month and a day that was read from 16-bit text.
+/// Returns the number of code units of the canonical text of a month and a day, for a record that was read from 16-bit
+/// text.
 ///
-/// A slice of this length is long enough for [`print_month_day_utf16`](crate::print_month_day_utf16). Returns `None` if the record has no
-/// canonical text, or if a `usize` cannot hold its length.
+/// A slice of this length is long enough for [`print_month_day_utf16`](crate::print_month_day_utf16). Returns `None` if
+/// the record has no canonical text, or if a `usize` cannot hold its length.
 ///
 /// # Examples
 ///
@@ -207,7 +208,8 @@ fn has_lone_day(
     }
 }
 
-/// Returns whether the date has the year 0, and a day that its month has in some year, or the day 0.
+/// Returns whether the year of the date is 0, its month is 1 to 12, and its day is 0 or a day that this month has in
+/// some year.
 fn is_day_of_any_year(date: DateRecord) -> bool {
     date.year == 0
         && 1 <= date.month

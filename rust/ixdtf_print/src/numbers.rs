@@ -1,6 +1,6 @@
 // Made by tools/to_rust.py of crates/ixdtf_print/src/numbers.rt. Do not edit.
 
-//! Functions that write numbers without leading zeros into a slice.
+//! Functions that write a number without leading zeros into a slice, and a function that counts its digits.
 
 use crate::digits::{ones_digit, put_four, tens_digit};
 use crate::put::{put, put_byte};
@@ -38,7 +38,8 @@ fn put_long(out: &mut [u8], at: usize, number: u64) -> usize {
     put_eight(out, last, number % 100_000_000)
 }
 
-/// Writes the part of a number before its last eight digits at index `at`. Returns the index after it.
+/// Writes a number below 1,000,000,000,000 without leading zeros at index `at`. Returns the index after it. The number
+/// is the part of a longer number before its last eight digits.
 fn put_front(out: &mut [u8], at: usize, number: u64) -> usize {
     if number < 100_000_000 {
         return put_below_100_000_000(out, at, number);
@@ -47,7 +48,8 @@ fn put_front(out: &mut [u8], at: usize, number: u64) -> usize {
     put_eight(out, last, number % 100_000_000)
 }
 
-/// Writes a number below 100,000,000 with eight digits at index `at`. Returns the index after them.
+/// Writes a number below 100,000,000 as eight digits, with leading zeros, at index `at`. Returns the index after them.
+/// The digits are the last eight digits of a longer number.
 fn put_eight(out: &mut [u8], at: usize, number: u64) -> usize {
     let last = put_four(out, at, number / 10_000);
     put_four(out, last, number % 10_000)

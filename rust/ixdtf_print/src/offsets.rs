@@ -50,8 +50,9 @@ pub fn print_offset(offset: &UtcOffsetRecord, out: &mut [u8]) -> Result<usize, P
 
 /// Writes the canonical text of an offset as 16-bit code units, like [`print_offset`](crate::print_offset).
 ///
-/// Each code unit is the number of an ASCII character, so [`TimeZoneParser::from_utf16`](ixdtf::parsers::TimeZoneParser::from_utf16)
-/// reads the text. The number of code units is the number of bytes that `print_offset` writes.
+/// Each code unit is the number of an ASCII character, so
+/// [`TimeZoneParser::from_utf16`](ixdtf::parsers::TimeZoneParser::from_utf16) makes a parser that reads the text. The
+/// number of code units is the number of bytes that `print_offset` writes.
 ///
 /// # Examples
 ///

@@ -15,8 +15,9 @@ pub fn put(out: &mut [u8], at: usize, bytes: &[u8]) -> usize {
 
 /// Writes any number of bytes at index `at`. Returns the index after them.
 ///
-/// Each call of `put_sixteen` writes sixteen bytes. The compiler would turn a loop that copies into a call of `memcpy`,
-/// and the library for C must not call other functions. The bytes that are left are written without a loop.
+/// The function calls `put_sixteen` once for every sixteen bytes. If the function copied bytes in a loop instead, the
+/// compiler would turn the loop into a call of `memcpy`. But the proved library for C must not call functions that it
+/// does not contain. At the end, fewer than sixteen bytes are left. They are written without a loop.
 #[inline(never)]
 pub fn put_each(out: &mut [u8], at: usize, bytes: &[u8]) -> usize {
     let mut place = at;

@@ -58,8 +58,9 @@ pub fn length<T: CanonicalText>(text: T) -> u128 {
 
 /// Returns the number of bytes of a core and a tail.
 ///
-/// The method `is_too_short` of the trait calls this function, and not `length`. The reason is that `length` calls other methods
-/// of the trait. In an implementation, these methods could call `is_too_short`.
+/// The default method `is_too_short` of the trait calls this function, and not `length`, because `length` has the bound
+/// `CanonicalText`. Rattle makes no proof of a default method that passes `Self` to a function with a bound on the same
+/// trait.
 #[inline(always)]
 pub fn length_of_parts(core_length: u16, tail: Tail<'_>) -> u128 {
     u128::from(core_length) + tail_length(tail)
@@ -73,14 +74,14 @@ fn put<T: CanonicalText>(text: T, out: &mut [u8]) -> usize {
     put_tail(out, after_core, rest)
 }
 
-/// Writes the canonical text to the beginning of a slice that is long enough, and returns its length.
+/// Writes the canonical text to the beginning of a slice that is long enough. Returns the number of bytes of the text.
 #[inline(always)]
 pub fn put_in_room<T: CanonicalText>(text: T, room: &mut [u8]) -> usize {
     put(text, room)
 }
 
-/// Writes the canonical text to the beginning of the slice, and returns its length. Returns an error if there is no
-/// canonical text, or if the slice is shorter than the text.
+/// Writes the canonical text to the beginning of the slice. Returns the number of bytes of the text. Returns an error
+/// if there is no canonical text, or if the slice is shorter than the text.
 #[inline(always)]
 pub fn print<T: CanonicalText>(text: T, out: &mut [u8]) -> Result<usize, PrintError> {
     if !text.is_printable() {

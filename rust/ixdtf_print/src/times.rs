@@ -15,10 +15,13 @@ use core::fmt;
 
 /// Writes the canonical text of a time, such as `08:48:00Z[u-ca=hebrew]`, to the beginning of the slice.
 ///
-/// The time is a record that [`IxdtfParser::parse_time`](ixdtf::parsers::IxdtfParser::parse_time) returns. The canonical
-/// text has the time with its seconds, and no `T`. If the record has an offset, a zone or a calendar, they follow the time,
-/// as [`print`](crate::print) writes them. `parse_time` accepts the canonical text, although this text has no `T`. The third
-/// byte of the text is a colon, so the text cannot begin with a month and a day, or with a year and a month.
+/// The time is a record that [`IxdtfParser::parse_time`](ixdtf::parsers::IxdtfParser::parse_time) returns. The
+/// canonical text has the time with its seconds, and no `T`. If the record has an offset, a zone or a calendar, they
+/// follow the time, as [`print`](crate::print) writes them.
+///
+/// `parse_time` accepts the canonical text, although this text has no `T`. Without a `T`, `parse_time` refuses a text
+/// that begins with a month and a day, or with a year and a month. A canonical text cannot begin with them, because its
+/// third byte is a colon.
 ///
 /// Returns the number of bytes that were written. The canonical text has at most 12 bytes more than the text that was
 /// parsed.
@@ -187,7 +190,8 @@ fn is_spelled(parsed: &IxdtfParseRecord<'_, Utf8>) -> bool {
     has_lone_time(parsed.date, parsed.time, parsed.offset) && has_brackets(parsed)
 }
 
-/// Returns whether there is no date, a time that has a text, and no offset without a text.
+/// Returns whether there is no date, there is a time, and the time has a text. If there is an offset, it must have a
+/// text too.
 fn has_lone_time(
     date: Option<DateRecord>,
     time: Option<TimeRecord>,

@@ -1,8 +1,10 @@
 // Made by tools/to_rust.py of crates/ixdtf_print/src/wide_names.rt. Do not edit.
 
-//! Records of 16-bit text printed as 16-bit code units: the names of zones, the calendars and their brackets.
+//! Functions that print a record of 16-bit text as 16-bit code units. They write its zone and its calendar, in
+//! brackets.
 //!
-//! The date, the time and the offset of a record are the same in both widths, so the functions for 8-bit text write them.
+//! The date, the time and the offset of a record do not depend on the width of the code units of the text. So the
+//! functions for 8-bit text write them.
 // Because of `#[inline]` at each function here, and at each public function that calls one of them, `rustc` compiles them only
 // into the crates that call them. Otherwise it would inline less into the functions for 8-bit text, and these would take up to a
 // tenth more.
@@ -97,7 +99,8 @@ pub fn zone_length(zone: &TimeZoneRecord<'_, Utf16>) -> Option<usize> {
     }
 }
 
-/// Returns a record with the date, the time and the offset of the record, and without names.
+/// Returns a record of 8-bit text with the date, the time and the offset of `parsed`. The result has no zone and no
+/// calendar.
 #[inline]
 pub fn without_names(parsed: &IxdtfParseRecord<'_, Utf16>) -> IxdtfParseRecord<'static, Utf8> {
     let mut core = IxdtfParseRecord::default();
@@ -136,7 +139,8 @@ fn has_zone(note: &Option<TimeZoneAnnotation<'_, Utf16>>) -> bool {
     }
 }
 
-/// Returns whether a component of a value can contain the code unit: an ASCII letter or a digit.
+/// Returns whether the code unit is an ASCII letter or a digit. A value of an annotation consists of these code units,
+/// and of hyphens between them.
 #[inline]
 fn is_value_unit(unit: u16) -> bool {
     unit <= 255 && is_annotation_value_component(unit as u8)
@@ -167,7 +171,8 @@ fn has_calendar(calendar: Option<&[u16]>) -> bool {
     }
 }
 
-/// Returns whether the zone and the calendar have texts.
+/// Returns whether the zone and the calendar have texts. A zone or a calendar that the record does not have needs no
+/// text.
 #[inline]
 fn has_brackets(parsed: &IxdtfParseRecord<'_, Utf16>) -> bool {
     has_zone(&parsed.tz) && has_calendar(parsed.calendar)

@@ -84,7 +84,7 @@ pub fn write_bytes(f: &mut fmt::Formatter<'_>, bytes: &[u8]) -> fmt::Result {
     Ok(())
 }
 
-/// Writes the byte as the character with its number.
+/// Writes the character whose code point is the value of the byte.
 fn write_byte(f: &mut fmt::Formatter<'_>, byte: u8) -> fmt::Result {
     let mut bytes = [0; 4];
     f.write_str(char::from(byte).encode_utf8(&mut bytes))

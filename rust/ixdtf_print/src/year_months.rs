@@ -114,10 +114,11 @@ pub fn year_month_length(parsed: &IxdtfParseRecord<'_, Utf8>) -> Option<usize> {
     text::printed_length(CanonicalYearMonth { parsed })
 }
 
-/// Returns the number of code units of the canonical text of a year and a month that was read from 16-bit text.
+/// Returns the number of code units of the canonical text of a year and a month, for a record that was read from 16-bit
+/// text.
 ///
-/// A slice of this length is long enough for [`print_year_month_utf16`](crate::print_year_month_utf16). Returns `None` if the record has no
-/// canonical text, or if a `usize` cannot hold its length.
+/// A slice of this length is long enough for [`print_year_month_utf16`](crate::print_year_month_utf16). Returns `None`
+/// if the record has no canonical text, or if a `usize` cannot hold its length.
 ///
 /// # Examples
 ///

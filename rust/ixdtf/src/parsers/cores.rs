@@ -162,8 +162,9 @@ fn parse_date_time<'a, T: EncodingType>(
 
 /// Reads what follows a date and a time in fixed columns, and writes all into the record.
 ///
-/// For speed, `time` is a local variable of this function. If a function that is not inlined wrote `time`, it would be in
-/// memory. Then the processor would have to wait for single bytes before it could copy them as one block.
+/// For speed, `time` is a local variable of this function. If a function that is not inlined wrote `time`, then `time`
+/// would be in memory. It would be written byte by byte, and then copied as one block. The copy would have to wait
+/// until the bytes are written.
 #[inline(always)]
 fn parse_after_fixed<'a, T: EncodingType>(
     cursor: &mut Cursor<'a, T>,
@@ -207,7 +208,10 @@ fn parse_timed<'a, T: EncodingType>(
     parse_after_time(cursor, time, found)
 }
 
-/// Reads a time, and not what follows it. The function works on a second cursor, so that `cursor` can stay a local variable.
+/// Reads a time, and not what follows it.
+///
+/// For speed, the function works on a second cursor. The second cursor is a local variable, so it can stay in
+/// registers. A cursor behind a reference, such as `cursor`, is written to memory at each step.
 #[inline(always)]
 fn parse_time_of_day<'a, T: EncodingType>(
     cursor: &mut Cursor<'a, T>,
@@ -270,8 +274,8 @@ fn parse_after_time<'a, T: EncodingType>(
 
 /// Reads an offset after its sign.
 ///
-/// If the offset is in fixed columns, has no seconds, and ends the core, it is read there. Otherwise a second cursor
-/// reads it.
+/// If the offset is in fixed columns, has no seconds, and ends the core, it is read in these columns. Otherwise it is
+/// read part by part, with a second cursor.
 #[inline(always)]
 fn parse_signed<'a, T: EncodingType>(
     cursor: &mut Cursor<'a, T>,
@@ -302,8 +306,8 @@ fn parse_offset_part_by_part<'a, T: EncodingType>(
     close_core(cursor)
 }
 
-/// Expects the end of the input or a `[` after a core. Returns which of the two it is, or `InvalidEnd` for any other
-/// code unit.
+/// Expects the end of the input or a `[` after a core. Returns which of the two it is. Returns `NonAsciiCodePoint` for
+/// a 16-bit code unit outside 1 to 126, and `InvalidEnd` for any other code unit.
 #[inline(always)]
 fn close_core<'a, T: EncodingType>(cursor: &mut Cursor<'a, T>) -> Result<AfterCore, Stop> {
     match cursor.look()? {

@@ -69,7 +69,8 @@ impl<'a, T: EncodingType> IxdtfParser<'a, T> {
     /// - `InvalidDayRange`: the month does not have this day.
     /// - `DateSeparator`: no `-` follows the month, or another character than `-` follows the year.
     /// - `TimeSeparator`: neither `T` nor `t` follows the date, or no `:` follows the hour or the minute of the time.
-    /// - `FractionPart`: no digit follows the `.`, or a `,` follows the second.
+    /// - `FractionPart`: no digit follows the `.`. This is also the error if the text ends there, or if a `,` follows
+    ///   the second.
     /// - `OffsetNeedsSign`: the character where the offset has to begin is not a sign, `Z` or `z`. But directly
     ///   after the second, a `.` begins a fraction, and a `,` has the error `FractionPart`.
     /// - `UtcTimeSeparator`: no `:` follows the hour of the offset.

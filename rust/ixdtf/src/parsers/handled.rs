@@ -374,7 +374,7 @@ impl<'a, T: EncodingType> IxdtfParser<'a, T> {
         self.read_as::<LocatedError, Times, F>(handler)
     }
 
-    /// Reads a text with a core of the kind, like
+    /// Reads a text with a core of the kind that `C` reads, like
     /// [`parse_with_annotation_handler`](Self::parse_with_annotation_handler). The error is made from a `Stop`.
     #[inline(always)]
     pub(crate) fn read_as<E: FromStop, C: CoreReader, F>(

@@ -44,9 +44,12 @@ impl Profile {
         }
     }
 
-    /// Returns by how much the rank of a duration unit must at least exceed the rank of the unit directly before it.
+    /// Returns 1 if each duration unit must be shorter than the unit directly before it, and 0 if a unit may also be
+    /// repeated.
     ///
-    /// In each part of a duration, the longest unit has the rank 1, the next shorter unit has the rank 2, and so on.
+    /// Each duration unit has a *rank*. In each part of a duration, the longest unit has the rank 1, the next shorter
+    /// unit has the rank 2, and so on. The rank of a unit must be greater than the rank of the unit directly before it
+    /// by at least the result of this function.
     #[inline(always)]
     pub(crate) fn least_step(self) -> u8 {
         match self {

@@ -16,10 +16,14 @@ use crate::stop::{Stop, StopAt};
 impl<'a, T: EncodingType> IxdtfParser<'a, T> {
     /// Reads all of the remaining input into an empty record. After an error, the remaining input is unchanged.
     ///
-    /// All public readers of `IxdtfParser` call this function: those without a handler through `read_unhandled`, and
-    /// those with a handler through `read_as` or `read_lending_handler`. A function that makes a record on its own must
-    /// return it in an arm of its own. If two arms end in one value, or if a result is passed on, the record is copied
-    /// once more.
+    /// All public readers of `IxdtfParser` call this function, except `parse_rfc3339` and `parse_rfc3339_located`. The
+    /// readers without a handler call it through `read_unhandled`, and those with a handler call it through `read_as`.
+    /// `read_lending_handler` calls it directly.
+    ///
+    /// Most of these readers make the record as a local variable, and then have a `match` on the result of the call.
+    /// For speed, the record is returned in one arm of this `match`, the error is returned in another arm, and each of
+    /// the two arms returns. If both arms ended in one value, or if a result with the record were passed on, the record
+    /// would be copied once more.
     #[inline(always)]
     pub(crate) fn read_into<C: CoreReader, F>(
         &mut self,
@@ -43,8 +47,8 @@ impl<'a, T: EncodingType> IxdtfParser<'a, T> {
     }
 }
 
-/// Reads a core of the kind under the profile, and the brackets after it up to the end of the input, into an empty
-/// record. Calls the handler with each annotation.
+/// Reads a core of the kind that `C` reads under the profile. Then reads the brackets after it, up to the end of the
+/// input. Writes both into an empty record. Calls the handler with each annotation.
 fn parse_text<'a, T: EncodingType, C: CoreReader, F>(
     cursor: &mut Cursor<'a, T>,
     profile: Profile,
@@ -101,7 +105,7 @@ fn place_bracket<'a, T: EncodingType>(
     }
 }
 
-/// Writes the value of the calendar that was kept into the record.
+/// Writes the value of the kept calendar into the record. `parse_annotations` returned this calendar.
 #[inline(always)]
 fn place_calendar<'a, T: EncodingType>(
     calendar: Option<Annotation<'a, T>>,

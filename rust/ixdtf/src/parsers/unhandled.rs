@@ -18,7 +18,7 @@ impl<'a, T: EncodingType> IxdtfParser<'a, T> {
     /// 1. A date: `2020-11-08` or `20201108`. The year has four digits, or a sign and six digits.
     /// 2. `T`, `t` or a space, and a time: `12`, `12:30`, `1230`, `12:30:45` or `123045`. The last two can have a
     ///    fraction, such as `.25` or `,25`.
-    /// 3. After a time, `Z`, `z` or an offset, as in [`TimeZoneParser::parse_offset`](super::TimeZoneParser::parse_offset).
+    /// 3. `Z`, `z` or an offset, only if there is a time. An offset is as in [`TimeZoneParser::parse_offset`](super::TimeZoneParser::parse_offset).
     /// 4. A time zone in brackets: `[`, an optional `!`, a zone as in [`TimeZoneParser::parse_identifier`](super::TimeZoneParser::parse_identifier), and `]`.
     /// 5. Any number of annotations: `[`, an optional `!`, a key, `=`, a value and `]`. A key consists of lowercase
     ///    ASCII letters, digits, `_` and `-`. Its first character is a letter or `_`. A value consists of groups of ASCII
@@ -73,9 +73,10 @@ impl<'a, T: EncodingType> IxdtfParser<'a, T> {
     /// The first wrong part of the text decides the error. A month, day, hour, minute or second out of its range is an error before
     /// the next code unit is read. To get the position of the error, call [`parse_located`](Self::parse_located).
     ///
-    /// - `AbruptEnd`: the text ends too early. The location is `Date` if it ends after the year, and `digit` if it ends
-    ///   where a digit is required. The location is `AmbiguousAnnotation` in two cases. Either the text ends after the `[` or
-    ///   `[!` of the first bracket. Or a lowercase letter or `_` follows it, and the rest of the text has neither `=` nor `]`.
+    /// - `AbruptEnd`: the text ends too early. The field `location` is `Date` if the text ends after the year, and
+    ///   `digit` if the text ends where a digit is required. The location is `AmbiguousAnnotation` if the text ends
+    ///   after the `[` or `[!` of the first bracket. The location is also `AmbiguousAnnotation` if a lowercase letter
+    ///   or `_` follows this `[` or `[!`, and no `=` or `]` comes later.
     /// - `DateYear`: another character occurs instead of a digit of the year.
     /// - `DateExtendedYear`: another character occurs instead of a digit of a year with a sign, or the year is
     ///   `-000000`.
@@ -89,7 +90,8 @@ impl<'a, T: EncodingType> IxdtfParser<'a, T> {
     /// - `TimeSecond`: another character occurs instead of a digit of the second of the time, or this second is greater
     ///   than 60.
     /// - `TimeSeparator`: a digit follows a time such as `12:30`, or a colon follows a time such as `1230`.
-    /// - `UtcTimeSeparator`: a digit follows an offset such as `+05:30`, or a colon follows an offset such as `+0530`.
+    /// - `UtcTimeSeparator`: outside brackets, a digit follows an offset such as `+05:30`, or a colon follows an offset
+    ///   such as `+0530`.
     /// - `FractionPart`: no digit follows the `.` or `,`. This is also the error if the text ends there.
     /// - `InvalidMinutePrecisionOffset`: a colon or a digit follows the minute of an offset in brackets.
     /// - `TzLeadingChar`: the first bracket begins with a character that can begin neither a zone nor a key.
@@ -98,12 +100,14 @@ impl<'a, T: EncodingType> IxdtfParser<'a, T> {
     ///   cannot contain, or by the end of the text.
     /// - `AnnotationKeyLeadingChar`: a bracket that is not the first one does not begin with a key.
     /// - `AnnotationKeyChar`: a key contains a character that a key cannot contain.
-    /// - `AnnotationKeyValueSeparator`: the text ends in a key.
+    /// - `AnnotationKeyValueSeparator`: in a bracket that is not the first one, the text ends in the key.
     /// - `AnnotationValueChar`: no value begins after the `=`, or a value contains a character that a value cannot
     ///   contain.
     /// - `AnnotationValueCharPostHyphen`: in a value, a `-` is not followed by an ASCII letter or digit.
-    /// - `AnnotationClose`: the text ends after the name or the value in a bracket, or no `]` follows the offset in a
-    ///   bracket.
+    /// - `AnnotationClose`: a bracket is not closed. This is the error if the text ends after the value in a bracket or
+    ///   after the offset in a bracket, or if another character than `]`, a colon or a digit follows this offset. This
+    ///   is also the error if the text ends after the name of a zone, and the name does not begin with a lowercase
+    ///   letter or `_`.
     /// - `UnrecognizedCritical`: an annotation is critical, and its key is not `u-ca`. What follows this annotation is
     ///   not read.
     /// - `CriticalDuplicateCalendar`: an annotation with the key `u-ca` has a value that differs from that of the first
@@ -168,7 +172,8 @@ impl<'a, T: EncodingType> IxdtfParser<'a, T> {
     /// the error is `InvalidEnd`. Brackets have the errors that they have in [`parse`](Self::parse). In addition, a zone
     /// that [`parse`](Self::parse) accepts has one of these errors if RFC 9557 does not allow the zone:
     ///
-    /// - `IanaChar`: a part of the name of the zone begins with a digit, with `+` or with `-`, or is `.` or `..`.
+    /// - `IanaChar`: the name of the zone consists of parts, with a `/` between two parts. One of the parts begins with
+    ///   a digit, with `+` or with `-`, or is `.` or `..`.
     /// - `InvalidMinutePrecisionOffset`: the offset of the zone does not have the form `+05:30`.
     #[inline(always)]
     pub fn parse_rfc9557(&mut self) -> ParserResult<IxdtfParseRecord<'a, T>> {
@@ -217,7 +222,8 @@ impl<'a, T: EncodingType> IxdtfParser<'a, T> {
     /// [`parse_year_month_located`](Self::parse_year_month_located). Brackets have the errors that they have in
     /// [`parse`](Self::parse). These are the errors before the brackets:
     ///
-    /// - `AbruptEnd`: the text ends after the year, or where a digit is required (location `digit`).
+    /// - `AbruptEnd`: the text ends after the year, or where a digit is required. The location is `digit` in both
+    ///   cases.
     /// - `DateYear`: another character occurs instead of a digit of the year.
     /// - `DateExtendedYear`: another character occurs instead of a digit of a year with a sign, or the year is
     ///   `-000000`.
@@ -304,12 +310,13 @@ impl<'a, T: EncodingType> IxdtfParser<'a, T> {
     /// A time has the forms that it has in [`parse`](Self::parse), with or without a `T` or `t` before it. `Z`, `z` or
     /// an offset can follow, and then the same brackets as in [`parse`](Self::parse).
     ///
-    /// A text without `T` or `t` must not begin with a text that [`parse_month_day`](Self::parse_month_day) or
-    /// [`parse_year_month`](Self::parse_year_month) accepts. For example, `1214Z` is refused, because `1214` is also
-    /// month 12, day 14. The profile decides which texts are a month and a day.
+    /// A text that does not begin with `T` or `t` must not begin with a text that
+    /// [`parse_month_day`](Self::parse_month_day) or [`parse_year_month`](Self::parse_year_month) accepts. For example,
+    /// `1214Z` is refused, because `1214` is also month 12, day 14. The profile decides which texts are a month and a
+    /// day.
     ///
-    /// The record has the fields `time` and, if the text has an offset, `offset`. The fields `tz` and `calendar` are as
-    /// in [`parse`](Self::parse).
+    /// The record has the field `time`. If the text has `Z`, `z` or an offset, the record also has the field `offset`.
+    /// The fields `tz` and `calendar` are as in [`parse`](Self::parse).
     ///
     /// If the call succeeds, no input remains, and a second call returns the error of the empty text. If it fails, the
     /// input is unchanged, and a second call returns the same error.
@@ -579,8 +586,13 @@ impl<'a, T: EncodingType> IxdtfParser<'a, T> {
 
 /// Returns whether the record has no date. Does not change the record.
 ///
-/// A year and a month have a date, and so have a month and a day. Their readers have a `return` for each of the two
-/// results. So the compiler knows that the returned record has a date, and therefore that the result is not an error.
+/// Only `parse_year_month` and `parse_month_day` call this function, and they call it only for speed. Each record that
+/// they return has a date, so the result is always `false` there. The compiler does not know this.
+///
+/// With the call, each of these two readers returns `Ok` at two places. At one place, the compiler knows that the
+/// record has no date. At the other place, it knows that the record has a date. A compiler can store in one number
+/// whether a result is an error and, if it is not an error, whether its record has a date. So at both places the
+/// compiler knows that the result is not an error.
 #[inline(always)]
 fn lacks_date<'a, T: EncodingType>(found: &mut IxdtfParseRecord<'a, T>) -> bool {
     if found.date.is_none() {
