@@ -1,12 +1,14 @@
 /* ixdtf.h: functions that read and print date-times of RFC 9557, years with months, months with
  * days, times, offsets, time zones and durations. This is version 2 of the interface.
  *
- * LIBRARY. Link the static library libixdtf.a or the shared library libixdtf.so. The library
- * allocates no memory, keeps no state and starts no thread. c/build builds either the proved
- * library or the plain library. Both have the same functions. The proved library is for Linux on
- * x86-64 processors with SSE4.2 and POPCNT (x86-64-v2), and calls no function of another library.
- * The plain library is for each 64-bit system that rustc supports. It may call memcmp, memcpy and
- * similar functions of the C library. docs/C.md says what is proved about each of the two.
+ * LIBRARY. Link the static library libixdtf.a or the shared library libixdtf.so.2. The file
+ * libixdtf.so is a symbolic link to libixdtf.so.2, because a linker looks for the name libixdtf.so.
+ * The library allocates no memory, keeps no state and starts no thread. c/build builds either the
+ * proved library or the plain library. Both have the same functions. The proved library is for
+ * Linux on x86-64 processors with SSE4.2 and POPCNT (x86-64-v2), and calls no function of another
+ * library. The plain library is for each 64-bit system that rustc supports. It may call memcmp,
+ * memcpy and similar functions of the C library. docs/C.md says what is proved about each of the
+ * two.
  *
  * TEXTS. A text is passed as a pointer to its first code unit and a length, in code units. A code
  * unit has 8 bits in the functions whose names begin with ixdtf_, and 16 bits in the functions
@@ -19,9 +21,11 @@
  * RESULTS. A reader is a function that reads a text. A reader returns 0 (IXDTF_OK) if it accepts
  * the text. Otherwise it returns the number of the error, from 1 to 46. If a program ignores the
  * result, a compiler such as GCC or Clang warns.
- * If a reader returns 0, it has written every field of the record. The fields of a part that the
- * text does not contain are 0, false, or a slice of length 0. The length of `location` and the
- * value of `place` are 0 too.
+ * If a reader returns 0, it has written every field of the record. If the text does not contain a
+ * part, such as the time, the fields of this part are 0, false, or a slice of length 0. If the text
+ * has only two of the three numbers of a date, the date is present: for a year and a month, `day`
+ * is 1, and for a month and a day, `year` is 0. The length of `location` and the value of `place`
+ * are 0 too.
  * If a reader returns an error, the record is unchanged, except for `location` and `place`. So its
  * other fields have the values from before the call. They can be about an earlier text.
  * - `location` says what was being parsed, such as "digit", if the error is IXDTF_ABRUPT_END. This
@@ -50,14 +54,15 @@
  *
  * SLICES. A slice is a pointer and a length. A name or a calendar that a reader writes into a
  * record is a slice of the text that was read. So are the key and the value of an annotation that a
- * reader lists. The calendar that ixdtf_keep_calendar writes is the value of a reply that your
- * program passed to ixdtf_reply. A slice is not NUL-terminated. It is valid as long as the bytes to
- * which it points exist and are unchanged. The library keeps no pointer between calls. A location
- * and the text of an error are valid as long as the program runs. If a function writes a slice, its
- * pointer is never NULL, even if its length is 0.
+ * reader lists. The calendar that ixdtf_keep_calendar writes is the value of an annotation that
+ * your program passed to ixdtf_reply. A slice is not NUL-terminated. It is valid as long as the
+ * bytes to which it points exist and are unchanged. The library keeps no pointer between calls. A
+ * location and the text of an error are valid as long as the program runs. If a function writes a
+ * slice, its pointer is never NULL, even if its length is 0.
  * A reader accepts Foo/Bar as the name of a time zone, although no time zone has this name: the
  * library has no list of time zones. The name may have the parts "." and "..": for example,
- * ../../etc/passwd is such a name. Never join a name to a path without a check.
+ * ../../etc/passwd is such a name. There is one exception: the readers with _rfc9557 in their names
+ * refuse a name that has such a part. Never join a name to a path without a check.
  *
  * THREADS. Any number of threads may call the library at the same time, as long as no thread writes
  * what another thread uses. No function blocks, and each function returns. The time of a call is
@@ -69,7 +74,8 @@
  * added: this raises the revision. A program that was compiled with this header runs with each
  * library of the same version whose revision is not lower than the revision of the header.
  * This header has version 2. ixdtf_interface_version() returns the version of the library. It must
- * be equal to IXDTF_INTERFACE_VERSION. The file name of the shared library has the version.
+ * be equal to IXDTF_INTERFACE_VERSION. The file name of the shared library, libixdtf.so.2, ends
+ * with the version.
  */
 #ifndef IXDTF_H
 #define IXDTF_H
@@ -158,7 +164,8 @@ enum {
     IXDTF_NOT_PRINTABLE = 101,
     /* the array is too short; the length of the text is in `count` */
     IXDTF_TOO_SHORT = 102,
-    /* the record has no date, no time or no offset */
+    /* the record has no date, or no time, or neither an offset nor Z; or its month, a fraction or
+     * the `form` of its offset is not valid: ixdtf_instant has the details */
     IXDTF_NO_INSTANT = 103,
     /* the fraction is not a whole number of nanoseconds, or it has more than 18 digits */
     IXDTF_NOT_EXACT = 104
@@ -258,8 +265,9 @@ typedef struct ixdtf16_calendar {
     bool is_critical, is_there;
 } ixdtf16_calendar;
 
-/* The values of `time_form`. IXDTF_NO_TIME says that there is no time. The other values say which
- * duration unit is the last one of the time. */
+/* The values of `time_form` in a duration. The hours, minutes and seconds of a duration are its
+ * time. IXDTF_NO_TIME says that the duration has no time. The other values say which duration unit
+ * is the last one of the time. */
 enum { IXDTF_NO_TIME = 0, IXDTF_LAST_HOURS = 1, IXDTF_LAST_MINUTES = 2, IXDTF_LAST_SECONDS = 3 };
 typedef struct ixdtf_duration {
     uint64_t days;           /* 0 if has_date is false */
@@ -417,8 +425,9 @@ IXDTF_CHECKED_ uint32_t ixdtf_reply(ixdtf_calendar *calendar, const ixdtf_annota
  *   are unchanged. ixdtf_parse reads this text as the same record. So if two records differ in a
  *   value that matters, they have different canonical texts.
  * - IXDTF_NOT_PRINTABLE: there is no text for which ixdtf_parse writes this record. For example,
- *   the date is 30 February, no date is present, a `form` has a value that is not named above, or
- *   `fraction` has more digits than `fraction_digits` says. `out` and `count` are unchanged.
+ *   the date is 30 February, no date is present, or a `form` has a value that is not named above.
+ *   Another example: `fraction_digits` is not 0, and `fraction` has more digits than
+ *   `fraction_digits` says. `out` and `count` are unchanged.
  * - IXDTF_TOO_SHORT: the record can be printed, but the array is shorter than its canonical text.
  *   `out` is unchanged. The function has written the length of the text, in bytes, to `count`, or
  *   SIZE_MAX if a size_t cannot hold this length.
@@ -436,8 +445,9 @@ IXDTF_CHECKED_ uint32_t ixdtf_print(const ixdtf_record *record, uint8_t *out, si
  * different canonical texts. The text begins with - if the duration is negative. It has each
  * duration unit that is not 0. If the duration has a date, and all numbers of the date are 0, the
  * text has 0D.
- * The text always has the last unit of the time, because PT0H and PT0S are different durations. The
- * function returns IXDTF_NOT_PRINTABLE in these cases:
+ * If the duration has a time, the text has the last duration unit of the time, even if its number
+ * is 0, because PT0H and PT0S are different durations. The function returns IXDTF_NOT_PRINTABLE in
+ * these cases:
  * - The duration has neither a date nor a time.
  * - `time_form` has a value that is not named above.
  * - The duration has a time, `fraction_digits` is not 0, and `fraction` has more digits than
@@ -541,15 +551,17 @@ IXDTF_CHECKED_ uint32_t ixdtf16_parse_time_with_annotations_strict(const uint16_
     ixdtf16_record *out);
 IXDTF_CHECKED_ uint32_t ixdtf16_reply(ixdtf16_calendar *calendar, const ixdtf16_annotation *reply);
 
-/* The printers for 16-bit text. They write the canonical text to the array `out`, as 16-bit code
- * units: the code unit of each ASCII character is its number. `room` is the capacity of the array,
- * and a printer writes the length of the text to `count`. Both are numbers of code units. Otherwise
- * each printer does what a printer for 8-bit text does. To get the name of that printer, leave out
- * the 16. For example, ixdtf16_print does what ixdtf_print does, and ixdtf16_parse reads the text
- * as the same record. If a name or a calendar has a code unit outside 1 to 126, no reader of 16-bit
- * text writes this record. Then the printer returns IXDTF_NOT_PRINTABLE.
- * A duration or an offset has no code units. So you can also print one that a reader of 8-bit text
- * wrote. */
+/* The printers for 16-bit text. They write the canonical text to the array `out`. Each character is
+ * one 16-bit code unit, whose value is the ASCII number of the character. `room` is the capacity of
+ * the array, and a printer writes the length of the text to `count`. Both are numbers of code
+ * units. Otherwise each printer does what a printer for 8-bit text does. To get the name of that
+ * printer, leave out the 16. For example, ixdtf16_print does what ixdtf_print does, and
+ * ixdtf16_parse reads the text as the same record. If a name or a calendar has a code unit outside
+ * 1 to 126, no reader of 16-bit text writes this record. Then the printer returns
+ * IXDTF_NOT_PRINTABLE.
+ * The structs ixdtf_duration and ixdtf_offset have no slice of the text that was read, so they are
+ * the same for 8-bit and 16-bit text. So ixdtf16_print_duration and ixdtf16_print_offset also print
+ * a duration or an offset that a reader of 8-bit text wrote. */
 IXDTF_CHECKED_ uint32_t ixdtf16_print(const ixdtf16_record *record, uint16_t *out, size_t room,
     size_t *count);
 IXDTF_CHECKED_ uint32_t ixdtf16_print_duration(const ixdtf_duration *duration, uint16_t *out,
@@ -599,8 +611,11 @@ IXDTF_CHECKED_ int32_t ixdtf_offset_seconds(const ixdtf_offset *offset);
  * after the ninth are dropped. The second 60 is the same instant as the second 59.
  * You can also write the fields of the record yourself. Then the function accepts a day, an hour, a
  * minute or an offset that is out of range: hour 24 is hour 0 of the next day. A second above 59
- * counts as 59. The function also returns IXDTF_NO_INSTANT if the month is not 1 to 12, or if a
- * fraction or the `form` of the offset has a value that no reader writes. */
+ * counts as 59. The function also returns IXDTF_NO_INSTANT in these cases:
+ * - The month is not 1 to 12.
+ * - The `form` of the offset has a value that is not named above.
+ * - In the time, or in an offset whose `form` is IXDTF_SECONDS, `fraction_digits` is not 0, and
+ *   `fraction` has more digits than `fraction_digits` says, or more than 18 digits. */
 IXDTF_CHECKED_ uint32_t ixdtf_instant(const ixdtf_record *record, int64_t *seconds,
     uint32_t *nanoseconds);
 IXDTF_CHECKED_ uint32_t ixdtf16_instant(const ixdtf16_record *record, int64_t *seconds,
@@ -631,7 +646,7 @@ IXDTF_CHECKED_ size_t ixdtf_printed_length(const ixdtf_record *record);
 
 /* Return the length of the canonical text that ixdtf_print_duration, ixdtf_print_offset and
  * ixdtf_print_zone write, in bytes. They return 0 if the duration, the offset or the zone cannot be
- * printed. */
+ * printed. A size_t can always hold the length. */
 IXDTF_CHECKED_ size_t ixdtf_printed_duration_length(const ixdtf_duration *duration);
 IXDTF_CHECKED_ size_t ixdtf_printed_offset_length(const ixdtf_offset *offset);
 IXDTF_CHECKED_ size_t ixdtf_printed_zone_length(const ixdtf_zone *zone);
@@ -645,9 +660,11 @@ IXDTF_CHECKED_ size_t ixdtf_printed_year_month_length(const ixdtf_record *record
 IXDTF_CHECKED_ size_t ixdtf_printed_month_day_length(const ixdtf_record *record);
 
 /* Return the length of the canonical text that ixdtf16_print and the other printers of 16-bit text
- * write, in code units. Each of them returns 0 if its printer cannot print the record or the zone,
- * or if a size_t cannot hold the length. For a duration or an offset, ixdtf_printed_duration_length
- * and ixdtf_printed_offset_length return the number of code units too. */
+ * write, in code units. Each of them returns 0 if its printer cannot print the record or the zone.
+ * The four functions for a record also return 0 if a size_t cannot hold the length. A size_t can
+ * always hold the length of the text of a zone. For a duration or an offset,
+ * ixdtf_printed_duration_length and ixdtf_printed_offset_length return the number of code units
+ * too. */
 IXDTF_CHECKED_ size_t ixdtf16_printed_length(const ixdtf16_record *record);
 IXDTF_CHECKED_ size_t ixdtf16_printed_zone_length(const ixdtf16_zone *zone);
 IXDTF_CHECKED_ size_t ixdtf16_printed_time_length(const ixdtf16_record *record);

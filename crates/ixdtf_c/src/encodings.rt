@@ -22,13 +22,13 @@ use ixdtf_print::{
     time_length_utf16, year_month_length, year_month_length_utf16, zone_length, zone_length_utf16,
 };
 
-/// An encoding of canonical texts: the code units that the printers write. Names and calendars in the records have the same
-/// code units.
+/// An encoding of canonical texts: the code units that the printers write. Names and calendars in the records have code units
+/// of the same size.
 ///
 /// Each function that prints returns the number of code units. Each function for a length returns `None` if the record cannot
 /// be printed, or if the length is greater than `usize::MAX`.
 pub trait Printers: EncodingType + Sized {
-    /// Prints a date, or a date and a time, with the brackets.
+    /// Prints a date, or a date and a time, with its zone and its calendar in brackets.
     fn print_date_time(
         found: &IxdtfParseRecord<'_, Self>,
         out: &mut [Self::CodeUnit],
@@ -43,7 +43,7 @@ pub trait Printers: EncodingType + Sized {
         ensures none { (result ≡ None) ↔ ¬ (IsPrintable (parsed_of Self.number found.now) ×
             (length (canonical_text (parsed_of Self.number found.now)) < 2 ^ 64)) };
 
-    /// Prints a time, with the brackets.
+    /// Prints a time, with its zone and its calendar in brackets.
     fn print_time(
         found: &IxdtfParseRecord<'_, Self>,
         out: &mut [Self::CodeUnit],
@@ -58,7 +58,7 @@ pub trait Printers: EncodingType + Sized {
         ensures none { (result ≡ None) ↔ ¬ (IsPrintableTime (parsed_of Self.number found.now) ×
             (length (lone_time_text (parsed_of Self.number found.now)) < 2 ^ 64)) };
 
-    /// Prints a year and a month, with the brackets.
+    /// Prints a year and a month, with their zone and their calendar in brackets.
     fn print_year_month(
         found: &IxdtfParseRecord<'_, Self>,
         out: &mut [Self::CodeUnit],
@@ -73,7 +73,7 @@ pub trait Printers: EncodingType + Sized {
         ensures none { (result ≡ None) ↔ ¬ (IsPrintableYearMonth (parsed_of Self.number found.now) ×
             (length (year_month_text (parsed_of Self.number found.now)) < 2 ^ 64)) };
 
-    /// Prints a month and a day, with the brackets.
+    /// Prints a month and a day, with their zone and their calendar in brackets.
     fn print_month_day(
         found: &IxdtfParseRecord<'_, Self>,
         out: &mut [Self::CodeUnit],

@@ -14,12 +14,13 @@ use ixdtf::records::Annotation;
 /// A caller lists all annotations of a text, replies to them in order, and stops at the first reply that is refused. A
 /// *beginning* of a list is any number of its elements, from the first one on.
 ///
-/// - `gives`, `wide_gives`: There is a number n for which this is true: the text, with the first n annotations and the first n
-///   replies, *gives* the outcome of the caller. The definition `GivesResult` says what *gives* means: `GivesRecord` for a
-///   record, and `GivesFault` for an error. The contracts of the readers with a handler use the same two definitions.
-/// - `handling`, `wide_handling`: A reader of the same kind, but with a handler, reads the same text. Suppose that the replies
-///   of the handler, in order, are a beginning of the caller's list of replies. Then the reader has the same outcome as the
-///   caller. The annotations for which the reader called the handler are a beginning of the list of annotations.
+/// - `gives`, `wide_gives`: For some number n, the outcome of the caller follows from the text, the first n listed annotations
+///   and the first n replies. `GivesResult` defines this: by `GivesRecord` for a record, and by `GivesFault` for an error. The
+///   contracts of the readers with a handler use the same two definitions.
+/// - `handling`, `wide_handling`: Suppose that another reader reads the same text. This reader has a handler, and is of the
+///   same kind as the reader that listed the annotations. Suppose also that the replies of the handler, in order, are a
+///   beginning of the caller's list of replies. Then the reader with the handler has the same outcome as the caller. The
+///   annotations for which this reader called the handler are a beginning of the list of annotations.
 pub fn replying_is_handling<'a, T: EncodingType, F>()
 where
     T::CodeUnit: 'a,

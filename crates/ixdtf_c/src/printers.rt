@@ -89,7 +89,7 @@ pub extern "C" fn ixdtf_printed_duration_length(given: &Duration<'_>) -> usize
 ///
 /// Writes the text to the first bytes of `out`, and its length to `count`. Returns 0 if the text is written. Returns 101 if
 /// there is no text for which `ixdtf_parse_offset` writes this offset. Returns 102 if `out` is too short. Then `count` is the
-/// length of the text, or `usize::MAX` if the length is greater.
+/// length of the text.
 #[unsafe(no_mangle)]
 pub extern "C" fn ixdtf_print_offset(given: &Offset, out: &mut [u8], count: &mut usize) -> u32
     ensures prints { GivesText byte_letter (IsSomeAnd (shift_by given.now) IsPrintableOffset)
@@ -101,7 +101,7 @@ pub extern "C" fn ixdtf_print_offset(given: &Offset, out: &mut [u8], count: &mut
 
 /// Returns the length, in bytes, of the canonical text of an offset.
 ///
-/// Returns 0 if the offset cannot be printed, or if the length is greater than `usize::MAX`.
+/// Returns 0 if the offset cannot be printed. No offset has a text that is longer than `usize::MAX`.
 #[unsafe(no_mangle)]
 pub extern "C" fn ixdtf_printed_offset_length(given: &Offset) -> usize
     ensures length { IsSomeAnd (shift_by given.now) IsPrintableOffset →
@@ -117,7 +117,7 @@ pub extern "C" fn ixdtf_printed_offset_length(given: &Offset) -> usize
 ///
 /// Writes the text to the first bytes of `out`, and its length to `count`. Returns 0 if the text is written. Returns 101 if
 /// there is no text for which `ixdtf_parse_identifier` writes this name or this offset. Returns 102 if `out` is too short. Then
-/// `count` is the length of the text, or `usize::MAX` if the length is greater. `is_critical` does not matter.
+/// `count` is the length of the text. `is_critical` does not matter.
 #[unsafe(no_mangle)]
 pub extern "C" fn ixdtf_print_zone(given: &Zone<'_>, out: &mut [u8], count: &mut usize) -> u32
     ensures prints { GivesText byte_letter (IsSomeAnd (area_by (zone_contents given.now)) IsPrintableZone)
@@ -129,7 +129,7 @@ pub extern "C" fn ixdtf_print_zone(given: &Zone<'_>, out: &mut [u8], count: &mut
 
 /// Returns the length, in bytes, of the canonical text of a time zone without brackets.
 ///
-/// Returns 0 if the zone cannot be printed, or if the length is greater than `usize::MAX`.
+/// Returns 0 if the zone cannot be printed. No zone has a text that is longer than `usize::MAX`.
 #[unsafe(no_mangle)]
 pub extern "C" fn ixdtf_printed_zone_length(given: &Zone<'_>) -> usize
     ensures length { IsSomeAnd (area_by (zone_contents given.now)) IsPrintableZone →

@@ -33,8 +33,8 @@ pub trait HasText<T: EncodingType> {
     /// The canonical text of the value.
     ghost canonical: { Self → Text };
 
-    /// The value stands for one record of the library. States that the reader returns this record for the canonical text, and
-    /// that no other record of this kind has this canonical text.
+    /// States two facts about the record of the library for which the value stands. The reader returns this record for the
+    /// canonical text, and no other record of this kind has this canonical text.
     ghost reads_back: { Self → Type 0 };
 
     /// Prints the value, and returns the length of the text in code units.

@@ -1,4 +1,5 @@
-//! A caller that uses the library for C with a handler. It shows that a list of annotations can replace a handler.
+//! A caller that has a handler, but calls only functions of the library for C. It shows that a list of annotations can replace
+//! a reader with a handler.
 
 ghost use Rattle.std.specs.Prelude.{◌≡◌, ◌≢◌, ◌≤◌, None, length, map, option_map, Result};
 ghost use Rattle.ixdtf_grammar.specs.declared.profile.Profile.TheVariants.{Crate};
@@ -89,13 +90,18 @@ fn units_of<'a>(calendar: &Calendar<'a>) -> &'a [u8]
     }
 }
 
-/// Reads a date, or a date and a time, and calls the handler for each annotation. The functions for C read the text and check
-/// the replies.
+/// Reads a date, or a date and a time, and calls the handler for the annotations, in order. The functions for C read the text
+/// and check the replies.
 ///
-/// This function calls [`ixdtf_parse_with_annotations`], passes each reply of the handler to [`ixdtf_reply`], and stops at the
-/// first reply that is refused. If the array is too short for all annotations, the handler is not called. Otherwise the outcome
-/// is the one of `parse_with_annotation_handler`. Only the position of an error can differ, because `place` is always the one
-/// that [`ixdtf_parse_with_annotations`] wrote, also if a reply is refused.
+/// This function calls [`ixdtf_parse_with_annotations`], which lists the annotations, and writes to `count` how many there are.
+/// If the array is too short for all annotations, the handler is not called, and the function returns the number that
+/// [`ixdtf_parse_with_annotations`] returned. If this number is 0, the record has no calendar.
+///
+/// If the array is long enough, this function calls the handler for each annotation, and passes each reply to [`ixdtf_reply`].
+/// It stops at the first reply that is refused, and returns the number of the error. If no reply is refused, it returns the
+/// number that [`ixdtf_parse_with_annotations`] returned. If this number is 0, the record has the calendar that was kept, if
+/// there is one. In all these cases, the outcome is the one of `parse_with_annotation_handler`. Only the position of an error
+/// can differ, because `place` is always the one that [`ixdtf_parse_with_annotations`] wrote, also if a reply is refused.
 ///
 /// After an error, the record is unchanged, except for `location` and `place`.
 pub fn parse_in_turn<'a, F>(

@@ -18,7 +18,7 @@ use ixdtf::records::{self, IxdtfParseRecord, TimeZoneAnnotation, TimeZoneRecord}
 
 /// A time zone whose name has code units of the encoding `T`.
 pub trait ZoneOf<'a, T: EncodingType> {
-    /// The fields of the zone. The name is a list of the numbers of its code units.
+    /// The fields of the zone. The name is a list with the value of each of its code units.
     ghost contents: { Self → ZoneContents };
 
     /// Writes every field of the zone.
@@ -73,7 +73,7 @@ pub fn put_zone<'a, T: EncodingType, Z: ZoneOf<'a, T>>(
 
 /// A record whose slices have code units of the encoding `T`.
 pub trait RecordOf<'a, T: EncodingType> {
-    /// The fields of the record. Each slice is a list of the numbers of its code units.
+    /// The fields of the record. Each slice is a list with the value of each of its code units.
     ghost contents: { Self → Contents };
 
     /// States that the second record is equal to the first, except for `location` and `place`.
