@@ -12,13 +12,13 @@ use ixdtf_print::{
     time_length_utf16, year_month_length, year_month_length_utf16, zone_length, zone_length_utf16,
 };
 
-/// An encoding of canonical texts: the code units that the printers write. Names and calendars in the records have the same
-/// code units.
+/// An encoding of canonical texts: the code units that the printers write. Names and calendars in the records have code units
+/// of the same size.
 ///
 /// Each function that prints returns the number of code units. Each function for a length returns `None` if the record cannot
 /// be printed, or if the length is greater than `usize::MAX`.
 pub trait Printers: EncodingType + Sized {
-    /// Prints a date, or a date and a time, with the brackets.
+    /// Prints a date, or a date and a time, with its zone and its calendar in brackets.
     fn print_date_time(
         found: &IxdtfParseRecord<'_, Self>,
         out: &mut [Self::CodeUnit],
@@ -27,7 +27,7 @@ pub trait Printers: EncodingType + Sized {
     /// Returns the length of the text that `print_date_time` writes.
     fn date_time_length(found: &IxdtfParseRecord<'_, Self>) -> Option<usize>;
 
-    /// Prints a time, with the brackets.
+    /// Prints a time, with its zone and its calendar in brackets.
     fn print_time(
         found: &IxdtfParseRecord<'_, Self>,
         out: &mut [Self::CodeUnit],
@@ -36,7 +36,7 @@ pub trait Printers: EncodingType + Sized {
     /// Returns the length of the text that `print_time` writes.
     fn time_length(found: &IxdtfParseRecord<'_, Self>) -> Option<usize>;
 
-    /// Prints a year and a month, with the brackets.
+    /// Prints a year and a month, with their zone and their calendar in brackets.
     fn print_year_month(
         found: &IxdtfParseRecord<'_, Self>,
         out: &mut [Self::CodeUnit],
@@ -45,7 +45,7 @@ pub trait Printers: EncodingType + Sized {
     /// Returns the length of the text that `print_year_month` writes.
     fn year_month_length(found: &IxdtfParseRecord<'_, Self>) -> Option<usize>;
 
-    /// Prints a month and a day, with the brackets.
+    /// Prints a month and a day, with their zone and their calendar in brackets.
     fn print_month_day(
         found: &IxdtfParseRecord<'_, Self>,
         out: &mut [Self::CodeUnit],

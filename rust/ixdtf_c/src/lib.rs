@@ -3,8 +3,9 @@
 //! The readers and printers of `ixdtf`, for programs in C and in each language that can call C.
 //!
 //! A *reader* is a function that parses one kind of text, and a *printer* is a function that writes a value as text. For each
-//! value that a printer can print, it writes exactly one text, the *canonical text* of the value. If a part of a value is
-//! absent, such as the time of a record, the other fields of this part do not matter.
+//! value that a printer can print, it writes exactly one text, the *canonical text* of the value. A part of a value can be
+//! absent, such as the time of a record. One field says whether the part is present: for a time, this is the field `is_there`.
+//! If the part is absent, its other fields do not matter.
 //!
 //! These pages have the structs that are passed between C and Rust, but not all of the functions. In the repository, the header
 //! `c/ixdtf.h` documents each function that a program can call, and `docs/C.md` describes the library.

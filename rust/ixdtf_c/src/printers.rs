@@ -50,7 +50,7 @@ pub extern "C" fn ixdtf_printed_duration_length(given: &Duration<'_>) -> usize {
 ///
 /// Writes the text to the first bytes of `out`, and its length to `count`. Returns 0 if the text is written. Returns 101 if
 /// there is no text for which `ixdtf_parse_offset` writes this offset. Returns 102 if `out` is too short. Then `count` is the
-/// length of the text, or `usize::MAX` if the length is greater.
+/// length of the text.
 #[unsafe(no_mangle)]
 pub unsafe extern "C" fn ixdtf_print_offset(given: &Offset, out: *mut u8, out_length: usize, count: &mut usize) -> u32 {
     // SAFETY: the header requires this of the caller.
@@ -60,7 +60,7 @@ pub unsafe extern "C" fn ixdtf_print_offset(given: &Offset, out: *mut u8, out_le
 
 /// Returns the length, in bytes, of the canonical text of an offset.
 ///
-/// Returns 0 if the offset cannot be printed, or if the length is greater than `usize::MAX`.
+/// Returns 0 if the offset cannot be printed. No offset has a text that is longer than `usize::MAX`.
 #[unsafe(no_mangle)]
 pub extern "C" fn ixdtf_printed_offset_length(given: &Offset) -> usize {
     length_into::<Utf8, _>(given)
@@ -70,7 +70,7 @@ pub extern "C" fn ixdtf_printed_offset_length(given: &Offset) -> usize {
 ///
 /// Writes the text to the first bytes of `out`, and its length to `count`. Returns 0 if the text is written. Returns 101 if
 /// there is no text for which `ixdtf_parse_identifier` writes this name or this offset. Returns 102 if `out` is too short. Then
-/// `count` is the length of the text, or `usize::MAX` if the length is greater. `is_critical` does not matter.
+/// `count` is the length of the text. `is_critical` does not matter.
 #[unsafe(no_mangle)]
 pub unsafe extern "C" fn ixdtf_print_zone(given: &Zone<'_>, out: *mut u8, out_length: usize, count: &mut usize) -> u32 {
     // SAFETY: the header requires this of the caller.
@@ -80,7 +80,7 @@ pub unsafe extern "C" fn ixdtf_print_zone(given: &Zone<'_>, out: *mut u8, out_le
 
 /// Returns the length, in bytes, of the canonical text of a time zone without brackets.
 ///
-/// Returns 0 if the zone cannot be printed, or if the length is greater than `usize::MAX`.
+/// Returns 0 if the zone cannot be printed. No zone has a text that is longer than `usize::MAX`.
 #[unsafe(no_mangle)]
 pub extern "C" fn ixdtf_printed_zone_length(given: &Zone<'_>) -> usize {
     length_into::<Utf8, _>(&AsZone { zone: given })

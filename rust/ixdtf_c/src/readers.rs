@@ -11,8 +11,9 @@ use ixdtf::records::{IxdtfParseRecord, TimeZoneAnnotation, TimeZoneRecord, UtcOf
 
 /// Reads a text with the reader of the kind `C`, without a handler.
 ///
-/// This function is generic in the error, because `LocatedError` contains a `&'static str`. Rattle's borrow checker does not
-/// support a signature that names `'static` in a function that uses a bound with a lifetime, such as the bound of a handler.
+/// This function is generic in the error, because `LocatedError` contains a `&'static str`. The library is written in Rattle,
+/// which is Rust with contracts. Rattle's borrow checker does not support a function with both of these properties: the
+/// signature names `'static`, and the function uses a bound with a lifetime, such as the bound of a handler.
 #[inline(always)]
 fn read_as<'a, E: FromStop, T: EncodingType, C: CoreReader>(
     text: &'a [T::CodeUnit],

@@ -17,7 +17,7 @@ struct List<'l, 'a> {
 }
 
 impl<'l, 'a> List<'l, 'a> {
-    /// Adds an annotation to the array, if the array is long enough, and counts the annotation.
+    /// Counts an annotation. Adds it to the array if the array is long enough.
     #[inline(always)]
     fn add(&mut self, annotation: records::Annotation<'a, Utf16>) {
         if self.count < self.slots.len() {
@@ -31,10 +31,12 @@ impl<'l, 'a> List<'l, 'a> {
     }
 }
 
-/// Reads a text with the reader of the kind `C`. Lists the annotations, and drops each of them.
+/// Reads a text with the reader of the kind `C`, and lists the annotations. The handler of this reader drops each of them, so
+/// the record has no calendar.
 ///
-/// This function is generic in the error, because `LocatedError` contains a `&'static str`. Rattle's borrow checker does not
-/// support a signature that names `'static` in a function that uses a bound with a lifetime, such as the bound of a handler.
+/// This function is generic in the error, because `LocatedError` contains a `&'static str`. The library is written in Rattle,
+/// which is Rust with contracts. Rattle's borrow checker does not support a function with both of these properties: the
+/// signature names `'static`, and the function uses a bound with a lifetime, such as the bound of a handler.
 #[inline(always)]
 fn list_as<'a, E: FromStop, C: CoreReader>(
     text: &'a [u16],

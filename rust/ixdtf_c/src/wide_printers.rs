@@ -103,7 +103,7 @@ pub extern "C" fn ixdtf16_printed_month_day_length(given: &Record<'_>) -> usize 
 ///
 /// Writes the text to the first code units of `out`, and its length to `count`. Returns 0 if the text is written. Returns 101
 /// if there is no text for which `ixdtf16_parse_identifier` writes this name or this offset. Returns 102 if `out` is too short.
-/// Then `count` is the length of the text, or `usize::MAX` if the length is greater. `is_critical` does not matter.
+/// Then `count` is the length of the text. `is_critical` does not matter.
 #[unsafe(no_mangle)]
 pub unsafe extern "C" fn ixdtf16_print_zone(given: &Zone<'_>, out: *mut u16, out_length: usize, count: &mut usize) -> u32 {
     // SAFETY: the header requires this of the caller.
@@ -113,7 +113,7 @@ pub unsafe extern "C" fn ixdtf16_print_zone(given: &Zone<'_>, out: *mut u16, out
 
 /// Returns the length, in code units, of the canonical text that `ixdtf16_print_zone` writes.
 ///
-/// Returns 0 if the zone cannot be printed, or if the length is greater than `usize::MAX`.
+/// Returns 0 if the zone cannot be printed. No zone has a text that is longer than `usize::MAX`.
 #[unsafe(no_mangle)]
 pub extern "C" fn ixdtf16_printed_zone_length(given: &Zone<'_>) -> usize {
     length_into::<Utf16, _>(&AsZone { zone: given })
@@ -123,7 +123,7 @@ pub extern "C" fn ixdtf16_printed_zone_length(given: &Zone<'_>) -> usize {
 ///
 /// Writes the text to the first code units of `out`, and its length to `count`. Returns 0 if the text is written. Returns 101
 /// if there is no text for which `ixdtf16_parse_duration` writes this duration. Returns 102 if `out` is too short. Then `count`
-/// is the length of the text, or `usize::MAX` if the length is greater.
+/// is the length of the text.
 #[unsafe(no_mangle)]
 pub unsafe extern "C" fn ixdtf16_print_duration(
     given: &Duration<'_>,
@@ -140,7 +140,7 @@ pub unsafe extern "C" fn ixdtf16_print_duration(
 ///
 /// Writes the text to the first code units of `out`, and its length to `count`. Returns 0 if the text is written. Returns 101
 /// if there is no text for which `ixdtf16_parse_offset` writes this offset. Returns 102 if `out` is too short. Then `count` is
-/// the length of the text, or `usize::MAX` if the length is greater.
+/// the length of the text.
 #[unsafe(no_mangle)]
 pub unsafe extern "C" fn ixdtf16_print_offset(given: &Offset, out: *mut u16, out_length: usize, count: &mut usize) -> u32 {
     // SAFETY: the header requires this of the caller.
