@@ -1,4 +1,4 @@
-//! Writes the answer to a line.
+//! Writes the answer for a line.
 ghost use Rattle.std.specs.Prelude.{◌≡◌, [], ◌∷◌, ◌++◌, ◌≤◌, length};
 ghost use Rattle.ixdtf_answers.specs.Answer.{too_long, unknown_reader};
 ghost use Rattle.ixdtf_answers.specs.Parts.{PutsAnswer};
@@ -38,7 +38,7 @@ impl LineTask<LINE_LIMIT> for Answering {
 
     ghost step = { λ _ line bytes _. Answers line bytes };
 
-    /// Writes the answer to the line, and a newline, to the output.
+    /// Writes the answer for the line, and a newline, to the output.
     fn take_line<K: Sink>(
         &mut self,
         output: &mut Output<'_, K>,
@@ -51,7 +51,7 @@ impl LineTask<LINE_LIMIT> for Answering {
     }
 }
 
-/// Writes the answer to a line that is not too long.
+/// Writes the answer for a line that is not too long.
 fn answer_short<K: Sink>(
     output: &mut Output<'_, K>,
     room: &mut [u8; MOST_PRINTED],
@@ -69,14 +69,14 @@ fn answer_short<K: Sink>(
     answer_text(output, room, word, &line[place + 1..])
 }
 
-/// Writes the answer to a line that is longer than `LINE_LIMIT`.
+/// Writes the answer for a line that is longer than `LINE_LIMIT`.
 fn put_too_long<K: Sink>(output: &mut Output<'_, K>) -> Result<(), RunError>
     ensures { Puts K.contents K.failed output.old output.new result (too_long ++ newline ∷ []) }
 {
     output.put(b"error line too long\n")
 }
 
-/// Writes the answer to a line that does not begin with the word of a reader and a space.
+/// Writes the answer for a line that does not begin with the word of a reader and a space.
 fn put_no_such_reader<K: Sink>(output: &mut Output<'_, K>) -> Result<(), RunError>
     ensures { Puts K.contents K.failed output.old output.new result (unknown_reader ++ newline ∷ []) }
 {

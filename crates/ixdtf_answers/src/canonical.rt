@@ -1,7 +1,9 @@
 //! Reads texts, and prints their canonical texts. There is one function for each kind of canonical text.
 //!
 //! None of these functions is inlined. So each function has a stack frame of its own, and the value that its reader returns is
-//! in this frame. For each line, the program clears at most the frames of the functions that it calls.
+//! in this frame. With Rattle's compiler, a function that is called first sets the memory for this value to zero. If all
+//! readers were in one function, this would be done for the values of all readers at each line. With separate functions, it is
+//! done at most for the functions that the program calls for the line.
 ghost use Rattle.std.specs.Prelude.{◌≡◌, ◌≤◌, length, IfOk};
 ghost use Rattle.ixdtf_answers.specs.Parts.{IsPrinted};
 ghost use Rattle.ixdtf_answers.specs.declared.word.Word.TheVariants.{Canonical, CanonicalTime, CanonicalYearMonth, CanonicalMonthDay};
@@ -15,11 +17,12 @@ use ixdtf_print::{
     print_year_month, print_zone,
 };
 
-/// The size of the array in bytes. The canonical text of a value that was read from a line is shorter.
+/// The size in bytes of the array to which the functions of this module print. The canonical text of a value that was read from
+/// a line is shorter.
 pub const MOST_PRINTED: usize = 4352;
 
-/// Reads the text by `parse`, and prints the canonical text to the beginning of the array. Returns its number of bytes, or the
-/// error of the reader.
+/// Reads the text by `parse`, and prints the canonical text to the beginning of the array. Returns the number of bytes of the
+/// canonical text, or the error of the reader.
 #[inline(never)]
 pub fn canonical_record(text: &[u8], room: &mut [u8; MOST_PRINTED]) -> ParserResult<usize>
     requires { length text.now ≤ 4096 }
@@ -32,8 +35,8 @@ pub fn canonical_record(text: &[u8], room: &mut [u8; MOST_PRINTED]) -> ParserRes
     }
 }
 
-/// Reads the text as a time, and prints the canonical text to the beginning of the array. Returns its number of bytes, or the error
-/// of the reader.
+/// Reads the text as a time, and prints the canonical text to the beginning of the array. Returns the number of bytes of the
+/// canonical text, or the error of the reader.
 #[inline(never)]
 pub fn canonical_time(text: &[u8], room: &mut [u8; MOST_PRINTED]) -> ParserResult<usize>
     requires { length text.now ≤ 4096 }
@@ -46,8 +49,8 @@ pub fn canonical_time(text: &[u8], room: &mut [u8; MOST_PRINTED]) -> ParserResul
     }
 }
 
-/// Reads the text as a year and a month, and prints the canonical text to the beginning of the array. Returns its number of bytes,
-/// or the error of the reader.
+/// Reads the text as a year and a month, and prints the canonical text to the beginning of the array. Returns the number of
+/// bytes of the canonical text, or the error of the reader.
 #[inline(never)]
 pub fn canonical_year_month(text: &[u8], room: &mut [u8; MOST_PRINTED]) -> ParserResult<usize>
     requires { length text.now ≤ 4096 }
@@ -60,8 +63,8 @@ pub fn canonical_year_month(text: &[u8], room: &mut [u8; MOST_PRINTED]) -> Parse
     }
 }
 
-/// Reads the text as a month and a day, and prints the canonical text to the beginning of the array. Returns its number of bytes,
-/// or the error of the reader.
+/// Reads the text as a month and a day, and prints the canonical text to the beginning of the array. Returns the number of
+/// bytes of the canonical text, or the error of the reader.
 #[inline(never)]
 pub fn canonical_month_day(text: &[u8], room: &mut [u8; MOST_PRINTED]) -> ParserResult<usize>
     requires { length text.now ≤ 4096 }
@@ -74,8 +77,8 @@ pub fn canonical_month_day(text: &[u8], room: &mut [u8; MOST_PRINTED]) -> Parser
     }
 }
 
-/// Reads the text as an offset, and prints the canonical text to the beginning of the array. Returns its number of bytes, or the
-/// error of the reader.
+/// Reads the text as an offset, and prints the canonical text to the beginning of the array. Returns the number of bytes of the
+/// canonical text, or the error of the reader.
 #[inline(never)]
 pub fn canonical_offset(text: &[u8], room: &mut [u8; MOST_PRINTED]) -> ParserResult<usize>
     requires { length text.now ≤ 4096 }
@@ -88,8 +91,8 @@ pub fn canonical_offset(text: &[u8], room: &mut [u8; MOST_PRINTED]) -> ParserRes
     }
 }
 
-/// Reads the text as a time zone, and prints the canonical text to the beginning of the array. Returns its number of bytes, or the
-/// error of the reader.
+/// Reads the text as a time zone, and prints the canonical text to the beginning of the array. Returns the number of bytes of
+/// the canonical text, or the error of the reader.
 #[inline(never)]
 pub fn canonical_zone(text: &[u8], room: &mut [u8; MOST_PRINTED]) -> ParserResult<usize>
     requires { length text.now ≤ 4096 }
@@ -102,8 +105,8 @@ pub fn canonical_zone(text: &[u8], room: &mut [u8; MOST_PRINTED]) -> ParserResul
     }
 }
 
-/// Reads the text as a duration, and prints the canonical text to the beginning of the array. Returns its number of bytes, or the
-/// error of the reader.
+/// Reads the text as a duration, and prints the canonical text to the beginning of the array. Returns the number of bytes of
+/// the canonical text, or the error of the reader.
 #[inline(never)]
 pub fn canonical_duration(text: &[u8], room: &mut [u8; MOST_PRINTED]) -> ParserResult<usize>
     requires { length text.now ≤ 4096 }

@@ -5,8 +5,9 @@
 //! The module `brackets` reads the first bracket. The module `exact_zones` tests whether its zone has the form of
 //! RFC 9557. `ixdtf_reading::annotations` reads the later brackets.
 //!
-//! This crate proves that the functions do what their reading functions do. It also proves a limit for the number of
-//! accesses of each function.
+//! A *reading function* is a definition in `specs/reading` of `ixdtf_reading`: it says which result a function of the
+//! code must have for each list of code units. This crate proves that the functions do what their reading functions do.
+//! It also proves, for each function that reads code units, a limit for the number of its accesses to code units.
 #![tactic(auto)]
 
 pub mod brackets;

@@ -36,8 +36,10 @@ fn place_in_few(wanted: u8, bytes: &[u8]) -> Option<usize>
 
 /// Does the work of `place_of` for at least `LANES` bytes.
 ///
-/// The last comparison takes the last `LANES` bytes, some of which can have been compared before. A search byte by byte would
-/// take five instructions for each byte, a third of the work on a line.
+/// The last comparison takes the last `LANES` bytes. Some of these bytes can have been compared before.
+///
+/// An earlier search compared all bytes one by one. It took five instructions for each byte, which was a quarter to a third of
+/// the work on a line of a log.
 #[inline(always)]
 fn place_in_many(wanted: u8, bytes: &[u8]) -> Option<usize>
     requires { 16 ≤ length bytes.now }
@@ -76,7 +78,8 @@ fn marks_from(wanted: u8, bytes: &[u8], start: usize) -> u64
 pub struct Passed {
     /// The number of bytes that were skipped.
     pub place: usize,
-    /// The number of bytes equal to `wanted` that still have to be skipped.
+    /// The argument `count`, minus the number of skipped bytes that are equal to `wanted`. The caller still has to skip this
+    /// number of bytes that are equal to `wanted`.
     pub left: usize,
 }
 

@@ -93,7 +93,7 @@ fn first_ending(separator: u8, bytes: &[u8]) -> Ending
     }
 }
 
-/// Returns where the first field ends, which is in quotes.
+/// Returns where the first field ends. This field begins with a quote.
 fn quoted_ending(separator: u8, bytes: &[u8]) -> Ending
     requires { begins_quoted bytes.now ≡ true }
     ensures ending { HasEnding separator bytes.now result }
@@ -118,7 +118,7 @@ fn quoted_ending(separator: u8, bytes: &[u8]) -> Ending
     })
 }
 
-/// Returns where the first field ends, which is not in quotes.
+/// Returns where the first field ends. This field does not begin with a quote.
 fn plain_ending(separator: u8, bytes: &[u8]) -> Ending
     requires { begins_quoted bytes.now ≡ false }
     ensures ending { HasEnding separator bytes.now result }
@@ -225,7 +225,8 @@ fn check_record(separator: u8, bytes: &[u8]) -> Result<(), Broken>
     }
 }
 
-/// Returns the part of a line for the bytes of a field. `start` is the number of bytes before the field.
+/// Returns the `Part` of a line that belongs to a field. `bytes` are the bytes of the field in the line, with the quotes around
+/// it if there are any. `start` is the number of bytes of the line before the field.
 fn part_in<'a>(start: usize, bytes: &'a [u8], unquoted: &'a mut [u8; LINE_LIMIT]) -> Part<'a>
     requires { start + length bytes.now ≤ 65536 }
     ensures part { (separator : ℕ) (cell : Cell) → IsCell separator cell → bytes.entry.now ≡ spelled cell
@@ -257,7 +258,7 @@ fn is_escaped(bytes: &[u8]) -> bool
     }
 }
 
-/// Returns the bytes without the second of each two quotes. Copies them if they have quotes.
+/// Returns the bytes with one quote instead of each doubled quote. Copies them to `unquoted` if they have quotes.
 fn without_doubles<'a>(bytes: &'a [u8], unquoted: &'a mut [u8; LINE_LIMIT]) -> &'a [u8]
     requires { length bytes.now ≤ 65536 }
     ensures text { result.now ≡ undoubled bytes.now }
@@ -272,7 +273,7 @@ fn without_doubles<'a>(bytes: &'a [u8], unquoted: &'a mut [u8; LINE_LIMIT]) -> &
     }
 }
 
-/// Copies the bytes without the second of each two quotes, and returns the number of the copied bytes.
+/// Copies the bytes with one quote instead of each doubled quote, and returns the number of the copied bytes.
 fn add_undoubled(unquoted: &mut [u8; LINE_LIMIT], bytes: &[u8]) -> usize
     requires { length bytes.now ≤ 65536 }
     ensures place { result ≤ length bytes.now }
