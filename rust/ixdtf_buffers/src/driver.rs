@@ -50,7 +50,8 @@ pub fn drive<S: Source, K: Sink, T: LineTask<LIMIT>, const LIMIT: usize>(
     Driven { bytes, end }
 }
 
-/// Does the work of `drive` with an output whose buffer is empty. Adds the number of bytes that it reads to `bytes`.
+/// Does the work of `drive` with an output whose buffer is empty. Increases `bytes` by the number of bytes that the function
+/// reads.
 fn drive_all<S: Source, K: Sink, T: LineTask<LIMIT>, const LIMIT: usize>(
     source: &mut S,
     output: &mut Output<'_, K>,
@@ -71,7 +72,8 @@ fn drive_all<S: Source, K: Sink, T: LineTask<LIMIT>, const LIMIT: usize>(
     Err(RunError::Read)
 }
 
-/// Passes each line that ends in the bytes of one read to the task, and writes the results to the sink.
+/// Handles the bytes of one read. Passes to the task each line that ends in these bytes, and appends the bytes after the last
+/// newline to `line`. Then writes the buffered results to the sink.
 fn take_bytes<K: Sink, T: LineTask<LIMIT>, const LIMIT: usize>(
     output: &mut Output<'_, K>,
     task: &mut T,

@@ -6,7 +6,8 @@ use crate::error::RunError;
 use crate::sink::Sink;
 use crate::waiting::{WAITING_LIMIT, Waiting};
 
-/// The least number of bytes that are written to the sink when the buffer is full. This is half of the buffer, so that few
+/// The least number of bytes that are written to the sink when the buffer is full. This is half of the buffer. So after such a
+/// write, at least half of the buffer is free again. Most of the next slices then fit into the buffer completely, and few
 /// slices have to be written in two parts.
 const LEAST_WRITTEN: usize = 2048;
 
@@ -41,7 +42,8 @@ impl<'k, K: Sink> Output<'k, K> {
         }
     }
 
-    /// Appends the bytes to the output. They go into the buffer if they fit, and otherwise the function also writes to the sink.
+    /// Appends the bytes to the output. If they fit into the rest of the buffer, the function copies them into the buffer.
+    /// Otherwise it writes bytes to the sink, as the documentation of `Output` says.
     ///
     /// Returns `RunError::Write` if a write fails.
     pub fn put(&mut self, bytes: &[u8]) -> Result<(), RunError> {
@@ -63,7 +65,8 @@ impl<'k, K: Sink> Output<'k, K> {
         write_whole(self.sink, bytes)
     }
 
-    /// Fills the buffer with the first bytes, writes as much of the buffer as the other bytes need, and appends the other bytes.
+    /// Fills the buffer with the first bytes. Then writes at least 2,048 bytes of the buffer to the sink, and more if the other
+    /// bytes need more space. Then appends the other bytes to the buffer.
     fn fill_with(&mut self, bytes: &[u8]) -> Result<(), RunError> {
         let (front, back) = bytes.split_at(self.waiting.room());
         self.push(front);
@@ -79,7 +82,7 @@ impl<'k, K: Sink> Output<'k, K> {
         Ok(())
     }
 
-    /// Appends bytes that fit to the buffer.
+    /// Appends the bytes to the buffer. They must fit into it.
     fn push(&mut self, bytes: &[u8]) {
         self.waiting.push_all(bytes);
     }

@@ -14,7 +14,8 @@ const TAB: u8 = b'\t';
 /// The separator of the fields of `--csv`, if there is no `--separator`.
 const COMMA: u8 = b',';
 
-/// The separator of the fields of `--fields`, between which the text has one space.
+/// The separator of the fields of `--fields`. With this option, the text of a line can be several fields, with one space
+/// between each field and the next.
 const SPACE: u8 = b' ';
 
 /// The value of `Skips` if no option asks to skip lines: no line is skipped.
@@ -176,7 +177,7 @@ enum Column {
     After(usize),
     /// The field that has a given name in the first line of a file.
     Named(FieldName),
-    /// The field after the first number of other fields, and the second number of fields after it.
+    /// `Between(before, more)`: the field that has `before` fields before it, and the `more` fields after it.
     Between(usize, usize),
 }
 
@@ -233,7 +234,7 @@ impl Options {
         taken
     }
 
-    /// Applies the value of the option that awaits one. `start` is the number of bytes of the word before the value.
+    /// Applies the value of the option that awaits one. `start` is the index at which the value begins in its word.
     fn take_value(&mut self, value: &str, start: usize) -> Word {
         match self.awaited {
             Awaited::Kind => self.take_kind(value),
@@ -287,7 +288,8 @@ impl Options {
         Word::Option
     }
 
-    /// Makes the options await the value of the option. Returns `false` if no option of this name needs a value.
+    /// If the option needs a value, sets `awaited` so that this value is applied next, and returns `true`. Returns `false` if
+    /// no option of this name needs a value.
     fn awaits_value_of(&mut self, option: &str) -> bool {
         if option == "--kind" {
             self.awaited = Awaited::Kind;
@@ -329,7 +331,7 @@ impl Options {
         }
     }
 
-    /// Applies the value of `--field`, a number or a name. `start` is the number of bytes of the word before the value.
+    /// Applies the value of `--field`, a number or a name. `start` is the index at which the value begins in its word.
     fn take_field(&mut self, value: &str, start: usize) -> Word {
         self.awaited = Awaited::Anything;
         let column = match value.parse::<usize>() {
@@ -447,7 +449,8 @@ impl Options {
         }
     }
 
-    /// Returns whether `--fields` is to join fields that something else than a space separates.
+    /// Returns whether `--fields` says which fields are the text, and `--separator` has another value than a space. The program
+    /// refuses this combination.
     fn joins_other_fields(&self) -> bool {
         match (self.column, self.separator) {
             (Some(Column::Between(_, _)), Some(separator)) => separator != SPACE,

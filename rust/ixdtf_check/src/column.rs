@@ -114,8 +114,9 @@ fn is_named(field: &[u8], name: &[u8]) -> bool {
     field == name
 }
 
-/// Returns the index of the only field so far that has the name, if there is one. `found` is the result for the `before` fields
-/// before this one. Returns `Twice` if this field is the second one with the name.
+/// Returns the index of the only field so far that has the name, or `None` if no field so far has it. `found` is this result
+/// for the fields before the present field, and `before` is the number of these fields. `is_named` says whether the present
+/// field has the name. Returns `Twice` if the present field is the second one with the name.
 fn one_named(
     found: Option<usize>,
     before: usize,

@@ -82,7 +82,7 @@ fn first_ending(separator: u8, bytes: &[u8]) -> Ending {
     }
 }
 
-/// Returns where the first field ends, which is in quotes.
+/// Returns where the first field ends. This field begins with a quote.
 fn quoted_ending(separator: u8, bytes: &[u8]) -> Ending {
     let Some(place) = closing_quote(&bytes[1..]) else {
         return Ending::Bad(Broken {
@@ -103,7 +103,7 @@ fn quoted_ending(separator: u8, bytes: &[u8]) -> Ending {
     })
 }
 
-/// Returns where the first field ends, which is not in quotes.
+/// Returns where the first field ends. This field does not begin with a quote.
 fn plain_ending(separator: u8, bytes: &[u8]) -> Ending {
     match place_of(separator, bytes) {
         None => match place_of(QUOTE, bytes) {
@@ -187,7 +187,8 @@ fn check_record(separator: u8, bytes: &[u8]) -> Result<(), Broken> {
     }
 }
 
-/// Returns the part of a line for the bytes of a field. `start` is the number of bytes before the field.
+/// Returns the `Part` of a line that belongs to a field. `bytes` are the bytes of the field in the line, with the quotes around
+/// it if there are any. `start` is the number of bytes of the line before the field.
 fn part_in<'a>(start: usize, bytes: &'a [u8], unquoted: &'a mut [u8; LINE_LIMIT]) -> Part<'a> {
     if !is_escaped(bytes) {
         return Part {
@@ -211,7 +212,7 @@ fn is_escaped(bytes: &[u8]) -> bool {
     }
 }
 
-/// Returns the bytes without the second of each two quotes. Copies them if they have quotes.
+/// Returns the bytes with one quote instead of each doubled quote. Copies them to `unquoted` if they have quotes.
 fn without_doubles<'a>(bytes: &'a [u8], unquoted: &'a mut [u8; LINE_LIMIT]) -> &'a [u8] {
     match place_of(QUOTE, bytes) {
         None => bytes,
@@ -222,7 +223,7 @@ fn without_doubles<'a>(bytes: &'a [u8], unquoted: &'a mut [u8; LINE_LIMIT]) -> &
     }
 }
 
-/// Copies the bytes without the second of each two quotes, and returns the number of the copied bytes.
+/// Copies the bytes with one quote instead of each doubled quote, and returns the number of the copied bytes.
 fn add_undoubled(unquoted: &mut [u8; LINE_LIMIT], bytes: &[u8]) -> usize {
     let mut end = 0;
     let mut rest = bytes;

@@ -199,7 +199,8 @@ fn refuse<'a>(verdict: &mut Verdict<'a>, has_offset: bool, error: LocatedError, 
     });
 }
 
-/// Returns the reason why a text is refused for which a reader returned an error.
+/// Returns the reason for the refusal of a text. `unread` has the text, and the error that a reader returned for it. The reason
+/// is `Spaced` if `has_offset` is `true` and the error is at a space before an offset. Otherwise the reason is `Unread`.
 fn reason_of(has_offset: bool, unread: Unread<'_>) -> Reason<'_> {
     if has_offset && is_spaced(&unread.text[unread.error.at..]) {
         Reason::Spaced(unread)

@@ -67,7 +67,8 @@ pub fn without_return(line: &[u8]) -> &[u8] {
     }
 }
 
-/// Returns the text of the line. The text begins where the given field begins. Returns an error if the line has no text.
+/// Returns the text of the line. The text begins where the given field begins. There is one exception: if the field belongs to
+/// a record of RFC 4180 and is in quotes, the text begins after the opening quote. Returns an error if the line has no text.
 #[inline(always)]
 pub fn part_of<'a>(
     field: Field,

@@ -64,13 +64,16 @@ fn near_window(bytes: &[u8], place: usize) -> Window {
     }
 }
 
-/// Returns the number of columns before the mark. `count` characters are shown before it, and the first of them begins at `start`.
-/// If characters before `start` are left out, `..` is shown before the others, so there are always 50 columns.
+/// Returns the number of columns before the mark. `start` is the index at which the shown part of the text begins.
+///
+/// If `start` is 0, `count` is the number of characters before the mark, and there is one column for each of them. If `start`
+/// is greater than 0, `..` and 48 characters are shown before the mark. These are always 50 columns, and `count` is not used.
 fn indent_behind(start: usize, count: usize) -> usize {
     if start > 0 { BEFORE_PLACE + 2 } else { count }
 }
 
-/// Returns whether the bytes are UTF-8. The bytes in the window are known to be ASCII, so nothing is tested if they are all bytes.
+/// Returns whether the bytes are UTF-8. The bytes in the window are known to be ASCII. So the function tests nothing if the
+/// window contains the complete text.
 fn is_text(bytes: &[u8], window: Window) -> bool {
     if window.start == 0 && window.end >= bytes.len() {
         return true;
@@ -86,8 +89,8 @@ fn add_any(room: &mut [u8; ROOM], at: usize, bytes: &[u8], place: usize) -> usiz
     }
 }
 
-/// Adds the part of a text that is shown, and the mark under it. `is_ascii` says that this part is ASCII. Then it is copied in one
-/// run.
+/// Adds the part of a text that is shown, and the mark under it. If `is_ascii` is `true`, this part is ASCII. Then it has no
+/// control character of two bytes, and one call of `add_run` adds it.
 fn add_shown(
     room: &mut [u8; ROOM],
     at: usize,
@@ -171,8 +174,8 @@ fn first_characters(bytes: &[u8]) -> usize {
     end
 }
 
-/// Returns how many characters begin in the bytes, of which there are at most 48. The count is a byte, so that the compiled code
-/// can test many bytes at once.
+/// Returns how many characters begin in the bytes. There are at most 48 bytes, so the count fits into a `u8`. With a count of
+/// this type, the compiled code can test many bytes at once.
 fn characters_in(bytes: &[u8]) -> usize {
     let mut count = 0u8;
     for byte in bytes {
@@ -246,8 +249,8 @@ fn begins_control(bytes: &[u8], place: usize) -> bool {
 
 /// Adds a newline and the spaces before the mark.
 ///
-/// The greatest number of spaces is always written, because a fixed number of bytes needs no call. The next bytes overwrite the
-/// spaces after the position of the mark.
+/// The function always writes the greatest number of spaces, because the compiled code can copy a fixed number of bytes without
+/// a call of another function. The next bytes overwrite the spaces after the position of the mark.
 fn add_spaces(room: &mut [u8; ROOM], at: usize, indent: usize) -> usize {
     let _end = add_bytes(room, at, SPACES);
     at + indent + 1

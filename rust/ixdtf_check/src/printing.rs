@@ -35,7 +35,8 @@ pub fn read_to_print(
     }
 }
 
-/// Reads the text as a text of the kind, which can be any kind, and prints its canonical text.
+/// Reads the text as a text of the kind, and prints its canonical text. The function accepts every kind, but `read_to_print`
+/// does not call it for date-times.
 #[inline(never)]
 fn read_other_to_print(
     kind: Kind,

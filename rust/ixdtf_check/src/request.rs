@@ -28,7 +28,8 @@ pub struct Field {
     pub extent: Extent,
 }
 
-/// Says where a text ends. The text begins where a field begins.
+/// Says where a text ends. The text begins where a field begins. There is one exception: if the extent is `Csv` and the field
+/// is in quotes, the text begins after the opening quote, and ends before the closing quote.
 #[derive(Clone, Copy, Debug, PartialEq)]
 pub enum Extent {
     /// At the end of this field.

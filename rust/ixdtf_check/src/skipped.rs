@@ -18,7 +18,8 @@ pub fn kept_line<'a>(skips: &Option<Skips>, is_first: bool, bytes: &'a [u8]) -> 
     }
 }
 
-/// Does the work of `kept_line` for all lines. The function is not inlined, because most lines do not need it.
+/// Does the work of `kept_line`, and is correct for every line. `kept_line` calls it for the first line of a file, and for all
+/// lines if an option asks to skip lines. The function is not inlined, because usually most lines do not need it.
 #[inline(never)]
 fn kept_with_care<'a>(skips: &Option<Skips>, is_first: bool, bytes: &'a [u8]) -> Option<&'a [u8]> {
     let line = line_in(is_first, bytes);

@@ -1,6 +1,6 @@
 // Made by tools/to_rust.py of crates/ixdtf_answers/src/answer.rt. Do not edit.
 
-//! Writes the answer to a line.
+//! Writes the answer for a line.
 
 use crate::canonical::MOST_PRINTED;
 use crate::readers::answer_text;
@@ -30,7 +30,7 @@ impl Answering {
 }
 
 impl LineTask<LINE_LIMIT> for Answering {
-    /// Writes the answer to the line, and a newline, to the output.
+    /// Writes the answer for the line, and a newline, to the output.
     fn take_line<K: Sink>(
         &mut self,
         output: &mut Output<'_, K>,
@@ -43,7 +43,7 @@ impl LineTask<LINE_LIMIT> for Answering {
     }
 }
 
-/// Writes the answer to a line that is not too long.
+/// Writes the answer for a line that is not too long.
 fn answer_short<K: Sink>(
     output: &mut Output<'_, K>,
     room: &mut [u8; MOST_PRINTED],
@@ -58,12 +58,12 @@ fn answer_short<K: Sink>(
     answer_text(output, room, word, &line[place + 1..])
 }
 
-/// Writes the answer to a line that is longer than `LINE_LIMIT`.
+/// Writes the answer for a line that is longer than `LINE_LIMIT`.
 fn put_too_long<K: Sink>(output: &mut Output<'_, K>) -> Result<(), RunError> {
     output.put(b"error line too long\n")
 }
 
-/// Writes the answer to a line that does not begin with the word of a reader and a space.
+/// Writes the answer for a line that does not begin with the word of a reader and a space.
 fn put_no_such_reader<K: Sink>(output: &mut Output<'_, K>) -> Result<(), RunError> {
     output.put(b"error unknown reader\n")
 }

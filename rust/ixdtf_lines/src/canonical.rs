@@ -3,7 +3,9 @@
 //! Reads texts, and prints their canonical texts. There is one function for each kind of canonical text.
 //!
 //! None of these functions is inlined. So each function has a stack frame of its own, and the value that its reader returns is
-//! in this frame. For each line, the program clears at most the frames of the functions that it calls.
+//! in this frame. With Rattle's compiler, a function that is called first sets the memory for this value to zero. If all
+//! readers were in one function, this would be done for the values of all readers at each line. With separate functions, it is
+//! done at most for the functions that the program calls for the line.
 
 use ixdtf::ParserResult;
 use ixdtf::encoding::Utf8;
@@ -13,11 +15,12 @@ use ixdtf_print::{
     print_year_month, print_zone,
 };
 
-/// The size of the array in bytes. The canonical text of a value that was read from a line is shorter.
+/// The size in bytes of the array to which the functions of this module print. The canonical text of a value that was read from
+/// a line is shorter.
 pub const MOST_PRINTED: usize = 4352;
 
-/// Reads the text by `parse`, and prints the canonical text to the beginning of the array. Returns its number of bytes, or the
-/// error of the reader.
+/// Reads the text by `parse`, and prints the canonical text to the beginning of the array. Returns the number of bytes of the
+/// canonical text, or the error of the reader.
 #[inline(never)]
 pub fn canonical_record(text: &[u8], room: &mut [u8; MOST_PRINTED]) -> ParserResult<usize> {
     let read = IxdtfParser::from_utf8(text).parse();
@@ -27,8 +30,8 @@ pub fn canonical_record(text: &[u8], room: &mut [u8; MOST_PRINTED]) -> ParserRes
     }
 }
 
-/// Reads the text as a time, and prints the canonical text to the beginning of the array. Returns its number of bytes, or the error
-/// of the reader.
+/// Reads the text as a time, and prints the canonical text to the beginning of the array. Returns the number of bytes of the
+/// canonical text, or the error of the reader.
 #[inline(never)]
 pub fn canonical_time(text: &[u8], room: &mut [u8; MOST_PRINTED]) -> ParserResult<usize> {
     let read = IxdtfParser::from_utf8(text).parse_time();
@@ -38,8 +41,8 @@ pub fn canonical_time(text: &[u8], room: &mut [u8; MOST_PRINTED]) -> ParserResul
     }
 }
 
-/// Reads the text as a year and a month, and prints the canonical text to the beginning of the array. Returns its number of bytes,
-/// or the error of the reader.
+/// Reads the text as a year and a month, and prints the canonical text to the beginning of the array. Returns the number of
+/// bytes of the canonical text, or the error of the reader.
 #[inline(never)]
 pub fn canonical_year_month(text: &[u8], room: &mut [u8; MOST_PRINTED]) -> ParserResult<usize> {
     let read = IxdtfParser::from_utf8(text).parse_year_month();
@@ -49,8 +52,8 @@ pub fn canonical_year_month(text: &[u8], room: &mut [u8; MOST_PRINTED]) -> Parse
     }
 }
 
-/// Reads the text as a month and a day, and prints the canonical text to the beginning of the array. Returns its number of bytes,
-/// or the error of the reader.
+/// Reads the text as a month and a day, and prints the canonical text to the beginning of the array. Returns the number of
+/// bytes of the canonical text, or the error of the reader.
 #[inline(never)]
 pub fn canonical_month_day(text: &[u8], room: &mut [u8; MOST_PRINTED]) -> ParserResult<usize> {
     let read = IxdtfParser::from_utf8(text).parse_month_day();
@@ -60,8 +63,8 @@ pub fn canonical_month_day(text: &[u8], room: &mut [u8; MOST_PRINTED]) -> Parser
     }
 }
 
-/// Reads the text as an offset, and prints the canonical text to the beginning of the array. Returns its number of bytes, or the
-/// error of the reader.
+/// Reads the text as an offset, and prints the canonical text to the beginning of the array. Returns the number of bytes of the
+/// canonical text, or the error of the reader.
 #[inline(never)]
 pub fn canonical_offset(text: &[u8], room: &mut [u8; MOST_PRINTED]) -> ParserResult<usize> {
     let read = TimeZoneParser::from_utf8(text).parse_offset();
@@ -71,8 +74,8 @@ pub fn canonical_offset(text: &[u8], room: &mut [u8; MOST_PRINTED]) -> ParserRes
     }
 }
 
-/// Reads the text as a time zone, and prints the canonical text to the beginning of the array. Returns its number of bytes, or the
-/// error of the reader.
+/// Reads the text as a time zone, and prints the canonical text to the beginning of the array. Returns the number of bytes of
+/// the canonical text, or the error of the reader.
 #[inline(never)]
 pub fn canonical_zone(text: &[u8], room: &mut [u8; MOST_PRINTED]) -> ParserResult<usize> {
     let read = TimeZoneParser::from_utf8(text).parse_identifier();
@@ -82,8 +85,8 @@ pub fn canonical_zone(text: &[u8], room: &mut [u8; MOST_PRINTED]) -> ParserResul
     }
 }
 
-/// Reads the text as a duration, and prints the canonical text to the beginning of the array. Returns its number of bytes, or the
-/// error of the reader.
+/// Reads the text as a duration, and prints the canonical text to the beginning of the array. Returns the number of bytes of
+/// the canonical text, or the error of the reader.
 #[inline(never)]
 pub fn canonical_duration(text: &[u8], room: &mut [u8; MOST_PRINTED]) -> ParserResult<usize> {
     let read = IsoDurationParser::<Utf8>::from_utf8(text).parse();

@@ -1,6 +1,6 @@
 // Made by tools/to_rust.py of crates/ixdtf_answers/src/fields.rt. Do not edit.
 
-//! Adds the fields of a value that a reader returned to the text of an answer.
+//! Functions that add fields to the text of an answer. The fields show the value that a reader returned.
 //!
 //! Each function that adds bytes writes them to the array at the index `at`, and returns the index after them.
 
@@ -106,8 +106,8 @@ fn add_full_offset(room: &mut [u8; ROOM], at: usize, offset: FullPrecisionOffset
     add_fraction(room, point, fraction)
 }
 
-/// Adds the part of the field of a zone that is before the name, if there is a zone. If the zone is an offset, adds the complete
-/// field.
+/// If there is a zone, adds the label of its field, such as ` tz=`, but not the name of the zone. The caller writes the name.
+/// If the zone is an offset, adds the complete field.
 pub fn add_zone_field_front(
     room: &mut [u8; ROOM],
     at: usize,
@@ -119,7 +119,8 @@ pub fn add_zone_field_front(
     }
 }
 
-/// Adds the part of the field of a zone that is before the name. If the zone is an offset, adds the complete field.
+/// Adds the label of the field of a zone, such as ` tz=`, but not the name of the zone. The caller writes the name. If the zone
+/// is an offset, adds the complete field.
 pub fn add_zone_front(
     room: &mut [u8; ROOM],
     at: usize,

@@ -97,7 +97,8 @@ pub fn put_offset<K: Sink>(
     output.put(&room[..end])
 }
 
-/// Writes `ok`, the zone without the `!` of a critical zone, and a newline.
+/// Writes `ok`, the zone, and a newline. The zone was not read in brackets. So it cannot be critical, and there is no `!`
+/// before it.
 pub fn put_zone<K: Sink>(
     output: &mut Output<'_, K>,
     zone: &TimeZoneRecord<'_, Utf8>,
@@ -136,7 +137,7 @@ pub fn put_instant<K: Sink>(
     output.put(&room[..end])
 }
 
-/// Writes the answer to a refused text, and a newline.
+/// Writes the answer for a refused text, and a newline.
 ///
 /// The text of each error that a reader returns is short. So the answer is made in an array, and written at once.
 #[inline(never)]

@@ -1,10 +1,14 @@
 // Made by tools/to_rust.py of crates/ixdtf_answers/src/readers.rt. Do not edit.
 
-//! Writes the answers of the readers, with one function for each reader.
+//! Writes the answers of the readers.
 //!
-//! Each of these functions reads the text and writes the answer. None of them is inlined. So each has a stack frame of its own,
-//! and the value that its reader returns is in this frame. For each line, the program clears at most the frames of the functions
-//! that it calls. A record is passed by reference, so that it is not moved.
+//! The words for canonical texts have their functions in the module `canonical`. For the other words, this module has functions
+//! that read the text and write the answer. Some of these functions serve two words, such as `time` and `strict-time`.
+//!
+//! None of these functions is inlined. So each has a stack frame of its own, and the value that its reader returns is in this
+//! frame. With Rattle's compiler, a function that is called first sets the memory for this value to zero. If all readers were
+//! in one function, this would be done for the values of all readers at each line. With separate functions, it is done at most
+//! for the functions that the program calls for the line. A record is passed by reference, so that it is not moved.
 
 use crate::canonical::{
     MOST_PRINTED, canonical_duration, canonical_month_day, canonical_offset, canonical_record,
@@ -21,7 +25,7 @@ use ixdtf_buffers::error::RunError;
 use ixdtf_buffers::output::Output;
 use ixdtf_buffers::sink::Sink;
 
-/// Writes the answer to the text. The word decides which reader reads the text, and what the answer says about the value.
+/// Writes the answer for the text. The word decides which reader reads the text, and what the answer says about the value.
 pub fn answer_text<K: Sink>(
     output: &mut Output<'_, K>,
     room: &mut [u8; MOST_PRINTED],

@@ -9,7 +9,7 @@ use ixdtf_buffers::sink::Sink;
 use ixdtf_buffers::source::Source;
 use std::io::{Read, Write};
 
-/// Answers each line of the reader, and writes the answers to the writer.
+/// Answers each line that is read from `reader`, and writes the answers to `writer`.
 pub fn run<R: Read, W: Write>(reader: &mut R, writer: &mut W) -> Result<(), RunError> {
     answer_lines(reader, writer)
 }

@@ -137,10 +137,13 @@ struct Refused<'a, T: EncodingType> {
 
 /// Returns the error of a first bracket that is not a name, after the code units of a name have been consumed.
 ///
-/// - If an `=` comes before any `]`, the bracket is an annotation. Returns `AnnotationKeyChar` after the characters of a
-///   key.
-/// - If a `]` comes first, the bracket is a zone. Returns the error of the name, after the characters of a name.
-/// - Otherwise returns `AbruptBracket` at the end of the input, or `NonAsciiCodePoint` at a bad code unit.
+/// These code units are not the complete content of the bracket, or they cannot be a complete name.
+///
+/// - If an `=` comes before any `]`, the bracket is an annotation. The error is `AnnotationKeyChar`, at the first code
+///   unit that a key cannot contain.
+/// - If a `]` comes first, the bracket is a zone. The error is that of the name (`NameState::stop`), at the first code
+///   unit that cannot follow in the name.
+/// - Otherwise the error is `AbruptBracket` at the end of the input, or `NonAsciiCodePoint` at a bad code unit.
 ///
 /// The cursor is passed by value, so that the compiler can keep the cursor of the caller in registers.
 fn refuse_bracket<'a, T: EncodingType>(

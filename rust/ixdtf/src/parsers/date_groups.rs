@@ -33,7 +33,8 @@ static DATE_RANKS: [u8; 256] = [
     0, 0, 0, 0, 0, 0, 0, 0, 0, 0, 0, 0, 0, 0, 0, 0,
 ];
 
-/// Returns the rank of the date unit that the code unit names, or 0.
+/// Returns the rank of the date unit that the code unit names: 1 for years, 2 for months, 3 for weeks and 4 for days.
+/// Returns 0 for any other code unit.
 #[inline(always)]
 fn date_rank(letter: u8) -> u8 {
     DATE_RANKS[letter as usize]
@@ -64,7 +65,7 @@ fn take_date_unit<'a, T: EncodingType>(
     Ok(rank)
 }
 
-/// Returns the record of the numbers of date groups. The index of a number is its rank.
+/// Returns the record of the numbers of date groups. The index of a number is the rank of its unit.
 #[inline(always)]
 fn date_record(values: [u64; 5]) -> DateDurationRecord {
     DateDurationRecord {

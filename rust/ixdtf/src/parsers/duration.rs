@@ -122,9 +122,9 @@ impl<'a, T: EncodingType> IsoDurationParser<'a, T> {
 
     /// Parses the remaining input as a duration, such as `P1Y2M3DT4H` or `-PT1H30.5M`.
     ///
-    /// The form of a duration comes from ISO 8601, section 5.5.2 (`Duration` of the grammar of Temporal, a proposal for dates
-    /// and times in JavaScript). A duration consists of these parts. Only `P` and one group are required. A group is a number
-    /// and the letter of its unit.
+    /// The form of a duration comes from two sources. The first is ISO 8601, section 5.5.2. The second is `Duration` in
+    /// the grammar of Temporal, which is a proposal for dates and times in JavaScript. A duration consists of these
+    /// parts. Only `P` and one group are required. A group is a number and the letter of its unit.
     ///
     /// 1. An optional sign, `+` or `-`.
     /// 2. `P`.
@@ -239,11 +239,12 @@ impl<'a, T: EncodingType> IsoDurationParser<'a, T> {
         }
     }
 
-    /// Reads a duration after its sign and its `P`, on a second cursor, and expects the end of the input.
+    /// Reads a duration after its sign and its `P`, and expects the end of the input. `from` is a second cursor, after
+    /// the `P`. If the function returns an error, the remaining input of the parser does not change.
     ///
     /// The two public readers are inlined into their callers, and this function is not. So each caller has the code for
-    /// the beginning of a duration, and there is one function for the groups for each error type. With the complete
-    /// reader in one function, all calls are slower.
+    /// the beginning of a duration. The code for the groups is compiled once for each error type (`ParseError` and
+    /// `LocatedError`) and each encoding. If one function contained the complete reader, all calls would be slower.
     fn parse_groups<E: FromStop>(
         &mut self,
         from: Cursor<'a, T>,

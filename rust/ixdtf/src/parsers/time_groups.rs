@@ -31,7 +31,8 @@ static TIME_RANKS: [u8; 256] = [
     0, 0, 0, 0, 0, 0, 0, 0, 0, 0, 0, 0, 0, 0, 0, 0,
 ];
 
-/// Returns the rank of the time unit that the code unit names, or 0.
+/// Returns the rank of the time unit that the code unit names: 1 for hours, 2 for minutes and 3 for seconds. Returns 0
+/// for any other code unit.
 #[inline(always)]
 fn time_rank(letter: u8) -> u8 {
     TIME_RANKS[letter as usize]
@@ -67,8 +68,8 @@ fn take_time_unit<'a, T: EncodingType>(
     Ok(rank)
 }
 
-/// Returns the record of the numbers of time groups. The index of a number is its rank. The rank of the last group
-/// decides the variant.
+/// Returns the record of the numbers of time groups. The index of a number is the rank of its unit. The rank of the
+/// unit of the last group decides the variant.
 #[inline(always)]
 fn time_record(values: [u64; 4], rank: u8, fraction: Option<Fraction>) -> TimeDurationRecord {
     match rank {
@@ -110,8 +111,8 @@ fn parse_fraction_group<'a, T: EncodingType>(
 
 /// Reads time groups after their first digit, and expects the end of the input.
 ///
-/// No group can follow a group with a fraction. So only the last group can have a fraction. For the other groups, the
-/// function does not copy a field for a fraction.
+/// No group can follow a group with a fraction. So only the last group can have a fraction. For a group without a
+/// fraction, the function does not make a `TimeGroup`. So it does not have to copy the field for the fraction.
 #[inline(always)]
 pub fn parse_time_groups<'a, T: EncodingType>(
     cursor: &mut Cursor<'a, T>,

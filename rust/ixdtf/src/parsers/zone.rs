@@ -74,7 +74,7 @@ pub fn pass_name<'a, T: EncodingType>(cursor: &mut Cursor<'a, T>) -> Result<Pass
     passed
 }
 
-/// Does the work of `pass_name` on the cursor itself.
+/// Does the work of `pass_name`, on the second cursor that `pass_name` makes. The second cursor can stay in registers.
 #[inline(always)]
 fn pass_parts<'a, T: EncodingType>(cursor: &mut Cursor<'a, T>) -> Result<PassedName, Stop> {
     loop {
