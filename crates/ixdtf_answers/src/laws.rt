@@ -1,4 +1,4 @@
-//! Laws about the run.
+//! The run with a source and a sink in memory. Its contract says exactly which answers are written.
 ghost use Rattle.std.specs.Prelude.{◌≡◌, ℕ, List, [], ◌++◌, length, Some, Err, OnOk, IfErr};
 ghost use Rattle.ixdtf_buffers.specs.Lines.{lines_of};
 ghost use Rattle.ixdtf_answers.specs.Run.{AreAnswers, WritesFront};

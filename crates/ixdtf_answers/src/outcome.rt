@@ -47,7 +47,8 @@ pub fn put_record<K: Sink>(
     }
 }
 
-/// Adds `ok`, and the fields of a record up to the name of its zone. Returns the index after them.
+/// Adds `ok`, and the part of the record's fields that comes before the name of its zone. The name is not added. Returns the
+/// index after the added bytes.
 fn add_record_front(room: &mut [u8; ROOM], parts: &IxdtfParseRecord<'_, Utf8>) -> usize
     ensures place { result ≤ 97 }
     ensures text { Adds room.old room.new 0 result (codes "ok" ++ (date_field_of parts.now.date

@@ -2,8 +2,8 @@
 //!
 //! This is a layer of the library `ixdtf`, above `ixdtf_grammar`, `ixdtf_reading` and `ixdtf_times`. It uses
 //! `ixdtf_times`, because an offset can be in a bracket. The module `zone` reads a name or an offset without seconds.
-//! The module `brackets` reads the first bracket. The module `exact_zones` tests whether its zone has the form of
-//! RFC 9557. `ixdtf_reading::annotations` reads the later brackets.
+//! The module `brackets` reads the first bracket. The module `exact_zones` tests whether the zone in the first bracket
+//! has the form of RFC 9557. `ixdtf_reading::annotations` reads the later brackets.
 //!
 //! A *reading function* is a definition in `specs/reading` of `ixdtf_reading`: it says which result a function of the
 //! code must have for each list of code units. This crate proves that the functions do what their reading functions do.

@@ -11,9 +11,9 @@ const LANES: usize = 16;
 
 /// Returns the index of the first byte that is equal to `wanted`.
 ///
-/// The function compares `bytes[0]` on its own before it compares 16 bytes at once. In a text with many empty lines or fields,
-/// `bytes[0]` is often the wanted byte. The next search begins after the byte that was found. If the function found this byte by
-/// comparing 16 bytes at once, the processor could not begin the next search before it had the result of this comparison.
+/// The function compares `bytes[0]` on its own before it compares 16 bytes at once. In a text with many empty lines or
+/// fields, `bytes[0]` is often the wanted byte. The next search begins after the byte that was found. Without the test of
+/// `bytes[0]`, the processor could not begin the next search before it had the result of a comparison of 16 bytes.
 pub fn place_of(wanted: u8, bytes: &[u8]) -> Option<usize>
     ensures place { result ≡ position (is_byte wanted) bytes.now }
     ensures within { IfSome result (λ place. place < length bytes.now) }
@@ -38,8 +38,8 @@ fn place_in_few(wanted: u8, bytes: &[u8]) -> Option<usize>
 ///
 /// The last comparison takes the last `LANES` bytes. Some of these bytes can have been compared before.
 ///
-/// An earlier search compared all bytes one by one. It took five instructions for each byte, which was a quarter to a third of
-/// the work on a line of a log.
+/// A former version of this function compared all bytes one by one. It took five instructions for each byte, which was a
+/// quarter to a third of the work on a line of a log.
 #[inline(always)]
 fn place_in_many(wanted: u8, bytes: &[u8]) -> Option<usize>
     requires { 16 ≤ length bytes.now }

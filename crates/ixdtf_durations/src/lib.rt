@@ -2,8 +2,8 @@
 //!
 //! This is a layer of the library `ixdtf`, above `ixdtf_grammar`, `ixdtf_reading` and `ixdtf_times`. It uses
 //! `ixdtf_times`, because a duration can have a fraction. A *group* is a number and the letter of its unit. There can
-//! be any number of groups. So the definitions read them with a state machine (`specs/reading` of `ixdtf_reading`), and
-//! the code reads them with loops.
+//! be any number of groups. So the definitions in `specs/reading` of `ixdtf_reading` describe them with a state
+//! machine, and the code reads them with loops.
 //!
 //! - `date_groups` reads the date part, and `time_groups` the time part. Both use `group_numbers`.
 //! - `duration` puts the two parts together.

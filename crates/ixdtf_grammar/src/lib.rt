@@ -21,8 +21,8 @@
 //! - Under one profile, a text is in the grammar of at most one text reader.
 //! - Suppose that a row of a line fits a text with a bad code unit. There are two cases. In the first case, the error
 //!   of the row is `NonAsciiCodePoint`, and its position is the first bad code unit. In the second case, the code units
-//!   before the first bad one decide the error: every text that begins with them has the same error, by a row of the
-//!   same line.
+//!   before the first bad one decide the error. For every text that begins with them, some row of the same line fits,
+//!   and it has the same error.
 #![tactic(auto)]
 
 pub mod encoding;

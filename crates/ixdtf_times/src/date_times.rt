@@ -1,4 +1,5 @@
-//! Functions that read `YYYY-MM-DDTHH:MM:SS` in the first nineteen columns of a text. Most texts begin in this form.
+//! Functions that read `YYYY-MM-DDTHH:MM:SS` in the first nineteen columns of a text. The separator can also be `t` or
+//! a space. Most texts begin in this form.
 
 #![tactic(auto, unfolding(ixdtf_reading::specs::reading::FixedPlaces::fixed_readings))]
 

@@ -3,8 +3,8 @@
 //! The date and the time are read in fixed columns. If they do not fit these columns, the text has an error. Then it is
 //! read again, number by number, to find the first error.
 //!
-//! The readers of the library allow different things after a date-time. So only [`parse_rfc3339_text`] expects the end
-//! of the input.
+//! The readers of the library allow different things after a date-time. So [`parse_internet_date_time`] does not test
+//! what follows, and [`parse_rfc3339_text`] expects the end of the input.
 
 #![tactic(auto, unfolding(ixdtf_reading::specs::reading::DateTimes::date_time_line_readings, ixdtf_reading::specs::reading::Looks::number_by, crate::specs::ThroughSecond::through_second_readings))]
 
@@ -335,8 +335,8 @@ fn pass_date_and_time<'a, T: EncodingType>(cursor: &mut Cursor<'a, T>) -> Result
     pass_day_and_time(cursor, year, month)
 }
 
-/// Returns the first error of a text. The text must begin with a date, then `T` or `t`, and then a time, and this text does
-/// not. It is read number by number. The function is not inlined, because it is called only for a text with an error.
+/// Returns the first error of a text that does not begin with a date, then `T` or `t`, and then a time. The text is
+/// read number by number. The function is not inlined, because it is called only for a text with an error.
 #[inline(never)]
 fn first_stop<'a, T: EncodingType>(cursor: &mut Cursor<'a, T>) -> Stop
     requires no_date_time { NoDateTime (map T.letter cursor.old.rest) }
