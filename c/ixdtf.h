@@ -59,8 +59,9 @@
  * the calendar comes from a reply. Then it is the slice that your program passed as the value of
  * that reply.
  * A slice is not NUL-terminated. It is valid as long as the bytes to which it points exist and are
- * unchanged. The library keeps no pointer between calls. A location and the text of an error are valid as long as the program runs. If a function writes a
- * slice, its pointer is never NULL, even if its length is 0.
+ * unchanged. The library keeps no pointer between calls. A location and the text of an error are
+ * valid as long as the program runs. If a function writes a slice, its pointer is never NULL, even
+ * if its length is 0.
  * A reader accepts Foo/Bar as the name of a time zone, although no time zone has this name: the
  * library has no list of time zones. The name may have the parts "." and "..": for example,
  * ../../etc/passwd is such a name. There is one exception: the readers with _rfc9557 in their names
@@ -185,7 +186,7 @@ typedef struct ixdtf_date {
     int32_t year;  /* -999999 to 999999; 0 if the text has only a month and a day */
     uint8_t month; /* 1 to 12 */
     uint8_t day;   /* 1 to 31; 1 if the text has only a year and a month; 0 for the day 00 */
-    bool is_there; /* true with a date; if not, a reader writes 0 to the other fields */
+    bool is_there; /* true if there is a date; if not, a reader writes 0 to the other fields */
 } ixdtf_date;
 
 typedef struct ixdtf_time {
@@ -194,7 +195,7 @@ typedef struct ixdtf_time {
     uint8_t hour;            /* 0 to 23 */
     uint8_t minute;          /* 0 to 59 */
     uint8_t second;          /* 0 to 60 */
-    bool is_there;           /* true with a time; if not, a reader writes 0 to the others */
+    bool is_there;           /* true if there is a time; if not, a reader writes 0 to the others */
 } ixdtf_time;
 
 /* The values of `form` in an offset. IXDTF_NO_OFFSET says that there is no offset. IXDTF_UTC is Z:
