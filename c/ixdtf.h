@@ -21,11 +21,12 @@
  * RESULTS. A reader is a function that reads a text. A reader returns 0 (IXDTF_OK) if it accepts
  * the text. Otherwise it returns the number of the error, from 1 to 46. If a program ignores the
  * result, a compiler such as GCC or Clang warns.
- * If a reader returns 0, it has written every field of the record. If the text does not contain a
- * part, such as the time, the fields of this part are 0, false, or a slice of length 0. If the text
- * has only two of the three numbers of a date, the date is present: for a year and a month, `day`
- * is 1, and for a month and a day, `year` is 0. The length of `location` and the value of `place`
- * are 0 too.
+ * A reader writes what it reads to a record, a struct that the caller passes. If a reader returns
+ * 0, it has written every field of the record. If the text does not contain a part, such as the
+ * time, the fields of this part are 0, false, or a slice of length 0. If the text has only two of
+ * the three numbers of a date, the date is present: for a year and a month, `day` is 1, and for a
+ * month and a day, `year` is 0.
+ * After 0, there is no error. So `location` has the length 0, and `place` is 0.
  * If a reader returns an error, the record is unchanged, except for `location` and `place`. So its
  * other fields have the values from before the call. They can be about an earlier text.
  * - `location` says what was being parsed, such as "digit", if the error is IXDTF_ABRUPT_END. This
@@ -54,11 +55,13 @@
  *
  * SLICES. A slice is a pointer and a length. A name or a calendar that a reader writes into a
  * record is a slice of the text that was read. So are the key and the value of an annotation that a
- * reader lists. The calendar that ixdtf_keep_calendar writes is the value of an annotation that
- * your program passed to ixdtf_reply. A slice is not NUL-terminated. It is valid as long as the
- * bytes to which it points exist and are unchanged. The library keeps no pointer between calls. A
- * location and the text of an error are valid as long as the program runs. If a function writes a
- * slice, its pointer is never NULL, even if its length is 0.
+ * reader lists. There is one exception. If your program replies to annotations (see ixdtf_reply),
+ * the calendar comes from a reply. Then it is the slice that your program passed as the value of
+ * that reply.
+ * A slice is not NUL-terminated. It is valid as long as the bytes to which it points exist and are
+ * unchanged. The library keeps no pointer between calls. A location and the text of an error are
+ * valid as long as the program runs. If a function writes a slice, its pointer is never NULL, even
+ * if its length is 0.
  * A reader accepts Foo/Bar as the name of a time zone, although no time zone has this name: the
  * library has no list of time zones. The name may have the parts "." and "..": for example,
  * ../../etc/passwd is such a name. There is one exception: the readers with _rfc9557 in their names
@@ -160,7 +163,8 @@ enum {
 /* The numbers that printers, ixdtf_instant and ixdtf_duration_fraction return if they fail. No
  * reader returns them. */
 enum {
-    /* the value has no text: the reader that belongs to the printer never writes this value */
+    /* the value has no text: the reader that belongs to the printer never writes this value. For
+     * ixdtf_print_zone, `is_critical` does not matter: it prints a critical zone too */
     IXDTF_NOT_PRINTABLE = 101,
     /* the array is too short; the length of the text is in `count` */
     IXDTF_TOO_SHORT = 102,
@@ -182,7 +186,7 @@ typedef struct ixdtf_date {
     int32_t year;  /* -999999 to 999999; 0 if the text has only a month and a day */
     uint8_t month; /* 1 to 12 */
     uint8_t day;   /* 1 to 31; 1 if the text has only a year and a month; 0 for the day 00 */
-    bool is_there; /* true if a date is present; if false, the other fields are 0 */
+    bool is_there; /* true if there is a date; if not, a reader writes 0 to the other fields */
 } ixdtf_date;
 
 typedef struct ixdtf_time {
@@ -191,12 +195,13 @@ typedef struct ixdtf_time {
     uint8_t hour;            /* 0 to 23 */
     uint8_t minute;          /* 0 to 59 */
     uint8_t second;          /* 0 to 60 */
-    bool is_there;           /* true if a time is present; if false, the other fields are 0 */
+    bool is_there;           /* true if there is a time; if not, a reader writes 0 to the others */
 } ixdtf_time;
 
 /* The values of `form` in an offset. IXDTF_NO_OFFSET says that there is no offset. IXDTF_UTC is Z:
  * the time is in UTC, and the text does not say what the offset of the local time is. IXDTF_MINUTES
- * is an offset without seconds, and IXDTF_SECONDS is an offset with seconds. */
+ * is an offset without seconds, and IXDTF_SECONDS is an offset with seconds. If a comment of a
+ * field says when the field is 0 or false, a reader then writes 0 or false to it. */
 enum { IXDTF_NO_OFFSET = 0, IXDTF_UTC = 1, IXDTF_MINUTES = 2, IXDTF_SECONDS = 3 };
 typedef struct ixdtf_offset {
     uint64_t fraction;       /* as in ixdtf_time; 0 if `form` is not IXDTF_SECONDS */
@@ -210,7 +215,8 @@ typedef struct ixdtf_offset {
 
 /* The values of `form` in a time zone. IXDTF_NO_ZONE says that there is no zone. IXDTF_NAME is a
  * zone with a name, such as [Europe/Berlin]. IXDTF_ZONE_OFFSET is a zone that is an offset, such as
- * [+05:30]. */
+ * [+05:30]. If a comment of a field says when the field is 0, false or of length 0, a reader then
+ * writes such a value to it. */
 enum { IXDTF_NO_ZONE = 0, IXDTF_NAME = 1, IXDTF_ZONE_OFFSET = 2 };
 typedef struct ixdtf_zone {
     ixdtf_units name; /* of length 0 if `form` is not IXDTF_NAME */
@@ -267,7 +273,8 @@ typedef struct ixdtf16_calendar {
 
 /* The values of `time_form` in a duration. The hours, minutes and seconds of a duration are its
  * time. IXDTF_NO_TIME says that the duration has no time. The other values say which duration unit
- * is the last one of the time. */
+ * is the last one of the time. If a comment of a field says when the field is 0, a reader then
+ * writes 0 to it. */
 enum { IXDTF_NO_TIME = 0, IXDTF_LAST_HOURS = 1, IXDTF_LAST_MINUTES = 2, IXDTF_LAST_SECONDS = 3 };
 typedef struct ixdtf_duration {
     uint64_t days;           /* 0 if has_date is false */
@@ -311,9 +318,9 @@ typedef struct ixdtf_duration {
 #define IXDTF_DURATION { 0, 0, 0, 0, 0, 0, 0, 0, 0, 0, false, false, IXDTF_NO_TEXT_, 0 }
 #define IXDTF_TEXT IXDTF_NO_TEXT_
 
-/* Readers of 8-bit text. A reader always reads the complete text. docs/GRAMMAR.md says which texts
- * it accepts, and what it writes to `out` for each of them. "RESULTS" above says what it
- * returns. */
+/* Readers of 8-bit text. A reader accepts a text only if the complete text is valid.
+ * docs/GRAMMAR.md says which texts it accepts, and what it writes to `out` for each of them.
+ * "RESULTS" above says what it returns. */
 
 /* Reads a date, or a date and a time, which may have an offset. A zone and annotations may follow
  * in brackets. An example is 2024-03-02T08:48:00-05:00[America/New_York][u-ca=hebrew]. */
@@ -413,8 +420,9 @@ IXDTF_CHECKED_ uint32_t ixdtf_parse_time_with_annotations_strict(const uint8_t *
  * Initialise `calendar` before the first reply. Pass the replies in the order of the list, and pass
  * no reply after the first error. If the function keeps a reply, calendar->value is the slice that
  * you passed as the value of this reply. It is valid as long as the memory to which it points
- * exists and is unchanged. ixdtf_keep_calendar writes the calendar into a record. ixdtf_reply_place
- * returns the position of the error of a refused reply. */
+ * exists and is unchanged. But if the slice that you passed has the length 0, the function writes
+ * another slice of length 0, whose pointer is not NULL. ixdtf_keep_calendar writes the calendar
+ * into a record. ixdtf_reply_place returns the position of the error of a refused reply. */
 IXDTF_CHECKED_ uint32_t ixdtf_reply(ixdtf_calendar *calendar, const ixdtf_annotation *reply);
 
 /* Writes the canonical text of a record to the array `out`, in ASCII. The canonical text is the one
@@ -623,14 +631,16 @@ IXDTF_CHECKED_ uint32_t ixdtf16_instant(const ixdtf16_record *record, int64_t *s
 
 /* Converts the fraction of a duration. The function writes two numbers: whole seconds, and the
  * nanoseconds after them, from 0 to 999999999. The fraction is a part of the last duration unit:
- * for PT1.5H, it is 1800 seconds and 0 nanoseconds. Without a fraction, both numbers are 0. The
- * sign of the duration does not matter. The function returns one of these:
+ * for PT1.5H, it is 1800 seconds and 0 nanoseconds. Without a fraction, both numbers are 0. They
+ * are also 0 if the duration has no last unit of the time: if `time_form` is not IXDTF_LAST_HOURS,
+ * IXDTF_LAST_MINUTES or IXDTF_LAST_SECONDS. The sign of the duration does not matter. The function
+ * returns one of these:
  * - IXDTF_OK: the two numbers are exactly the fraction.
- * - IXDTF_NOT_EXACT: the fraction is not a whole number of nanoseconds, as in PT0.0000000001S. The
- *   function also returns this number if the fraction has more than 18 digits, because the struct
- *   has only the first 18 of them. It also does so if `fraction_digits` is not 0, and
- *   `fraction` has more digits than `fraction_digits` says. After IXDTF_NOT_EXACT, the function has
- *   written nothing. */
+ * - IXDTF_NOT_EXACT: this number is returned only if the duration has a last unit of the time. The
+ *   fraction is not a whole number of nanoseconds, as in PT0.0000000001S. The function also returns
+ *   this number if the fraction has more than 18 digits, because the struct has only the first 18
+ *   of them. It also does so if `fraction_digits` is not 0, and `fraction` has more digits than
+ *   `fraction_digits` says. After IXDTF_NOT_EXACT, the function has written nothing. */
 IXDTF_CHECKED_ uint32_t ixdtf_duration_fraction(const ixdtf_duration *duration, uint32_t *seconds,
     uint32_t *nanoseconds);
 

@@ -2,8 +2,8 @@
 //!
 //! A law is a function whose contract states the theorem. To use a law, call the function: after the call, the prover
 //! knows what the function ensures. A law without parameters does nothing when it runs. [`parse_unanswered`] is the only
-//! law that parses a text. Its contract has the clauses of [`IxdtfParser::parse_with_annotation_handler`]. Three more clauses,
-//! `calendar`, `unrecognized` and `duplicate`, state the theorem.
+//! law that parses a text. Its contract has the clauses of [`IxdtfParser::parse_with_annotation_handler`]. Three more
+//! clauses, `calendar`, `unrecognized` and `duplicate`, state the theorem.
 
 pub mod instants;
 
@@ -38,7 +38,7 @@ use ixdtf_reading::stop::FromStop;
 /// lowercase.
 ///
 /// The law does not name an encoding, so it is about sources in every encoding. It states that, without a handler, each
-/// of these texts gives a record. By the clause `reads` in its contract, `parse` then returns this record.
+/// of these texts gives a record. By the clause `reads` in the contract of `parse`, `parse` then returns this record.
 pub fn every_rfc3339_date_time_is_read()
     ensures { EveryDateTimeIsRead }
 {}
@@ -53,8 +53,8 @@ pub fn rfc3339_date_times_are_read_alike()
     ensures same { ParseReadsTheSame }
 {}
 
-/// States that `parse_rfc9557` accepts every text of `parse_rfc3339`, that `parse` accepts every text of `parse_rfc9557`, and
-/// that the records are equal.
+/// States that `parse_rfc9557` accepts every text of `parse_rfc3339`, that `parse` accepts every text of `parse_rfc9557`,
+/// and that the records are equal.
 ///
 /// - `dated`: [`IxdtfParser::parse_rfc9557`] accepts each text that [`IxdtfParser::parse_rfc3339`] accepts, and returns an
 ///   equal record.
@@ -101,10 +101,11 @@ pub fn hyphens_say_nothing()
 ///
 /// There are two cases. In the first case, the grammar derives exactly one value from the text, and no row of the table
 /// of errors (`docs/FAULTS.md`) fits the text. In the second case, exactly one row of this table fits the text, and the
-/// grammar derives no value from the text. A row contains its position, so the error has exactly one position.
+/// grammar derives no value from the text. A row also says the position of the error, so the error has exactly one
+/// position.
 ///
 /// The outcome contains annotations. If the grammar derives a value, these are the annotations of the text. Otherwise
-/// they are the complete annotations before the position of the row. The outcome does not contain the replies of a
+/// they are the complete annotations before this position. The outcome does not contain the replies of a
 /// handler. So a reader can refuse a text although the grammar derives a value from it: the reason is a refused reply.
 ///
 /// - `outcome`: each text has exactly one outcome in each reader.
@@ -126,7 +127,7 @@ pub fn one_outcome()
     ensures replied { OneChain }
 {}
 
-/// States that at most one of the five readers of dates, times and durations accepts a text, under one profile.
+/// States that, under one profile, at most one of these five readers accepts a text.
 ///
 /// The five readers are [`IxdtfParser::parse`], [`IxdtfParser::parse_year_month`], [`IxdtfParser::parse_month_day`],
 /// [`IxdtfParser::parse_time`] and [`IsoDurationParser::parse`](crate::parsers::IsoDurationParser::parse).
@@ -169,8 +170,8 @@ pub fn exact_nanoseconds_are_the_truncated_ones(fraction: &Fraction)
 /// States that `==` of two values is true exactly if the two values have the same content.
 ///
 /// The law is about slices of code units, records and errors, in every encoding. The content of a slice is the list of the
-/// numbers of its code units. The content of a record is that of its fields. The content of an error is its variant and, for
-/// `AbruptEnd`, the bytes of its `location`. So `==` is reflexive, symmetric and transitive.
+/// numbers of its code units. The content of a record is that of its fields. The content of an error is its variant and,
+/// for `AbruptEnd`, the bytes of its `location`. So `==` is reflexive, symmetric and transitive.
 pub fn equality_is_of_what_is_seen<'a, T: EncodingType>()
 where
     T::CodeUnit: 'a,
@@ -276,7 +277,9 @@ where
     parse_unanswered_as::<T, ParseError, F>(parser, handler)
 }
 
-/// Does the work of [`parse_unanswered`]. The error is made from a `Stop`.
+/// Does the work of [`parse_unanswered`].
+///
+/// `E` is the type of the error. The error is made from a `Stop`, the error type that the library uses inside.
 #[inline(always)]
 fn parse_unanswered_as<'a, T: EncodingType, E: FromStop, F>(
     parser: &mut IxdtfParser<'a, T>,

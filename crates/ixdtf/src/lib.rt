@@ -17,13 +17,14 @@
 //! - [`parsers::IsoDurationParser`] parses a duration, such as `P1Y2M3DT4H`.
 //! - Each parsing method of the three parsers has a variant `*_located`, whose error has a position.
 //! - [`parsers::Profile`] chooses the rules for a month and a day, and for a duration. `Profile::Strict` is stricter than
-//!   `Profile::Crate`, which a new parser has. `parse_time` refuses a text that could also be a month and a day. So the rules
+//!   `Profile::Crate`, which a new parser has. `parse_time` refuses a text that begins like a month and a day. So the rules
 //!   for a month and a day also decide which texts `parse_time` refuses.
 //!
 //! The grammar is written down. A *reader* is one of these parsing methods. It accepts every text of its grammar,
 //! unless an annotation must be refused, and accepts no other text. For every text that it does not accept, a
 //! reader returns one error: the error that a written table has for this text, or the error of a refused
-//! annotation. A reader does not allocate, and returns on every input.
+//! annotation. A reader without a handler does not allocate, and returns on every input. In a reader with a handler, only
+//! the calls of the handler can allocate, and the reader returns if these calls return.
 //!
 //! - [`parsers`]: the parsers.
 //! - [`records`]: what the parsers return.

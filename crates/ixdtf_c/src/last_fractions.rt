@@ -75,16 +75,18 @@ fn last_nanoseconds(given: &Duration<'_>) -> Option<u64>
 
 /// Writes the fraction of a duration in seconds and nanoseconds, such as 1800 and 0 for `PT1.5H`, and returns 0.
 ///
-/// Returns 104, and writes nothing, if the fraction is not a whole number of nanoseconds, or if it has more than 18 digits,
-/// because only the first 18 are known. Also returns 104 if `fraction` has more digits than `fraction_digits` says. But if
-/// `fraction_digits` is 0, there is no fraction, and the value of `fraction` does not matter.
+/// If `time_form` is not 1 to 3, there is no last duration unit of the time: then the function writes 0 and 0, and returns 0.
+/// Otherwise returns 104, and writes nothing, if the fraction is not a whole number of nanoseconds, or if it has more than 18
+/// digits, because only the first 18 are known. Also returns 104 if `fraction` has more digits than `fraction_digits` says. But
+/// if `fraction_digits` is 0, there is no fraction, and the value of `fraction` does not matter.
 #[unsafe(no_mangle)]
 pub extern "C" fn ixdtf_duration_fraction(
     given: &Duration<'_>,
     seconds: &mut u32,
     nanoseconds: &mut u32,
 ) -> u32
-    // After 0, the seconds and the nanoseconds are exactly the fraction. After 104, no number of nanoseconds is exactly the fraction.
+    // After 0, the seconds and the nanoseconds are exactly the fraction. After 104, no number of nanoseconds is exactly the
+    // fraction.
     ensures exact { result ≡ 0 → AreLastFraction (contents given.now) (seconds.new * 10 ^ 9 + nanoseconds.new) }
     ensures fits { result ≡ 0 → nanoseconds.new < 10 ^ 9 }
     ensures refused { result ≢ 0 → (n : ℕ) → ¬ (AreLastFraction (contents given.now) n) }

@@ -25,7 +25,7 @@ use crate::widths::{RecordOf, ZoneOf};
 use ixdtf::encoding::EncodingType;
 use ixdtf_print::{PrintError, duration_length, offset_length};
 
-/// A value of C that a printer of the library can print in code units of the encoding `T`.
+/// A value of C of a kind that has a printer in the library, for code units of the encoding `T`.
 pub trait HasText<T: EncodingType> {
     /// States that there is a text for which the reader returns this value. The reader is the one for values of this kind.
     ghost printable: { Self → Type 0 };
@@ -33,8 +33,8 @@ pub trait HasText<T: EncodingType> {
     /// The canonical text of the value.
     ghost canonical: { Self → Text };
 
-    /// States two facts about the record of the library for which the value stands. The reader returns this record for the
-    /// canonical text, and no other record of this kind has this canonical text.
+    /// The value of C is converted to a value of the library. States two facts about that value: the reader returns it for
+    /// the canonical text, and no other value of this kind has this canonical text.
     ghost reads_back: { Self → Type 0 };
 
     /// Prints the value, and returns the length of the text in code units.
@@ -80,8 +80,8 @@ pub struct AsMonthDay<'a, R> {
     pub record: &'a R,
 }
 
-/// A zone that is printed without its brackets and without its `!`. `ixdtf_parse_identifier` and `ixdtf16_parse_identifier` read
-/// such texts.
+/// A zone that is printed without its brackets and without its `!`. `ixdtf_parse_identifier` and `ixdtf16_parse_identifier`
+/// read such texts.
 #[derive(Clone, Copy)]
 pub struct AsZone<'a, Z> {
     pub zone: &'a Z,

@@ -100,8 +100,8 @@ fn units_of<'a>(calendar: &Calendar<'a>) -> &'a [u8]
 /// If the array is long enough, this function calls the handler for each annotation, and passes each reply to [`ixdtf_reply`].
 /// It stops at the first reply that is refused, and returns the number of the error. If no reply is refused, it returns the
 /// number that [`ixdtf_parse_with_annotations`] returned. If this number is 0, the record has the calendar that was kept, if
-/// there is one. In all these cases, the outcome is the one of `parse_with_annotation_handler`. Only the position of an error
-/// can differ, because `place` is always the one that [`ixdtf_parse_with_annotations`] wrote, also if a reply is refused.
+/// there is one. If the array is long enough, the outcome is always the one of `parse_with_annotation_handler`, except for the
+/// position of an error: `place` is always the one that [`ixdtf_parse_with_annotations`] wrote, also if a reply is refused.
 ///
 /// After an error, the record is unchanged, except for `location` and `place`.
 pub fn parse_in_turn<'a, F>(

@@ -1,4 +1,5 @@
-//! Functions that write a number without leading zeros into a slice, and a function that counts its digits.
+//! Functions that write a number into a slice, and a function that counts the digits of a number. A number is written
+//! without leading zeros. Only the last eight digits of a longer number can begin with zeros.
 ghost use Rattle.std.specs.Prelude.{◌≡◌, ◌<◌, ◌≤◌, length};
 ghost use Rattle.ixdtf.specs.language.Digits.{padded_digits};
 ghost use Rattle.ixdtf_print.specs.Durations.{number_text};
@@ -23,8 +24,8 @@ pub fn digit_count(number: u64) -> u16
 
 /// Writes the number without leading zeros at index `at`. Returns the index after it.
 ///
-/// Most numbers are small, so numbers below 10,000 are tested first. The function is not inlined. With a copy of it for each
-/// duration unit, the printer of durations would take more instructions.
+/// Most numbers are small, so numbers below 10,000 are tested first. The function is not inlined. With a copy of it for
+/// each duration unit, the printer of durations would take more instructions.
 #[inline(never)]
 pub fn put_number(out: &mut [u8], at: usize, number: u64) -> usize
     requires { HasRoom out.old at (number_text number) }

@@ -98,8 +98,8 @@ fn write_calendar<W: fmt::Write>(f: &mut fmt::Formatter<W>, calendar: Option<&[u
     }
 }
 
-/// Writes, for each byte, the character whose code point is the value of the byte. If a record has a canonical text, the bytes of
-/// its names are ASCII.
+/// Writes, for each byte, the character whose code point is the value of the byte. If a record has a canonical text, the
+/// bytes of its names are ASCII. So for such a name, the function writes exactly the bytes of the name.
 pub fn write_bytes<W: fmt::Write>(f: &mut fmt::Formatter<W>, bytes: &[u8]) -> fmt::Result
     ensures { WritesStyledOnOk W.write_str_gives f.old result (encode_utf8_all bytes.now) f.new }
 {

@@ -12,7 +12,7 @@ ghost use Rattle.ixdtf_grammar.specs.InstantLaws.{CountsAreInOrder, CountsBeginI
 /// to the date.
 ///
 /// - `first`: the day number of 1 January 1970 is 0.
-/// - `next`: if a date of the calendar is replaced by the next day, the instant is 86,400 seconds later.
+/// - `next`: if a date that exists is replaced by the next day, the instant is 86,400 seconds later.
 pub fn next_day_is_a_day_later()
     ensures first { CountsBeginIn1970 }
     ensures next { NextDayIsADayLater }
@@ -20,7 +20,7 @@ pub fn next_day_is_a_day_later()
 
 /// States that dates and times, their instants and the counts of these instants have the same order.
 ///
-/// - `counts`: suppose that two dates are dates of the calendar, and that two times have hours of at most 23, minutes of at
+/// - `counts`: suppose that two dates are dates that exist, and that two times have hours of at most 23, minutes of at
 ///   most 59 and seconds of at most 60. Second 60 counts as second 59. Then, at the same offset, one date and time comes
 ///   before the other exactly if the count of its instant is smaller.
 /// - `instants`: suppose that the nanoseconds of two instants are below 1,000,000,000. `Ord` compares the seconds, and

@@ -26,8 +26,8 @@ impl<'a, T: EncodingType> IxdtfParser<'a, T> {
     /// Parses the remaining input like [`parse`](Self::parse), and lets a handler decide about each annotation.
     ///
     /// The handler is called with each annotation, in order, up to the first error. It is called when the bracket of
-    /// the annotation has been read completely. The handler returns a *reply*, which replaces the
-    /// annotation:
+    /// the annotation has been read completely. The handler returns a *reply*. The reader then uses the reply instead of
+    /// the annotation:
     ///
     /// - `Some` with the same annotation keeps it.
     /// - `Some` with another annotation replaces it.
@@ -201,8 +201,8 @@ impl<'a, T: EncodingType> IxdtfParser<'a, T> {
     ///
     /// # Errors
     ///
-    /// Returns the errors of [`parse_month_day`](Self::parse_month_day). `CriticalDuplicateCalendar` and `UnrecognizedCritical`
-    /// are about the annotations that the handler returns.
+    /// Returns the errors of [`parse_month_day`](Self::parse_month_day). `CriticalDuplicateCalendar` and
+    /// `UnrecognizedCritical` are about the annotations that the handler returns.
     pub fn parse_month_day_with_annotation_handler<F>(
         &mut self,
         handler: F,
@@ -235,8 +235,8 @@ impl<'a, T: EncodingType> IxdtfParser<'a, T> {
     ///
     /// # Errors
     ///
-    /// Returns the errors of [`parse_time`](Self::parse_time). `CriticalDuplicateCalendar` and `UnrecognizedCritical` are about
-    /// the annotations that the handler returns.
+    /// Returns the errors of [`parse_time`](Self::parse_time). `CriticalDuplicateCalendar` and `UnrecognizedCritical` are
+    /// about the annotations that the handler returns.
     pub fn parse_time_with_annotation_handler<F>(
         &mut self,
         handler: F,
@@ -268,8 +268,8 @@ impl<'a, T: EncodingType> IxdtfParser<'a, T> {
     ///
     /// # Errors
     ///
-    /// Returns the errors of [`parse_with_annotation_handler`](Self::parse_with_annotation_handler), each with its position. If
-    /// a reply is refused, the position is after the bracket of its annotation.
+    /// Returns the errors of [`parse_with_annotation_handler`](Self::parse_with_annotation_handler), each with its
+    /// position. If a reply is refused, the position is after the bracket of its annotation.
     pub fn parse_with_annotation_handler_located<F>(
         &mut self,
         handler: F,
@@ -301,8 +301,8 @@ impl<'a, T: EncodingType> IxdtfParser<'a, T> {
     ///
     /// # Errors
     ///
-    /// Returns the errors of [`parse_rfc9557_with_annotation_handler`](Self::parse_rfc9557_with_annotation_handler), each with
-    /// its position. If a reply is refused, the position is after the bracket of its annotation.
+    /// Returns the errors of [`parse_rfc9557_with_annotation_handler`](Self::parse_rfc9557_with_annotation_handler), each
+    /// with its position. If a reply is refused, the position is after the bracket of its annotation.
     pub fn parse_rfc9557_with_annotation_handler_located<F>(
         &mut self,
         handler: F,
@@ -334,8 +334,8 @@ impl<'a, T: EncodingType> IxdtfParser<'a, T> {
     ///
     /// # Errors
     ///
-    /// Returns the errors of [`parse_year_month_with_annotation_handler`](Self::parse_year_month_with_annotation_handler), each
-    /// with its position. If a reply is refused, the position is after the bracket of its annotation.
+    /// Returns the errors of [`parse_year_month_with_annotation_handler`](Self::parse_year_month_with_annotation_handler),
+    /// each with its position. If a reply is refused, the position is after the bracket of its annotation.
     pub fn parse_year_month_with_annotation_handler_located<F>(
         &mut self,
         handler: F,
@@ -367,8 +367,8 @@ impl<'a, T: EncodingType> IxdtfParser<'a, T> {
     ///
     /// # Errors
     ///
-    /// Returns the errors of [`parse_month_day_with_annotation_handler`](Self::parse_month_day_with_annotation_handler), each
-    /// with its position. If a reply is refused, the position is after the bracket of its annotation.
+    /// Returns the errors of [`parse_month_day_with_annotation_handler`](Self::parse_month_day_with_annotation_handler),
+    /// each with its position. If a reply is refused, the position is after the bracket of its annotation.
     pub fn parse_month_day_with_annotation_handler_located<F>(
         &mut self,
         handler: F,
@@ -400,8 +400,8 @@ impl<'a, T: EncodingType> IxdtfParser<'a, T> {
     ///
     /// # Errors
     ///
-    /// Returns the errors of [`parse_time_with_annotation_handler`](Self::parse_time_with_annotation_handler), each with its
-    /// position. If a reply is refused, the position is after the bracket of its annotation.
+    /// Returns the errors of [`parse_time_with_annotation_handler`](Self::parse_time_with_annotation_handler), each with
+    /// its position. If a reply is refused, the position is after the bracket of its annotation.
     pub fn parse_time_with_annotation_handler_located<F>(
         &mut self,
         handler: F,
@@ -416,7 +416,9 @@ impl<'a, T: EncodingType> IxdtfParser<'a, T> {
     }
 
     /// Reads a text with a core of the kind that `C` reads, like
-    /// [`parse_with_annotation_handler`](Self::parse_with_annotation_handler). The error is made from a `Stop`.
+    /// [`parse_with_annotation_handler`](Self::parse_with_annotation_handler).
+    ///
+    /// `E` is the type of the error. The error is made from a `Stop`, the error type that the library uses inside.
     #[inline(always)]
     pub(crate) fn read_as<E: FromStop, C: CoreReader, F>(
         &mut self,
@@ -439,12 +441,14 @@ impl<'a, T: EncodingType> IxdtfParser<'a, T> {
     /// Reads a text with a core of the kind that `C` reads, like
     /// [`parse_with_annotation_handler`](Self::parse_with_annotation_handler).
     ///
-    /// The handler is left in the state after its last call, so the caller can use it. The error is made from a `Stop`.
+    /// The handler is left in the state after its last call, so the caller can use it. `E` is the type of the error. The
+    /// error is made from a `Stop`, the error type that the library uses inside.
+    ///
     /// This function is only for crates of this repository, and not a part of the public interface.
     ///
     /// # Errors
     ///
-    /// Returns the errors of the reader of this kind with a handler.
+    /// Returns the errors of the public reader that has a handler and reads the cores that `C` reads.
     #[doc(hidden)]
     #[inline(always)]
     pub fn read_lending_handler<E: FromStop, C: CoreReader, F>(
