@@ -2,9 +2,9 @@
 
 //! A cursor: the remaining code units of a source.
 //!
-//! A cursor has no index. It keeps the remaining code units as one slice, so it cannot point past the end. When a function
-//! of this crate or of a layer above it returns an error, its cursor is at the position of the error. The readers that users
-//! call work on a second cursor. If such a reader fails, the cursor of the parser is unchanged.
+//! A cursor has no index. It keeps the remaining code units as one slice, so it cannot point past the end. When a
+//! function that reads a part of a text returns an error, its cursor is at the position of the error. The readers that
+//! users call work on a second cursor. If such a reader fails, the cursor of the parser is unchanged.
 
 use crate::classes::two_digit_number;
 use crate::stop::{FromStop, Stop, error_of_stop};
@@ -28,7 +28,8 @@ impl<'a, T: EncodingType> fmt::Debug for Cursor<'a, T> {
     }
 }
 
-/// Writes a code unit: a printable ASCII character as it is, and any other by its number.
+/// Writes a code unit. A `"` and a `\` have a `\` before them. Any other printable ASCII character is written as it is,
+/// and any other code unit by its number.
 fn write_unit(f: &mut fmt::Formatter<'_>, number: u32) -> fmt::Result {
     match u8::try_from(number) {
         Err(_) => write!(f, "\\u{{{:x}}}", number),
@@ -81,8 +82,9 @@ impl<'a, T: EncodingType> Cursor<'a, T> {
 
     /// Ends a function that worked on a second cursor, `here`.
     ///
-    /// If `read` is `Ok`, `self` continues where `here` is. If `read` is a `Stop`, `self` keeps its remaining input. Then
-    /// the function returns the error of the `Stop`. Its position is the number of code units from `self` to `here`.
+    /// If `read` is `Ok`, `self` continues where `here` is. If `read` is a `Stop`, `self` keeps its remaining input,
+    /// and `settle` returns the error of the `Stop`. The position of this error is the number of code units from `self`
+    /// to `here`.
     #[inline(always)]
     pub fn settle<R, E: FromStop>(&mut self, here: Self, read: Result<R, Stop>) -> Result<R, E> {
         match read {
@@ -127,8 +129,8 @@ impl<'a, T: EncodingType> Cursor<'a, T> {
 
     /// Consumes one digit, and returns it as an ASCII byte.
     ///
-    /// Returns `AbruptDigit` at the end of the input, `NonAsciiCodePoint` at a bad code unit, and `other` at any other code
-    /// unit. Then nothing is consumed.
+    /// Returns `AbruptDigit` at the end of the input, `NonAsciiCodePoint` at a bad code unit, and `other` at any other
+    /// code unit. If the function returns an error, it consumes nothing.
     #[inline(always)]
     pub fn next_digit(&mut self, other: Stop) -> Result<u8, Stop> {
         match self.look()? {
@@ -156,9 +158,10 @@ impl<'a, T: EncodingType> Cursor<'a, T> {
 
     /// Consumes two digits, and returns their number.
     ///
-    /// One test finds the end of the input, and one comparison tests both digits. Returns `AbruptDigit` at the end of the
-    /// input, `NonAsciiCodePoint` at a bad code unit, and `other` at any other code unit. Then the code unit of the error
-    /// is not consumed. If a digit is before it, this digit is consumed.
+    /// One test finds the end of the input, and one comparison tests both digits. Returns `AbruptDigit` at the end of
+    /// the input, `NonAsciiCodePoint` at a bad code unit, and `other` at any other code unit. If the function returns
+    /// an error, it does not consume the code unit of the error. If a digit is before this code unit, it consumes this
+    /// digit.
     #[inline(always)]
     pub fn two_digits(&mut self, other: Stop) -> Result<u8, Stop> {
         if self.rest.len() < 2 {

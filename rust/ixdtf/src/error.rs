@@ -41,8 +41,9 @@ pub enum ParseError {
     NonAsciiCodePoint,
     /// No reader returns this error.
     ParseFloat,
-    /// The text ends too early. If `location` is `DateDurationDesignator` or `TimeDurationDesignator`, it is also
-    /// possible that a wrong character follows. `location` says what was being parsed:
+    /// The text ends too early. If `location` is `DateDurationDesignator` or `TimeDurationDesignator`, the text may
+    /// also not end, but have a wrong character after a number or its fraction (see below). `location` says what was
+    /// being parsed:
     ///
     /// - `digit`: a digit must follow, as in `2020-1`.
     /// - `Date`: the text ends after the year of a date, as in `2020`.
@@ -128,8 +129,8 @@ pub enum ParseError {
     /// In a bracket that is not the first one, the key begins with a character that cannot begin a key. This is also
     /// the error if the text ends there.
     AnnotationKeyLeadingChar,
-    /// The key of an annotation contains a character that a key cannot contain. The `=` after the key ends the key, so it
-    /// does not have this error.
+    /// The key of an annotation contains a character that a key cannot contain. The `=` that ends the key is not such a
+    /// character.
     AnnotationKeyChar,
     /// In the value of an annotation, no ASCII letter or digit follows a hyphen. This is also the error if the text
     /// ends there.

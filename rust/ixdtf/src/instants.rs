@@ -15,8 +15,9 @@ impl<'a, T: EncodingType> IxdtfParseRecord<'a, T> {
     /// For a record that a reader returned, the result is `Some` exactly if the record has a date, a time, and an offset
     /// or `Z`.
     ///
-    /// - The nanoseconds are the first nine digits of the fraction. If the offset has a fraction, its first nine digits count
-    ///   as a part of the offset, with the sign of the offset.
+    /// - The nanoseconds are the first nine digits of the fraction of the time, unless the offset has a fraction.
+    ///   The first nine digits of the fraction of the offset count as a part of the offset, with its sign. So they also
+    ///   change the nanoseconds.
     /// - The second 60 counts as the second 59, as in `ParseISODateTime` of the Temporal proposal. So, on one date and at
     ///   one offset, `23:59:60.5` and `23:59:59.5` are the same instant.
     /// - No time zone is looked up: the zone in brackets and the calendar do not change the instant. If the text has an offset

@@ -34,8 +34,9 @@ impl LocatedError {
     ///
     /// `text` must be the complete source of the parser that returned this error. An earlier call on this parser must
     /// not have returned `Ok`: such a call consumes the source, so the position of this error would not be counted from
-    /// the beginning of `text`. For a source of 16-bit code units, `text` is the same text as a `str`. All code units
-    /// before an error of a reader are from 1 to 126, so the position is also a number of bytes in `text`.
+    /// the beginning of `text`. If the source has 16-bit code units, `text` must be this source, converted to a `str`.
+    /// All code units before an error of a reader are from 1 to 126, so the position is also a number of bytes in
+    /// `text`.
     ///
     /// The `Display` of the result writes two lines, without a newline at the end. [`PointedText`] describes what it
     /// writes for a long text, and for control characters.

@@ -450,7 +450,7 @@ pub enum TimeDurationRecord {
 /// public interface.
 ///
 /// While digits are read one by one, their value is an ordinary number. A [`Fraction`] stores its value in a packed
-/// form, as eight bytes. Code that the compiler of Rattle makes takes about 50 instructions to pack a value. So the
+/// form, as eight bytes. The code that Rattle's compiler produces needs about 50 instructions to pack a value. So the
 /// value is packed only once, after the last of these digits.
 #[doc(hidden)]
 #[derive(Clone, Copy, Debug)]
@@ -470,7 +470,8 @@ impl LeadingDigits {
         }
     }
 
-    /// Returns whether there are fewer than 18 digits. If so, one more digit becomes a part of the value.
+    /// Returns whether there are fewer than 18 digits. If so, the value has room for the next digit. Otherwise, the
+    /// next digit is only counted.
     #[inline(always)]
     #[must_use]
     pub fn is_short(self) -> bool {

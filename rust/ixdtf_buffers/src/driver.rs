@@ -107,7 +107,7 @@ fn end_line<K: Sink, T: LineTask<LIMIT>, const LIMIT: usize>(
 
 /// Does the work of `end_line` for a line whose first bytes are kept, or that is too long.
 ///
-/// The function is not inlined, because most reads contain at most one such line.
+/// The function is not inlined, because at most one such line ends in the bytes of a read.
 #[inline(never)]
 fn end_kept_line<K: Sink, T: LineTask<LIMIT>, const LIMIT: usize>(
     output: &mut Output<'_, K>,

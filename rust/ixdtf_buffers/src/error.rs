@@ -1,6 +1,7 @@
 // Made by tools/to_rust.py of crates/ixdtf_buffers/src/error.rt. Do not edit.
 
-//! The errors that end a run early. A *run* is one call of `drive`, which reads a source to its end and writes to a sink.
+//! The errors that end a run. A *run* is one call of `drive`, which reads a source and writes to a sink. A run without an
+//! error reads the source to its end.
 
 /// The error that ended a run.
 #[derive(Clone, Copy, Debug, PartialEq)]

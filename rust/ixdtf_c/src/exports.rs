@@ -8,8 +8,8 @@
 //! - `read`: Each text has one outcome: the record that the grammar gives for the text, or an error with its position. The
 //!   outcome decides the number that is returned. If this number is 0, the outcome also decides every field of the record.
 //!   After an error, it decides only the fields `location` and `place`. Five readers are called the *text readers*:
-//!   `ixdtf_parse`, and the readers of a year and a month, of a month and a day, of a time, and of a duration. Two of them
-//!   never accept the same text under the same profile: if one of them returns 0, none of the other four accepts the text.
+//!   `ixdtf_parse`, and the readers of a year and a month, of a month and a day, of a time, and of a duration. Under one
+//!   profile, at most one of these five readers accepts a text: if one of them returns 0, the other four refuse the text.
 //! - `lists`: The outcome is that of a reader whose handler drops each annotation. As in `read`, this outcome decides the
 //!   number that is returned, and the fields of the record. The clause also says that `count` is the number of annotations
 //!   before the end of the text, or before its error. If the array has room for `n` annotations, the first `n` of them are in

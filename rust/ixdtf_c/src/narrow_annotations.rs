@@ -34,9 +34,10 @@ impl<'l, 'a> List<'l, 'a> {
 /// Reads a text with the reader of the kind `C`, and lists the annotations. The handler of this reader drops each of them, so
 /// the record has no calendar.
 ///
-/// This function is generic in the error, because `LocatedError` contains a `&'static str`. The library is written in Rattle,
-/// which is Rust with contracts. Rattle's borrow checker does not support a function with both of these properties: the
-/// signature names `'static`, and the function uses a bound with a lifetime, such as the bound of a handler.
+/// The library is written in Rattle, which is Rust with contracts. Rattle's borrow checker refuses a function that has
+/// `'static` in the types of its signature, and that also uses a bound with a lifetime. With `LocatedError` as its error, this
+/// function would have both: `LocatedError` contains `'static`, and a handler has such a bound. So the function is generic in
+/// the error.
 #[inline(always)]
 fn list_as<'a, E: FromStop, C: CoreReader>(
     text: &'a [u8],

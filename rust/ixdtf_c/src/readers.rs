@@ -11,9 +11,10 @@ use ixdtf::records::{IxdtfParseRecord, TimeZoneAnnotation, TimeZoneRecord, UtcOf
 
 /// Reads a text with the reader of the kind `C`, without a handler.
 ///
-/// This function is generic in the error, because `LocatedError` contains a `&'static str`. The library is written in Rattle,
-/// which is Rust with contracts. Rattle's borrow checker does not support a function with both of these properties: the
-/// signature names `'static`, and the function uses a bound with a lifetime, such as the bound of a handler.
+/// The library is written in Rattle, which is Rust with contracts. Rattle's borrow checker refuses a function that has
+/// `'static` in the types of its signature, and that also uses a bound with a lifetime. With `LocatedError` as its error, this
+/// function would have both: `LocatedError` contains `'static`, and a handler has such a bound. So the function is generic in
+/// the error.
 #[inline(always)]
 fn read_as<'a, E: FromStop, T: EncodingType, C: CoreReader>(
     text: &'a [T::CodeUnit],

@@ -13,7 +13,7 @@ use crate::widths::{RecordOf, ZoneOf};
 use ixdtf::encoding::EncodingType;
 use ixdtf_print::{PrintError, duration_length, offset_length};
 
-/// A value of C that a printer of the library can print in code units of the encoding `T`.
+/// A value of C of a kind that has a printer in the library, for code units of the encoding `T`.
 pub trait HasText<T: EncodingType> {
     /// Prints the value, and returns the length of the text in code units.
     fn print(&self, out: &mut [T::CodeUnit]) -> Result<usize, PrintError>;
@@ -52,8 +52,8 @@ pub struct AsMonthDay<'a, R> {
     pub record: &'a R,
 }
 
-/// A zone that is printed without its brackets and without its `!`. `ixdtf_parse_identifier` and `ixdtf16_parse_identifier` read
-/// such texts.
+/// A zone that is printed without its brackets and without its `!`. `ixdtf_parse_identifier` and `ixdtf16_parse_identifier`
+/// read such texts.
 #[derive(Clone, Copy)]
 pub struct AsZone<'a, Z> {
     pub zone: &'a Z,

@@ -69,8 +69,8 @@ pub fn column_named(separator: u8, name: &[u8], first: &[u8]) -> Result<usize, C
     }
 }
 
-/// Returns the number of fields before the field that has this name in the first line of a file. The line is a record of RFC 4180,
-/// in which some fields may be in quotes. `unquoted` is a buffer for the texts of these fields.
+/// Returns the number of fields before the field that has this name in the first line of a file. The line must be a record of
+/// RFC 4180, in which some fields may be in quotes. `unquoted` is a buffer for the texts of these fields.
 ///
 /// # Errors
 ///

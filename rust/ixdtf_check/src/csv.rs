@@ -52,7 +52,8 @@ pub enum Walked {
     Lost(Broken),
 }
 
-/// Returns the index of the quote that closes a field, in the bytes after the quote that opens it. A doubled quote does not close it.
+/// `bytes` are the bytes after the quote that opens a field. Returns the index in `bytes` of the quote that closes this
+/// field. A doubled quote does not close the field.
 fn closing_quote(bytes: &[u8]) -> Option<usize> {
     let mut start = 0;
     'quotes: while let Some(place) = place_of(QUOTE, &bytes[start..]) {

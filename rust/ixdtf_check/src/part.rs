@@ -35,7 +35,7 @@ impl Part<'_> {
     }
 }
 
-/// The reason why a line has no text.
+/// The reason why a line is refused before its text is read.
 #[derive(Clone, Copy)]
 pub enum Lost {
     /// The line has too few fields.
@@ -67,8 +67,9 @@ pub fn without_return(line: &[u8]) -> &[u8] {
     }
 }
 
-/// Returns the text of the line. The text begins where the given field begins. There is one exception: if the field belongs to
-/// a record of RFC 4180 and is in quotes, the text begins after the opening quote. Returns an error if the line has no text.
+/// Returns the text of the line. The text begins where the given field begins. There is one exception: if the field belongs
+/// to a record of RFC 4180 and is in quotes, the text begins after the opening quote. Returns an error if the line is refused
+/// before its text is read.
 #[inline(always)]
 pub fn part_of<'a>(
     field: Field,
@@ -85,7 +86,8 @@ pub fn part_of<'a>(
 /// Returns the field that has `before` fields before it in a record of RFC 4180. Returns an error if the line is no record, or has
 /// too few fields.
 ///
-/// In a line without quotes, each field is what is between two separators.
+/// In a line without quotes, each field is what is between two separators. The first field begins at the beginning of the
+/// line, and the last field ends at its end.
 #[inline(never)]
 fn csv_field<'a>(
     separator: u8,
@@ -99,8 +101,8 @@ fn csv_field<'a>(
     }
 }
 
-/// Returns the field that has `before` fields before it. A field is what is between two separators. Returns an error if there are
-/// too few fields.
+/// Returns the field that has `before` fields before it. A field is what is between two separators. The first field begins at
+/// the beginning of the line, and the last field ends at its end. Returns an error if there are too few fields.
 #[inline(always)]
 fn plain_field(separator: u8, before: usize, line: &[u8]) -> Result<Part<'_>, Lost> {
     match field_start(separator, before, line) {

@@ -16,8 +16,9 @@ const FROM_PLACE: usize = 24;
 
 /// The greatest number of bytes of a report after the name of the file.
 ///
-/// The numbers of the line and of the column have at most 44 bytes, with the colons and the space. A message has at most 70 bytes.
-/// The two lines under the message have at most 345 bytes: `..`, 72 characters of four bytes, `..`, a newline, 50 spaces, `^` and a newline.
+/// The numbers of the line and of the column have at most 44 bytes, with the colons and the space. A message has at most 70
+/// bytes with its newline. The two lines under the message have at most 345 bytes: `..`, 72 characters of four bytes, `..`, a
+/// newline, 50 spaces, `^` and a newline.
 pub const ROOM: usize = 459;
 
 /// A newline, and the greatest number of spaces before a mark.
@@ -136,8 +137,8 @@ struct LastCharacters {
     count: usize,
 }
 
-/// Returns the index at which the character begins that contains the byte at `place`. Returns the length of the text if `place` is
-/// not in the text.
+/// Returns the index of the first byte of the character that contains the byte at `place`. Returns the length of the text if
+/// `place` is not in the text.
 fn character_at(bytes: &[u8], place: usize) -> usize {
     if place >= bytes.len() {
         return bytes.len();

@@ -15,8 +15,9 @@ use ixdtf_print::error_parts;
 /// The greatest length in bytes of a canonical text with its newline that is written to the output as one slice.
 const MOST_AT_ONCE: usize = 4096;
 
-/// Writes the report of the line to the output. `number` is the number of the line, from 1. `refusals` is the number of refused
-/// lines so far. If this line is refused, it is included. `printed` is the canonical text of the line, if the line was printed.
+/// Writes the report of the line to the output. `number` is the number of the line, from 1. `refusals` is the number of
+/// refused lines so far. If this line is refused, it is included. If the verdict is `Verdict::Printed`, `printed` contains
+/// the canonical text of the line.
 ///
 /// The function is inlined, because most lines are accepted and have no report.
 #[inline(always)]
@@ -41,8 +42,8 @@ pub fn put_report<K: Sink>(
     }
 }
 
-/// Writes a canonical text and its newline to the output. If both together are longer than the buffer of the output, they are two
-/// slices. So the newline stays in the buffer, and is not written on its own.
+/// Writes a canonical text and its newline to the output. If both together are longer than the buffer of the output, they are
+/// two slices. The newline then waits in the buffer, and can go to the sink together with the bytes that follow it.
 fn put_printed<K: Sink>(output: &mut Output<'_, K>, line: &[u8]) -> Result<(), RunError> {
     if line.len() <= MOST_AT_ONCE {
         return output.put(line);

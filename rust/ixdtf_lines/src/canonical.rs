@@ -2,10 +2,10 @@
 
 //! Reads texts, and prints their canonical texts. There is one function for each kind of canonical text.
 //!
-//! None of these functions is inlined. So each function has a stack frame of its own, and the value that its reader returns is
-//! in this frame. With Rattle's compiler, a function that is called first sets the memory for this value to zero. If all
-//! readers were in one function, this would be done for the values of all readers at each line. With separate functions, it is
-//! done at most for the functions that the program calls for the line.
+//! None of these functions is inlined. So each function has a stack frame of its own, and the value that its reader returns
+//! is in this frame. With Rattle's compiler, each call of such a function begins with setting the memory for this value to
+//! zero. If all readers were in one function, this would be done for the values of all readers at each line. With separate
+//! functions, it is done at most for the functions that the program calls for the line.
 
 use ixdtf::ParserResult;
 use ixdtf::encoding::Utf8;

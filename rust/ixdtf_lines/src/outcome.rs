@@ -34,7 +34,8 @@ pub fn put_record<K: Sink>(
     }
 }
 
-/// Adds `ok`, and the fields of a record up to the name of its zone. Returns the index after them.
+/// Adds `ok`, and the part of the record's fields that comes before the name of its zone. The name is not added. Returns the
+/// index after the added bytes.
 fn add_record_front(room: &mut [u8; ROOM], parts: &IxdtfParseRecord<'_, Utf8>) -> usize {
     let date = add_bytes(room, 0, b"ok");
     let time = add_date_field(room, date, parts.date);

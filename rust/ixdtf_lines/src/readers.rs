@@ -6,9 +6,10 @@
 //! that read the text and write the answer. Some of these functions serve two words, such as `time` and `strict-time`.
 //!
 //! None of these functions is inlined. So each has a stack frame of its own, and the value that its reader returns is in this
-//! frame. With Rattle's compiler, a function that is called first sets the memory for this value to zero. If all readers were
-//! in one function, this would be done for the values of all readers at each line. With separate functions, it is done at most
-//! for the functions that the program calls for the line. A record is passed by reference, so that it is not moved.
+//! frame. With Rattle's compiler, each call of such a function begins with setting the memory for this value to zero. If all
+//! readers were in one function, this would be done for the values of all readers at each line. With separate functions, it
+//! is done at most for the functions that the program calls for the line. A record is passed by reference, so that it is not
+//! moved.
 
 use crate::canonical::{
     MOST_PRINTED, canonical_duration, canonical_month_day, canonical_offset, canonical_record,

@@ -65,7 +65,7 @@ fn has_day(date: Option<DateRecord>) -> bool {
 }
 
 /// Returns whether the time and the offset have texts. A time or an offset that the record does not have needs no text.
-/// But an offset without a time has no text.
+/// If there is an offset but no time, the function returns `false`.
 #[inline(always)]
 pub fn has_time(time: Option<TimeRecord>, offset: Option<UtcOffsetRecordOrZ>) -> bool {
     match (time, offset) {

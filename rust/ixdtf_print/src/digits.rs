@@ -5,8 +5,8 @@
 use crate::put::{put, put_byte, set_byte};
 use ixdtf::records::Fraction;
 
-// For each number of 0 to 255, the digit of its tens and the digit of its ones. One struct has both tables, so that the code
-// needs only one address.
+// For each number of 0 to 255, the digit of its tens and the digit of its ones. One struct has both tables, so that the
+// code needs only one address.
 // A table look-up takes fewer instructions than the divisions.
 struct WrittenDigits {
     tens: [u8; 256],
@@ -54,8 +54,8 @@ pub fn put_four(out: &mut [u8], at: usize, number: u64) -> usize {
 /// Writes the last `count` digits of the number at index `at`, with leading zeros. Returns the index after them.
 ///
 /// The loop writes two digits at a time, and begins with the last two. The function is not inlined. In one of its
-/// calls, the number is the constant 0. If this call were inlined, the compiler would turn the loop into a call of `memset`. But
-/// the library for C must not call other functions.
+/// calls, the number is the constant 0. If this call were inlined, the compiler would turn the loop into a call of
+/// `memset`. But the proved library for C must not call functions that it does not contain.
 #[inline(never)]
 pub fn put_digits(out: &mut [u8], at: usize, count: usize, number: u64) -> usize {
     let end = at + count;

@@ -1,6 +1,7 @@
 // Made by tools/to_rust.py of crates/ixdtf_print/src/numbers.rt. Do not edit.
 
-//! Functions that write a number without leading zeros into a slice, and a function that counts its digits.
+//! Functions that write a number into a slice, and a function that counts the digits of a number. A number is written
+//! without leading zeros. Only the last eight digits of a longer number can begin with zeros.
 
 use crate::digits::{ones_digit, put_four, tens_digit};
 use crate::put::{put, put_byte};
@@ -18,8 +19,8 @@ pub fn digit_count(number: u64) -> u16 {
 
 /// Writes the number without leading zeros at index `at`. Returns the index after it.
 ///
-/// Most numbers are small, so numbers below 10,000 are tested first. The function is not inlined. With a copy of it for each
-/// duration unit, the printer of durations would take more instructions.
+/// Most numbers are small, so numbers below 10,000 are tested first. The function is not inlined. With a copy of it for
+/// each duration unit, the printer of durations would take more instructions.
 #[inline(never)]
 pub fn put_number(out: &mut [u8], at: usize, number: u64) -> usize {
     if number < 10_000 {

@@ -11,16 +11,16 @@ use ixdtf::encoding::Utf8;
 use ixdtf::records::{IxdtfParseRecord, TimeZoneRecord};
 use core::fmt;
 
-/// The greatest number of bytes of a core. The core of a date-time is the longest one: its date has at most 13 bytes. Its
+/// The greatest number of bytes of a core. The core of a date-time is the longest one. Its date has at most 13 bytes. Its
 /// time and its offset have at most 265 bytes each, because a fraction has at most 255 digits.
 const MOST_OF_CORE: usize = 543;
 
-/// The end of a canonical text. A canonical text has two parts: the core, whose length is limited, and the tail. The tail can
-/// have names, and a name can have any length.
+/// The end of a canonical text. A canonical text has two parts: the core, whose length is limited, and the tail. The tail
+/// can have names, and a name can have any length.
 pub enum Tail<'a> {
     /// There is nothing after the core.
     Nothing,
-    /// A zone without brackets.
+    /// A zone without brackets. It is the whole canonical text, and the core is empty.
     Zone(&'a TimeZoneRecord<'a, Utf8>),
     /// The zone and the calendar of a record, in their brackets.
     Brackets(&'a IxdtfParseRecord<'a, Utf8>),

@@ -1,13 +1,13 @@
 // Made by tools/to_rust.py of crates/ixdtf_print/src/wide_names.rt. Do not edit.
 
-//! Functions that print a record of 16-bit text as 16-bit code units. They write its zone and its calendar, in
-//! brackets.
+//! Functions that print a record or a zone of 16-bit text as 16-bit code units. Of a record, they write the zone and the
+//! calendar in brackets. `print_zone` writes a zone without brackets.
 //!
 //! The date, the time and the offset of a record do not depend on the width of the code units of the text. So the
 //! functions for 8-bit text write them.
-// Because of `#[inline]` at each function here, and at each public function that calls one of them, `rustc` compiles them only
-// into the crates that call them. Otherwise it would inline less into the functions for 8-bit text, and these would take up to a
-// tenth more.
+// Because of `#[inline]` at each function here, and at each public function that calls one of them, `rustc` compiles them
+// only into the crates that call them. Otherwise it would inline less into the functions for 8-bit text, and these would
+// take up to a tenth more.
 
 use crate::check::is_minute_clock;
 use crate::error::PrintError;
@@ -41,7 +41,7 @@ pub fn print_bracketed<T: CanonicalText>(
     Ok(put_bracketed(core, parsed, out))
 }
 
-/// Returns whether the core and the brackets have texts.
+/// Returns whether the core and the brackets can be written.
 #[inline]
 fn is_printable<T: CanonicalText>(core: T, parsed: &IxdtfParseRecord<'_, Utf16>) -> bool {
     core.is_printable() && has_brackets(parsed)
@@ -64,7 +64,7 @@ fn put_bracketed<T: CanonicalText>(
     put_brackets(out, after_core, parsed)
 }
 
-/// Returns the number of code units of the core and the brackets, if they have texts and a `usize` can hold the number.
+/// Returns the number of code units of the core and the brackets, if they can be written and a `usize` can hold the number.
 #[inline]
 pub fn printed_length<T: CanonicalText>(
     core: T,

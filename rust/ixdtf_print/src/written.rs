@@ -75,8 +75,8 @@ fn write_calendar(f: &mut fmt::Formatter<'_>, calendar: Option<&[u8]>) -> fmt::R
     }
 }
 
-/// Writes, for each byte, the character whose code point is the value of the byte. If a record has a canonical text, the bytes of
-/// its names are ASCII.
+/// Writes, for each byte, the character whose code point is the value of the byte. If a record has a canonical text, the
+/// bytes of its names are ASCII. So for such a name, the function writes exactly the bytes of the name.
 pub fn write_bytes(f: &mut fmt::Formatter<'_>, bytes: &[u8]) -> fmt::Result {
     for byte in bytes {
         write_byte(f, *byte)?;

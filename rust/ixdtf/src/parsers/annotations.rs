@@ -27,7 +27,8 @@ impl Letters for KeyLetters {
 /// Reads a key and the `=` after it, and returns the code units of the key.
 ///
 /// The caller has tested the first code unit of the key. Returns `AnnotationKeyValueSeparator` at the end of the input,
-/// `NonAsciiCodePoint` at a bad code unit, and `AnnotationKeyChar` at any other code unit that is neither `=` nor in a key.
+/// `NonAsciiCodePoint` at a bad code unit, and `AnnotationKeyChar` at any other code unit that is not `=` and that a
+/// key cannot contain.
 #[inline(always)]
 pub fn parse_annotation_key<'a, T: EncodingType>(
     cursor: &mut Cursor<'a, T>,
@@ -62,8 +63,8 @@ impl Letters for ComponentLetters {
 
 /// Consumes the first code unit of a component.
 ///
-/// Returns `NonAsciiCodePoint` at a bad code unit, and `other` at any other code unit and at the end of the input. Then
-/// nothing is consumed.
+/// Returns `NonAsciiCodePoint` at a bad code unit, and `other` at any other code unit and at the end of the input. If
+/// the function returns an error, it consumes nothing.
 #[inline(always)]
 fn start_component<'a, T: EncodingType>(cursor: &mut Cursor<'a, T>, other: Stop) -> Result<(), Stop> {
     match cursor.look()? {

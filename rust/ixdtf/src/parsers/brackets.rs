@@ -137,7 +137,8 @@ struct Refused<'a, T: EncodingType> {
 
 /// Returns the error of a first bracket that is not a name, after the code units of a name have been consumed.
 ///
-/// These code units are not the complete content of the bracket, or they cannot be a complete name.
+/// The function is called in two cases. In the first case, a code unit other than `]` follows the consumed ones. In the
+/// second case, a `]` follows them, but they end with a `/`, and a name cannot end there.
 ///
 /// - If an `=` comes before any `]`, the bracket is an annotation. The error is `AnnotationKeyChar`, at the first code
 ///   unit that a key cannot contain.

@@ -90,7 +90,7 @@ impl<'a, T: EncodingType> IxdtfParser<'a, T> {
     /// Returns the parser with another profile. The remaining input is unchanged.
     ///
     /// The profile decides which texts [`parse_month_day`](Self::parse_month_day) accepts. So it also decides which texts
-    /// [`parse_time`](Self::parse_time) refuses because they could be a month and a day.
+    /// [`parse_time`](Self::parse_time) refuses because they begin like a month and a day.
     ///
     /// # Examples
     ///

@@ -160,7 +160,8 @@ fn parse_date_time<'a, T: EncodingType>(
     }
 }
 
-/// Reads what follows a date and a time in fixed columns, and writes all into the record.
+/// Reads what follows a date and a time that were read in fixed columns (each digit and separator at its usual index).
+/// Writes the date, the time and what follows into the record.
 ///
 /// For speed, `time` is a local variable of this function. If a function that is not inlined wrote `time`, then `time`
 /// would be in memory. It would be written byte by byte, and then copied as one block. The copy would have to wait

@@ -1,6 +1,7 @@
 // Made by tools/to_rust.py of crates/ixdtf_times/src/date_times.rt. Do not edit.
 
-//! Functions that read `YYYY-MM-DDTHH:MM:SS` in the first nineteen columns of a text. Most texts begin in this form.
+//! Functions that read `YYYY-MM-DDTHH:MM:SS` in the first nineteen columns of a text. The separator can also be `t` or
+//! a space. Most texts begin in this form.
 
 use crate::parsers::dates::{fixed_date, is_date};
 use crate::parsers::time::{WholeTime, fixed_time};

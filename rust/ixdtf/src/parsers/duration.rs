@@ -67,7 +67,9 @@ impl<'a> IsoDurationParser<'a, Utf16> {
 
     /// Creates a parser of 16-bit code units, as [`from_utf16`](Self::from_utf16) does.
     ///
-    /// This crate is a port of the crate `ixdtf` 0.6.7 of ICU4X, which gives the function this name. There are two functions `from_utf8`, one for each encoding. So a caller must name the encoding: `IsoDurationParser::<Utf16>::from_utf8`.
+    /// The library `ixdtf`, of which this crate is a part, is a port of the crate `ixdtf` 0.6.7 of ICU4X, which gives
+    /// the function this name. There are two functions `from_utf8`, one for each encoding. So a caller must name the
+    /// encoding: `IsoDurationParser::<Utf16>::from_utf8`.
     ///
     /// # Examples
     ///

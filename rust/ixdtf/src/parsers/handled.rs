@@ -15,8 +15,8 @@ impl<'a, T: EncodingType> IxdtfParser<'a, T> {
     /// Parses the remaining input like [`parse`](Self::parse), and lets a handler decide about each annotation.
     ///
     /// The handler is called with each annotation, in order, up to the first error. It is called when the bracket of
-    /// the annotation has been read completely. The handler returns a *reply*, which replaces the
-    /// annotation:
+    /// the annotation has been read completely. The handler returns a *reply*. The reader then uses the reply instead of
+    /// the annotation:
     ///
     /// - `Some` with the same annotation keeps it.
     /// - `Some` with another annotation replaces it.
@@ -181,8 +181,8 @@ impl<'a, T: EncodingType> IxdtfParser<'a, T> {
     ///
     /// # Errors
     ///
-    /// Returns the errors of [`parse_month_day`](Self::parse_month_day). `CriticalDuplicateCalendar` and `UnrecognizedCritical`
-    /// are about the annotations that the handler returns.
+    /// Returns the errors of [`parse_month_day`](Self::parse_month_day). `CriticalDuplicateCalendar` and
+    /// `UnrecognizedCritical` are about the annotations that the handler returns.
     pub fn parse_month_day_with_annotation_handler<F>(
         &mut self,
         handler: F,
@@ -212,8 +212,8 @@ impl<'a, T: EncodingType> IxdtfParser<'a, T> {
     ///
     /// # Errors
     ///
-    /// Returns the errors of [`parse_time`](Self::parse_time). `CriticalDuplicateCalendar` and `UnrecognizedCritical` are about
-    /// the annotations that the handler returns.
+    /// Returns the errors of [`parse_time`](Self::parse_time). `CriticalDuplicateCalendar` and `UnrecognizedCritical` are
+    /// about the annotations that the handler returns.
     pub fn parse_time_with_annotation_handler<F>(
         &mut self,
         handler: F,
@@ -242,8 +242,8 @@ impl<'a, T: EncodingType> IxdtfParser<'a, T> {
     ///
     /// # Errors
     ///
-    /// Returns the errors of [`parse_with_annotation_handler`](Self::parse_with_annotation_handler), each with its position. If
-    /// a reply is refused, the position is after the bracket of its annotation.
+    /// Returns the errors of [`parse_with_annotation_handler`](Self::parse_with_annotation_handler), each with its
+    /// position. If a reply is refused, the position is after the bracket of its annotation.
     pub fn parse_with_annotation_handler_located<F>(
         &mut self,
         handler: F,
@@ -272,8 +272,8 @@ impl<'a, T: EncodingType> IxdtfParser<'a, T> {
     ///
     /// # Errors
     ///
-    /// Returns the errors of [`parse_rfc9557_with_annotation_handler`](Self::parse_rfc9557_with_annotation_handler), each with
-    /// its position. If a reply is refused, the position is after the bracket of its annotation.
+    /// Returns the errors of [`parse_rfc9557_with_annotation_handler`](Self::parse_rfc9557_with_annotation_handler), each
+    /// with its position. If a reply is refused, the position is after the bracket of its annotation.
     pub fn parse_rfc9557_with_annotation_handler_located<F>(
         &mut self,
         handler: F,
@@ -302,8 +302,8 @@ impl<'a, T: EncodingType> IxdtfParser<'a, T> {
     ///
     /// # Errors
     ///
-    /// Returns the errors of [`parse_year_month_with_annotation_handler`](Self::parse_year_month_with_annotation_handler), each
-    /// with its position. If a reply is refused, the position is after the bracket of its annotation.
+    /// Returns the errors of [`parse_year_month_with_annotation_handler`](Self::parse_year_month_with_annotation_handler),
+    /// each with its position. If a reply is refused, the position is after the bracket of its annotation.
     pub fn parse_year_month_with_annotation_handler_located<F>(
         &mut self,
         handler: F,
@@ -332,8 +332,8 @@ impl<'a, T: EncodingType> IxdtfParser<'a, T> {
     ///
     /// # Errors
     ///
-    /// Returns the errors of [`parse_month_day_with_annotation_handler`](Self::parse_month_day_with_annotation_handler), each
-    /// with its position. If a reply is refused, the position is after the bracket of its annotation.
+    /// Returns the errors of [`parse_month_day_with_annotation_handler`](Self::parse_month_day_with_annotation_handler),
+    /// each with its position. If a reply is refused, the position is after the bracket of its annotation.
     pub fn parse_month_day_with_annotation_handler_located<F>(
         &mut self,
         handler: F,
@@ -362,8 +362,8 @@ impl<'a, T: EncodingType> IxdtfParser<'a, T> {
     ///
     /// # Errors
     ///
-    /// Returns the errors of [`parse_time_with_annotation_handler`](Self::parse_time_with_annotation_handler), each with its
-    /// position. If a reply is refused, the position is after the bracket of its annotation.
+    /// Returns the errors of [`parse_time_with_annotation_handler`](Self::parse_time_with_annotation_handler), each with
+    /// its position. If a reply is refused, the position is after the bracket of its annotation.
     pub fn parse_time_with_annotation_handler_located<F>(
         &mut self,
         handler: F,
@@ -375,7 +375,9 @@ impl<'a, T: EncodingType> IxdtfParser<'a, T> {
     }
 
     /// Reads a text with a core of the kind that `C` reads, like
-    /// [`parse_with_annotation_handler`](Self::parse_with_annotation_handler). The error is made from a `Stop`.
+    /// [`parse_with_annotation_handler`](Self::parse_with_annotation_handler).
+    ///
+    /// `E` is the type of the error. The error is made from a `Stop`, the error type that the library uses inside.
     #[inline(always)]
     pub(crate) fn read_as<E: FromStop, C: CoreReader, F>(
         &mut self,
@@ -394,12 +396,14 @@ impl<'a, T: EncodingType> IxdtfParser<'a, T> {
     /// Reads a text with a core of the kind that `C` reads, like
     /// [`parse_with_annotation_handler`](Self::parse_with_annotation_handler).
     ///
-    /// The handler is left in the state after its last call, so the caller can use it. The error is made from a `Stop`.
+    /// The handler is left in the state after its last call, so the caller can use it. `E` is the type of the error. The
+    /// error is made from a `Stop`, the error type that the library uses inside.
+    ///
     /// This function is only for crates of this repository, and not a part of the public interface.
     ///
     /// # Errors
     ///
-    /// Returns the errors of the reader of this kind with a handler.
+    /// Returns the errors of the public reader that has a handler and reads the cores that `C` reads.
     #[doc(hidden)]
     #[inline(always)]
     pub fn read_lending_handler<E: FromStop, C: CoreReader, F>(

@@ -102,7 +102,8 @@ pub fn parse_month_day_date<'a, T: EncodingType>(
 }
 
 /// Reads the month-day whose month begins at index `start`, in fixed columns if they fit. If the month does not fit,
-/// everything from `start` on is read part by part. If only the day does not fit, the text after the month is.
+/// everything from `start` on is read part by part. If only the day does not fit, the text after the month is read part
+/// by part.
 #[inline(always)]
 fn parse_month_day_at<'a, T: EncodingType>(
     cursor: &mut Cursor<'a, T>,
@@ -208,8 +209,8 @@ pub fn check_month_day(profile: Profile, month: u8, day: u8) -> Result<DateRecor
     })
 }
 
-/// Returns whether the month has the day in some year, for example in the leap year 0. Returns true for day 0 too, but
-/// not under the strict profile. Every month has the days 1 to 28.
+/// Returns whether the month has the day in some year. This is so exactly if it has the day in a leap year, such as the
+/// year 0. Returns true for day 0 too, but not under the strict profile. Every month has the days 1 to 28.
 #[inline(always)]
 fn has_month_day(profile: Profile, month: u8, day: u8) -> bool {
     day >= profile.least_day() && (day <= 28 || day <= days_in_month(0, month))

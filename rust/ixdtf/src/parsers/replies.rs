@@ -1,6 +1,6 @@
 // Made by tools/to_rust.py of crates/ixdtf/src/parsers/replies.rt. Do not edit.
 
-//! Functions that call the handler, and keep its first calendar.
+//! Functions that call the handler, and keep the first of its replies with the key `u-ca`.
 
 use crate::encoding::EncodingType;
 use crate::records::Annotation;
@@ -20,7 +20,7 @@ where
     handler(annotation)
 }
 
-/// Keeps the calendar of a reply, if it is the first one.
+/// A *calendar* is an annotation with the key `u-ca`. If the reply is a calendar, and no earlier reply was one, keeps it.
 ///
 /// Returns `UnrecognizedCritical` if the reply is critical and is not a calendar. Returns `CriticalDuplicateCalendar`
 /// if it is a calendar, its value differs from that of the first one, and at least one of the two is critical. The

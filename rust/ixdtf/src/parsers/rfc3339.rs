@@ -5,8 +5,8 @@
 //! The date and the time are read in fixed columns. If they do not fit these columns, the text has an error. Then it is
 //! read again, number by number, to find the first error.
 //!
-//! The readers of the library allow different things after a date-time. So only [`parse_rfc3339_text`] expects the end
-//! of the input.
+//! The readers of the library allow different things after a date-time. So [`parse_internet_date_time`] does not test
+//! what follows, and [`parse_rfc3339_text`] expects the end of the input.
 
 use crate::parsers::date_times::take_fixed_date_time;
 use crate::parsers::dates::{check_month, has_day};
@@ -248,8 +248,8 @@ fn pass_date_and_time<'a, T: EncodingType>(cursor: &mut Cursor<'a, T>) -> Result
     pass_day_and_time(cursor, year, month)
 }
 
-/// Returns the first error of a text. The text must begin with a date, then `T` or `t`, and then a time, and this text does
-/// not. It is read number by number. The function is not inlined, because it is called only for a text with an error.
+/// Returns the first error of a text that does not begin with a date, then `T` or `t`, and then a time. The text is
+/// read number by number. The function is not inlined, because it is called only for a text with an error.
 #[inline(never)]
 fn first_stop<'a, T: EncodingType>(cursor: &mut Cursor<'a, T>) -> Stop {
     match pass_date_and_time(cursor) {

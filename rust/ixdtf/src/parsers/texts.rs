@@ -21,9 +21,8 @@ impl<'a, T: EncodingType> IxdtfParser<'a, T> {
     /// `read_lending_handler` calls it directly.
     ///
     /// Most of these readers make the record as a local variable, and then have a `match` on the result of the call.
-    /// For speed, the record is returned in one arm of this `match`, the error is returned in another arm, and each of
-    /// the two arms returns. If both arms ended in one value, or if a result with the record were passed on, the record
-    /// would be copied once more.
+    /// For speed, one arm of this `match` gives the record, and the arm of the error has its own `return`. If both arms
+    /// ended in one value, or if a result with the record were passed on, the record would be copied once more.
     #[inline(always)]
     pub(crate) fn read_into<C: CoreReader, F>(
         &mut self,
@@ -67,8 +66,9 @@ where
     Ok(())
 }
 
-/// Reads the brackets after a core and the first `[`, up to the end of the input: the first bracket, and the
-/// annotations after it. If `is_exact`, a zone in the first bracket must have the form of RFC 9557, section 4.1.
+/// Reads all brackets of a text, up to the end of the input: the first bracket, and the annotations after it. The core
+/// and the first `[` have already been read. If `is_exact`, a zone in the first bracket must have the form of RFC 9557,
+/// section 4.1.
 #[inline(never)]
 fn parse_brackets<'a, T: EncodingType, F>(
     cursor: &mut Cursor<'a, T>,

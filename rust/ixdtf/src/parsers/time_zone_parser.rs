@@ -76,8 +76,8 @@ impl<'a, T: EncodingType> TimeZoneParser<'a, T> {
     /// section 4.1, allows: a part after a `/` can begin with a digit, `+` or `-`, and a part can be `.` or `..`.
     ///
     /// - A name consists of ASCII letters, digits, `_`, `.`, `+`, `-` and `/`. Its first character is a letter, `_` or
-    ///   `.`. Its last character is not a `/`, and no `/` follows another `/`. The result is a slice of the text. It is
-    ///   not checked that such a zone exists.
+    ///   `.`. Its last character is not a `/`, and no `/` directly follows another `/`. The result is a slice of the text.
+    ///   It is not checked that such a zone exists.
     /// - An offset is as in [`parse_offset`](Self::parse_offset), but without seconds.
     ///
     /// If the call succeeds, no input remains, and a second call returns the error of the empty text. If it fails, the
@@ -194,8 +194,8 @@ impl<'a, T: EncodingType> TimeZoneParser<'a, T> {
 
     /// Parses the remaining input as the name of a time zone, such as `Europe/Berlin`.
     ///
-    /// A name has the form that it has in [`parse_identifier`](Self::parse_identifier). The result is the slice with all code
-    /// units of the remaining input. It is not checked that such a zone exists.
+    /// A name has the form that it has in [`parse_identifier`](Self::parse_identifier). The result is the slice with all
+    /// code units of the remaining input. It is not checked that such a zone exists.
     ///
     /// If the call succeeds, no input remains, and a second call returns the error of the empty text. If it fails, the
     /// input is unchanged, and a second call returns the same error.

@@ -28,9 +28,9 @@ impl<'a, T: EncodingType> IxdtfParser<'a, T> {
     /// 9557, section 4.1 (`suffix`).
     ///
     /// The record has the fields `date`, `time`, `offset` and `tz` for the parts that the text has. `calendar` is the
-    /// value of the first annotation with the key `u-ca`. An annotation is *critical* if it has the `!`. A critical annotation
-    /// whose key is not `u-ca` is refused. Any other annotation whose key is not `u-ca` is ignored. To decide about
-    /// annotations yourself, call [`parse_with_annotation_handler`](Self::parse_with_annotation_handler).
+    /// value of the first annotation with the key `u-ca`. An annotation is *critical* if it has the `!`. A critical
+    /// annotation whose key is not `u-ca` is refused. Any other annotation whose key is not `u-ca` is ignored. To decide
+    /// about annotations yourself, call [`parse_with_annotation_handler`](Self::parse_with_annotation_handler).
     ///
     /// If the call succeeds, no input remains, and a second call returns the error of the empty text. If it fails, the
     /// input is unchanged, and a second call returns the same error.
@@ -70,8 +70,9 @@ impl<'a, T: EncodingType> IxdtfParser<'a, T> {
     ///
     /// # Errors
     ///
-    /// The first wrong part of the text decides the error. A month, day, hour, minute or second out of its range is an error before
-    /// the next code unit is read. To get the position of the error, call [`parse_located`](Self::parse_located).
+    /// The first wrong part of the text decides the error. A month, day, hour, minute or second out of its range is an
+    /// error before the next code unit is read. To get the position of the error, call
+    /// [`parse_located`](Self::parse_located).
     ///
     /// - `AbruptEnd`: the text ends too early. The field `location` is `Date` if the text ends after the year, and
     ///   `digit` if the text ends where a digit is required. The location is `AmbiguousAnnotation` if the text ends
@@ -95,9 +96,11 @@ impl<'a, T: EncodingType> IxdtfParser<'a, T> {
     /// - `FractionPart`: no digit follows the `.` or `,`. This is also the error if the text ends there.
     /// - `InvalidMinutePrecisionOffset`: a colon or a digit follows the minute of an offset in brackets.
     /// - `TzLeadingChar`: the first bracket begins with a character that can begin neither a zone nor a key.
-    /// - `IanaChar`: the name of a zone contains a character that a name cannot contain.
+    /// - `IanaChar`: the name of a zone contains a character that a name cannot contain. This is not the error if the name
+    ///   begins with a lowercase letter or `_`, and neither `=` nor `]` comes later.
     /// - `IanaCharPostSeparator`: in the name of a zone, a `/` is followed by another `/`, by a character that a name
-    ///   cannot contain, or by the end of the text.
+    ///   cannot contain, or by the end of the text. This is not the error if the name begins with a lowercase letter or
+    ///   `_`, and neither `=` nor `]` comes later.
     /// - `AnnotationKeyLeadingChar`: a bracket that is not the first one does not begin with a key.
     /// - `AnnotationKeyChar`: a key contains a character that a key cannot contain.
     /// - `AnnotationKeyValueSeparator`: in a bracket that is not the first one, the text ends in the key.
@@ -172,8 +175,8 @@ impl<'a, T: EncodingType> IxdtfParser<'a, T> {
     /// the error is `InvalidEnd`. Brackets have the errors that they have in [`parse`](Self::parse). In addition, a zone
     /// that [`parse`](Self::parse) accepts has one of these errors if RFC 9557 does not allow the zone:
     ///
-    /// - `IanaChar`: the name of the zone consists of parts, with a `/` between two parts. One of the parts begins with
-    ///   a digit, with `+` or with `-`, or is `.` or `..`.
+    /// - `IanaChar`: a part of the name begins with a digit, with `+` or with `-`, or is `.` or `..`. A `/` separates two
+    ///   parts.
     /// - `InvalidMinutePrecisionOffset`: the offset of the zone does not have the form `+05:30`.
     #[inline(always)]
     pub fn parse_rfc9557(&mut self) -> ParserResult<IxdtfParseRecord<'a, T>> {
@@ -291,8 +294,8 @@ impl<'a, T: EncodingType> IxdtfParser<'a, T> {
     /// - `MonthDayHyphen`: the text begins with a hyphen, and another character than a hyphen follows it.
     /// - `DateMonth`, `DateDay`: another character occurs instead of a digit of the month, or of the day.
     /// - `InvalidMonthRange`: the month is not 01 to 12.
-    /// - `InvalidMonthDay`: the day is after the last day of the month (29 for February). Under [`Profile::Strict`](super::Profile::Strict), this is
-    ///   also the error of the day 00.
+    /// - `InvalidMonthDay`: the day is after the last day of the month (29 for February). Under [`Profile::Strict`](super::Profile::Strict), this
+    ///   is also the error of the day 00.
     /// - `InvalidEnd`: another character than `[` follows the day.
     /// - `NonAsciiCodePoint`: 16-bit text has a code unit outside 1 to 126. 8-bit text never has this error.
     #[inline(always)]
@@ -356,8 +359,8 @@ impl<'a, T: EncodingType> IxdtfParser<'a, T> {
     /// The first wrong part of the text decides the error. To get the position of the error, call
     /// [`parse_time_located`](Self::parse_time_located). Times, offsets and brackets have the errors that they have in
     /// [`parse`](Self::parse). The error of the empty text is `AbruptEnd` (location `digit`). If the text begins with a
-    /// character that is neither a digit nor `T` nor `t`, the error is `TimeHour`. But if this character is a 16-bit code unit
-    /// outside 1 to 126, the error is `NonAsciiCodePoint`.
+    /// character that is neither a digit nor `T` nor `t`, the error is `TimeHour`. But if this character is a 16-bit code
+    /// unit outside 1 to 126, the error is `NonAsciiCodePoint`.
     ///
     /// Two more errors are about an ambiguous text. Such a text does not begin with `T` or `t`. Its part before the first
     /// `[`, or the complete text if it has no `[`, is a time, with or without an offset. But the text also begins like a
@@ -589,10 +592,11 @@ impl<'a, T: EncodingType> IxdtfParser<'a, T> {
 /// Only `parse_year_month` and `parse_month_day` call this function, and they call it only for speed. Each record that
 /// they return has a date, so the result is always `false` there. The compiler does not know this.
 ///
-/// With the call, each of these two readers returns `Ok` at two places. At one place, the compiler knows that the
-/// record has no date. At the other place, it knows that the record has a date. A compiler can store in one number
-/// whether a result is an error and, if it is not an error, whether its record has a date. So at both places the
-/// compiler knows that the result is not an error.
+/// A compiler can store in one number whether a result is an error and, if it is not an error, whether its record has a
+/// date. Without the call, the compiled program would test at run time whether the result is an error. With the call,
+/// each of these two readers returns `Ok` at two places. At one place, the compiler knows that the record has no date.
+/// At the other place, it knows that the record has a date. So at each of the two places, the compiler knows that the
+/// result is not an error, and the program does not need the test.
 #[inline(always)]
 fn lacks_date<'a, T: EncodingType>(found: &mut IxdtfParseRecord<'a, T>) -> bool {
     if found.date.is_none() {
