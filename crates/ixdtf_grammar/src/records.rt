@@ -501,6 +501,7 @@ impl Model for LeadingDigits {
 impl LeadingDigits {
     /// Creates one digit, given as an ASCII byte.
     #[inline(always)]
+    #[doc(hidden)]
     pub fn start(digit: u8) -> LeadingDigits
         requires { (48 ≤ digit) × (digit ≤ 57) }
         ensures { result ≡ record { count = 1; value = digit - 48 } }
@@ -514,6 +515,7 @@ impl LeadingDigits {
     /// Returns whether there are fewer than 18 digits. If so, the value has room for the next digit. Otherwise, the
     /// next digit is only counted.
     #[inline(always)]
+    #[doc(hidden)]
     pub fn is_short(self) -> bool
         ensures { result ≡ nat_le self.count 17 }
     {
@@ -522,6 +524,7 @@ impl LeadingDigits {
 
     /// Returns the digits with one more digit at their end, given as an ASCII byte. There must be fewer than 18 digits.
     #[inline(always)]
+    #[doc(hidden)]
     pub fn with_digit(self, digit: u8) -> LeadingDigits
         requires digit { (48 ≤ digit) × (digit ≤ 57) }
         requires short { self.count < 18 }
@@ -535,6 +538,7 @@ impl LeadingDigits {
 
     /// Returns the fraction with these digits.
     #[inline(always)]
+    #[doc(hidden)]
     pub fn fraction(self) -> Fraction
         ensures { result ≡ self }
     {

@@ -462,8 +462,7 @@ pub struct LeadingDigits {
 impl LeadingDigits {
     /// Creates one digit, given as an ASCII byte.
     #[inline(always)]
-    #[must_use]
-    pub fn start(digit: u8) -> LeadingDigits {
+    pub(crate) fn start(digit: u8) -> LeadingDigits {
         LeadingDigits {
             count: 1,
             value: u64::from(digit - b'0'),
@@ -473,15 +472,13 @@ impl LeadingDigits {
     /// Returns whether there are fewer than 18 digits. If so, the value has room for the next digit. Otherwise, the
     /// next digit is only counted.
     #[inline(always)]
-    #[must_use]
-    pub fn is_short(self) -> bool {
+    pub(crate) fn is_short(self) -> bool {
         self.count < 18
     }
 
     /// Returns the digits with one more digit at their end, given as an ASCII byte. There must be fewer than 18 digits.
     #[inline(always)]
-    #[must_use]
-    pub fn with_digit(self, digit: u8) -> LeadingDigits {
+    pub(crate) fn with_digit(self, digit: u8) -> LeadingDigits {
         LeadingDigits {
             count: self.count + 1,
             value: self.value * 10 + u64::from(digit - b'0'),
@@ -490,8 +487,7 @@ impl LeadingDigits {
 
     /// Returns the fraction with these digits.
     #[inline(always)]
-    #[must_use]
-    pub fn fraction(self) -> Fraction {
+    pub(crate) fn fraction(self) -> Fraction {
         Fraction {
             digits: self.count,
             value: PackedNumber::of(self.value),
