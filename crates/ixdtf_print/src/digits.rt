@@ -74,10 +74,7 @@ pub fn next_pair(scaled: u64) -> (u8, u64)
     ensures pair { result.0 ≡ scaled / 4294967296 }
     ensures rest { result.1 ≡ scaled % 4294967296 * 100 }
 {
-    (
-        (scaled / 4_294_967_296) as u8,
-        scaled % 4_294_967_296 * 100,
-    )
+    ((scaled / 4_294_967_296) as u8, scaled % 4_294_967_296 * 100)
 }
 
 /// Writes a number below 10,000 with four digits at index `at`. Returns the index after them.

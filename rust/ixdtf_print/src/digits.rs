@@ -60,10 +60,7 @@ pub fn put_two(out: &mut [u8], at: usize, number: u8) -> usize {
 /// of two divisions.
 #[inline(always)]
 pub fn next_pair(scaled: u64) -> (u8, u64) {
-    (
-        (scaled / 4_294_967_296) as u8,
-        scaled % 4_294_967_296 * 100,
-    )
+    ((scaled / 4_294_967_296) as u8, scaled % 4_294_967_296 * 100)
 }
 
 /// Writes a number below 10,000 with four digits at index `at`. Returns the index after them.

@@ -1,5 +1,5 @@
 use Rattle.ixdtf_print.proofs.digits.ones_digit.Goals as goal
-use Rattle.std.proofs.Common.{◌+◌, ◌/◌, ◌%◌, refl, arith}
+use Rattle.std.proofs.Common.{◌+◌, ◌%◌, refl, arith}
 use Rattle.ixdtf_print.proofs.code.DigitTable.{rows_from, in_rows}
 use Rattle.ixdtf_reading.proofs.code.Tables.{agree_below}
 
