@@ -3,7 +3,7 @@
 //! Functions that write a number into a slice, and a function that counts the digits of a number. A number is written
 //! without leading zeros. Only the last eight digits of a longer number can begin with zeros.
 
-use crate::digits::{ones_digit, put_four, tens_digit};
+use crate::digits::{next_pair, ones_digit, put_four, tens_digit};
 use crate::put::{put, put_byte};
 
 /// Returns the number of digits of the number, without leading zeros.
@@ -35,28 +35,56 @@ fn put_long(out: &mut [u8], at: usize, number: u64) -> usize {
     if number < 100_000_000 {
         return put_below_100_000_000(out, at, number);
     }
-    let last = put_front(out, at, number / 100_000_000);
-    put_eight(out, last, number % 100_000_000)
-}
-
-/// Writes a number below 1,000,000,000,000 without leading zeros at index `at`. Returns the index after it. The number
-/// is the part of a longer number before its last eight digits.
-fn put_front(out: &mut [u8], at: usize, number: u64) -> usize {
-    if number < 100_000_000 {
-        return put_below_100_000_000(out, at, number);
+    if number < 10_000_000_000_000_000 {
+        return put_two_parts(out, at, number);
     }
-    let last = put_below_10_000(out, at, number / 100_000_000);
+    put_three_parts(out, at, number)
+}
+
+/// Writes a number of 9 to 16 digits at index `at`. Returns the index after it.
+fn put_two_parts(out: &mut [u8], at: usize, number: u64) -> usize {
+    let last = put_below_100_000_000(out, at, number / 100_000_000);
     put_eight(out, last, number % 100_000_000)
 }
 
-/// Writes a number below 100,000,000 as eight digits, with leading zeros, at index `at`. Returns the index after them.
-/// The digits are the last eight digits of a longer number.
+/// Writes a number of at least 17 digits at index `at`. Returns the index after it.
+///
+/// The function is not inlined. Otherwise `put_long` would save more registers, also for smaller numbers.
+#[inline(never)]
+fn put_three_parts(out: &mut [u8], at: usize, number: u64) -> usize {
+    let middle = put_below_10_000(out, at, number / 10_000_000_000_000_000);
+    let rest = number % 10_000_000_000_000_000;
+    let last = put_eight(out, middle, rest / 100_000_000);
+    put_eight(out, last, rest % 100_000_000)
+}
+
+/// Writes a number below 100,000,000 as eight digits, with leading zeros, at index `at`. Returns the index after them. The
+/// digits are the last eight digits of a longer number.
+///
+/// The number is multiplied by `2^32 / 1,000,000`, rounded up.
 fn put_eight(out: &mut [u8], at: usize, number: u64) -> usize {
-    let last = put_four(out, at, number / 10_000);
-    put_four(out, last, number % 10_000)
+    let (first, rest) = next_pair(number * 281_474_977 / 65_536 + 1);
+    let (second, rest) = next_pair(rest);
+    let (third, rest) = next_pair(rest);
+    let (fourth, _) = next_pair(rest);
+    put(
+        out,
+        at,
+        &[
+            tens_digit(first),
+            ones_digit(first),
+            tens_digit(second),
+            ones_digit(second),
+            tens_digit(third),
+            ones_digit(third),
+            tens_digit(fourth),
+            ones_digit(fourth),
+        ],
+    )
 }
 
 /// Writes a number of at most eight digits at index `at`. Returns the index after it.
+#[inline(always)]
 fn put_below_100_000_000(out: &mut [u8], at: usize, number: u64) -> usize {
     if number < 10_000 {
         return put_below_10_000(out, at, number);
@@ -71,8 +99,11 @@ fn put_below_10_000(out: &mut [u8], at: usize, number: u64) -> usize {
     if number < 100 {
         return put_below_100(out, at, number as u8);
     }
+    if number >= 1000 {
+        return put_four(out, at, number);
+    }
     let rest = (number % 100) as u8;
-    let last = put_below_100(out, at, (number / 100) as u8);
+    let last = put_byte(out, at, ones_digit((number / 100) as u8));
     put(out, last, &[tens_digit(rest), ones_digit(rest)])
 }
 

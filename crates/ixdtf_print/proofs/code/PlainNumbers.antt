@@ -78,12 +78,27 @@ two_digits_are n tens ones from to t o =
     number_split 1 n from small ∙ rw (one_digit_is (n / 10) (omega arith)) (λ i. Plain (first i) ∷ (Plain (last i) ∷ []))
 
 -- The rest of a division gives the last two digits.
-pub last_two : (n rest tens ones : ℕ) → 100 ≤ n → n < 2 ^ 64 → rest ≡ n % 100 → tens ≡ 48 + rest / 10 % 10 → ones ≡ 48 + rest % 10
+last_two : (n rest tens ones : ℕ) → 100 ≤ n → n < 2 ^ 64 → rest ≡ n % 100 → tens ≡ 48 + rest / 10 % 10 → ones ≡ 48 + rest % 10
     → number_text n ≡ number_text (n / 100) ++ (Plain tens ∷ (Plain ones ∷ []))
 last_two n rest tens ones from small is t o =
     let first : 48 + n / 10 % 10 ≡ tens = omega arith in
     let last : 48 + n / 1 % 10 ≡ ones = omega arith in
     number_split 2 n from small ∙ (λ i. number_text (n / 100) ++ (Plain (first i) ∷ (Plain (last i) ∷ [])))
+
+-- A number of three digits.
+pub three_digits_are : (n rest first tens ones : ℕ) → 100 ≤ n → n < 1000 → first ≡ 48 + n / 100 % 10 → rest ≡ n % 100 → tens ≡ 48 + rest / 10 % 10
+    → ones ≡ 48 + rest % 10 → number_text n ≡ (Plain first ∷ []) ++ (Plain tens ∷ (Plain ones ∷ []))
+three_digits_are n rest first tens ones from to f is t o =
+    let same : 48 + n / 100 ≡ first = omega arith in
+    last_two n rest tens ones from (omega arith) is t o ∙ ap (λ text. text ++ (Plain tens ∷ (Plain ones ∷ []))) (one_digit_is (n / 100) (omega arith))
+    ∙ (λ i. Plain (same i) ∷ (Plain tens ∷ (Plain ones ∷ [])))
+
+-- A number of four digits has no leading zeros.
+pub four_digits_are : (n : ℕ) → 1000 ≤ n → n < 10000 → number_text n ≡ padded_digits 4 n
+four_digits_are n from to =
+    let same : 48 + n / 1000 ≡ 48 + n / 1000 % 10 = omega arith in
+    number_split 3 n from (omega arith) ∙ ap (λ text. text ++ padded_digits 3 n) (one_digit_is (n / 1000) (omega arith))
+    ∙ (λ i. Plain (same i) ∷ padded_digits 3 n)
 
 -- ---- padded digits in pieces
 
@@ -116,6 +131,39 @@ eight_rest n =
     four_rest (n / 10000) ∙ ap (λ m. padded_digits 4 m) front ∙ sym (four_rest (n % 100000000 / 10000))
     in
     eight_split n ∙ (λ i. first i ++ padded_digits 4 (rest i)) ∙ sym (eight_split (n % 100000000))
+
+-- The digits of the first two of four digits, and of the last two.
+pub four_written : (n hundreds ones a b c d : ℕ) → hundreds ≡ n / 100 → ones ≡ n % 100 → a ≡ 48 + hundreds / 10 % 10 → b ≡ 48 + hundreds % 10
+    → c ≡ 48 + ones / 10 % 10 → d ≡ 48 + ones % 10 → padded_digits 4 n ≡ Plain a ∷ (Plain b ∷ (Plain c ∷ (Plain d ∷ [])))
+four_written n hundreds ones a b c d h o ia ib ic id =
+    let first : 48 + n / 1000 % 10 ≡ a = omega arith in
+    let second : 48 + n / 100 % 10 ≡ b = omega arith in
+    let third : 48 + n / 10 % 10 ≡ c = omega arith in
+    let last : 48 + n / 1 % 10 ≡ d = omega arith in
+    λ i. Plain (first i) ∷ (Plain (second i) ∷ (Plain (third i) ∷ (Plain (last i) ∷ [])))
+
+-- The four pairs of eight digits.
+pub eight_written : (n first second third fourth a b c d e f g h : ℕ) → first ≡ n / 1000000 → second ≡ n % 1000000 / 10000
+    → third ≡ n % 1000000 % 10000 / 100 → fourth ≡ n % 1000000 % 10000 % 100 → a ≡ 48 + first / 10 % 10 → b ≡ 48 + first % 10 → c ≡ 48 + second / 10 % 10
+    → d ≡ 48 + second % 10 → e ≡ 48 + third / 10 % 10 → f ≡ 48 + third % 10 → g ≡ 48 + fourth / 10 % 10 → h ≡ 48 + fourth % 10
+    → padded_digits 8 n ≡ Plain a ∷ (Plain b ∷ (Plain c ∷ (Plain d ∷ (Plain e ∷ (Plain f ∷ (Plain g ∷ (Plain h ∷ [])))))))
+eight_written n first second third fourth a b c d e f g h one two three four ia ib ic id ie if_ ig ih =
+    let front = four_written (n / 10000) first second a b c d (omega arith) (omega arith) ia ib ic id in
+    let rest = four_written (n % 10000) third fourth e f g h (omega arith) (omega arith) ie if_ ig ih in
+    eight_split n ∙ (λ i. front i ++ rest i)
+
+-- The last sixteen digits are twice eight digits.
+pub last_sixteen : (n : ℕ) → 10000000000000000 ≤ n → n < 2 ^ 64 → number_text n ≡ number_text (n / 10000000000000000)
+    ++ (padded_digits 8 (n % 10000000000000000 / 100000000) ++ padded_digits 8 (n % 10000000000000000 % 100000000))
+last_sixteen n from small =
+    let front : n / 100000000 % 100000000 ≡ n % 10000000000000000 / 100000000 = omega arith in
+    let rest : n % 100000000 ≡ n % 10000000000000000 % 100000000 = omega arith in
+    let first : padded_digits 8 (n / 100000000) ≡ padded_digits 8 (n % 10000000000000000 / 100000000) =
+    eight_rest (n / 100000000) ∙ ap (λ m. padded_digits 8 m) front
+    in
+    let last : padded_digits 8 n ≡ padded_digits 8 (n % 10000000000000000 % 100000000) = eight_rest n ∙ ap (λ m. padded_digits 8 m) rest in
+    number_split 16 n from small ∙ ap (λ t. number_text (n / 10000000000000000) ++ t) (padded_append 8 8 16 n refl)
+    ∙ (λ i. number_text (n / 10000000000000000) ++ (first i ++ last i))
 
 pub last_four : (n : ℕ) → 10000 ≤ n → n < 2 ^ 64 → number_text n ≡ number_text (n / 10000) ++ padded_digits 4 (n % 10000)
 last_four n from small = number_split 4 n from small ∙ ap (λ t. number_text (n / 10000) ++ t) (four_rest n)
