@@ -105,7 +105,7 @@ pub fn hyphens_say_nothing()
 /// position.
 ///
 /// The outcome contains annotations. If the grammar derives a value, these are the annotations of the text. Otherwise
-/// they are the complete annotations before this position. The outcome does not contain the replies of a
+/// they are the complete annotations before the position of the error. The outcome does not contain the replies of a
 /// handler. So a reader can refuse a text although the grammar derives a value from it: the reason is a refused reply.
 ///
 /// - `outcome`: each text has exactly one outcome in each reader.
@@ -140,7 +140,8 @@ pub fn languages_disjoint()
 
 /// Compares 8-bit and 16-bit text, for each reader without a handler.
 ///
-/// The law is about a list of numbers, each of which is a code unit of the text. A *bad* number is one outside 1 to 126.
+/// The law is about a list of numbers. *The 8-bit text* is the text whose 8-bit code units are these numbers, and *the
+/// 16-bit text* is the text whose 16-bit code units are these numbers. A *bad* number is one outside 1 to 126.
 ///
 /// - A text has exactly one outcome: a value or an error. If the value contains a slice, the law compares the numbers of
 ///   its code units.

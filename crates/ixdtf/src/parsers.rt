@@ -7,9 +7,9 @@
 //! - It returns an error only for one of two reasons: a row of the table of errors has this error and fits the input, or
 //!   an annotation is refused with this error.
 //!
-//! A handler returns an annotation, or nothing, for each annotation of the text. A method with a handler can refuse only
-//! what the handler returned. In the repository, `docs/GRAMMAR.md` describes the grammar, and `docs/FAULTS.md` has the
-//! table of errors.
+//! A handler returns an annotation, or nothing, for each annotation of the text. If a method has a handler, an
+//! annotation is refused only if the handler returned it. In the repository, `docs/GRAMMAR.md` describes the grammar,
+//! and `docs/FAULTS.md` has the table of errors.
 
 ghost use Rattle.ixdtf_grammar.specs.Views.{UnreadUnder, under};
 

@@ -32,8 +32,9 @@ pub fn instants_are_in_order()
 
 /// States when two local times are the same instant. A local time here is a date and a time, and has an offset.
 ///
-/// Let `a` and `b` be local times with the offsets `x` and `y`. They are the same instant exactly if `b - a` is equal to
-/// `y - x`. For example, on one date, `12:00+01:00` and `13:00+02:00` are the same instant: both differences are one hour.
+/// Let `a` and `b` be local times with the offsets `x` and `y`. The difference `b - a` is computed from the dates and
+/// times only, without the offsets. The local times are the same instant exactly if `b - a` is equal to `y - x`. For
+/// example, on one date, `12:00+01:00` and `13:00+02:00` are the same instant: both differences are one hour.
 pub fn offsets_make_up()
     ensures { OffsetsMakeUp }
 {}

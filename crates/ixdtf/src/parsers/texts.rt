@@ -30,8 +30,9 @@ impl<'a, T: EncodingType> IxdtfParser<'a, T> {
     /// `read_lending_handler` calls it directly.
     ///
     /// Most of these readers make the record as a local variable, and then have a `match` on the result of the call.
-    /// For speed, one arm of this `match` gives the record, and the arm of the error has its own `return`. If both arms
-    /// ended in one value, or if a result with the record were passed on, the record would be copied once more.
+    /// For speed, one arm of this `match` gives the record, and the arm of the error has its own `return`. The arm of
+    /// the error could also give the value of the `match`, without a `return`. Or a function could return the record in
+    /// its result, and the reader could pass this result on. In both cases, the record would be copied once more.
     #[inline(always)]
     pub(crate) fn read_into<C: CoreReader, F>(
         &mut self,

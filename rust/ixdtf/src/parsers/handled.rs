@@ -420,7 +420,7 @@ impl<'a, T: EncodingType> IxdtfParser<'a, T> {
         }
     }
 
-    /// Writes a reply to `calendar`, as the readers do, if the reply has the key `u-ca` and `calendar` is `None`.
+    /// Stores a reply in `calendar`, as the readers do, if the reply has the key `u-ca` and `calendar` is `None`.
     ///
     /// This function is only for crates of this repository, and not a part of the public interface.
     ///

@@ -107,10 +107,10 @@ impl<'a, T: EncodingType> IxdtfParser<'a, T> {
     /// - `AnnotationValueChar`: no value begins after the `=`, or a value contains a character that a value cannot
     ///   contain.
     /// - `AnnotationValueCharPostHyphen`: in a value, a `-` is not followed by an ASCII letter or digit.
-    /// - `AnnotationClose`: a bracket is not closed. This is the error if the text ends after the value in a bracket or
-    ///   after the offset in a bracket, or if another character than `]`, a colon or a digit follows this offset. This
-    ///   is also the error if the text ends after the name of a zone, and the name does not begin with a lowercase
-    ///   letter or `_`.
+    /// - `AnnotationClose`: a bracket is not closed. This is the error if the text ends after the value in a bracket,
+    ///   or after the offset in a bracket. This is also the error if an offset in a bracket is followed by a character
+    ///   that is neither a `]`, nor a colon, nor a digit. This is also the error if the text ends after the name of a
+    ///   zone, and the name does not begin with a lowercase letter or `_`.
     /// - `UnrecognizedCritical`: an annotation is critical, and its key is not `u-ca`. What follows this annotation is
     ///   not read.
     /// - `CriticalDuplicateCalendar`: an annotation with the key `u-ca` has a value that differs from that of the first
@@ -592,11 +592,11 @@ impl<'a, T: EncodingType> IxdtfParser<'a, T> {
 /// Only `parse_year_month` and `parse_month_day` call this function, and they call it only for speed. Each record that
 /// they return has a date, so the result is always `false` there. The compiler does not know this.
 ///
-/// A compiler can store in one number whether a result is an error and, if it is not an error, whether its record has a
-/// date. Without the call, the compiled program would test at run time whether the result is an error. With the call,
-/// each of these two readers returns `Ok` at two places. At one place, the compiler knows that the record has no date.
-/// At the other place, it knows that the record has a date. So at each of the two places, the compiler knows that the
-/// result is not an error, and the program does not need the test.
+/// A compiler can store in one number which of three cases a result is: an error, a record with a date, or a record
+/// without a date. Without the call, the compiled program would test at run time whether the result is an error. With the
+/// call, each of these two readers returns `Ok` at two places. At one place, the compiler knows that the record has no
+/// date. At the other place, it knows that the record has a date. So at each of the two places, the compiler knows that
+/// the result is not an error, and the program does not need the test.
 #[inline(always)]
 fn lacks_date<'a, T: EncodingType>(found: &mut IxdtfParseRecord<'a, T>) -> bool {
     if found.date.is_none() {
