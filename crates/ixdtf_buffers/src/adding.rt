@@ -1,9 +1,10 @@
 //! Functions that append bytes and numbers to a short text in an array.
 //!
-//! The programs make an answer or a report in such an array, or a part of it. They write the bytes of the array with one
-//! call. The name of a time zone, a calendar and the name of a file are not copied into the array, but written on their own.
-//! Each function takes the index at which it begins to write, and returns the index after the last byte that it wrote. The
-//! index is passed from call to call in a register. If it were a count in memory, it would be read and written for each byte.
+//! The programs make a complete answer or report in such an array, or only a part of the answer or report. They write the
+//! bytes of the array with one call. The name of a time zone, a calendar and the name of a file are not copied into the array,
+//! but written on their own. Each function takes the index at which it begins to write, and returns the index after the last
+//! byte that it wrote. The index is passed from call to call in a register. If it were a count in memory, it would be read and
+//! written for each byte.
 ghost use Rattle.std.specs.Prelude.{◌≡◌, ◌+◌, ◌<◌, ◌≤◌, ◌^◌, [], ◌∷◌, length, drop};
 ghost use Rattle.std.specs.Fmt.{decimal, signed_decimal};
 ghost use Rattle.ixdtf_buffers.specs.Adding.{Adds, pair_of};

@@ -63,8 +63,8 @@ impl<'a, T: EncodingType> Cursor<'a, T> {
     /// Returns a second cursor at the same position. `self` keeps its remaining input.
     ///
     /// A function that must consume nothing on failure works on the second cursor. A function with a loop, or with a call
-    /// that is not inlined, also works on the second cursor: a local cursor can stay in registers. When a function of this
-    /// second kind ends, it stores the second cursor in `self`, also after an error.
+    /// that is not inlined, also works on the second cursor: a local cursor can stay in registers. When a function works on
+    /// the second cursor only for this reason, it stores that cursor in `self` before it ends, also after an error.
     #[inline(always)]
     pub fn fork(&mut self) -> Self {
         Cursor {

@@ -41,9 +41,9 @@ pub enum ParseError {
     NonAsciiCodePoint,
     /// No reader returns this error.
     ParseFloat,
-    /// The text ends too early. If `location` is `DateDurationDesignator` or `TimeDurationDesignator`, the text may
-    /// also not end, but have a wrong character after a number or its fraction (see below). `location` says what was
-    /// being parsed:
+    /// The text ends too early. If `location` is `DateDurationDesignator` or `TimeDurationDesignator`, there is another
+    /// possible reason: a wrong character follows a number or its fraction (see below). `location` says what was being
+    /// parsed:
     ///
     /// - `digit`: a digit must follow, as in `2020-1`.
     /// - `Date`: the text ends after the year of a date, as in `2020`.

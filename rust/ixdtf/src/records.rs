@@ -52,7 +52,7 @@ impl<'a, T: EncodingType> Default for IxdtfParseRecord<'a, T> {
 #[derive(Clone, Copy, Debug, Default, PartialEq, Eq, Hash)]
 pub struct DateRecord {
     /// The year: 0 to 9999 if it is written with four digits, and -999999 to 999999 if it is written with a sign and
-    /// six digits. Year 0 is the year before year 1. For a month and a day without a year, it is 0.
+    /// six digits. Year 0 is the year before year 1. For a month and a day without a year, this field is 0.
     pub year: i32,
     /// The month, 1 to 12.
     pub month: u8,

@@ -8,7 +8,7 @@ use crate::classes::{is_decimal_separator, is_time_separator};
 use crate::cursor::Cursor;
 use crate::stop::Stop;
 
-/// One of the three parts that are written like a time.
+/// What a function reads: a time, or one of two kinds of offsets. After its sign, an offset is written like a time.
 #[derive(Clone, Copy)]
 pub enum Clock {
     /// A time of day.
@@ -253,8 +253,9 @@ pub fn parse_after_second<'a, T: EncodingType>(
 
 /// Reads the digits of a fraction after its `.` or `,`.
 ///
-/// Returns `NonAsciiCodePoint` at a bad code unit, also after the digits. At least one digit must follow the `.` or the
-/// `,`. Returns `FractionPart` if the input ends there, or if the code unit there is neither a digit nor bad.
+/// Returns `NonAsciiCodePoint` at a bad code unit, even if this code unit is directly after the last digit. At least one
+/// digit must follow the `.` or the `,`. Returns `FractionPart` if the input ends there, or if the code unit there is
+/// neither a digit nor bad.
 #[inline(always)]
 pub fn parse_fraction<'a, T: EncodingType>(cursor: &mut Cursor<'a, T>) -> Result<Fraction, Stop> {
     let mut here = cursor.fork();
