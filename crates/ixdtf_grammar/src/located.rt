@@ -24,7 +24,8 @@ use std::fmt;
 pub struct LocatedError {
     /// The error.
     pub error: ParseError,
-    /// The position of the error: the number of code units before it in the input of the reader.
+    /// The position of the error: the number of code units before it in the input of the reader. If a number is out of range, the
+    /// position is after the number: for the day of `2024-02-30`, it is 10.
     pub at: usize,
 }
 

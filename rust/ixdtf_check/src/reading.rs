@@ -10,14 +10,31 @@ use ixdtf::parsers::{IsoDurationParser, IxdtfParser, Profile, TimeZoneParser};
 
 /// Reads the text as a text of the kind. Returns the error with its position, if the text is refused.
 ///
-/// The function is inlined into its only caller, because the check of most lines calls it.
+/// The function is inlined into its only caller, because the check of most lines calls it. Texts of all kinds but `DateTime` are
+/// read by `read_other`, which is not inlined: otherwise the errors of all readers would have to be initialised for each date-time.
 #[inline(always)]
 pub fn read(kind: Kind, profile: Profile, text: &[u8]) -> Result<(), LocatedError> {
     match kind {
-        Kind::DateTime => match IxdtfParser::from_utf8(text).parse_located() {
-            Ok(_record) => Ok(()),
-            Err(error) => Err(error),
-        },
+        Kind::DateTime => read_date_time(text),
+        Kind::YearMonth
+        | Kind::MonthDay
+        | Kind::Time
+        | Kind::Offset
+        | Kind::Zone
+        | Kind::ZoneName
+        | Kind::Duration
+        | Kind::Rfc3339
+        | Kind::Iana
+        | Kind::Rfc9557 => read_other(kind, profile, text),
+    }
+}
+
+/// Reads the text as a text of the kind. Returns the error with its position, if the text is refused. The function accepts every
+/// kind, but `read` does not call it for date-times.
+#[inline(never)]
+fn read_other(kind: Kind, profile: Profile, text: &[u8]) -> Result<(), LocatedError> {
+    match kind {
+        Kind::DateTime => read_date_time(text),
         Kind::YearMonth => match IxdtfParser::from_utf8(text).parse_year_month_located() {
             Ok(_record) => Ok(()),
             Err(error) => Err(error),
@@ -52,6 +69,14 @@ pub fn read(kind: Kind, profile: Profile, text: &[u8]) -> Result<(), LocatedErro
             Ok(_duration) => Ok(()),
             Err(error) => Err(error),
         },
+    }
+}
+
+/// Reads the text as `parse` reads it. Returns the error with its position, if the text is refused.
+fn read_date_time(text: &[u8]) -> Result<(), LocatedError> {
+    match IxdtfParser::from_utf8(text).parse_located() {
+        Ok(_record) => Ok(()),
+        Err(error) => Err(error),
     }
 }
 

@@ -1,14 +1,7 @@
 -- Proves which value each reader returned, and which error.
-use Rattle.ixdtf_checks.proofs.reading.read.Goals as goal
+use Rattle.ixdtf_checks.proofs.reading.read_other.Goals as goal
 use Rattle.std.proofs.Common.{refl}
 use Rattle.ixdtf_grammar.specs.language.Languages.Found.{parsed}
-
-pub returns-in-Ok-clause-ok : goal.returns-in-Ok-clause-ok
-returns-in-Ok-clause-ok c =
-    rw c.in-DateTime.is (parsed _, rw c.from_utf8.ensures.rest at ((c.in-Ok.ensures.reads.ok _).0 refl))
-
-pub returns-in-Err-clause-err : goal.returns-in-Err-clause-err
-returns-in-Err-clause-err c = rw (c.in-DateTime.is, ← c.from_utf8.ensures.rest) c.in-Err.ensures.reads.err
 
 pub returns-in-Ok-parse_year_month_located-clause-ok : goal.returns-in-Ok-parse_year_month_located-clause-ok
 returns-in-Ok-parse_year_month_located-clause-ok c =
