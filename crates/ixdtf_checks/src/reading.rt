@@ -3,7 +3,8 @@
 ghost use Rattle.std.specs.Prelude.{◌≡◌, IfErr, OnOk};
 ghost use Rattle.ixdtf_grammar.specs.Places.{HasUnhandledFaultAt};
 ghost use Rattle.ixdtf_grammar.specs.Widths.{byte_text};
-ghost use Rattle.ixdtf_grammar.specs.language.Readers.Reader.{parse, parse_iana_identifier};
+ghost use Rattle.ixdtf_grammar.specs.language.Readers.{parse};
+ghost use Rattle.ixdtf_grammar.specs.language.Readers.Reader.{parse_iana_identifier};
 ghost use Rattle.ixdtf_grammar.specs.table.Faults.{fault_of_located};
 ghost use Rattle.ixdtf_checks.specs.Kinds.{reader_of};
 ghost use Rattle.ixdtf_checks.specs.Verdicts.{IsRead};
