@@ -3,13 +3,13 @@ use Rattle.ixdtf_checks.proofs.reading.read_other.Goals as goal
 use Rattle.std.proofs.Common.{refl}
 use Rattle.ixdtf_grammar.specs.language.Languages.Found.{parsed}
 
-pub returns-in-Ok-parse_year_month_located-clause-ok : goal.returns-in-Ok-parse_year_month_located-clause-ok
-returns-in-Ok-parse_year_month_located-clause-ok c =
-    rw c.in-YearMonth.is (parsed _, rw c.from_utf8-in-YearMonth.ensures.rest at ((c.in-Ok-parse_year_month_located.ensures.reads.ok _).0 refl))
+pub returns-in-Ok-clause-ok : goal.returns-in-Ok-clause-ok
+returns-in-Ok-clause-ok c =
+    rw c.in-YearMonth.is (parsed _, rw c.from_utf8.ensures.rest at ((c.in-Ok.ensures.reads.ok _).0 refl))
 
-pub returns-in-Err-parse_year_month_located-clause-err : goal.returns-in-Err-parse_year_month_located-clause-err
-returns-in-Err-parse_year_month_located-clause-err c =
-    rw (c.in-YearMonth.is, ← c.from_utf8-in-YearMonth.ensures.rest) c.in-Err-parse_year_month_located.ensures.reads.err
+pub returns-in-Err-clause-err : goal.returns-in-Err-clause-err
+returns-in-Err-clause-err c =
+    rw (c.in-YearMonth.is, ← c.from_utf8.ensures.rest) c.in-Err.ensures.reads.err
 
 pub returns-in-Ok-parse_month_day_located-clause-ok : goal.returns-in-Ok-parse_month_day_located-clause-ok
 returns-in-Ok-parse_month_day_located-clause-ok c =
