@@ -179,7 +179,7 @@ STD_METHODS = set('get len split_at is_ascii_digit is_ascii_alphabetic is_ascii_
                   ' is_none to_le_bytes saturating_add saturating_sub min map copied checked_mul checked_add unsigned_abs'
                   ' is_ascii_alphanumeric as_slice iter position is_empty copy_from_slice read write flush digit_count leading_value'
                   ' chars len_utf8 is_control encode_utf8 last is_some unwrap_or starts_with parse checked_sub ok max as_ref copy_within is_ascii ilog10 split_once enumerate'
-                  ' hash into is_ascii_graphic wrapping_sub div_euclid rem_euclid'.split())
+                  ' hash into is_ascii_graphic wrapping_sub div_euclid rem_euclid eq_ignore_ascii_case'.split())
 # methods of the iterators over the characters of a text, and the heads of the types that they return
 ON_CHARACTERS = {('Chars', 'take'): 'Chars', ('Chars', 'skip'): 'Chars', ('Chars', 'count'): 'usize'}
 CALLED_ON_CHARACTERS = {method for _, method in ON_CHARACTERS}

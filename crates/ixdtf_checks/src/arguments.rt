@@ -92,7 +92,8 @@ impl Wrong {
             Wrong::NameWithoutHeader => {
                 "expected the number of a field, which is 1 or more; --field NAME needs --header"
             }
-            Wrong::InvalidSeparator => "expected a separator of one byte",
+            Wrong::InvalidSeparator =>
+                "expected a separator of one byte; in bash, write a tab as $'\\t'",
             Wrong::InvalidComment => "expected the one byte with which comments begin",
             Wrong::InvalidCount => "expected a number of reports",
             Wrong::SeparatorWithoutField => "--separator needs --field or --fields",

@@ -1,8 +1,9 @@
 //! Decides the verdict on a line.
-ghost use Rattle.std.specs.Prelude.{◌≡◌, ◌≤◌, ◌+◌, ℕ, List, [], length, IfSome, Some, None};
+ghost use Rattle.std.specs.Prelude.{◌≡◌, ◌≤◌, ◌+◌, ℕ, List, [], length, IfSome, Option, Some, None};
 ghost use Rattle.ixdtf_grammar.specs.Places.{HasUnhandledFaultAt};
 ghost use Rattle.ixdtf_grammar.specs.Widths.{byte_text};
 ghost use Rattle.ixdtf_grammar.specs.language.Readers.{Reader};
+ghost use Rattle.ixdtf_instants.specs.declared.instant.Instant.{Instant};
 ghost use Rattle.ixdtf_grammar.specs.table.ErrorTexts.{message_of};
 ghost use Rattle.ixdtf_grammar.specs.table.Faults.{fault_of_located};
 ghost use Rattle.ixdtf_buffers.specs.Line.{IsLine};
@@ -18,22 +19,24 @@ ghost use Rattle.ixdtf_checks.specs.Spaced.{is_spaced, message_at};
 
 use crate::csv::Quoting;
 use crate::instants::read_instant;
-use crate::kind::InstantKind;
+use crate::kind::{InstantKind, Kind};
 use crate::part::{Lost, Part, part_of};
 use crate::printed::PrintedText;
 use crate::printing::read_to_print;
-use crate::reading::read;
+use crate::reading::{read, read_date_time};
 use crate::request::{Field, Request, Task};
 use crate::skipped::kept_line;
 use crate::verdict::{Early, LINE_LIMIT, Reason, Refusal, Unread, Verdict};
+use ixdtf::parsers::Profile;
 use ixdtf::{Instant, LocatedError};
 
 /// Writes the verdict on the line to `verdict`. The line is `None` if it is too long. `last` is the instant of the nearest
 /// preceding line whose text names an instant. If the task is `Task::Order` and the text of this line names an instant, `last`
 /// becomes this instant.
 ///
-/// The verdict is written through a reference, because a verdict that is returned is copied completely. Through a reference,
-/// only one byte is written for an accepted line, and most lines are accepted.
+/// The verdict has to be `Verdict::Accepted` before the call. It is written through a reference, because a verdict that is returned
+/// is copied completely. If the text is only checked, nothing is written for an accepted line, and most lines are accepted.
+#[inline(always)]
 pub fn judge<'a>(
     request: &Request<'_>,
     is_first: bool,
@@ -43,7 +46,8 @@ pub fn judge<'a>(
     unquoted: &'a mut [u8; LINE_LIMIT],
     verdict: &mut Verdict<'a>,
 )
-    requires { IfSome line (λ bytes. length bytes.now ≤ 65536) }
+    requires short { IfSome line (λ bytes. length bytes.now ≤ 65536) }
+    requires fresh { verdict.old ≡ Verdict.Accepted }
     ensures verdict { (text : List ℕ) → IsLine 65536 line.entry text
         → IsVerdict request.now is_first last.old text (seen printed.new verdict.new) }
     ensures kept { (printed : List ℕ) → last.new ≡ latest (instant_in (seen printed verdict.new)) last.old }
@@ -60,6 +64,7 @@ pub fn judge<'a>(
 }
 
 /// Writes the verdict on a line that is not too long. `bytes` are the complete bytes of the line.
+#[inline(always)]
 fn judge_short<'a>(
     request: &Request<'_>,
     is_first: bool,
@@ -69,7 +74,8 @@ fn judge_short<'a>(
     unquoted: &'a mut [u8; LINE_LIMIT],
     verdict: &mut Verdict<'a>,
 )
-    requires { length bytes.now ≤ 65536 }
+    requires short { length bytes.now ≤ 65536 }
+    requires fresh { verdict.old ≡ Verdict.Accepted }
     ensures verdict { IsShortVerdict request.now is_first last.old (line_in is_first bytes.now) (seen printed.new verdict.new) }
     ensures kept { (printed : List ℕ) → last.new ≡ latest (instant_in (seen printed verdict.new)) last.old }
 {
@@ -80,6 +86,7 @@ fn judge_short<'a>(
 }
 
 /// Writes the verdict on a line that is not skipped.
+#[inline(always)]
 fn judge_line<'a>(
     request: &Request<'_>,
     last: &mut Option<Instant>,
@@ -88,7 +95,8 @@ fn judge_line<'a>(
     unquoted: &'a mut [u8; LINE_LIMIT],
     verdict: &mut Verdict<'a>,
 )
-    requires { length line.now ≤ 65536 }
+    requires short { length line.now ≤ 65536 }
+    requires fresh { verdict.old ≡ Verdict.Accepted }
     ensures verdict { IsLineVerdict request.now last.old line.now (seen printed.new verdict.new) }
     ensures kept { (printed : List ℕ) → last.new ≡ latest (instant_in (seen printed verdict.new)) last.old }
 {
@@ -106,7 +114,7 @@ fn judge_line<'a>(
 }
 
 /// Writes the verdict on a line whose text begins with the given field.
-#[inline(never)]
+#[inline(always)]
 fn judge_field<'a>(
     request: &Request<'_>,
     field: Field,
@@ -118,6 +126,7 @@ fn judge_field<'a>(
 )
     requires short { length line.now ≤ 65536 }
     requires asked { request.now.field ≡ Some field }
+    requires fresh { verdict.old ≡ Verdict.Accepted }
     ensures verdict { IsLineVerdict request.now last.old line.entry.now (seen printed.new verdict.new) }
     ensures kept { (printed : List ℕ) → last.new ≡ latest (instant_in (seen printed verdict.new)) last.old }
 {
@@ -160,21 +169,64 @@ fn judge_text<'a>(
     printed: &mut PrintedText,
     verdict: &mut Verdict<'a>,
 )
-    requires { part.start + length part.text.now ≤ 65536 }
+    requires short { part.start + length part.text.now ≤ 65536 }
+    requires fresh { verdict.old ≡ Verdict.Accepted }
     ensures verdict { IsTextVerdict request.now.task request.now.profile last.old (seen_part part.entry)
         (seen printed.new verdict.new) }
     ensures kept { (printed : List ℕ) → last.new ≡ latest (instant_in (seen printed verdict.new)) last.old }
 {
     match request.task {
-        Task::Check(kind) => match read(kind, request.profile, part.text) {
-            Ok(()) => *verdict = Verdict::Accepted,
-            Err(error) => refuse(verdict, kind.has_offset(), error, part),
-        },
+        Task::Check(kind) => judge_check(kind, request.profile, part, verdict),
         Task::Print(kind) => match read_to_print(kind, request.profile, part.text, printed) {
             Ok(()) => *verdict = Verdict::Printed,
             Err(error) => refuse(verdict, kind.has_offset(), error, part),
         },
         Task::Order(kind) => judge_order(kind, last, part, verdict),
+    }
+}
+
+/// Writes the verdict on a text that is read as a text of the kind.
+///
+/// Most texts are date-times. The other kinds have a function that is not inlined: otherwise the errors of all readers would be set
+/// to zero for each date-time.
+#[inline(always)]
+fn judge_check<'a>(kind: Kind, profile: Profile, part: Part<'a>, verdict: &mut Verdict<'a>)
+    requires short { part.start + length part.text.now ≤ 65536 }
+    requires fresh { verdict.old ≡ Verdict.Accepted }
+    ensures verdict { (last : Option Instant) (printed : List ℕ)
+        → IsTextVerdict (Task.Check kind) profile last (seen_part part.entry) (seen printed verdict.new) }
+    ensures instant { (printed : List ℕ) → instant_in (seen printed verdict.new) ≡ None }
+{
+    match kind {
+        Kind::DateTime => match read_date_time(part.text) {
+            Ok(()) => {}
+            Err(error) => refuse(verdict, true, error, part),
+        },
+        Kind::YearMonth
+        | Kind::MonthDay
+        | Kind::Time
+        | Kind::Offset
+        | Kind::Zone
+        | Kind::ZoneName
+        | Kind::Duration
+        | Kind::Rfc3339
+        | Kind::Iana
+        | Kind::Rfc9557 => judge_other_check(kind, profile, part, verdict),
+    }
+}
+
+/// Does the work of `judge_check`. The function accepts every kind, but `judge_check` does not call it for date-times.
+#[inline(never)]
+fn judge_other_check<'a>(kind: Kind, profile: Profile, part: Part<'a>, verdict: &mut Verdict<'a>)
+    requires short { part.start + length part.text.now ≤ 65536 }
+    requires fresh { verdict.old ≡ Verdict.Accepted }
+    ensures verdict { (last : Option Instant) (printed : List ℕ)
+        → IsTextVerdict (Task.Check kind) profile last (seen_part part.entry) (seen printed verdict.new) }
+    ensures instant { (printed : List ℕ) → instant_in (seen printed verdict.new) ≡ None }
+{
+    match read(kind, profile, part.text) {
+        Ok(()) => {}
+        Err(error) => refuse(verdict, kind.has_offset(), error, part),
     }
 }
 
@@ -239,7 +291,9 @@ fn order(instant: Instant, last: Option<Instant>, part: Part<'_>) -> Verdict<'_>
 
 /// Writes the verdict on a line whose text a reader refuses. `has_offset` says whether texts of this kind can have an offset after
 /// their time.
-#[inline(always)]
+///
+/// The function is not inlined: otherwise its local variables would be set to zero for each line, also if the line is accepted.
+#[inline(never)]
 fn refuse<'a>(verdict: &mut Verdict<'a>, has_offset: bool, error: LocatedError, part: Part<'a>)
     requires line { part.start + length part.text.now ≤ 65536 }
     requires within { error.at ≤ length part.text.now }

@@ -169,14 +169,20 @@ fn parse_later_pair<'a, T: EncodingType>(
         Some(byte) if is_a_key_leading_char(byte) => parse_pair(cursor, false),
         Some(byte) if is_critical_flag(byte) => {
             cursor.advance();
-            parse_critical_pair(cursor)
+            let mut here = cursor.fork();
+            let read = parse_critical_pair(&mut here);
+            *cursor = here;
+            read
         }
         _ => Err(Stop::AnnotationKeyLeadingChar),
     }
 }
 
 /// Reads an annotation after its `[!`. The annotation is not in the first bracket of the text.
-#[inline(always)]
+///
+/// The function is not inlined, because critical annotations are rare. Otherwise `parse_later_pair` would have the code
+/// for an annotation twice, and Rattle would not inline it: it ignores `inline(always)` on a function that is too large.
+#[inline(never)]
 fn parse_critical_pair<'a, T: EncodingType>(
     cursor: &mut Cursor<'a, T>,
 ) -> Result<Annotation<'a, T>, Stop>

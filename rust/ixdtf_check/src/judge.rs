@@ -4,22 +4,24 @@
 
 use crate::csv::Quoting;
 use crate::instants::read_instant;
-use crate::kind::InstantKind;
+use crate::kind::{InstantKind, Kind};
 use crate::part::{Lost, Part, part_of};
 use crate::printed::PrintedText;
 use crate::printing::read_to_print;
-use crate::reading::read;
+use crate::reading::{read, read_date_time};
 use crate::request::{Field, Request, Task};
 use crate::skipped::kept_line;
 use crate::verdict::{Early, LINE_LIMIT, Reason, Refusal, Unread, Verdict};
+use ixdtf::parsers::Profile;
 use ixdtf::{Instant, LocatedError};
 
 /// Writes the verdict on the line to `verdict`. The line is `None` if it is too long. `last` is the instant of the nearest
 /// preceding line whose text names an instant. If the task is `Task::Order` and the text of this line names an instant, `last`
 /// becomes this instant.
 ///
-/// The verdict is written through a reference, because a verdict that is returned is copied completely. Through a reference,
-/// only one byte is written for an accepted line, and most lines are accepted.
+/// The verdict has to be `Verdict::Accepted` before the call. It is written through a reference, because a verdict that is returned
+/// is copied completely. If the text is only checked, nothing is written for an accepted line, and most lines are accepted.
+#[inline(always)]
 pub fn judge<'a>(
     request: &Request<'_>,
     is_first: bool,
@@ -41,6 +43,7 @@ pub fn judge<'a>(
 }
 
 /// Writes the verdict on a line that is not too long. `bytes` are the complete bytes of the line.
+#[inline(always)]
 fn judge_short<'a>(
     request: &Request<'_>,
     is_first: bool,
@@ -57,6 +60,7 @@ fn judge_short<'a>(
 }
 
 /// Writes the verdict on a line that is not skipped.
+#[inline(always)]
 fn judge_line<'a>(
     request: &Request<'_>,
     last: &mut Option<Instant>,
@@ -79,7 +83,7 @@ fn judge_line<'a>(
 }
 
 /// Writes the verdict on a line whose text begins with the given field.
-#[inline(never)]
+#[inline(always)]
 fn judge_field<'a>(
     request: &Request<'_>,
     field: Field,
@@ -125,15 +129,45 @@ fn judge_text<'a>(
     verdict: &mut Verdict<'a>,
 ) {
     match request.task {
-        Task::Check(kind) => match read(kind, request.profile, part.text) {
-            Ok(()) => *verdict = Verdict::Accepted,
-            Err(error) => refuse(verdict, kind.has_offset(), error, part),
-        },
+        Task::Check(kind) => judge_check(kind, request.profile, part, verdict),
         Task::Print(kind) => match read_to_print(kind, request.profile, part.text, printed) {
             Ok(()) => *verdict = Verdict::Printed,
             Err(error) => refuse(verdict, kind.has_offset(), error, part),
         },
         Task::Order(kind) => judge_order(kind, last, part, verdict),
+    }
+}
+
+/// Writes the verdict on a text that is read as a text of the kind.
+///
+/// Most texts are date-times. The other kinds have a function that is not inlined: otherwise the errors of all readers would be set
+/// to zero for each date-time.
+#[inline(always)]
+fn judge_check<'a>(kind: Kind, profile: Profile, part: Part<'a>, verdict: &mut Verdict<'a>) {
+    match kind {
+        Kind::DateTime => match read_date_time(part.text) {
+            Ok(()) => {}
+            Err(error) => refuse(verdict, true, error, part),
+        },
+        Kind::YearMonth
+        | Kind::MonthDay
+        | Kind::Time
+        | Kind::Offset
+        | Kind::Zone
+        | Kind::ZoneName
+        | Kind::Duration
+        | Kind::Rfc3339
+        | Kind::Iana
+        | Kind::Rfc9557 => judge_other_check(kind, profile, part, verdict),
+    }
+}
+
+/// Does the work of `judge_check`. The function accepts every kind, but `judge_check` does not call it for date-times.
+#[inline(never)]
+fn judge_other_check<'a>(kind: Kind, profile: Profile, part: Part<'a>, verdict: &mut Verdict<'a>) {
+    match read(kind, profile, part.text) {
+        Ok(()) => {}
+        Err(error) => refuse(verdict, kind.has_offset(), error, part),
     }
 }
 
@@ -185,7 +219,9 @@ fn order(instant: Instant, last: Option<Instant>, part: Part<'_>) -> Verdict<'_>
 
 /// Writes the verdict on a line whose text a reader refuses. `has_offset` says whether texts of this kind can have an offset after
 /// their time.
-#[inline(always)]
+///
+/// The function is not inlined: otherwise its local variables would be set to zero for each line, also if the line is accepted.
+#[inline(never)]
 fn refuse<'a>(verdict: &mut Verdict<'a>, has_offset: bool, error: LocatedError, part: Part<'a>) {
     *verdict = Verdict::Refused(Refusal {
         column: part.start + part.width_of(error.at) + 1,

@@ -70,6 +70,9 @@ pub fn without_return(line: &[u8]) -> &[u8] {
 /// Returns the text of the line. The text begins where the given field begins. There is one exception: if the field belongs
 /// to a record of RFC 4180 and is in quotes, the text begins after the opening quote. Returns an error if the line is refused
 /// before its text is read.
+///
+/// `plain_fields` and `csv_field` are not inlined, so their results are in memory. Each of these results is taken apart and made
+/// again. So the result of `part_of` can be in registers, and for a single field it is not written to memory.
 #[inline(always)]
 pub fn part_of<'a>(
     field: Field,
@@ -78,8 +81,14 @@ pub fn part_of<'a>(
 ) -> Result<Part<'a>, Lost> {
     match field.extent {
         Extent::One => plain_field(field.separator, field.before, line),
-        Extent::More(more) => plain_fields(field.separator, field.before, more, line),
-        Extent::Csv => csv_field(field.separator, field.before, line, unquoted),
+        Extent::More(more) => match plain_fields(field.separator, field.before, more, line) {
+            Ok(part) => Ok(part),
+            Err(lost) => Err(lost),
+        },
+        Extent::Csv => match csv_field(field.separator, field.before, line, unquoted) {
+            Ok(part) => Ok(part),
+            Err(lost) => Err(lost),
+        },
     }
 }
 

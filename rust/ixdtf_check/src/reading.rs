@@ -9,30 +9,7 @@ use ixdtf::encoding::Utf8;
 use ixdtf::parsers::{IsoDurationParser, IxdtfParser, Profile, TimeZoneParser};
 
 /// Reads the text as a text of the kind. Returns the error with its position, if the text is refused.
-///
-/// The function is inlined into its only caller, because the check of most lines calls it. Texts of all kinds but `DateTime` are
-/// read by `read_other`, which is not inlined: otherwise the errors of all readers would have to be initialised for each date-time.
-#[inline(always)]
 pub fn read(kind: Kind, profile: Profile, text: &[u8]) -> Result<(), LocatedError> {
-    match kind {
-        Kind::DateTime => read_date_time(text),
-        Kind::YearMonth
-        | Kind::MonthDay
-        | Kind::Time
-        | Kind::Offset
-        | Kind::Zone
-        | Kind::ZoneName
-        | Kind::Duration
-        | Kind::Rfc3339
-        | Kind::Iana
-        | Kind::Rfc9557 => read_other(kind, profile, text),
-    }
-}
-
-/// Reads the text as a text of the kind. Returns the error with its position, if the text is refused. The function accepts every
-/// kind, but `read` does not call it for date-times.
-#[inline(never)]
-fn read_other(kind: Kind, profile: Profile, text: &[u8]) -> Result<(), LocatedError> {
     match kind {
         Kind::DateTime => read_date_time(text),
         Kind::YearMonth => match IxdtfParser::from_utf8(text).parse_year_month_located() {
@@ -57,14 +34,8 @@ fn read_other(kind: Kind, profile: Profile, text: &[u8]) -> Result<(), LocatedEr
         },
         Kind::ZoneName => read_zone_name(text),
         Kind::Iana => read_zone_name(text),
-        Kind::Rfc9557 => match IxdtfParser::from_utf8(text).parse_rfc9557_located() {
-            Ok(_record) => Ok(()),
-            Err(error) => Err(error),
-        },
-        Kind::Rfc3339 => match IxdtfParser::from_utf8(text).parse_rfc3339_located() {
-            Ok(_record) => Ok(()),
-            Err(error) => Err(error),
-        },
+        Kind::Rfc9557 => read_rfc9557(text),
+        Kind::Rfc3339 => read_rfc3339(text),
         Kind::Duration => match duration_parser(profile, text).parse_located() {
             Ok(_duration) => Ok(()),
             Err(error) => Err(error),
@@ -73,8 +44,25 @@ fn read_other(kind: Kind, profile: Profile, text: &[u8]) -> Result<(), LocatedEr
 }
 
 /// Reads the text as `parse` reads it. Returns the error with its position, if the text is refused.
-fn read_date_time(text: &[u8]) -> Result<(), LocatedError> {
+#[inline(always)]
+pub fn read_date_time(text: &[u8]) -> Result<(), LocatedError> {
     match IxdtfParser::from_utf8(text).parse_located() {
+        Ok(_record) => Ok(()),
+        Err(error) => Err(error),
+    }
+}
+
+/// Reads the text as a date-time of RFC 3339. Returns the error with its position, if the text is refused.
+fn read_rfc3339(text: &[u8]) -> Result<(), LocatedError> {
+    match IxdtfParser::from_utf8(text).parse_rfc3339_located() {
+        Ok(_record) => Ok(()),
+        Err(error) => Err(error),
+    }
+}
+
+/// Reads the text as a date-time of RFC 9557. Returns the error with its position, if the text is refused.
+fn read_rfc9557(text: &[u8]) -> Result<(), LocatedError> {
+    match IxdtfParser::from_utf8(text).parse_rfc9557_located() {
         Ok(_record) => Ok(()),
         Err(error) => Err(error),
     }

@@ -213,6 +213,8 @@ const MEANT: &[(&str, Wrong, Option<&str>)] = &[
     ("--colour", Wrong::UnknownOption, None),
     ("datetime", Wrong::UnknownKind, Some("date-time")),
     ("--kind=zonename", Wrong::UnknownKind, Some("zone-name")),
+    ("RFC3339", Wrong::UnknownKind, Some("rfc3339")),
+    ("--STRICT", Wrong::UnknownOption, Some("--strict")),
     ("rfc9999999999999999999999", Wrong::UnknownKind, None),
     ("week", Wrong::UnknownKind, None),
     ("0", Wrong::InvalidField, None),

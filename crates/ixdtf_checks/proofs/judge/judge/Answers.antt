@@ -4,5 +4,5 @@ use Rattle.ixdtf_checks.proofs.VerdictLemmas.{short_verdict}
 
 pub returns-in-Some-clause-verdict : goal.returns-in-Some-clause-verdict
 returns-in-Some-clause-verdict c = λ text is.
-    short_verdict c.args.request.now c.args.is_first c.args.last.now c.in-Some.bytes.now text _ (rw c.in-Some.is at c.requires) (rw c.in-Some.is at is)
+    short_verdict c.args.request.now c.args.is_first c.args.last.now c.in-Some.bytes.now text _ (rw c.in-Some.is at c.requires.short) (rw c.in-Some.is at is)
     c.judge_short.ensures.verdict

@@ -1,5 +1,5 @@
 -- Proves which value each reader returned, and which error.
-use Rattle.ixdtf_checks.proofs.reading.read_other.Goals as goal
+use Rattle.ixdtf_checks.proofs.reading.read.Goals as goal
 use Rattle.std.proofs.Common.{refl}
 use Rattle.ixdtf_grammar.specs.language.Languages.Found.{parsed}
 
@@ -42,22 +42,6 @@ returns-in-Ok-parse_identifier_located-clause-ok c =
 pub returns-in-Err-parse_identifier_located-clause-err : goal.returns-in-Err-parse_identifier_located-clause-err
 returns-in-Err-parse_identifier_located-clause-err c =
     rw (c.in-Zone.is, ← c.from_utf8-in-Zone.ensures.rest) c.in-Err-parse_identifier_located.ensures.reads.err
-
-pub returns-in-Ok-parse_rfc9557_located-clause-ok : goal.returns-in-Ok-parse_rfc9557_located-clause-ok
-returns-in-Ok-parse_rfc9557_located-clause-ok c =
-    rw c.in-Rfc9557.is (parsed _, rw c.from_utf8-in-Rfc9557.ensures.rest at ((c.in-Ok-parse_rfc9557_located.ensures.reads.ok _).0 refl))
-
-pub returns-in-Err-parse_rfc9557_located-clause-err : goal.returns-in-Err-parse_rfc9557_located-clause-err
-returns-in-Err-parse_rfc9557_located-clause-err c =
-    rw (c.in-Rfc9557.is, ← c.from_utf8-in-Rfc9557.ensures.rest) c.in-Err-parse_rfc9557_located.ensures.reads.err
-
-pub returns-in-Ok-parse_rfc3339_located-clause-ok : goal.returns-in-Ok-parse_rfc3339_located-clause-ok
-returns-in-Ok-parse_rfc3339_located-clause-ok c =
-    rw c.in-Rfc3339.is (_, rw c.from_utf8-in-Rfc3339.ensures.rest at ((c.in-Ok-parse_rfc3339_located.ensures.reads.ok _).0 refl))
-
-pub returns-in-Err-parse_rfc3339_located-clause-err : goal.returns-in-Err-parse_rfc3339_located-clause-err
-returns-in-Err-parse_rfc3339_located-clause-err c =
-    rw (c.in-Rfc3339.is, ← c.from_utf8-in-Rfc3339.ensures.rest) c.in-Err-parse_rfc3339_located.ensures.reads.err
 
 pub returns-in-Ok-parse_located-clause-ok : goal.returns-in-Ok-parse_located-clause-ok
 returns-in-Ok-parse_located-clause-ok c =

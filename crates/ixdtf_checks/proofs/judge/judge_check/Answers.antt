@@ -1,0 +1,15 @@
+-- Proves the verdict on a refused date-time.
+use Rattle.ixdtf_checks.proofs.judge.judge_check.Goals as goal
+use Rattle.ixdtf_grammar.specs.language.Readers.{parse}
+use Rattle.ixdtf_checks.specs.declared.kind.Kind.TheVariants.{DateTime}
+use Rattle.ixdtf_checks.proofs.VerdictLemmas.{at_within, check_refused, text_short}
+
+pub refuse-requires-clause-within : goal.refuse-requires-clause-within
+refuse-requires-clause-within c = at_within parse c.args.part.text.now _ c.in-Err.error.at c.in-Err.ensures.err
+
+pub refuse-requires-clause-short : goal.refuse-requires-clause-short
+refuse-requires-clause-short c = text_short parse c.args.part.text.now _ c.in-Err.error.at c.in-Err.ensures.err
+
+pub returns-in-Err-clause-verdict : goal.returns-in-Err-clause-verdict
+returns-in-Err-clause-verdict c = λ last printed.
+    rw c.in-DateTime.is (check_refused DateTime c.args.profile last _ _ (c.refuse.ensures.verdict parse c.in-Err.ensures.err printed))
