@@ -26,7 +26,7 @@
  * time, the fields of this part are 0, false, or a slice of length 0. If the text has only two of
  * the three numbers of a date, the date is present: for a year and a month, `day` is 1, and for a
  * month and a day, `year` is 0.
- * After 0, there is no error. So `location` has the length 0, and `place` is 0.
+ * If a reader returns 0, it also writes 0 to `place`, and a slice of length 0 to `location`.
  * If a reader returns an error, the record is unchanged, except for `location` and `place`. So its
  * other fields have the values from before the call. They can be about an earlier text.
  * - `location` says what was being parsed, such as "digit", if the error is IXDTF_ABRUPT_END. This
@@ -55,9 +55,9 @@
  *
  * SLICES. A slice is a pointer and a length. A name or a calendar that a reader writes into a
  * record is a slice of the text that was read. So are the key and the value of an annotation that a
- * reader lists. There is one exception. If your program replies to annotations (see ixdtf_reply),
- * the calendar comes from a reply. Then it is the slice that your program passed as the value of
- * that reply.
+ * reader lists. There is one exception: some readers let your program replace annotations (see
+ * ixdtf_reply). Then the calendar is the slice that your program passed as the value of an
+ * annotation.
  * A slice is not NUL-terminated. It is valid as long as the bytes to which it points exist and are
  * unchanged. The library keeps no pointer between calls. A location and the text of an error are
  * valid as long as the program runs. If a function writes a slice, its pointer is never NULL, even
@@ -200,8 +200,8 @@ typedef struct ixdtf_time {
 
 /* The values of `form` in an offset. IXDTF_NO_OFFSET says that there is no offset. IXDTF_UTC is Z:
  * the time is in UTC, and the text does not say what the offset of the local time is. IXDTF_MINUTES
- * is an offset without seconds, and IXDTF_SECONDS is an offset with seconds. If a comment of a
- * field says when the field is 0 or false, a reader then writes 0 or false to it. */
+ * is an offset without seconds, and IXDTF_SECONDS is an offset with seconds. In some cases, a field
+ * has no meaning. The comment of the field says in which cases a reader then writes 0 or false. */
 enum { IXDTF_NO_OFFSET = 0, IXDTF_UTC = 1, IXDTF_MINUTES = 2, IXDTF_SECONDS = 3 };
 typedef struct ixdtf_offset {
     uint64_t fraction;       /* as in ixdtf_time; 0 if `form` is not IXDTF_SECONDS */
@@ -215,8 +215,8 @@ typedef struct ixdtf_offset {
 
 /* The values of `form` in a time zone. IXDTF_NO_ZONE says that there is no zone. IXDTF_NAME is a
  * zone with a name, such as [Europe/Berlin]. IXDTF_ZONE_OFFSET is a zone that is an offset, such as
- * [+05:30]. If a comment of a field says when the field is 0, false or of length 0, a reader then
- * writes such a value to it. */
+ * [+05:30]. In some cases, a field has no meaning. The comment of the field says in which cases a
+ * reader then writes 0, false or a slice of length 0. */
 enum { IXDTF_NO_ZONE = 0, IXDTF_NAME = 1, IXDTF_ZONE_OFFSET = 2 };
 typedef struct ixdtf_zone {
     ixdtf_units name; /* of length 0 if `form` is not IXDTF_NAME */
@@ -273,8 +273,8 @@ typedef struct ixdtf16_calendar {
 
 /* The values of `time_form` in a duration. The hours, minutes and seconds of a duration are its
  * time. IXDTF_NO_TIME says that the duration has no time. The other values say which duration unit
- * is the last one of the time. If a comment of a field says when the field is 0, a reader then
- * writes 0 to it. */
+ * is the last one of the time. In some cases, a field has no meaning. The comment of the field says
+ * in which cases a reader then writes 0. */
 enum { IXDTF_NO_TIME = 0, IXDTF_LAST_HOURS = 1, IXDTF_LAST_MINUTES = 2, IXDTF_LAST_SECONDS = 3 };
 typedef struct ixdtf_duration {
     uint64_t days;           /* 0 if has_date is false */
@@ -598,8 +598,8 @@ void ixdtf_error_constant(uint32_t error, ixdtf_text *out);
 
 /* Returns the nanoseconds of a fraction of a second, from 0 to 999999999. The arguments are the
  * fields `fraction` and `fraction_digits`. All digits after the ninth are dropped. If `digits` is
- * 0, the function returns 0. It also returns 0 if `fraction` has more digits than `digits` says,
- * such as 10 with one digit, or if it has more than 18 digits. */
+ * 0, the function returns 0. It also returns 0 if `fraction` has more than 18 digits, or more
+ * digits than `digits` says. For example, it returns 0 if `fraction` is 10 and `digits` is 1. */
 IXDTF_CHECKED_ uint32_t ixdtf_nanoseconds(uint64_t fraction, uint8_t digits);
 
 /* Returns how many seconds local time is ahead of UTC. The number is negative if local time is
@@ -636,11 +636,11 @@ IXDTF_CHECKED_ uint32_t ixdtf16_instant(const ixdtf16_record *record, int64_t *s
  * IXDTF_LAST_MINUTES or IXDTF_LAST_SECONDS. The sign of the duration does not matter. The function
  * returns one of these:
  * - IXDTF_OK: the two numbers are exactly the fraction.
- * - IXDTF_NOT_EXACT: this number is returned only if the duration has a last unit of the time. The
- *   fraction is not a whole number of nanoseconds, as in PT0.0000000001S. The function also returns
- *   this number if the fraction has more than 18 digits, because the struct has only the first 18
- *   of them. It also does so if `fraction_digits` is not 0, and `fraction` has more digits than
- *   `fraction_digits` says. After IXDTF_NOT_EXACT, the function has written nothing. */
+ * - IXDTF_NOT_EXACT: the duration has a last unit of the time, and one of three things is true.
+ *   First, the fraction is not a whole number of nanoseconds, as in PT0.0000000001S. Second, the
+ *   fraction has more than 18 digits, and the struct has only the first 18 of them. Third,
+ *   `fraction_digits` is not 0, and `fraction` has more digits than `fraction_digits` says. After
+ *   IXDTF_NOT_EXACT, the function has written nothing. */
 IXDTF_CHECKED_ uint32_t ixdtf_duration_fraction(const ixdtf_duration *duration, uint32_t *seconds,
     uint32_t *nanoseconds);
 

@@ -4,8 +4,8 @@
 //! A parsing method accepts its complete input, or returns an error:
 //!
 //! - It returns `Ok` exactly if the grammar derives the input, and no annotation is refused.
-//! - It returns an error only for one of two reasons: a row of the table of errors has this error and fits the input, or
-//!   an annotation is refused with this error.
+//! - It returns an error only for one of two reasons. Either the table of errors has this error for the input, or an
+//!   annotation is refused with this error.
 //!
 //! A handler returns an annotation, or nothing, for each annotation of the text. If a method has a handler, an
 //! annotation is refused only if the handler returned it. In the repository, `docs/GRAMMAR.md` describes the grammar,

@@ -98,9 +98,9 @@ impl<'a> IsoDurationParser<'a, Utf16> {
 
     /// Creates a parser of 16-bit code units, as [`from_utf16`](Self::from_utf16) does.
     ///
-    /// The library `ixdtf`, of which this crate is a part, is a port of the crate `ixdtf` 0.6.7 of ICU4X, which gives
-    /// the function this name. There are two functions `from_utf8`, one for each encoding. So a caller must name the
-    /// encoding: `IsoDurationParser::<Utf16>::from_utf8`.
+    /// The name of this function is that of the crate `ixdtf` 0.6.7 of ICU4X, which the library ports. There are two
+    /// functions `from_utf8`, one for each encoding. So a caller must name the encoding:
+    /// `IsoDurationParser::<Utf16>::from_utf8`.
     ///
     /// # Examples
     ///
@@ -250,7 +250,7 @@ impl<'a, T: EncodingType> IsoDurationParser<'a, T> {
     /// The position is the number of code units before the error. It is the index of the code unit that does not fit,
     /// or the end of the input if the input ends too early. There are three exceptions:
     ///
-    /// - If a number is `2^64` or more, the position is after the first digit with which the number is `2^64` or more.
+    /// - If a number is `2^64` or more, the position is after the digit at which it becomes so great. More digits can follow.
     /// - If a number of years, months or weeks is `2^32` or more, but less than `2^64`, the position is after the letter of
     ///   its unit.
     /// - If a group is out of order, the position is after the letter of its unit.

@@ -72,8 +72,8 @@ pub fn print_time(parsed: &IxdtfParseRecord<'_, Utf8>, out: &mut [u8]) -> Result
 /// Writes the canonical text of a time as 16-bit code units, like [`print_time`](crate::print_time).
 ///
 /// The record is one that [`IxdtfParser::parse_time`](ixdtf::parsers::IxdtfParser::parse_time) returns for 16-bit
-/// text. Each code unit is the number of an ASCII character, so `from_utf16` makes a parser that reads the text. The number of
-/// code units is the number of bytes that `print_time` writes for the same fields.
+/// text. Each code unit that is written is the number of an ASCII character. So a parser that `from_utf16` makes of the
+/// written code units reads them. Their number is the number of bytes that `print_time` writes for the same fields.
 ///
 /// # Examples
 ///

@@ -63,9 +63,9 @@ pub fn print_zone(zone: &TimeZoneRecord<'_, Utf8>, out: &mut [u8]) -> Result<usi
 /// Writes the canonical text of a time zone as 16-bit code units, like [`print_zone`](crate::print_zone).
 ///
 /// The zone is a record that [`TimeZoneParser::parse_identifier`](ixdtf::parsers::TimeZoneParser::parse_identifier) returns
-/// for 16-bit text. Each code unit is the number of an ASCII character, so
-/// [`TimeZoneParser::from_utf16`](ixdtf::parsers::TimeZoneParser::from_utf16) makes a parser that reads the text. The number
-/// of code units is the number of bytes that `print_zone` writes for the same zone.
+/// for 16-bit text. Each code unit that is written is the number of an ASCII character. So a parser that
+/// [`TimeZoneParser::from_utf16`](ixdtf::parsers::TimeZoneParser::from_utf16) makes of the written code units reads them. Their
+/// number is the number of bytes that `print_zone` writes for the same zone.
 ///
 /// # Examples
 ///

@@ -107,9 +107,9 @@ def _exists(local: _datetime.datetime, naive: _datetime.datetime) -> bool:
 
 
 def _agreed(known: _datetime.datetime, offset: Offset, zone: _datetime.tzinfo, on_conflict: str) -> _datetime.datetime:
-    """Returns the local time in the zone, if the zone has this offset at this time. If the local time occurs twice, sets `fold`, so that the result has
-    this offset. If the zone does not have this offset at this time, `on_conflict` decides what is returned or raised. `known` is the local time with the
-    offset as its tzinfo."""
+    """Returns a local time in the zone. `known` is this local time, with the offset as its tzinfo. If the zone has the offset at the local time, returns the
+    local time with the zone as its tzinfo. If the local time occurs twice, `fold` is set so that the result has the offset. If the zone does not have the
+    offset at the local time, `on_conflict` decides what is returned or raised."""
     local = known.replace(tzinfo=None)
     for fold in (0, 1):
         found = local.replace(tzinfo=zone, fold=fold)

@@ -89,8 +89,9 @@ impl<'a, T: EncodingType> IxdtfParser<'a, T> {
 
     /// Returns the parser with another profile. The remaining input is unchanged.
     ///
-    /// The profile decides which texts [`parse_month_day`](Self::parse_month_day) accepts. So it also decides which texts
-    /// [`parse_time`](Self::parse_time) refuses because they begin like a month and a day.
+    /// The profile decides which texts [`parse_month_day`](Self::parse_month_day) accepts.
+    /// [`parse_time`](Self::parse_time) refuses a time without `T` or `t` that begins with such a text. So the profile also
+    /// decides which times are refused.
     ///
     /// # Examples
     ///

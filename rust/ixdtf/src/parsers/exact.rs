@@ -71,8 +71,8 @@ impl<'a, T: EncodingType> IxdtfParser<'a, T> {
     /// - `TimeSeparator`: neither `T` nor `t` follows the date, or no `:` follows the hour or the minute of the time.
     /// - `FractionPart`: no digit follows the `.`. This is also the error if the text ends there, or if a `,` follows
     ///   the second.
-    /// - `OffsetNeedsSign`: the character where the offset has to begin is not a sign, `Z` or `z`. But directly
-    ///   after the second, a `.` begins a fraction, and a `,` has the error `FractionPart`.
+    /// - `OffsetNeedsSign`: an offset has to begin, but the next character is not a sign, `Z` or `z`. There are two
+    ///   exceptions directly after the seconds: a `.` begins a fraction, and a `,` has the error `FractionPart`.
     /// - `UtcTimeSeparator`: no `:` follows the hour of the offset.
     /// - `InvalidEnd`: any character follows the offset.
     /// - `NonAsciiCodePoint`: 16-bit text has a code unit outside 1 to 126. 8-bit text never has this error.

@@ -70,8 +70,8 @@ impl<'a, T: EncodingType> IxdtfParser<'a, T> {
     ///
     /// # Errors
     ///
-    /// The first wrong part of the text decides the error. A month, day, hour, minute or second out of its range is an
-    /// error before the next code unit is read. To get the position of the error, call
+    /// The first wrong part of the text decides the error. If a month, day, hour, minute or second is out of its range, this
+    /// is the error, whatever follows the number. To get the position of the error, call
     /// [`parse_located`](Self::parse_located).
     ///
     /// - `AbruptEnd`: the text ends too early. The field `location` is `Date` if the text ends after the year, and
