@@ -201,7 +201,8 @@ typedef struct ixdtf_time {
 /* The values of `form` in an offset. IXDTF_NO_OFFSET says that there is no offset. IXDTF_UTC is Z:
  * the time is in UTC, and the text does not say what the offset of the local time is. IXDTF_MINUTES
  * is an offset without seconds, and IXDTF_SECONDS is an offset with seconds. In some cases, a field
- * has no meaning. The comment of the field says in which cases a reader then writes 0 or false. */
+ * has no meaning. A reader then writes 0 or false to it. The comment of the field names these
+ * cases. */
 enum { IXDTF_NO_OFFSET = 0, IXDTF_UTC = 1, IXDTF_MINUTES = 2, IXDTF_SECONDS = 3 };
 typedef struct ixdtf_offset {
     uint64_t fraction;       /* as in ixdtf_time; 0 if `form` is not IXDTF_SECONDS */
@@ -215,8 +216,8 @@ typedef struct ixdtf_offset {
 
 /* The values of `form` in a time zone. IXDTF_NO_ZONE says that there is no zone. IXDTF_NAME is a
  * zone with a name, such as [Europe/Berlin]. IXDTF_ZONE_OFFSET is a zone that is an offset, such as
- * [+05:30]. In some cases, a field has no meaning. The comment of the field says in which cases a
- * reader then writes 0, false or a slice of length 0. */
+ * [+05:30]. In some cases, a field has no meaning. A reader then writes 0, false or a slice of
+ * length 0 to it. The comment of the field names these cases. */
 enum { IXDTF_NO_ZONE = 0, IXDTF_NAME = 1, IXDTF_ZONE_OFFSET = 2 };
 typedef struct ixdtf_zone {
     ixdtf_units name; /* of length 0 if `form` is not IXDTF_NAME */
@@ -273,8 +274,8 @@ typedef struct ixdtf16_calendar {
 
 /* The values of `time_form` in a duration. The hours, minutes and seconds of a duration are its
  * time. IXDTF_NO_TIME says that the duration has no time. The other values say which duration unit
- * is the last one of the time. In some cases, a field has no meaning. The comment of the field says
- * in which cases a reader then writes 0. */
+ * is the last one of the time. In some cases, a field has no meaning. A reader then
+ * writes 0 to it. The comment of the field names these cases. */
 enum { IXDTF_NO_TIME = 0, IXDTF_LAST_HOURS = 1, IXDTF_LAST_MINUTES = 2, IXDTF_LAST_SECONDS = 3 };
 typedef struct ixdtf_duration {
     uint64_t days;           /* 0 if has_date is false */

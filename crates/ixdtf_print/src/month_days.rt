@@ -76,8 +76,8 @@ pub fn print_month_day(
 /// Writes the canonical text of a month and a day as 16-bit code units, like [`print_month_day`](crate::print_month_day).
 ///
 /// The record is one that [`IxdtfParser::parse_month_day`](ixdtf::parsers::IxdtfParser::parse_month_day) returns for 16-bit
-/// text. Each code unit that is written is the number of an ASCII character. So a parser that `from_utf16` makes of the
-/// written code units reads them. Their number is the number of bytes that `print_month_day` writes for the same fields.
+/// text. To read the code units that were written, make a parser of them with `from_utf16`. Each of them is the number of an
+/// ASCII character. There are as many of them as `print_month_day` writes bytes for the same fields.
 ///
 /// # Examples
 ///

@@ -63,9 +63,9 @@ pub fn print_zone(zone: &TimeZoneRecord<'_, Utf8>, out: &mut [u8]) -> Result<usi
 /// Writes the canonical text of a time zone as 16-bit code units, like [`print_zone`](crate::print_zone).
 ///
 /// The zone is a record that [`TimeZoneParser::parse_identifier`](ixdtf::parsers::TimeZoneParser::parse_identifier) returns
-/// for 16-bit text. Each code unit that is written is the number of an ASCII character. So a parser that
-/// [`TimeZoneParser::from_utf16`](ixdtf::parsers::TimeZoneParser::from_utf16) makes of the written code units reads them. Their
-/// number is the number of bytes that `print_zone` writes for the same zone.
+/// for 16-bit text. To read the code units that were written, make a parser of them with
+/// [`TimeZoneParser::from_utf16`](ixdtf::parsers::TimeZoneParser::from_utf16). Each of them is the number of an ASCII
+/// character. There are as many of them as `print_zone` writes bytes for the same zone.
 ///
 /// # Examples
 ///

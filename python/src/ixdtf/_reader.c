@@ -644,11 +644,11 @@ static PyMethodDef record_methods[] = {
       "the zone. If the record has any other offset, the zone should have this offset at this time. If the zone has a different one,\n"
       "on_conflict decides. 'error' raises ZoneConflictError. 'offset' computes the instant from the offset, and returns this instant\n"
       "in the zone. 'zone' ignores the offset, and returns the local time in the zone.\n\n"
-      "Raises ValueError if the date or the time is missing, if the year is not 1 to 9999, or if the day is 0. If the result is the\n"
-      "instant of the offset, in the zone, also raises ValueError if the year of this instant is not 1 to 9999, in UTC or in the\n"
-      "zone. With truncate=True, the second 60 becomes 59, and digits after the sixth are dropped. With truncate=False, also raises\n"
-      "ValueError if the second is 60, if a fraction is not a whole number of microseconds, or if a fraction has more than 18\n"
-      "digits. Raises zoneinfo.ZoneInfoNotFoundError if the name of the zone is unknown." },
+      "Raises ValueError if the date or the time is missing, if the year is not 1 to 9999, or if the day is 0. If the record has an\n"
+      "offset and a zone, and the method computes the instant from the offset, also raises ValueError if the year of this instant is\n"
+      "not 1 to 9999, in UTC or in the zone. With truncate=True, the second 60 becomes 59, and digits after the sixth are dropped.\n"
+      "With truncate=False, also raises ValueError if the second is 60, if a fraction is not a whole number of microseconds, or if a\n"
+      "fraction has more than 18 digits. Raises zoneinfo.ZoneInfoNotFoundError if the name of the zone is unknown." },
     { "__reduce__", record_reduce, METH_NOARGS, NULL },
     { NULL, NULL, 0, NULL },
 };

@@ -70,8 +70,8 @@ pub fn print(parsed: &IxdtfParseRecord<'_, Utf8>, out: &mut [u8]) -> Result<usiz
 /// Writes the canonical text of the record as 16-bit code units, like [`print`](crate::print).
 ///
 /// The record is one that [`IxdtfParser::parse`](ixdtf::parsers::IxdtfParser::parse) returns for 16-bit
-/// text. Each code unit that is written is the number of an ASCII character. So a parser that `from_utf16` makes of the
-/// written code units reads them. Their number is the number of bytes that `print` writes for the same fields.
+/// text. To read the code units that were written, make a parser of them with `from_utf16`. Each of them is the number of an
+/// ASCII character. There are as many of them as `print` writes bytes for the same fields.
 ///
 /// # Examples
 ///

@@ -19,9 +19,10 @@ use core::fmt;
 /// ```
 #[derive(Clone, Copy, Debug, PartialEq)]
 pub enum PrintError {
-    /// The record has no canonical text. For [`print`](crate::print), this is a record that has no date, or an offset
-    /// without a time, or a value that `parse` never returns, such as the month 13 or February 30. The documentation of
-    /// each other function that prints says which records it refuses.
+    /// The record has no canonical text. For [`print`](crate::print), there are three kinds of such records: a record
+    /// without a date, a record with an offset but without a time, and a record with a value that `parse` never returns,
+    /// such as the month 13 or February 30. The documentation of each other function that prints says which records it
+    /// refuses.
     NotPrintable,
     /// The canonical text of the record is longer than the slice. For [`print`](crate::print), the function
     /// [`printed_length`](crate::printed_length) returns the length of the canonical text. If `parse` returned the record,

@@ -61,8 +61,8 @@ pub fn print_time(parsed: &IxdtfParseRecord<'_, Utf8>, out: &mut [u8]) -> Result
 /// Writes the canonical text of a time as 16-bit code units, like [`print_time`](crate::print_time).
 ///
 /// The record is one that [`IxdtfParser::parse_time`](ixdtf::parsers::IxdtfParser::parse_time) returns for 16-bit
-/// text. Each code unit that is written is the number of an ASCII character. So a parser that `from_utf16` makes of the
-/// written code units reads them. Their number is the number of bytes that `print_time` writes for the same fields.
+/// text. To read the code units that were written, make a parser of them with `from_utf16`. Each of them is the number of an
+/// ASCII character. There are as many of them as `print_time` writes bytes for the same fields.
 ///
 /// # Examples
 ///

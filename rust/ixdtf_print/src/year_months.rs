@@ -63,8 +63,8 @@ pub fn print_year_month(
 /// Writes the canonical text of a year and a month as 16-bit code units, like [`print_year_month`](crate::print_year_month).
 ///
 /// The record is one that [`IxdtfParser::parse_year_month`](ixdtf::parsers::IxdtfParser::parse_year_month) returns for 16-bit
-/// text. Each code unit that is written is the number of an ASCII character. So a parser that `from_utf16` makes of the
-/// written code units reads them. Their number is the number of bytes that `print_year_month` writes for the same fields.
+/// text. To read the code units that were written, make a parser of them with `from_utf16`. Each of them is the number of an
+/// ASCII character. There are as many of them as `print_year_month` writes bytes for the same fields.
 ///
 /// # Examples
 ///
