@@ -671,9 +671,9 @@ IXDTF_CHECKED_ size_t ixdtf_printed_year_month_length(const ixdtf_record *record
 IXDTF_CHECKED_ size_t ixdtf_printed_month_day_length(const ixdtf_record *record);
 
 /* Return the length of the canonical text that ixdtf16_print and the other printers of 16-bit text
- * write, in code units. Each of them returns 0 if its printer cannot print the record or the zone.
- * The four functions for a record also return 0 if a size_t cannot hold the length. A size_t can
- * always hold the length of the text of a zone. For a duration or an offset,
+ * write, in code units. These functions return 0 if the printer cannot print the record or the
+ * zone. The four functions for a record also return 0 if a size_t cannot hold the length. A size_t
+ * can always hold the length of the text of a zone. For a duration or an offset,
  * ixdtf_printed_duration_length and ixdtf_printed_offset_length return the number of code units
  * too. */
 IXDTF_CHECKED_ size_t ixdtf16_printed_length(const ixdtf16_record *record);

@@ -20,7 +20,8 @@ class ZoneConflictError(ValueError):
 
 
 def to_datetime(record: Record, on_conflict: str = "error", truncate: bool = False) -> _datetime.datetime:
-    """Returns the datetime of a record. Record.to_datetime calls this function, and its documentation describes the arguments and the errors."""
+    """Returns the datetime of a record. Record.to_datetime calls this function. The documentation of Record.to_datetime describes the
+    arguments and the errors."""
     if on_conflict not in ("error", "offset", "zone"):
         raise ValueError(f"expected on_conflict to be 'error', 'offset' or 'zone', and found {on_conflict!r}")
     local = _local(record, truncate)

@@ -645,10 +645,11 @@ static PyMethodDef record_methods[] = {
       "on_conflict decides. 'error' raises ZoneConflictError. 'offset' computes the instant from the offset, and returns this instant\n"
       "in the zone. 'zone' ignores the offset, and returns the local time in the zone.\n\n"
       "Raises ValueError if the date or the time is missing, if the year is not 1 to 9999, or if the day is 0. If the record has an\n"
-      "offset and a zone, and the method computes the instant from the offset, also raises ValueError if the year of this instant is\n"
-      "not 1 to 9999, in UTC or in the zone. With truncate=True, the second 60 becomes 59, and digits after the sixth are dropped.\n"
-      "With truncate=False, also raises ValueError if the second is 60, if a fraction is not a whole number of microseconds, or if a\n"
-      "fraction has more than 18 digits. Raises zoneinfo.ZoneInfoNotFoundError if the name of the zone is unknown." },
+      "offset and a zone, the method sometimes computes the instant from the offset, as described above. Then it also raises ValueError\n"
+      "if the year of this instant is not 1 to 9999, in UTC or in the zone.\n\n"
+      "With truncate=True, the second 60 becomes 59, and digits after the sixth are dropped. With truncate=False, raises ValueError if\n"
+      "the second is 60, if a fraction is not a whole number of microseconds, or if a fraction has more than 18 digits.\n\n"
+      "Raises zoneinfo.ZoneInfoNotFoundError if the name of the zone is unknown." },
     { "__reduce__", record_reduce, METH_NOARGS, NULL },
     { NULL, NULL, 0, NULL },
 };
