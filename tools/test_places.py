@@ -257,11 +257,12 @@ $ parse 2024
 the text ends after the year; expected `-` and the month
 2024
     ^
+hint: write it like 2024-03-02, 2024-03-02T08:48 or 2024-03-02T08:48:00-05:00
 $ parse 2024-3-2
 expected a digit of the month, which has two, found `-`
 2024-3-2
       ^
-hint: write the month as `03`
+hint: write the month as `03`, and the day as `02`
 $ parse 02/03/2024
 expected a digit of the year, which has four, found `/`
 02/03/2024
@@ -285,6 +286,7 @@ $ parse 202403-02
 found `-` before the day, but none before the month
 202403-02
       ^
+hint: write it like 2024-03-02, 2024-03-02T08:48 or 2024-03-02T08:48:00-05:00
 $ parse 2024-03-02T24:00
 the hour is 24, and has to be 00 to 23
 2024-03-02T24:00
@@ -304,6 +306,7 @@ $ parse 2024-03-02T08:48:00\u221205:00
 expected `.`, an offset, `[` or the end after the second, found U+2212 (minus sign)
 2024-03-02T08:48:00\u221205:00
                    ^
+hint: write `-` instead
 $ parse 2024-03-02Z
 expected `T`, a space, `[` or the end after the date, found `Z`
 2024-03-02Z
@@ -317,6 +320,7 @@ $ parse 2024-03-02T08:48Z[America/S\u00e3o_Paulo]
 expected `]` or more of the time zone's name, found U+00E3
 2024-03-02T08:48Z[America/S\u00e3o_Paulo]
                            ^
+hint: a time zone's name has no letters but A to Z and a to z
 $ parse 2024-03-02T08:48[U-CA=hebrew]
 expected `]` or more of the time zone's name, found `=`
 2024-03-02T08:48[U-CA=hebrew]
@@ -330,10 +334,12 @@ $ parse 2024-03-02T08:48:00-05:00[America/New_York][u-ca=hebrew][key=a_b]
 expected `]` or more of the annotation's value, found `_`
 ..48:00-05:00[America/New_York][u-ca=hebrew][key=a_b]
                                                   ^
+hint: an annotation's value has only letters, digits and single hyphens
 $ parse 2024-03-02[!knort=blue]
 the annotation is critical (`!`), and its key is not known
 2024-03-02[!knort=blue]
           ^^^^^^^^^^^^^
+hint: remove `!` if the annotation may be ignored
 $ parse 2024-03-02[u-ca=hebrew][!u-ca=iso8601]
 a later calendar differs from the first, and one is critical (`!`)
 2024-03-02[u-ca=hebrew][!u-ca=iso8601]
@@ -346,7 +352,7 @@ $ duration P1.5D
 expected a digit, `Y`, `M`, `W` or `D` after the number, found `.`
 P1.5D
   ^
-hint: only hours, minutes and seconds have a fraction
+hint: only hours, minutes and seconds have a fraction, like PT0.5H
 $ duration P1D2H
 expected a digit, `Y`, `M`, `W` or `D` after the number, found `H`
 P1D2H
@@ -370,14 +376,17 @@ a part of the time zone's name does not begin with a letter, and has to
                          ^^^^^^^^^^^^^^^^^^^^^^^^
 """
 
+# hints that are examples
+DATES, DURATIONS = 'write it like 2024-03-02, 2024-03-02T08:48 or 2024-03-02T08:48:00-05:00', 'write it like P1DT2H30M or -PT0.5S'
+
 # lines for the program, and their hints
 HINTS = {
-    'parse 2024-3-2': 'write the month as `03`', 'parse 2024-03-2T08:48': 'write the day as `02`', 'month-day 3-02': 'write the month as `03`',
+    'parse 2024-3-2': 'write the month as `03`, and the day as `02`', 'parse 2024-3-12': 'write the month as `03`', 'parse 2024-03-2T08:48': 'write the day as `02`', 'month-day 3-02': 'write the month as `03`', 'month-day 3-2': 'write the month as `03`, and the day as `02`',
     'parse 2024-03-02T8:48': 'write the hour as `08`', 'parse 2024-03-02T08:48:5Z': 'write the second as `05`',
     'offset -5:00': "write the offset's hour as `05`", 'rfc3339 2024-03-02T08:48:00+5:00': "write the offset's hour as `05`",
     'parse 2024-03-02T24': 'the end of a day is 00:00 of the next day', 'rfc3339 2024-03-02T24:00:00Z': 'the end of a day is 00:00 of the next day',
     'parse 2024/03/02': 'write a date as year, month and day, like 2024-03-02', 'year-month 03/2024': 'write a year and a month like 2024-03',
-    'rfc3339 02.03.2024': 'write a date as year, month and day, like 2024-03-02',
+    'rfc3339 02.03.2024': 'write a date as year, month and day, like 2024-03-02T08:48:00Z',
     'parse 1709369280.25': 'a Unix time is not read; write it as a date and a time',
     'rfc3339 1709369280123': 'a Unix time is not read; write it as a date and a time',
     'time 14:58\t': 'remove the tab at the end', 'parse 2024-03-02\r': 'remove the carriage return at the end',
@@ -397,11 +406,52 @@ HINTS = {
     'parse 2024-03-02+01:00': 'an offset needs a time before it', 'rfc3339 2024-03-02Z': 'an offset needs a time before it',
     'parse 2024-03-02 08:48 PM': 'write the hour as 00 to 23, without AM or PM',
     'parse 2024-03-02T08:48:00am': 'write the hour as 00 to 23, without AM or PM',
+    'parse 3/2/24 8:48': 'write a date as year, month and day, like 2024-03-02T08:48',
+    'parse 1709369280000000': 'a Unix time is not read; write it as a date and a time',
+    'parse 1709369280000000000': 'a Unix time is not read; write it as a date and a time',
+    'parse 2024-03-02 08:48:00 CET': 'write an offset such as -05:00 instead of CET',
+    'parse 20240302084800.5': 'write `T` before the time', 'parse 2024-03-0208:48': 'write `T` before the time',
+    'parse 2024-03-02[=hebrew]': 'an annotation has a key and a value, like u-ca=hebrew',
+    'parse 2024-03-02[UTC][!=x]': 'an annotation has a key and a value, like u-ca=hebrew',
+    'parse 2024-03-02[UTC][hebrew]': 'an annotation has a key and a value, like u-ca=hebrew',
+    'parse 2024-03-02[u-ca hebrew]': "write `=` after an annotation's key, or `_` in a time zone's name",
+    'parse 2024-03-02[UTC][u.ca=hebrew]': "an annotation's key has only a to z, 0 to 9, `-` and `_`",
+    'parse 2024-03-02[u-ca=a--b]': "an annotation's value has only letters, digits and single hyphens",
+    'time 2024-03-02T08:48': 'a date is not read before the time', 'time 8:48 AM': 'write the hour as 00 to 23, without AM or PM',
+    'parse 2024-03-02 8:48 pm': 'write the hour as 00 to 23, without AM or PM',
+    'parse 2024-03-02T08:48 +1': "remove the space before `+`, and write the offset's hour as `01`",
+    'parse 2024-03-02[!knort=blue]': 'remove `!` if the annotation may be ignored',
+    'parse 2024062': 'a day of the year is not read; write the month and the day',
+    'parse 2024-03-02 08:48:00 +0000 UTC': 'remove the space before `+`, and what stands after the offset',
+    'parse PT1H30M': 'a duration is no date; read it as a duration', 'rfc3339 p1D': 'a duration is no date; read it as a duration',
+    'parse 08:48:00': 'a time needs a date before it, like 2024-03-02T08:48:00-05:00',
+    'rfc9557 T08:48:00Z': 'a time needs a date before it, like 2024-03-02T08:48:00-05:00',
+    'parse 12024-03-02': 'write a year after 9999 with a sign and six digits, like +012024',
+    'parse +2024-03-02': 'write a year with a sign like +012024', 'parse +20': 'write a year with a sign like +012024',
+    'rfc3339 12024-03-02T08:48:00Z': 'a year is 0000 to 9999 here, without a sign',
+    'rfc9557 -000043-03-15T08:48:00Z': 'a year is 0000 to 9999 here, without a sign',
+    'parse 0044-03-15 BC': 'write the year 44 BC as -000043', 'parse 00010315 BC': 'write the year 1 BC as 0000',
+    'parse 2024-03-02[America/New York]': "a time zone's name has `_` instead of a space",
+    'iana America/New York': "a time zone's name has `_` instead of a space",
+    'duration PT-1H': 'a sign can only stand before `P`', 'duration P1D+1D': 'a sign can only stand before `P`',
+    'rfc9557 1840-01-01T08:48:30-00:01:15[Europe/London]': 'an offset has no seconds here',
+    'parse 2024-03-02T08:48:00Z/PT1H': 'an interval is not read; read the texts before and after the `/`',
+    'parse 2024-03-02/2024-03-05': 'an interval is not read; read the texts before and after the `/`',
+    'parse 2024\u201303\u201302': 'write `-` instead', 'rfc3339 2024-03-02T08:48:00\u221205:00': 'write `-` instead',
+    'iana Asia/S\u00e3o': "a time zone's name has no letters but A to Z and a to z",
+    # texts of which nothing more is known: the hint has examples
+    'parse 2024-0-2': DATES, 'parse 2024-3/2': DATES, 'parse 2024/x': DATES, 'parse 2024-03-02  [UTC]': DATES, 'parse 2024-Wed': DATES,
+    'parse 1909369280': DATES, 'parse 170936928': DATES, 'parse 2024-03-02\tx': DATES, 'parse 2024-03-02Zulu': DATES,
+    'parse 2024-03-02/x': DATES, 'parse 240302084800Z': DATES, 'parse 2460372.5': DATES, 'parse 2024-0622': DATES, 'parse PX': DATES, 'parse 0000-03-15 BC': DATES, 'parse Mar  2 08:48:00': DATES, 'duration P1.D': DURATIONS,
+    'duration 1h30m': DURATIONS, 'rfc3339 2024-03-02 08:48:00,123': 'write it like 2024-03-02T08:48:00-05:00 or 2024-03-02T13:48:00.25Z',
+    'rfc9557 2024-03-02': 'write it like 2024-03-02T08:48:00-05:00[America/New_York]', 'year-month 08:48': 'write it like 2024-03',
+    'month-day x': 'write it like 03-02 or --03-02', 'time ': 'write it like 08:48 or T08:48:00.25', 'offset 05:00': 'write it like -05:00',
+    'zone 1': 'write it like America/New_York or -05:00', 'iana ': 'write it like America/New_York',
     # texts without a hint, each of which is nearly one of those above
-    'parse 2024-0-2': '', 'parse 2024-3/2': '', 'parse 2024-03-02T24:30': '', 'parse 2024/x': '', 'parse 1909369280': '', 'parse 170936928': '',
-    'parse 2024-03-02\tx': '', 'parse 2024-03-02  [UTC]': '', 'parse 2024-03-02T08:48 Zulu': '', 'parse 2024-03-02T08:48 UTC+1': '',
-    'parse 2024-Wed': '', 'parse 2024-0622': '', 'parse 2024-03-02[UTC][u-CA]': '', 'duration P1.D': '', 'parse 2024-03-02T08:48.': '',
-    'duration P1DX': '', 'parse 2024-03-02Zulu': '', 'parse 2024-03-02T08:48 PMx': '',
+    'parse 2024-03-02T24:30': '', 'parse 2024-03-02T08:48 Zulu': '',
+    'parse 2024-03-02T08:48 UTC+1': '', 'parse 2024-03-02[UTC][u-CA]': "an annotation's key has only a to z, 0 to 9, `-` and `_`", 'parse 2024-03-02T08:48.': '', 'duration P1DX': '',
+    'parse 2024-03-02T08:48 PMx': '', 'parse 2024-03-02[America/New  York]': '',
+    'parse 2024-03-02T08:48:00Z\u2212': '',
 }
 
 
@@ -421,14 +471,15 @@ class Reports(unittest.TestCase):
 
     def test_text_that_is_not_utf8(self):
         for line, wide, *said in [
-                (b'parse 2024-03-02T08:48Z[Am\xe9rica]', False, "expected `]` or more of the time zone's name, found the byte 0xE9"),
-                (b'parse 2024-3-2\xff', False, 'expected a digit of the month, which has two, found `-`', 'hint: write the month as `03`'),
+                (b'parse 2024-03-02T08:48Z[Am\xe9rica]', False, "expected `]` or more of the time zone's name, found the byte 0xE9",
+                 "hint: a time zone's name has no letters but A to Z and a to z"),
+                (b'parse 2024-3-2\xff', False, 'expected a digit of the month, which has two, found `-`', 'hint: write the month as `03`, and the day as `02`'),
                 (b'offset +05\xe2', True, "expected `:`, a digit or the end after the offset's hour, found the code unit 0xDCE2")]:
             self.assertEqual(self.report(line, wide), said)
 
     def test_control_characters(self):
         self.assertEqual(self.report(b'parse 2024-03-02\x1bT08'), ['expected `T`, a space, `[` or the end after the date, found U+001B',
-                                                                   '2024-03-02.T08', '          ^'])
+                                                                   '2024-03-02.T08', '          ^', f'hint: {DATES}'])
 
     def test_hints(self):
         for line, hint in HINTS.items():
@@ -441,6 +492,16 @@ class Reports(unittest.TestCase):
             with mock.patch.object(places.hints, 'hints', lambda it: [functions[hint].add(line) for hint in functions if hint(it)] and []):
                 self.report(line.encode())
         self.assertEqual([hint for hint, lines in functions.items() if not lines], [])
+
+    def test_texts_of_other_programs(self):
+        """Each text that other programs write, or that people write by mistake, has a report with a mark."""
+        with open(os.path.join(os.path.dirname(os.path.abspath(__file__)), 'refused_texts.txt'), 'rb') as file:
+            lines = file.read().splitlines()
+        self.assertEqual(len(set(lines)), 150)
+        for line in lines:
+            message, text, mark, *hint = self.report(line)
+            self.assertRegex(mark, r'\A *\^+\Z', line)
+            self.assertLessEqual(len(hint), 1, line)
 
     def test_other_letters(self):
         """Each text that is refused has the text of a reason and at most one hint, also with another code unit at the position of the error."""
