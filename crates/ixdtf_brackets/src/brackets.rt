@@ -5,15 +5,15 @@
 ghost use Rattle.std.specs.Prelude.{◌≡◌, ◌+◌, ◌*◌, map, length};
 ghost use Rattle.ixdtf_grammar.specs.language.Brackets.{skipped};
 ghost use Rattle.ixdtf_grammar.specs.language.Letters.{equals, closing, exclamation};
-ghost use Rattle.ixdtf_reading.specs.reading.Clauses.{Reads, Spends, SpendsOr, fault_of_stop};
+ghost use Rattle.ixdtf_reading.specs.reading.Clauses.{Reads, Spends, SpendsOr};
 ghost use Rattle.ixdtf_brackets.specs.BracketTypes.{bracket_of};
 ghost use Rattle.ixdtf_reading.specs.reading.Looks.{error_of};
-ghost use Rattle.ixdtf_reading.specs.reading.Brackets.{refusal, name_fault, next_is, sight_at, name_or_pair_at, inside_at, bracket_at};
+ghost use Rattle.ixdtf_reading.specs.reading.Brackets.{refusal, name_stop, next_is, sight_at, name_or_pair_at, inside_at, bracket_at};
 
 use crate::zone::{NameState, parse_name_in_bracket, parse_offset_in_bracket, pass_name};
 use ixdtf_grammar::encoding::EncodingType;
 use ixdtf_grammar::records::{Annotation, TimeZoneAnnotation, TimeZoneRecord};
-use ixdtf_reading::annotations::{KeyLetters, parse_annotation_value};
+use ixdtf_reading::annotations::{KeyLetters, ends_key, parse_annotation_value};
 use ixdtf_reading::classes::{
     is_a_key_leading_char, is_annotation_close, is_annotation_key_value_separator, is_ascii_sign,
     is_critical_flag, is_tz_leading_char,
@@ -39,20 +39,21 @@ pub fn parse_first_bracket<'a, T: EncodingType>(
     ensures looks { SpendsOr (2 * length cursor.old.rest + 16) 16 cursor.old result cursor.new }
 {
     let mut critical = false;
-    let mut lead = cursor.look()?;
+    let mut stop = Stop::FirstBracketStart;
+    let mut lead = cursor.look(stop)?;
     if is_flag(lead) {
         critical = true;
         cursor.advance();
-        lead = cursor.look()?;
+        stop = Stop::FirstCriticalStart;
+        lead = cursor.look(stop)?;
     }
     // Call `parse_inside` at one place only. Its code is large: with two calls it was compiled twice and not inlined,
     // and its result went through memory.
     match lead {
-        None => Err(Stop::AbruptBracket),
         Some(byte) if is_ascii_sign(byte) || is_tz_leading_char(byte) => {
             parse_inside(cursor, critical, byte)
         }
-        Some(_) => Err(Stop::TzLeadingChar),
+        _ => Err(stop),
     }
 }
 
@@ -87,14 +88,6 @@ fn parse_inside<'a, T: EncodingType>(
     Ok(Bracket::Zone(TimeZoneAnnotation { critical, tz }))
 }
 
-/// Returns whether the code unit is the `=` after a key.
-#[inline(always)]
-fn ends_key(next: Option<u8>) -> bool
-    ensures { result ≡ next_is equals next }
-{
-    matches!(next, Some(byte) if is_annotation_key_value_separator(byte))
-}
-
 /// Returns whether the code unit is the `]` of a bracket.
 #[inline(always)]
 fn ends_bracket(next: Option<u8>) -> bool
@@ -117,7 +110,7 @@ fn parse_name_or_pair<'a, T: EncodingType>(
     ensures looks { SpendsOr (2 * length cursor.old.rest + 3) 3 cursor.old result cursor.new }
 {
     let start = cursor.rest();
-    let next = pass_letters::<T, KeyLetters>(cursor)?;
+    let next = pass_letters::<T, KeyLetters>(cursor, Stop::FirstBracketScan)?;
     let behind_key = cursor.rest();
     let key = &start[..start.len().saturating_sub(behind_key.len())];
     if ends_key(next) {
@@ -129,7 +122,7 @@ fn parse_name_or_pair<'a, T: EncodingType>(
             value,
         }));
     }
-    let more = pass_name(cursor)?;
+    let more = pass_name(cursor, Stop::FirstBracketScan, Stop::FirstBracketScan)?;
     if more.state.may_end && ends_bracket(more.next) {
         let count = start.len().saturating_sub(cursor.rest().len());
         cursor.advance();
@@ -139,7 +132,7 @@ fn parse_name_or_pair<'a, T: EncodingType>(
         }));
     }
     if more.next.is_none() {
-        return Err(Stop::AbruptBracket);
+        return Err(Stop::FirstBracketScan);
     }
     let refused = refuse_bracket(cursor.fork(), behind_key, more.state);
     *cursor = refused.there;
@@ -183,22 +176,22 @@ fn refuse_bracket<'a, T: EncodingType>(
     behind_key: &'a [T::CodeUnit],
     name: NameState,
 ) -> Refused<'a, T>
-    ensures stop { (fault_of_stop result.stop, map T.letter result.there.rest) ≡
-        refusal (sight_at error_of (map T.letter here.entry.rest)) (name_fault name.may_end)
+    ensures stop { (result.stop, map T.letter result.there.rest) ≡
+        refusal (sight_at error_of (map T.letter here.entry.rest)) (name_stop name.may_end)
         (map T.letter (map T.number behind_key.now)) (map T.letter here.entry.rest) }
     ensures looks { Spends (length behind_key.now + length here.entry.rest + 1) here.entry result.there }
 {
     let behind_name = here.rest();
     let mut ahead = here;
-    match pass_letters::<T, BracketLetters>(&mut ahead) {
+    match pass_letters::<T, BracketLetters>(&mut ahead, Stop::FirstBracketScan) {
         Err(stop) => Refused { stop, there: ahead },
         Ok(next) => match next {
             None => Refused {
-                stop: Stop::AbruptBracket,
+                stop: Stop::FirstBracketScan,
                 there: ahead,
             },
             Some(byte) if is_annotation_key_value_separator(byte) => Refused {
-                stop: Stop::AnnotationKeyChar,
+                stop: Stop::InKey,
                 there: ahead.fork_at(behind_key),
             },
             Some(_) => Refused {

@@ -6,7 +6,7 @@
 
 ghost use Rattle.std.specs.Prelude.{◌≡◌, ◌≤◌, ◌+◌, ◌*◌, map, length, option_map, Ok, IsTrue};
 ghost use Rattle.ixdtf_grammar.specs.language.Letters.{Text};
-ghost use Rattle.ixdtf_reading.specs.reading.Clauses.{Reads, Spends, SpendsOr, fault_of_stop};
+ghost use Rattle.ixdtf_reading.specs.reading.Clauses.{Reads, Spends, SpendsOr};
 ghost use Rattle.ixdtf_reading.specs.reading.Looks.{error_of};
 ghost use Rattle.ixdtf_reading.specs.reading.ExactZones.{form_after, may_end, has_parts, is_exact as exact_zone, behind_flag, form_row, bracket_by};
 ghost use Rattle.ixdtf_reading.specs.reading.ExactZones.PartForm.{part_start};
@@ -68,7 +68,7 @@ fn has_exact_parts<'a, T: EncodingType>(cursor: &mut Cursor<'a, T>) -> bool
 {
     let mut form = PartForm::Start;
     loop {
-        let byte = match cursor.look() {
+        let byte = match cursor.look(Stop::FirstNameForm) {
             Ok(Some(byte)) => byte,
             Ok(None) => return false,
             Err(_) => return false,
@@ -112,11 +112,11 @@ fn is_exact_zone<'a, T: EncodingType>(
 /// Returns the error of a zone that does not have the form of RFC 9557, section 4.1.
 #[inline(always)]
 fn zone_stop<'a, T: EncodingType>(zone: &TimeZoneAnnotation<'a, T>) -> Stop
-    ensures { (rest : Text) → error_of (form_row (note_of T.number zone.now).zone rest) ≡ (fault_of_stop result, rest) }
+    ensures { (rest : Text) → error_of (form_row (note_of T.number zone.now).zone rest) ≡ (result, rest) }
 {
     match &zone.tz {
-        TimeZoneRecord::Name(_) => Stop::IanaChar,
-        TimeZoneRecord::Offset(_) => Stop::InvalidMinutePrecisionOffset,
+        TimeZoneRecord::Name(_) => Stop::FirstNameForm,
+        TimeZoneRecord::Offset(_) => Stop::FirstOffsetForm,
     }
 }
 

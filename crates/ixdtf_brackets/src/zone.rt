@@ -5,12 +5,16 @@
 ghost use Rattle.std.specs.Prelude.{◌≡◌, ◌≤◌, map, length, true, Ok, IfOk};
 ghost use Rattle.ixdtf_grammar.specs.language.Letters.{slash, zone_char};
 ghost use Rattle.ixdtf_grammar.specs.Views.{zone_of};
-ghost use Rattle.ixdtf_reading.specs.reading.Clauses.{Reads, Spends, fault_of_stop, closing_look};
+ghost use Rattle.ixdtf_reading.specs.reading.Clauses.{Reads, Spends, closing_look};
 ghost use Rattle.ixdtf_reading.specs.reading.Looks.{error_of, next_by, seen};
 ghost use Rattle.ixdtf_reading.specs.reading.Runs.{letters_by};
 ghost use Rattle.ixdtf_reading.specs.reading.Zones.{name_run, name_alone_at, iana_identifier_at, identifier_at};
-ghost use Rattle.ixdtf_brackets.specs.BracketTypes.{Passes, name_after};
-ghost use Rattle.ixdtf_reading.specs.reading.Brackets.{name_fault, next_is, name_in_bracket_at, offset_in_bracket_at};
+ghost use Rattle.ixdtf_brackets.specs.BracketTypes.{Passes, name_after, stop_by};
+ghost use Rattle.ixdtf_reading.specs.reading.Stops.{stop_of};
+ghost use Rattle.ixdtf_reading.specs.reading.Times.{line_after};
+ghost use Rattle.ixdtf_times.specs.TimeTypes.{shape_of};
+ghost use Rattle.ixdtf_grammar.specs.language.Times.{Clock as clocks};
+ghost use Rattle.ixdtf_reading.specs.reading.Brackets.{name_stop, next_is, name_in_bracket_at, offset_in_bracket_at};
 
 use ixdtf_grammar::encoding::EncodingType;
 use ixdtf_grammar::records::{TimeRecord, TimeZoneRecord};
@@ -21,7 +25,7 @@ use ixdtf_reading::cursor::Cursor;
 use ixdtf_reading::letters::{Letters, pass_letters};
 use ixdtf_reading::stop::Stop;
 use ixdtf_times::offsets::{minute_offset, take_last_offset};
-use ixdtf_times::time::{Clock, parse_clock};
+use ixdtf_times::time::{Clock, TimeShape, close_after, parse_clock};
 
 // ==== Names ====
 
@@ -48,12 +52,12 @@ impl NameState {
     /// otherwise `IanaChar`.
     #[inline(always)]
     pub fn stop(self) -> Stop
-        ensures { fault_of_stop result ≡ name_fault self.may_end }
+        ensures { result ≡ name_stop self.may_end }
     {
         if self.may_end {
-            Stop::IanaChar
+            Stop::InZoneName
         } else {
-            Stop::IanaCharPostSeparator
+            Stop::AfterZoneSlash
         }
     }
 }
@@ -85,28 +89,36 @@ fn starts_part(next: Option<u8>) -> bool
 ///
 /// Returns `NonAsciiCodePoint` at a bad code unit.
 #[inline(always)]
-pub fn pass_name<'a, T: EncodingType>(cursor: &mut Cursor<'a, T>) -> Result<PassedName, Stop>
+pub fn pass_name<'a, T: EncodingType>(
+    cursor: &mut Cursor<'a, T>,
+    in_name: Stop,
+    after_slash: Stop,
+) -> Result<PassedName, Stop>
     ensures letters { Passes T.letter cursor.old result cursor.new
-        (letters_by name_after (record { may_end = true })) }
+        (letters_by (stop_by in_name after_slash) name_after (record { may_end = true })) }
     ensures looks { Spends 1 cursor.old cursor.new }
     ensures shorter { length cursor.new.rest ≤ length cursor.old.rest }
 {
     let mut here = cursor.fork();
-    let passed = pass_parts(&mut here);
+    let passed = pass_parts(&mut here, in_name, after_slash);
     *cursor = here;
     passed
 }
 
 /// Does the work of `pass_name`, on the second cursor that `pass_name` makes. The second cursor can stay in registers.
 #[inline(always)]
-fn pass_parts<'a, T: EncodingType>(cursor: &mut Cursor<'a, T>) -> Result<PassedName, Stop>
+fn pass_parts<'a, T: EncodingType>(
+    cursor: &mut Cursor<'a, T>,
+    in_name: Stop,
+    after_slash: Stop,
+) -> Result<PassedName, Stop>
     ensures letters { Passes T.letter cursor.old result cursor.new
-        (letters_by name_after (record { may_end = true })) }
+        (letters_by (stop_by in_name after_slash) name_after (record { may_end = true })) }
     ensures looks { Spends 1 cursor.old cursor.new }
     ensures shorter { length cursor.new.rest ≤ length cursor.old.rest }
 {
     loop {
-        let behind = pass_letters::<T, PartLetters>(cursor)?;
+        let behind = pass_letters::<T, PartLetters>(cursor, in_name)?;
         if !ends_part(behind) {
             return Ok(PassedName {
                 state: NameState { may_end: true },
@@ -114,7 +126,7 @@ fn pass_parts<'a, T: EncodingType>(cursor: &mut Cursor<'a, T>) -> Result<PassedN
             });
         }
         cursor.advance();
-        let next = cursor.look()?;
+        let next = cursor.look(after_slash)?;
         if !starts_part(next) {
             return Ok(PassedName {
                 state: NameState { may_end: false },
@@ -139,13 +151,13 @@ pub fn parse_tz_name<'a, T: EncodingType>(
 ) -> Result<ReadName<'a, T>, Stop>
     ensures name { Reads T.letter (λ name. map T.number name.units.now) cursor.old result cursor.new
         (name_run error_of true) }
-    ensures next { IfOk result (λ name. seen (map T.letter cursor.new.rest) ≡ Ok name.next) }
+    ensures next { IfOk result (λ name. seen Stop.InZoneName (map T.letter cursor.new.rest) ≡ Ok name.next) }
     ensures looks { Spends 1 cursor.old cursor.new }
 {
     let start = cursor.rest();
-    let name = pass_name(cursor)?;
+    let name = pass_name(cursor, Stop::InZoneName, Stop::AfterZoneSlash)?;
     if !name.state.may_end {
-        return Err(Stop::IanaCharPostSeparator);
+        return Err(Stop::AfterZoneSlash);
     }
     let count = start.len().saturating_sub(cursor.rest().len());
     Ok(ReadName {
@@ -166,8 +178,7 @@ fn parse_name_alone<'a, T: EncodingType>(
     let name = parse_tz_name(cursor)?;
     match name.next {
         None => Ok(name.units),
-        Some(byte) if is_annotation_close(byte) => Err(Stop::InvalidEnd),
-        Some(_) => Err(Stop::IanaChar),
+        Some(_) => Err(Stop::InZoneName),
     }
 }
 
@@ -182,9 +193,9 @@ pub fn parse_iana_identifier_text<'a, T: EncodingType>(
         (iana_identifier_at error_of) }
     ensures looks { Spends 3 cursor.old cursor.new }
 {
-    match cursor.look()? {
+    match cursor.look(Stop::ZoneNameStart)? {
         Some(byte) if is_tz_leading_char(byte) => parse_name_alone(cursor),
-        _ => Err(Stop::TzLeadingChar),
+        _ => Err(Stop::ZoneNameStart),
     }
 }
 
@@ -196,23 +207,22 @@ pub fn parse_identifier_text<'a, T: EncodingType>(
         (identifier_at error_of) }
     ensures looks { Spends 15 cursor.old cursor.new }
 {
-    match cursor.look()? {
-        None => Err(Stop::AbruptZone),
+    match cursor.look(Stop::IdentifierStart)? {
         Some(byte) if is_ascii_sign(byte) => {
             cursor.advance();
             if let Some(offset) = take_last_offset(cursor, byte) {
                 return Ok(TimeZoneRecord::Offset(offset));
             }
             let mut time = TimeRecord::default();
-            parse_clock(cursor, Clock::MinuteOffset, &mut time)?;
-            cursor.close()?;
+            let shape = parse_clock(cursor, Clock::MinuteOffset, &mut time)?;
+            close_after(cursor, Clock::MinuteOffset, shape)?;
             Ok(TimeZoneRecord::Offset(minute_offset(byte, time)))
         }
         Some(byte) if is_tz_leading_char(byte) => {
             let name = parse_name_alone(cursor)?;
             Ok(TimeZoneRecord::Name(name))
         }
-        Some(_) => Err(Stop::TzLeadingChar),
+        _ => Err(Stop::IdentifierStart),
     }
 }
 
@@ -221,18 +231,21 @@ pub fn parse_identifier_text<'a, T: EncodingType>(
 /// Expects `]`. Returns `AnnotationClose` at the end of the input, `NonAsciiCodePoint` at a bad code unit, and `other`
 /// at any other code unit.
 #[inline(always)]
-fn close_bracket<'a, T: EncodingType>(cursor: &mut Cursor<'a, T>, other: Stop) -> Result<(), Stop>
+fn close_bracket<'a, T: EncodingType>(
+    cursor: &mut Cursor<'a, T>,
+    shape: TimeShape,
+) -> Result<(), Stop>
     ensures end { Reads T.letter (λ _. 93) cursor.old result cursor.new
-        (next_by (closing_look (fault_of_stop other))) }
+        (next_by (closing_look (stop_of (line_after clocks.MinuteOffset (shape_of shape))))) }
     ensures looks { Spends 1 cursor.old cursor.new }
 {
-    match cursor.look()? {
-        None => Err(Stop::AnnotationClose),
+    let stop = Clock::MinuteOffset.stop_after(shape);
+    match cursor.look(stop)? {
         Some(byte) if is_annotation_close(byte) => {
             cursor.advance();
             Ok(())
         }
-        Some(_) => Err(other),
+        _ => Err(stop),
     }
 }
 
@@ -246,8 +259,8 @@ pub fn parse_offset_in_bracket<'a, T: EncodingType>(
     ensures looks { Spends 14 cursor.old cursor.new }
 {
     let mut time = TimeRecord::default();
-    parse_clock(cursor, Clock::MinuteOffset, &mut time)?;
-    close_bracket(cursor, Stop::AnnotationClose)?;
+    let shape = parse_clock(cursor, Clock::MinuteOffset, &mut time)?;
+    close_bracket(cursor, shape)?;
     Ok(TimeZoneRecord::Offset(minute_offset(sign, time)))
 }
 
@@ -262,11 +275,10 @@ pub fn parse_name_in_bracket<'a, T: EncodingType>(
 {
     let name = parse_tz_name(cursor)?;
     match name.next {
-        None => Err(Stop::AnnotationClose),
         Some(byte) if is_annotation_close(byte) => {
             cursor.advance();
             Ok(name.units)
         }
-        Some(_) => Err(Stop::IanaChar),
+        _ => Err(Stop::InZoneName),
     }
 }

@@ -1,16 +1,18 @@
 //! Functions that append bytes and numbers to a short text in an array.
 //!
-//! The programs make a complete answer or report in such an array, or only a part of the answer or report. They write the
-//! bytes of the array with one call. The name of a time zone, a calendar and the name of a file are not copied into the array,
-//! but written on their own. Each function takes the index at which it begins to write, and returns the index after the last
-//! byte that it wrote. The index is passed from call to call in a register. If it were a count in memory, it would be read and
-//! written for each byte.
+//! The program `ixdtf_lines` writes an *answer* for each line that it reads, and the program `ixdtf_check` writes a *report* for
+//! each line that it refuses. The parts of an answer or a report are written into one array, one after the other. Then one call of
+//! [`Output::put`](crate::output::Output::put) appends the bytes of the array to the output. Long parts do not go through the
+//! array: for example, a name of a file is put into the output with a call of its own.
+//!
+//! Each function takes the index at which it begins to write, and returns the index after the last byte that it wrote. So the
+//! compiler can keep the index in a register.
 ghost use Rattle.std.specs.Prelude.{◌≡◌, ◌+◌, ◌<◌, ◌≤◌, ◌^◌, [], ◌∷◌, length, drop};
 ghost use Rattle.std.specs.Fmt.{decimal, signed_decimal};
 ghost use Rattle.ixdtf_buffers.specs.Adding.{Adds, pair_of};
 
-/// The size in bytes of the array in which `ixdtf_lines` makes an answer. An answer fits into the array if it has no name of a time
-/// zone, no calendar and no canonical text.
+/// The size in bytes of the array in which `ixdtf_lines` makes an answer. Three parts of an answer are not written into this array:
+/// the name of a time zone, a calendar, and a canonical text. The other parts fit into it.
 pub const ROOM: usize = 192;
 
 /// The number of digits of the greatest `u64`.

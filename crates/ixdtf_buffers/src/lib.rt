@@ -1,5 +1,5 @@
 //! Code that the two programs `ixdtf_check` and `ixdtf_lines` share: the loop over lines, the buffers for input and output, the
-//! search for a byte, and short texts with decimal numbers.
+//! search for a byte, and functions that write short texts and decimal numbers into arrays.
 //!
 //! A *run* is one call of [`drive`](crate::driver::drive). It reads a *source* line by line, and passes each line to a
 //! *task*. The task writes its results to a *sink*.

@@ -13,8 +13,8 @@ const LEAST_WRITTEN: usize = 2048;
 
 /// A sink, and a buffer for the bytes that are not written to it yet.
 ///
-/// The buffer has a capacity of 4,096 bytes. If a slice of at most 4,096 bytes does not fit into the rest of the buffer, it is
-/// written in these steps:
+/// The buffer has a capacity of 4,096 bytes. The method [`put`](Output::put) appends a slice of bytes to it. If the slice has at
+/// most 4,096 bytes, but more than are free in the buffer, `put` takes these steps:
 ///
 /// 1. The first bytes of the slice fill the buffer.
 /// 2. The first bytes in the buffer are written to the sink. At least 2,048 bytes are written, and more if the rest of the slice
@@ -22,10 +22,6 @@ const LEAST_WRITTEN: usize = 2048;
 /// 3. The rest of the slice is appended to the buffer.
 ///
 /// A slice of more than 4,096 bytes does not use the buffer. The bytes in the buffer are written to the sink, and then the slice.
-///
-/// A simpler output would write all bytes of its buffer before each slice that does not fit. Suppose that both outputs write to
-/// sinks that accept at most `n` bytes in each write, and that fail after `k` writes. Then this output writes at least as many
-/// bytes as the simpler one. A test checks this for some `n` and `k`, and no contract states it.
 ///
 /// After the last slice, call `hand_on` or `finish`. Without this call, the bytes in the buffer are not written to the sink.
 #[derive(Drop)]
@@ -47,7 +43,7 @@ impl<'k, K: Sink> Output<'k, K> {
         }
     }
 
-    /// Appends the bytes to the output. If they fit into the rest of the buffer, the function copies them into the buffer.
+    /// Appends the bytes to the output. If they fit into the free part of the buffer, the function copies them into it.
     /// Otherwise it writes bytes to the sink, as the documentation of `Output` says.
     ///
     /// Returns `RunError::Write` if a write fails.
@@ -109,7 +105,7 @@ impl<'k, K: Sink> Output<'k, K> {
         self.waiting.push_all(bytes);
     }
 
-    /// Writes the slices, one after the other, as `put` does.
+    /// Puts the slices into the output, in their order. Does the same as one call of [`put`](Output::put) for each slice.
     pub fn put_all(&mut self, pieces: &[&[u8]]) -> Result<(), RunError>
         ensures { Puts K.contents K.failed self.old self.new result (joined pieces.now) }
     {
@@ -119,7 +115,7 @@ impl<'k, K: Sink> Output<'k, K> {
         Ok(())
     }
 
-    /// Writes the complete buffer to the sink.
+    /// Writes all bytes of the buffer to the sink.
     pub fn hand_on(&mut self) -> Result<(), RunError>
         ensures empty { OnOk result (self.new.waiting ≡ []) }
         ensures puts { Puts K.contents K.failed self.old self.new result [] }
@@ -128,7 +124,7 @@ impl<'k, K: Sink> Output<'k, K> {
         self.write_out(all)
     }
 
-    /// Writes the complete buffer to the sink, and flushes the sink.
+    /// Writes all bytes of the buffer to the sink, and flushes the sink.
     pub fn finish(&mut self) -> Result<(), RunError>
         ensures empty { OnOk result (self.new.waiting ≡ []) }
         ensures flushed { OnOk result (K.flushed self.new.sink.now) }

@@ -11,9 +11,8 @@ const LANES: usize = 16;
 
 /// Returns the index of the first byte that is equal to `wanted`.
 ///
-/// The function compares `bytes[0]` on its own before it compares 16 bytes at once. In a text with many empty lines or
-/// fields, `bytes[0]` is often the wanted byte. The next search begins after the byte that was found. Without the test of
-/// `bytes[0]`, the processor could not begin the next search before it had the result of a comparison of 16 bytes.
+/// The function compares `bytes[0]` with `wanted` before it compares 16 bytes at once. In a text with many empty lines or
+/// fields, `bytes[0]` is often the wanted byte. Then the result is 0, and no comparison of 16 bytes is needed.
 pub fn place_of(wanted: u8, bytes: &[u8]) -> Option<usize>
     ensures place { result ≡ position (is_byte wanted) bytes.now }
     ensures within { IfSome result (λ place. place < length bytes.now) }
@@ -78,12 +77,12 @@ fn marks_from(wanted: u8, bytes: &[u8], start: usize) -> u64
 pub struct Passed {
     /// The number of bytes that were skipped.
     pub place: usize,
-    /// The argument `count`, minus the number of skipped bytes that are equal to `wanted`. The caller still has to skip this
-    /// number of bytes that are equal to `wanted`.
+    /// The argument `count`, minus the number of skipped bytes that are equal to `wanted`.
     pub left: usize,
 }
 
-/// Skips bytes in steps of 16, as long as fewer than `count` of the skipped bytes are equal to `wanted`.
+/// Skips bytes in steps of 16, and counts those that are equal to `wanted`. Stops before the step in which this number would reach
+/// `count`.
 ///
 /// For example, if `wanted` is `b','` and `count` is 3, the function stops before the step that contains the third comma. The
 /// function also stops if fewer than 16 bytes are left.

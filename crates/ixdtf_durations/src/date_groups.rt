@@ -7,7 +7,7 @@ ghost use Rattle.ixdtf_grammar.specs.language.Durations.{greatest_value};
 ghost use Rattle.ixdtf_grammar.specs.language.Durations.Half.{date};
 ghost use Rattle.ixdtf_grammar.specs.declared.records.Sign.{Sign};
 ghost use Rattle.ixdtf_grammar.specs.table.DurationFronts.Context.{in_dates};
-ghost use Rattle.ixdtf_reading.specs.reading.Clauses.{Spends, Yields, fault_of_stop};
+ghost use Rattle.ixdtf_reading.specs.reading.Clauses.{Spends, Yields};
 ghost use Rattle.ixdtf_reading.specs.reading.Durations.State.{in_number};
 ghost use Rattle.ixdtf_durations.specs.reading.DurationClauses.{run_from, AreDates, HasSmallDates, IsDateRecord, rank_seen, date_rank_from, behind_unit};
 
@@ -56,8 +56,8 @@ fn date_rank(letter: u8) -> u8
 
 /// Consumes the letter of a date unit after a number, and returns the rank of the unit.
 ///
-/// Returns `AbruptDateDesignator` at any other code unit, which is not consumed. Returns `DateDurationPartOrder` if the
-/// rank is less than `least`, and `DurationValueExceededRange` if the number is too great for the unit.
+/// Returns `DateGroupDigits` at any other code unit, which is not consumed. Returns `DateUnitOrder` if the rank is less
+/// than `least`, and `DateUnitRange` if the number is too great for the unit.
 #[inline(always)]
 #[tactic(auto, using(crate::proofs::code::DurationSteps::letters_left))]
 fn take_date_unit<'a, T: EncodingType>(
@@ -79,14 +79,14 @@ fn take_date_unit<'a, T: EncodingType>(
     let rank = date_rank(number.next);
     if rank < least {
         if rank == 0 {
-            return Err(Stop::AbruptDateDesignator);
+            return Err(Stop::DateGroupDigits);
         }
         cursor.advance_by(1);
-        return Err(Stop::DateDurationPartOrder);
+        return Err(Stop::DateUnitOrder);
     }
     cursor.advance_by(1);
     if number.value > MOST_OF_LONG_UNITS && rank < 4 {
-        return Err(Stop::DurationValueExceededRange);
+        return Err(Stop::DateUnitRange);
     }
     Ok(rank)
 }
@@ -125,18 +125,18 @@ pub fn parse_dates<'a, T: EncodingType>(
     ensures refused { IfErr result (λ e. (s : Sign) →
         run_from profile (in_number (in_dates s []) (Plain first ∷ []))
         (map T.letter cursor.old.rest)
-        ≡ Err (fault_of_stop e, map T.letter cursor.new.rest)) }
+        ≡ Err (e, map T.letter cursor.new.rest)) }
     ensures looks { Spends 1 cursor.old cursor.new }
 {
     let mut values = [0; 5];
     let mut least = 1;
     let mut digit = first;
     loop {
-        let number = parse_number(cursor, digit, Stop::AbruptDateDesignator)?;
+        let number = parse_number(cursor, digit, Stop::DateGroupDigits, Stop::DateGroupRange)?;
         let rank = take_date_unit(cursor, number, least)?;
         keep_number(&mut values, rank, number.value);
         least = rank + profile.least_step();
-        match cursor.look()? {
+        match cursor.look(Stop::AfterDateGroups)? {
             None => {
                 return Ok(Dates {
                     record: date_record(values),
@@ -154,7 +154,7 @@ pub fn parse_dates<'a, T: EncodingType>(
                     timed: true,
                 });
             }
-            Some(_) => return Err(Stop::InvalidEnd),
+            Some(_) => return Err(Stop::AfterDateGroups),
         }
     }
 }

@@ -241,7 +241,7 @@ impl<'a, T: EncodingType> IsoDurationParser<'a, T> {
         let mut here = self.cursor.fork();
         match parse_opening(&mut here) {
             Ok(sign) => self.parse_groups::<ParseError>(here, sign),
-            Err(stop) => self.cursor.settle::<_, ParseError>(here, Err(stop)),
+            Err(stop) => self.cursor.settle::<_, ParseError>(here, false, Err(stop)),
         }
     }
 
@@ -284,7 +284,9 @@ impl<'a, T: EncodingType> IsoDurationParser<'a, T> {
         let mut here = self.cursor.fork();
         match parse_opening(&mut here) {
             Ok(sign) => self.parse_groups::<LocatedError>(here, sign),
-            Err(stop) => self.cursor.settle::<_, LocatedError>(here, Err(stop)),
+            Err(stop) => self
+                .cursor
+                .settle::<_, LocatedError>(here, false, Err(stop)),
         }
     }
 
@@ -308,7 +310,7 @@ impl<'a, T: EncodingType> IsoDurationParser<'a, T> {
     {
         let mut here = from;
         let read = parse_after_designator(&mut here, sign, self.profile);
-        self.cursor.settle(here, read)
+        self.cursor.settle(here, false, read)
     }
 }
 
@@ -325,7 +327,7 @@ fn parse_times<'a, T: EncodingType>(
         cursor.old result cursor.new (λ d text. Ok (d, text)) }
     ensures looks { Spends 5 cursor.old cursor.new }
 {
-    match cursor.look()? {
+    match cursor.look(Stop::AfterTimeDesignator)? {
         Some(byte) if byte.is_ascii_digit() => {
             cursor.advance();
             match parse_time_groups(cursor, byte, profile) {
@@ -337,7 +339,7 @@ fn parse_times<'a, T: EncodingType>(
                 Err(stop) => Err(stop),
             }
         }
-        _ => Err(Stop::TimeDurationDesignator),
+        _ => Err(Stop::AfterTimeDesignator),
     }
 }
 
@@ -352,13 +354,12 @@ fn parse_designator<'a, T: EncodingType>(
         cursor.old result cursor.new (λ s. run_from profile (between (in_dates s []))) }
     ensures looks { Spends 1 cursor.old cursor.new }
 {
-    match cursor.look()? {
-        None => Err(Stop::AbruptDurationDesignator),
+    match cursor.look(Stop::AfterDurationSign)? {
         Some(byte) if is_duration_designator(byte) => {
             cursor.advance();
             Ok(sign)
         }
-        Some(_) => Err(Stop::DurationDisgnator),
+        _ => Err(Stop::AfterDurationSign),
     }
 }
 
@@ -370,8 +371,7 @@ fn parse_opening<'a, T: EncodingType>(cursor: &mut Cursor<'a, T>) -> Result<Sign
         cursor.old result cursor.new (λ s. run_from profile (between (in_dates s []))) }
     ensures looks { Spends 2 cursor.old cursor.new }
 {
-    match cursor.look()? {
-        None => Err(Stop::AbruptDurationStart),
+    match cursor.look(Stop::DurationStart)? {
         Some(byte) if is_ascii_sign(byte) => {
             cursor.advance();
             parse_designator(cursor, sign_from(byte))
@@ -380,7 +380,7 @@ fn parse_opening<'a, T: EncodingType>(cursor: &mut Cursor<'a, T>) -> Result<Sign
             cursor.advance();
             Ok(Sign::Positive)
         }
-        Some(_) => Err(Stop::DurationDisgnator),
+        _ => Err(Stop::DurationStart),
     }
 }
 
@@ -417,10 +417,9 @@ fn parse_after_designator<'a, T: EncodingType>(
 ) -> Result<DurationParseRecord, Stop>
     ensures duration { ReadsOn T.letter profile (between (in_dates sign []))
         cursor.old result cursor.new (λ d text. Ok (d, text)) }
-    ensures looks { Spends 7 cursor.old cursor.new }
+    ensures looks { Spends 6 cursor.old cursor.new }
 {
-    match cursor.look()? {
-        None => Err(Stop::AbruptDuration),
+    match cursor.look(Stop::AfterDurationDesignator)? {
         Some(byte) if is_time_designator(byte) => {
             cursor.advance();
             parse_times(cursor, sign, None, profile)
@@ -429,6 +428,6 @@ fn parse_after_designator<'a, T: EncodingType>(
             cursor.advance();
             parse_dated(cursor, sign, byte, profile)
         }
-        Some(_) => Err(Stop::InvalidEnd),
+        _ => Err(Stop::AfterDurationDesignator),
     }
 }

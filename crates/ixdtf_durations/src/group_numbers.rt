@@ -3,8 +3,7 @@
 ghost use Rattle.std.specs.Prelude.{◌≡◌, ◌+◌, ◌-◌, ◌*◌, ◌≤◌, ◌<◌, length, nat_le, slice_set, OnOk, IfOk, IsTrue};
 ghost use Rattle.ixdtf_grammar.specs.language.Letters.{digit};
 ghost use Rattle.ixdtf_grammar.specs.language.Durations.{greatest_value};
-ghost use Rattle.ixdtf_grammar.specs.table.Faults.Fault.{DurationValueExceededRange};
-ghost use Rattle.ixdtf_reading.specs.reading.Clauses.{Spends, Checks, fault_of_stop};
+ghost use Rattle.ixdtf_reading.specs.reading.Clauses.{Spends, Checks};
 ghost use Rattle.ixdtf_durations.specs.reading.DurationClauses.{ReadsNumber};
 
 use ixdtf_grammar::encoding::EncodingType;
@@ -19,18 +18,18 @@ pub struct Number {
     pub next: u8,
 }
 
-/// Returns the number with one more digit, or `DurationValueExceededRange` if it overflows.
+/// Returns the number with one more digit, or `past` if it overflows.
 #[inline(always)]
 #[tactic(auto, unfolding(ixdtf_grammar::specs::language::Durations::greatest_value))]
-fn add_digit(value: u64, byte: u8) -> Result<u64, Stop>
+fn add_digit(value: u64, byte: u8, past: Stop) -> Result<u64, Stop>
     requires digit { IsTrue (digit byte) }
     ensures { Checks (λ sum. sum) result (value * 10 + (byte - 48))
-        (nat_le (value * 10 + (byte - 48)) greatest_value) DurationValueExceededRange }
+        (nat_le (value * 10 + (byte - 48)) greatest_value) past }
 {
     match value.checked_mul(10) {
-        None => Err(Stop::DurationValueExceededRange),
+        None => Err(past),
         Some(tens) => match tens.checked_add(u64::from(byte - b'0')) {
-            None => Err(Stop::DurationValueExceededRange),
+            None => Err(past),
             Some(sum) => Ok(sum),
         },
     }
@@ -38,31 +37,31 @@ fn add_digit(value: u64, byte: u8) -> Result<u64, Stop>
 
 /// Consumes the digits of a number after the first one.
 ///
-/// Returns the number, and the code unit after it, which is not consumed. Returns `end` at the end of the input,
-/// `NonAsciiCodePoint` at a bad code unit, and `DurationValueExceededRange` after the digit with which the number
-/// becomes 2^64 or more.
+/// Returns the number, and the code unit after it, which is not consumed. Returns `digits` at the end of the input and at
+/// a bad code unit, and `past` after the digit with which the number becomes 2^64 or more.
 #[inline(always)]
 pub fn parse_number<'a, T: EncodingType>(
     cursor: &mut Cursor<'a, T>,
     first: u8,
-    end: Stop,
+    digits: Stop,
+    past: Stop,
 ) -> Result<Number, Stop>
     requires digit { IsTrue (digit first) }
-    ensures number { ReadsNumber T.letter first (fault_of_stop end) cursor.old result cursor.new }
+    ensures number { ReadsNumber T.letter first digits past cursor.old result cursor.new }
     ensures small { IfOk result (λ number. IsTrue (nat_le number.value greatest_value)) }
     ensures more { OnOk result (1 ≤ length cursor.new.rest) }
     ensures looks { Spends 1 cursor.old cursor.new }
 {
     let mut value = u64::from(first - b'0');
-    while let Some(byte) = cursor.look()? {
+    while let Some(byte) = cursor.look(digits)? {
         if !byte.is_ascii_digit() {
             return Ok(Number { value, next: byte });
         }
-        let grown = add_digit(value, byte);
+        let grown = add_digit(value, byte, past);
         cursor.advance();
         value = grown?;
     }
-    Err(end)
+    Err(digits)
 }
 
 /// Stores the number of a group in `values`. The index is the rank of the unit of the group.

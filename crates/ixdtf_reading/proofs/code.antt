@@ -1,6 +1,7 @@
 -- Lemmas that the proofs of the functions of the code use.
 pub mod DigitClasses
 pub mod EqualUnits
+pub mod FirstBytes
 pub mod FirstLetter
 pub mod FixedDateTimes
 pub mod FixedPlaces

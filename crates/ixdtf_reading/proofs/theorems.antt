@@ -12,3 +12,4 @@ pub mod Replies
 pub mod Rfc3339
 pub mod Rfc3339Texts
 pub mod Rfc9557Texts
+pub mod StopFaults

@@ -12,6 +12,7 @@ pub mod Looks
 pub mod Months
 pub mod Pairs
 pub mod Runs
+pub mod Stops
 pub mod Times
 pub mod Wholes
 pub mod Zones

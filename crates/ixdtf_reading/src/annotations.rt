@@ -3,8 +3,9 @@
 #![tactic(auto, unfolding(crate::specs::reading::Pairs::pair_readings))]
 
 ghost use Rattle.std.specs.Prelude.{◌≡◌, ◌+◌, ◌≤◌, ◌<◌, ◌*◌, map, length, drop, option_map, true, OnOk, IfOk, IfSome, IsSome};
-ghost use Rattle.ixdtf_grammar.specs.language.Letters.{key_char, value_char};
-ghost use Rattle.ixdtf_reading.specs.reading.Clauses.{Reads, Spends, SpendsOr, fault_of_stop};
+ghost use Rattle.ixdtf_grammar.specs.language.Letters.{equals, key_char, value_char};
+ghost use Rattle.ixdtf_reading.specs.reading.Brackets.{next_is};
+ghost use Rattle.ixdtf_reading.specs.reading.Clauses.{Reads, Spends, SpendsOr};
 ghost use Rattle.ixdtf_reading.specs.reading.Looks.{error_of, mark_by};
 ghost use Rattle.ixdtf_reading.specs.reading.Pairs.{AtStart, BeginsKey, key_run, component_look, value_run, pair_at, critical_pair_at, later_pair_at, next_pair_at};
 ghost use Rattle.ixdtf_grammar.specs.Handlers.{pair_of};
@@ -15,7 +16,7 @@ use crate::classes::{
 };
 use crate::cursor::Cursor;
 use crate::letters::{Letters, pass_letters};
-use crate::stop::Stop;
+use crate::stop::{Stop, stopped};
 use ixdtf_grammar::encoding::EncodingType;
 use ixdtf_grammar::records::Annotation;
 
@@ -35,9 +36,7 @@ impl Letters for KeyLetters {
 
 /// Reads a key and the `=` after it, and returns the code units of the key.
 ///
-/// The caller has tested the first code unit of the key. Returns `AnnotationKeyValueSeparator` at the end of the input,
-/// `NonAsciiCodePoint` at a bad code unit, and `AnnotationKeyChar` at any other code unit that is not `=` and that a
-/// key cannot contain.
+/// The caller has tested the first code unit of the key.
 #[inline(always)]
 pub fn parse_annotation_key<'a, T: EncodingType>(
     cursor: &mut Cursor<'a, T>,
@@ -50,20 +49,25 @@ pub fn parse_annotation_key<'a, T: EncodingType>(
 {
     let start = cursor.rest();
     cursor.advance();
-    let next = pass_letters::<T, KeyLetters>(cursor)?;
+    let next = pass_letters::<T, KeyLetters>(cursor, Stop::InKey)?;
     // This slice always exists, as the proof shows. The compiler does not know the proof: because of this test, it
     // compiles no code for a panic.
     let Some(key) = start.get(..start.len() - cursor.rest().len()) else {
-        return Err(Stop::AnnotationKeyChar);
+        return Err(Stop::InKey);
     };
-    match next {
-        None => Err(Stop::AnnotationKeyValueSeparator),
-        Some(byte) if is_annotation_key_value_separator(byte) => {
-            cursor.advance();
-            Ok(key)
-        }
-        Some(_) => Err(Stop::AnnotationKeyChar),
+    if !ends_key(next) {
+        return stopped(Stop::InKey);
     }
+    cursor.advance();
+    Ok(key)
+}
+
+/// Returns whether the code unit is the `=` after a key.
+#[inline(always)]
+pub fn ends_key(next: Option<u8>) -> bool
+    ensures { result ≡ next_is equals next }
+{
+    matches!(next, Some(byte) if is_annotation_key_value_separator(byte))
 }
 
 /// The class of the code units that a component of a value can contain.
@@ -78,25 +82,20 @@ impl Letters for ComponentLetters {
     }
 }
 
-/// Consumes the first code unit of a component.
-///
-/// Returns `NonAsciiCodePoint` at a bad code unit, and `other` at any other code unit and at the end of the input. If
-/// the function returns an error, it consumes nothing.
+/// Consumes the first code unit of a component. Returns `stop` if there is none, and then consumes nothing.
 #[inline(always)]
-fn start_component<'a, T: EncodingType>(cursor: &mut Cursor<'a, T>, other: Stop) -> Result<(), Stop>
+fn start_component<'a, T: EncodingType>(cursor: &mut Cursor<'a, T>, stop: Stop) -> Result<(), Stop>
     ensures letter { Reads T.letter (λ _. true) cursor.old result cursor.new
-        (mark_by (component_look (fault_of_stop other)) value_char) }
+        (mark_by (component_look stop) value_char) }
     ensures rest { OnOk result (cursor.new.rest ≡ drop 1 cursor.old.rest) }
     ensures shorter { OnOk result (length cursor.new.rest < length cursor.old.rest) }
     ensures looks { SpendsOr 1 0 cursor.old result cursor.new }
 {
-    match cursor.look()? {
-        Some(byte) if is_annotation_value_component(byte) => {
-            cursor.advance();
-            Ok(())
-        }
-        _ => Err(other),
+    if is_annotation_value_component(cursor.byte_at(0)) {
+        cursor.advance();
+        return Ok(());
     }
+    stopped(stop)
 }
 
 /// Reads a value and the `]` after it, and returns the code units of the value.
@@ -113,20 +112,20 @@ pub fn parse_annotation_value<'a, T: EncodingType>(
         length value.now + length cursor.new.rest < length cursor.old.rest) }
 {
     let start = cursor.rest();
-    start_component(cursor, Stop::AnnotationValueChar)?;
+    start_component(cursor, Stop::ValueStart)?;
     loop {
-        let next = pass_letters::<T, ComponentLetters>(cursor)?;
+        let next = pass_letters::<T, ComponentLetters>(cursor, Stop::InValue)?;
         match next {
-            None => return Err(Stop::AnnotationClose),
+            None => return stopped(Stop::InValue),
             Some(byte) if is_annotation_close(byte) => {
                 cursor.advance();
                 let behind = cursor.rest().len() + 1;
                 return Ok(&start[..start.len().saturating_sub(behind)]);
             }
             Some(byte) if is_hyphen(byte) => cursor.advance(),
-            Some(_) => return Err(Stop::AnnotationValueChar),
+            Some(_) => return stopped(Stop::InValue),
         }
-        start_component(cursor, Stop::AnnotationValueCharPostHyphen)?;
+        start_component(cursor, Stop::AfterValueHyphen)?;
     }
 }
 
@@ -165,17 +164,18 @@ fn parse_later_pair<'a, T: EncodingType>(
     ensures shorter { IfOk result (λ pair.
         length pair.value.now + 2 + length cursor.new.rest ≤ length cursor.old.rest) }
 {
-    match cursor.look()? {
-        Some(byte) if is_a_key_leading_char(byte) => parse_pair(cursor, false),
-        Some(byte) if is_critical_flag(byte) => {
-            cursor.advance();
-            let mut here = cursor.fork();
-            let read = parse_critical_pair(&mut here);
-            *cursor = here;
-            read
-        }
-        _ => Err(Stop::AnnotationKeyLeadingChar),
+    let lead = cursor.byte_at(0);
+    if is_a_key_leading_char(lead) {
+        return parse_pair(cursor, false);
     }
+    if is_critical_flag(lead) {
+        cursor.advance();
+        let mut here = cursor.fork();
+        let read = parse_critical_pair(&mut here);
+        *cursor = here;
+        return read;
+    }
+    stopped(Stop::KeyStart)
 }
 
 /// Reads an annotation after its `[!`. The annotation is not in the first bracket of the text.
@@ -192,15 +192,13 @@ fn parse_critical_pair<'a, T: EncodingType>(
     ensures shorter { IfOk result (λ pair.
         length pair.value.now + 2 + length cursor.new.rest ≤ length cursor.old.rest) }
 {
-    match cursor.look()? {
-        Some(byte) if is_a_key_leading_char(byte) => parse_pair(cursor, true),
-        _ => Err(Stop::AnnotationKeyLeadingChar),
+    if is_a_key_leading_char(cursor.byte_at(0)) {
+        return parse_pair(cursor, true);
     }
+    stopped(Stop::CriticalKeyStart)
 }
 
 /// Reads the next annotation after a complete bracket. Returns `None` at the end of the input.
-///
-/// Returns `NonAsciiCodePoint` if a bad code unit follows the bracket, and `InvalidEnd` at any other code unit except `[`.
 #[inline(always)]
 pub fn next_annotation<'a, T: EncodingType>(
     cursor: &mut Cursor<'a, T>,
@@ -214,13 +212,13 @@ pub fn next_annotation<'a, T: EncodingType>(
     ensures shorter { IfOk result (λ next. IsSome next →
         length cursor.new.rest < length cursor.old.rest) }
 {
-    match cursor.look()? {
+    match cursor.look(Stop::AfterBracket)? {
         None => Ok(None),
         Some(byte) if is_annotation_open(byte) => {
             cursor.advance();
             let annotation = parse_later_pair(cursor)?;
             Ok(Some(annotation))
         }
-        Some(_) => Err(Stop::InvalidEnd),
+        Some(_) => Err(Stop::AfterBracket),
     }
 }

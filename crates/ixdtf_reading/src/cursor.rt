@@ -9,15 +9,15 @@
 ghost use Rattle.std.specs.Prelude.{◌≡◌, ℕ, ◌+◌, ◌-◌, ◌<◌, ◌≤◌, map, length, drop, Option, Result, Ok, Err, Some, None, IfOk, IfErr, IfSome, OnOk, OnErr, IsTrue, IsFalse, nat_eq, ◌*◌, ◌↔◌, min, codes};
 ghost use Rattle.ixdtf_grammar.specs.language.Letters.{digit};
 ghost use Rattle.ixdtf_grammar.specs.language.Digits.{decimal};
-ghost use Rattle.ixdtf_grammar.specs.table.Faults.{Fault};
 ghost use Rattle.ixdtf_grammar.specs.Views.{Unread, ascii_at};
-ghost use Rattle.ixdtf_reading.specs.reading.Clauses.{Reads, Settles, Spends, SpendsOr, Yields, YieldsAt, fault_of_stop, digit_seen, end_look};
-ghost use Rattle.ixdtf_reading.specs.reading.FixedPlaces.{letter_place, byte_place, byte_of_look, number_place};
-ghost use Rattle.ixdtf_reading.specs.reading.Looks.{seen, next_by, peek_by, digit_look, digits_by, two_digits_of};
+ghost use Rattle.ixdtf_reading.specs.reading.Clauses.{Reads, Settles, Spends, SpendsOr, Yields, YieldsAt, end_look, stopped_by};
+ghost use Rattle.ixdtf_reading.specs.reading.Stops.{IsNext, fault_at};
+ghost use Rattle.ixdtf_reading.specs.reading.FixedPlaces.{letter_place, byte_place, number_place};
+ghost use Rattle.ixdtf_reading.specs.reading.Looks.{seen, next_by, peek_by, digit_look, two_digits_by, two_digits_of};
 
 use crate::classes::two_digit_number;
 use crate::looks::Looks;
-use crate::stop::{FromStop, Stop, error_of_stop};
+use crate::stop::{FromStop, Next, Stop, StopAt};
 use ixdtf_grammar::encoding::EncodingType;
 use std::fmt;
 use std::marker::Model;
@@ -134,15 +134,21 @@ impl<'a, T: EncodingType> Cursor<'a, T> {
     ///
     /// If `read` is `Ok`, `self` continues where `here` is. If `read` is a `Stop`, `self` keeps its remaining input,
     /// and `settle` returns the error of the `Stop`. The position of this error is the number of code units from `self`
-    /// to `here`.
+    /// to `here`. `brackets` says whether the reader reads brackets.
     #[inline(always)]
-    pub fn settle<R, E: FromStop>(&mut self, here: Self, read: Result<R, Stop>) -> Result<R, E>
-        ensures settled { Settles E.fault read result }
+    pub fn settle<R, E: FromStop>(
+        &mut self,
+        here: Self,
+        brackets: bool,
+        read: Result<R, Stop>,
+    ) -> Result<R, E>
+        ensures settled { Settles E.fault brackets (map T.letter here.entry.rest) read result }
         ensures place { IfErr result
             (E.stands (length self.old.rest - length here.entry.rest)) }
         ensures ended { OnOk result (self.new.rest ≡ here.entry.rest) }
         ensures unchanged { OnErr result (self.new.rest ≡ self.old.rest) }
-        ensures looks { self.new.looks ≡ here.entry.looks }
+        ensures looks { (here.entry.looks ≤ self.new.looks) × (self.new.looks ≤ here.entry.looks + 1) }
+        ensures exact { OnOk result (self.new.looks ≡ here.entry.looks) }
     {
         match read {
             Ok(found) => {
@@ -151,41 +157,57 @@ impl<'a, T: EncodingType> Cursor<'a, T> {
             }
             Err(stop) => {
                 let at = self.remaining().saturating_sub(here.remaining());
+                let mut here = here;
+                let error = error_at(&mut here, brackets, stop, at);
                 self.keep_looks(here);
-                Err(error_of_stop(stop, at))
+                Err(error)
             }
+        }
+    }
+
+    /// Returns what follows, for the error of a `Stop`.
+    #[inline(always)]
+    pub fn next(&mut self) -> Next
+        ensures next { IsNext result (map T.letter self.old.rest) }
+        ensures rest { self.new.rest ≡ self.old.rest }
+        ensures looks { self.new.looks ≡ self.old.looks + 1 }
+    {
+        match self.look_at(0, Stop::YearStart) {
+            Ok(None) => Next::End,
+            Ok(Some(byte)) => Next::Byte(byte),
+            Err(_) => Next::Bad,
         }
     }
 
     /// Returns the code unit at an index of the remaining input, as a byte.
     ///
-    /// Returns `None` if the input is too short, and `NonAsciiCodePoint` for a bad code unit. In the library, only this
-    /// function calls `get_ascii`.
+    /// Returns `None` if the input is too short, and `stop` for a bad code unit. In the library, only this function calls
+    /// `get_ascii`.
     #[inline(always)]
-    pub fn look_at(&mut self, index: usize) -> Result<Option<u8>, Stop>
-        ensures letter { Yields (λ found. found) result (ascii_at T.letter index self.old.rest) }
+    pub fn look_at(&mut self, index: usize, stop: Stop) -> Result<Option<u8>, Stop>
+        ensures letter { Yields (λ found. found) result (stopped_by stop (ascii_at T.letter index self.old.rest)) }
         ensures rest { self.new.rest ≡ self.old.rest }
         ensures looks { self.new.looks ≡ self.old.looks + 1 }
     {
         self.looks.tick();
         match T::get_ascii(self.rest, index) {
             Ok(found) => Ok(found),
-            Err(_) => Err(Stop::NonAsciiCodePoint),
+            Err(_) => Err(stop),
         }
     }
 
     /// Returns the first code unit of the remaining input, as a byte, without consuming it.
     ///
-    /// Returns `None` at the end of the input, and `NonAsciiCodePoint` for a bad code unit.
+    /// Returns `None` at the end of the input, and `stop` for a bad code unit.
     #[inline(always)]
     #[tactic(auto, using(crate::proofs::code::Units::first_look))]
-    pub fn look(&mut self) -> Result<Option<u8>, Stop>
+    pub fn look(&mut self, stop: Stop) -> Result<Option<u8>, Stop>
         ensures letter { YieldsAt (λ found. found) result
-            (map T.letter self.old.rest) (seen (map T.letter self.old.rest)) }
+            (map T.letter self.old.rest) (seen stop (map T.letter self.old.rest)) }
         ensures rest { self.new.rest ≡ self.old.rest }
         ensures looks { self.new.looks ≡ self.old.looks + 1 }
     {
-        self.look_at(0)
+        self.look_at(0, stop)
     }
 
     /// Consumes the first code unit, if there is one.
@@ -202,81 +224,55 @@ impl<'a, T: EncodingType> Cursor<'a, T> {
         }
     }
 
-    /// Consumes one digit, and returns it as an ASCII byte.
-    ///
-    /// Returns `AbruptDigit` at the end of the input, `NonAsciiCodePoint` at a bad code unit, and `other` at any other
-    /// code unit. If the function returns an error, it consumes nothing.
+    /// Consumes one digit, and returns it as an ASCII byte. Returns `stop` if there is no digit, and then consumes nothing.
     #[inline(always)]
-    pub fn next_digit(&mut self, other: Stop) -> Result<u8, Stop>
+    pub fn next_digit(&mut self, stop: Stop) -> Result<u8, Stop>
         ensures digit { Reads T.letter (λ byte. byte) self.old result self.new
-            (next_by (digit_look (fault_of_stop other))) }
+            (next_by (digit_look stop)) }
         ensures is_digit { IfOk result (λ byte. IsTrue (digit byte)) }
         ensures looks { SpendsOr 1 0 self.old result self.new }
         ensures few { self.new.looks ≤ self.old.looks + 1 }
     {
-        match self.look()? {
-            None => Err(Stop::AbruptDigit),
-            Some(byte) if byte.is_ascii_digit() => {
-                self.advance();
-                Ok(byte)
-            }
-            Some(_) => Err(other),
+        let byte = self.byte_at(0);
+        if byte.is_ascii_digit() {
+            self.advance();
+            return Ok(byte);
         }
-    }
-
-    /// Returns the digit at `index` of the remaining input, as an ASCII byte.
-    ///
-    /// Returns `AbruptDigit` if the input is too short, `NonAsciiCodePoint` at a bad code unit, and `other` at any other
-    /// code unit.
-    #[inline(always)]
-    fn digit_at(&mut self, index: usize, other: Stop) -> Result<u8, Stop>
-        ensures digit { Yields (λ byte. byte) result
-            (digit_seen (fault_of_stop other) (ascii_at T.letter index self.old.rest)) }
-        ensures is_digit { IfOk result (λ byte. IsTrue (digit byte)) }
-        ensures rest { self.new.rest ≡ self.old.rest }
-        ensures looks { self.new.looks ≡ self.old.looks + 1 }
-    {
-        match self.look_at(index)? {
-            None => Err(Stop::AbruptDigit),
-            Some(byte) if byte.is_ascii_digit() => Ok(byte),
-            Some(_) => Err(other),
-        }
+        Err(stop)
     }
 
     /// Consumes two digits, and returns their number.
     ///
-    /// One test finds the end of the input, and one comparison tests both digits. Returns `AbruptDigit` at the end of
-    /// the input, `NonAsciiCodePoint` at a bad code unit, and `other` at any other code unit. If the function returns
-    /// an error, it does not consume the code unit of the error. If a digit is before this code unit, it consumes this
-    /// digit.
+    /// One test finds the end of the input, and one comparison tests both digits. Returns `first` if the first digit is
+    /// missing, and `second` if the second one is missing. The cursor is then at the missing digit.
     #[inline(always)]
-    pub fn two_digits(&mut self, other: Stop) -> Result<u8, Stop>
+    pub fn two_digits(&mut self, first: Stop, second: Stop) -> Result<u8, Stop>
         ensures digits { Reads T.letter two_digits_of self.old result self.new
-            (digits_by (digit_look (fault_of_stop other)) 2) }
+            (two_digits_by first second) }
         ensures value { IfOk result (λ number. decimal (two_digits_of number) ≡ number) }
         ensures small { IfOk result (λ number. number < 100) }
         ensures looks { SpendsOr 2 0 self.old result self.new }
         ensures few { self.new.looks ≤ self.old.looks + 2 }
     {
         if self.rest.len() < 2 {
-            self.digit_at(0, other)?;
+            if !self.byte_at(0).is_ascii_digit() {
+                return Err(first);
+            }
             self.advance();
-            return Err(Stop::AbruptDigit);
+            return Err(second);
         }
-        let first = self.look_at(0);
-        let second = self.look_at(1);
-        let tens = byte_of(first);
-        let ones = byte_of(second);
+        let tens = self.byte_at(0);
+        let ones = self.byte_at(1);
         let number = two_digit_number(tens, ones);
         if number <= 99 {
             self.advance_by(2);
             return Ok(number);
         }
         if !tens.is_ascii_digit() {
-            return Err(no_digit(first, other));
+            return Err(first);
         }
         self.advance();
-        Err(no_digit(second, other))
+        Err(second)
     }
 
     /// Consumes `count` code units.
@@ -301,7 +297,7 @@ impl<'a, T: EncodingType> Cursor<'a, T> {
         ensures rest { self.new.rest ≡ self.old.rest }
         ensures looks { self.new.looks ≡ self.old.looks + 1 }
     {
-        match self.look_at(index) {
+        match self.look_at(index, Stop::YearStart) {
             Ok(Some(byte)) => byte,
             _ => 0,
         }
@@ -316,7 +312,7 @@ impl<'a, T: EncodingType> Cursor<'a, T> {
         ensures rest { self.new.rest ≡ self.old.rest }
         ensures looks { self.new.looks ≡ self.old.looks + 1 }
     {
-        match self.look_at(index) {
+        match self.look_at(index, Stop::YearStart) {
             Ok(Some(byte)) if byte == letter => Some(byte),
             _ => None,
         }
@@ -374,16 +370,16 @@ impl<'a, T: EncodingType> Cursor<'a, T> {
         T::check_calendar_key(key)
     }
 
-    /// Expects the end of the input. Returns `NonAsciiCodePoint` at a bad code unit, and `InvalidEnd` at any other one.
+    /// Expects the end of the input. Returns `stop` at any code unit.
     #[inline(always)]
-    pub fn close(&mut self) -> Result<(), Stop>
-        ensures end { Reads T.letter (λ _. None) self.old result self.new (peek_by end_look) }
+    pub fn close(&mut self, stop: Stop) -> Result<(), Stop>
+        ensures end { Reads T.letter (λ _. None) self.old result self.new (peek_by (end_look stop)) }
         ensures rest { self.new.rest ≡ self.old.rest }
         ensures looks { Spends 1 self.old self.new }
     {
-        match self.look()? {
+        match self.look(stop)? {
             None => Ok(()),
-            Some(_) => Err(Stop::InvalidEnd),
+            Some(_) => Err(stop),
         }
     }
 }
@@ -395,27 +391,20 @@ fn are_equal<T: EncodingType>(left: &[T::CodeUnit], right: &[T::CodeUnit]) -> bo
     left == right
 }
 
-/// Returns the code unit that was read, as an ASCII byte. Returns 0 at the end of the input and for a bad code unit.
+/// Makes the error of a `Stop` with position `at`. The cursor `here` is at the position. `brackets` says whether the reader reads
+/// brackets.
 #[inline(always)]
-fn byte_of(found: Result<Option<u8>, Stop>) -> u8
-    ensures { result ≡ byte_of_look found }
+pub fn error_at<'a, T: EncodingType, E: FromStop>(
+    here: &mut Cursor<'a, T>,
+    brackets: bool,
+    stop: Stop,
+    at: usize,
+) -> E
+    ensures fault { E.fault result ≡ fault_at brackets stop (map T.letter here.old.rest) }
+    ensures place { E.stands at result }
+    ensures looks { here.new.looks ≡ here.old.looks + 1 }
 {
-    match found {
-        Ok(Some(byte)) => byte,
-        _ => 0,
-    }
-}
-
-/// Returns the `Stop` for a code unit that is not a digit: `other`, unless the input ends or the code unit is bad.
-#[inline(always)]
-fn no_digit(found: Result<Option<u8>, Stop>, other: Stop) -> Stop
-    requires { IsFalse (digit (byte_of_look found)) }
-    ensures { (seen : Result (Option ℕ) Fault) → Yields (λ found. found) found seen →
-        digit_seen (fault_of_stop other) seen ≡ Err (fault_of_stop result) }
-{
-    match found {
-        Ok(None) => Stop::AbruptDigit,
-        Ok(Some(_)) => other,
-        Err(stop) => stop,
-    }
+    let next = here.next();
+    let code = stop.code(brackets, next);
+    E::of_stop(StopAt { stop, code, at })
 }

@@ -21,13 +21,13 @@ pub trait Letters {
 
 /// Consumes code units as long as they are in the class.
 ///
-/// Returns the next code unit, which is not consumed. Returns `None` at the end of the input, and `NonAsciiCodePoint` at
-/// a bad code unit.
+/// Returns the next code unit, which is not consumed. Returns `None` at the end of the input, and `stop` at a bad code unit.
 #[inline(always)]
 pub fn pass_letters<'a, T: EncodingType, S: Letters>(
     cursor: &mut Cursor<'a, T>,
+    stop: Stop,
 ) -> Result<Option<u8>, Stop>
-    ensures letters { PassesOver T.letter cursor.old result cursor.new S.class }
+    ensures letters { PassesOver T.letter stop cursor.old result cursor.new S.class }
     ensures looks { Spends 1 cursor.old cursor.new }
     ensures stays { IfOk result (λ next. IsSome next →
         length (drop 1 cursor.new.rest) + 1 ≡ length cursor.new.rest) }
@@ -38,29 +38,29 @@ pub fn pass_letters<'a, T: EncodingType, S: Letters>(
     // once.
     let found = loop {
         if here.remaining() >= 4 {
-            let first = here.look();
+            let first = here.look(stop);
             if !goes_on::<S>(first) {
                 break first;
             }
             here.advance();
-            let second = here.look();
+            let second = here.look(stop);
             if !goes_on::<S>(second) {
                 break second;
             }
             here.advance();
-            let third = here.look();
+            let third = here.look(stop);
             if !goes_on::<S>(third) {
                 break third;
             }
             here.advance();
-            let fourth = here.look();
+            let fourth = here.look(stop);
             if !goes_on::<S>(fourth) {
                 break fourth;
             }
             here.advance();
             continue;
         }
-        let last = here.look();
+        let last = here.look(stop);
         if !goes_on::<S>(last) {
             break last;
         }

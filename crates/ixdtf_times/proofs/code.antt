@@ -1,4 +1,5 @@
 -- Lemmas that the proofs of the functions of the code use.
+pub mod ClockParts
 pub mod FixedMonths
 pub mod FixedOffsets
 pub mod HourDigits

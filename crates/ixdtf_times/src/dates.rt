@@ -5,10 +5,12 @@
 ghost use Rattle.std.specs.Prelude.{◌≡◌, ◌&&◌, ◌+◌, ◌*◌, ◌-◌, ◌<◌, ◌≤◌, map, drop, nat_le, pos, length, None, IsTrue, IfOk, IfSome, OnOk};
 ghost use Rattle.ixdtf_grammar.specs.language.Letters.{digit, hyphen};
 ghost use Rattle.ixdtf_grammar.specs.language.Dates.{is_leap, month_length};
-ghost use Rattle.ixdtf_grammar.specs.table.Faults.Fault.{DateExtendedYear, DateMonth, InvalidMonthRange, InvalidDayRange};
-ghost use Rattle.ixdtf_reading.specs.reading.Clauses.{Reads, Spends, SpendsInAll, SpendsOr, Checks, YieldsAt, fault_of_stop, hyphen_look};
+ghost use Rattle.ixdtf_grammar.specs.table.LineNames.{of_date};
+ghost use Rattle.ixdtf_grammar.specs.table.LineNames.DateLine.{extended_year_digits, day_range};
+ghost use Rattle.ixdtf_reading.specs.reading.Clauses.{Reads, Spends, SpendsInAll, SpendsOr, Checks, YieldsAt, hyphen_look};
 ghost use Rattle.ixdtf_reading.specs.reading.FixedPlaces.{year_place, days_place, basic_days_place, date_place, ranged, date_in_range};
 ghost use Rattle.ixdtf_reading.specs.reading.Looks.{error_of, as_number, digits_by, digit_look, mark_by, mark_at};
+ghost use Rattle.ixdtf_reading.specs.reading.Stops.{stop_of};
 ghost use Rattle.ixdtf_reading.specs.reading.Dates.{date_of, year_at, four_digit_year_at, extended_year_at, date_at, days_at, month_by, day_at, line_after_month};
 
 use ixdtf_grammar::encoding::EncodingType;
@@ -119,7 +121,7 @@ fn take_date<'a, T: EncodingType>(
     ensures shorter { length cursor.new.rest ≤ length cursor.old.rest }
     ensures looks { cursor.new.looks ≡ cursor.old.looks }
 {
-    if let Err(stop) = check_month(date.month) {
+    if let Err(stop) = check_month(date.month, Stop::MonthRange) {
         cursor.advance_by(month_end);
         return Err(stop);
     }
@@ -194,7 +196,7 @@ fn parse_date_parts<'a, T: EncodingType>(cursor: &mut Cursor<'a, T>) -> Result<D
     ensures looks { Spends 6 cursor.old cursor.new }
 {
     let year = parse_date_year(cursor)?;
-    let (month, hyphened) = parse_month(cursor, Stop::AbruptDate)?;
+    let (month, hyphened) = parse_month(cursor, Stop::AfterYear)?;
     parse_day(cursor, year, month, hyphened)
 }
 
@@ -208,7 +210,7 @@ fn parse_days<'a, T: EncodingType>(
         (days_at error_of (pos year)) }
     ensures looks { Spends 4 cursor.old cursor.new }
 {
-    let (month, hyphened) = parse_month(cursor, Stop::AbruptDate)?;
+    let (month, hyphened) = parse_month(cursor, Stop::AfterYear)?;
     parse_day(cursor, i32::from(year), month, hyphened)
 }
 
@@ -222,8 +224,8 @@ pub fn parse_date_year<'a, T: EncodingType>(cursor: &mut Cursor<'a, T>) -> Resul
         (year_at error_of) }
     ensures looks { SpendsInAll 2 7 cursor.old cursor.new }
 {
-    match cursor.look()? {
-        None => Err(Stop::AbruptDigit),
+    match cursor.look(Stop::YearStart)? {
+        None => Err(Stop::YearStart),
         Some(byte) if byte.is_ascii_digit() => {
             cursor.advance();
             parse_four_digit_year(cursor, byte)
@@ -232,7 +234,7 @@ pub fn parse_date_year<'a, T: EncodingType>(cursor: &mut Cursor<'a, T>) -> Resul
             cursor.advance();
             parse_extended_year(cursor, byte)
         }
-        Some(_) => Err(Stop::DateYear),
+        Some(_) => Err(Stop::YearStart),
     }
 }
 
@@ -247,7 +249,7 @@ fn parse_four_digit_year<'a, T: EncodingType>(
         (four_digit_year_at error_of thousands) }
     ensures looks { SpendsInAll 1 3 cursor.old cursor.new }
 {
-    let below_thousand = parse_three_digits(cursor, Stop::DateYear)?;
+    let below_thousand = parse_three_digits(cursor, Stop::YearDigits)?;
     Ok((1000 * u32::from(thousands - b'0') + below_thousand) as i32)
 }
 
@@ -266,7 +268,7 @@ fn parse_extended_year<'a, T: EncodingType>(
         return Ok(value as i32);
     }
     if value == 0 {
-        return Err(Stop::DateExtendedYear);
+        return Err(Stop::MinusZeroYear);
     }
     Ok(-(value as i32))
 }
@@ -276,35 +278,34 @@ fn parse_extended_year<'a, T: EncodingType>(
 #[tactic(auto, using(crate::proofs::code::YearDigits::six_digits))]
 fn parse_six_digits<'a, T: EncodingType>(cursor: &mut Cursor<'a, T>) -> Result<u32, Stop>
     ensures number { Reads T.letter (λ number. number) cursor.old result cursor.new
-        (λ text. as_number (digits_by (digit_look DateExtendedYear) 6 text)) }
+        (λ text. as_number (digits_by (digit_look (stop_of (of_date extended_year_digits))) 6 text)) }
     ensures small { IfOk result (λ number. number < 1000000) }
     ensures looks { SpendsInAll 2 6 cursor.old cursor.new }
 {
-    let high = cursor.two_digits(Stop::DateExtendedYear)?;
-    let middle = cursor.two_digits(Stop::DateExtendedYear)?;
-    let low = cursor.two_digits(Stop::DateExtendedYear)?;
+    let digits = Stop::ExtendedYearDigits;
+    let high = cursor.two_digits(digits, digits)?;
+    let middle = cursor.two_digits(digits, digits)?;
+    let low = cursor.two_digits(digits, digits)?;
     Ok(10_000 * u32::from(high) + 100 * u32::from(middle) + u32::from(low))
 }
 
-/// Consumes three digits, and returns their number.
-///
-/// Returns `AbruptDigit` at the end of the input, `NonAsciiCodePoint` at a bad code unit, and `other` at any other code unit.
+/// Consumes three digits, and returns their number. Returns `stop` if a digit is missing.
 #[inline(always)]
 #[tactic(auto, unfolding(ixdtf_reading::specs::reading::Looks::digits_by))]
 fn parse_three_digits<'a, T: EncodingType>(
     cursor: &mut Cursor<'a, T>,
-    other: Stop,
+    stop: Stop,
 ) -> Result<u32, Stop>
     ensures number { Reads T.letter (λ number. number) cursor.old result cursor.new
-        (λ text. as_number (digits_by (digit_look (fault_of_stop other)) 3 text)) }
+        (λ text. as_number (digits_by (digit_look stop) 3 text)) }
     ensures small { IfOk result (λ number. number < 1000) }
     ensures looks { Spends 1 cursor.old cursor.new }
     ensures few { cursor.new.looks ≤ cursor.old.looks + 3 }
     ensures paid { OnOk result (Spends 0 cursor.old cursor.new) }
 {
-    let hundreds = cursor.next_digit(other)?;
-    let tens = cursor.next_digit(other)?;
-    let ones = cursor.next_digit(other)?;
+    let hundreds = cursor.next_digit(stop)?;
+    let tens = cursor.next_digit(stop)?;
+    let ones = cursor.next_digit(stop)?;
     Ok(100 * u32::from(hundreds - b'0') + 10 * u32::from(tens - b'0') + u32::from(ones - b'0'))
 }
 
@@ -312,45 +313,43 @@ fn parse_three_digits<'a, T: EncodingType>(
 
 /// Consumes a hyphen, if one is next, and returns whether it did.
 ///
-/// If a digit is next, returns `false` and consumes nothing. Returns the error `at_end` at the end of the input,
-/// `NonAsciiCodePoint` at a bad code unit, and `other` at any other code unit.
+/// If a digit is next, returns `false` and consumes nothing. Otherwise returns `stop`.
 #[inline(always)]
 pub fn take_hyphen<'a, T: EncodingType>(
     cursor: &mut Cursor<'a, T>,
-    at_end: Stop,
-    other: Stop,
+    stop: Stop,
 ) -> Result<bool, Stop>
     ensures hyphen { Reads T.letter (λ stands. stands) cursor.old result cursor.new
-        (mark_by (hyphen_look (fault_of_stop at_end) (fault_of_stop other)) hyphen) }
+        (mark_by (hyphen_look stop) hyphen) }
     ensures looks { SpendsInAll 1 1 cursor.old cursor.new }
 {
-    match cursor.look()? {
-        None => Err(at_end),
+    match cursor.look(stop)? {
+        None => Err(stop),
         Some(byte) if is_hyphen(byte) => {
             cursor.advance();
             Ok(true)
         }
         Some(byte) if byte.is_ascii_digit() => Ok(false),
-        Some(_) => Err(other),
+        Some(_) => Err(stop),
     }
 }
 
-/// Reads a month after a year. Returns the month, and whether a hyphen is before it. Returns `at_end` if the text
-/// ends after the year.
+/// Reads a month after a year. Returns the month, and whether a hyphen is before it. Returns `after_year` if neither a
+/// hyphen nor a digit follows the year.
 #[inline(always)]
 pub fn parse_month<'a, T: EncodingType>(
     cursor: &mut Cursor<'a, T>,
-    at_end: Stop,
+    after_year: Stop,
 ) -> Result<(u8, bool), Stop>
     ensures month { Reads T.letter (λ month. month) cursor.old result cursor.new
-        (month_by error_of (hyphen_look (fault_of_stop at_end) DateMonth)) }
+        (month_by error_of (hyphen_look after_year)) }
     ensures looks { SpendsOr 3 1 cursor.old result cursor.new }
     ensures few { cursor.new.looks ≤ cursor.old.looks + 3 }
 {
-    let hyphened = take_hyphen(cursor, at_end, Stop::DateMonth)?;
-    let tens = cursor.next_digit(Stop::DateMonth)?;
-    let ones = cursor.next_digit(Stop::DateMonth)?;
-    let month = check_month(two_digit_number(tens, ones))?;
+    let hyphened = take_hyphen(cursor, after_year)?;
+    let tens = cursor.next_digit(Stop::MonthDigits)?;
+    let ones = cursor.next_digit(Stop::MonthDigits)?;
+    let month = check_month(two_digit_number(tens, ones), Stop::MonthRange)?;
     Ok((month, hyphened))
 }
 
@@ -367,15 +366,12 @@ fn parse_day<'a, T: EncodingType>(
     ensures looks { Spends 3 cursor.old cursor.new }
 {
     take_separator(cursor, hyphened)?;
-    let day = cursor.two_digits(Stop::DateDay)?;
+    let day = cursor.two_digits(Stop::DayDigits, Stop::DayDigits)?;
     check_date(year, month, day)
 }
 
 /// Consumes the hyphen after a month, if a hyphen is before the month. Otherwise tests that a digit is next, and consumes
 /// nothing.
-///
-/// Returns `NonAsciiCodePoint` at a bad code unit. If only one of the two hyphens is present, returns `DateSeparator`. If
-/// none is present, returns `AbruptDigit` at the end of the input, and `DateDay` at any code unit that is not a digit.
 #[inline(always)]
 fn take_separator<'a, T: EncodingType>(
     cursor: &mut Cursor<'a, T>,
@@ -385,44 +381,40 @@ fn take_separator<'a, T: EncodingType>(
         (mark_at error_of (line_after_month hyphened) hyphen) }
     ensures looks { Spends 1 cursor.old cursor.new }
 {
-    let next = cursor.look()?;
     if hyphened {
-        return match next {
+        return match cursor.look(Stop::AfterHyphenedMonth)? {
             Some(byte) if is_hyphen(byte) => {
                 cursor.advance();
                 Ok(())
             }
-            _ => Err(Stop::DateSeparator),
+            _ => Err(Stop::AfterHyphenedMonth),
         };
     }
-    match next {
-        None => Err(Stop::AbruptDigit),
+    match cursor.look(Stop::AfterBasicMonth)? {
         Some(byte) if byte.is_ascii_digit() => Ok(()),
-        Some(byte) if is_hyphen(byte) => Err(Stop::DateSeparator),
-        Some(_) => Err(Stop::DateDay),
+        _ => Err(Stop::AfterBasicMonth),
     }
 }
 
-/// Returns the month if it is 1 to 12, and otherwise `InvalidMonthRange`.
+/// Returns the month if it is 1 to 12, and otherwise `stop`.
 #[inline(always)]
-pub fn check_month(month: u8) -> Result<u8, Stop>
-    ensures { Checks (λ month. month) result month (nat_le 1 month && nat_le month 12)
-        InvalidMonthRange }
+pub fn check_month(month: u8, stop: Stop) -> Result<u8, Stop>
+    ensures { Checks (λ month. month) result month (nat_le 1 month && nat_le month 12) stop }
 {
     if month < 1 || month > 12 {
-        return Err(Stop::InvalidMonthRange);
+        return Err(stop);
     }
     Ok(month)
 }
 
-/// Returns the date if the month of the year has the day, and otherwise `InvalidDayRange`. The month is not checked.
+/// Returns the date if the month of the year has the day, and otherwise `DayRange`. The month is not checked.
 #[inline(always)]
 pub fn check_date(year: i32, month: u8, day: u8) -> Result<DateRecord, Stop>
     ensures { Checks (λ date. date) result (date_of year month day)
-        (nat_le 1 day && nat_le day (month_length year month)) InvalidDayRange }
+        (nat_le 1 day && nat_le day (month_length year month)) (stop_of (of_date day_range)) }
 {
     if !has_day(year, month, day) {
-        return Err(Stop::InvalidDayRange);
+        return Err(Stop::DayRange);
     }
     Ok(DateRecord { year, month, day })
 }

@@ -5,9 +5,11 @@
 ghost use Rattle.std.specs.Prelude.{◌≡◌, ◌+◌, ◌<◌, ◌≤◌, ◌&&◌, nat_le, pos, map, drop, length, Some, None, IfSome};
 ghost use Rattle.ixdtf_grammar.specs.language.Letters.{Text};
 ghost use Rattle.ixdtf_grammar.specs.language.Months.{greatest_day, least_day};
-ghost use Rattle.ixdtf_grammar.specs.table.Faults.Fault.{InvalidMonthDay};
+ghost use Rattle.ixdtf_grammar.specs.table.LineNames.{of_month_day};
+ghost use Rattle.ixdtf_grammar.specs.table.LineNames.MonthDayLine.{month_day_range};
 ghost use Rattle.ixdtf_reading.specs.reading.Clauses.{Reads, Checks, YieldsAt, Spends, SpendsInAll};
 ghost use Rattle.ixdtf_reading.specs.reading.Looks.{error_of};
+ghost use Rattle.ixdtf_reading.specs.reading.Stops.{stop_of};
 ghost use Rattle.ixdtf_reading.specs.reading.Dates.{date_of};
 ghost use Rattle.ixdtf_reading.specs.reading.Months.{year_month_at, marks_at, month_day_at, lone_day_at};
 ghost use Rattle.ixdtf_reading.specs.reading.FixedPlaces.{number_place, month_of_year_place, ranged_month, unmarked_at};
@@ -45,7 +47,7 @@ fn check_year_month(first: DateRecord) -> Result<DateRecord, Stop>
     ensures { (rest : Text) → YieldsAt (λ date. (date, rest)) result rest
         (ranged_month first rest) }
 {
-    check_month(first.month)?;
+    check_month(first.month, Stop::MonthRange)?;
     Ok(first)
 }
 
@@ -106,7 +108,7 @@ pub fn parse_year_month_parts<'a, T: EncodingType>(
     ensures looks { SpendsInAll 5 10 cursor.old cursor.new }
 {
     let year = parse_date_year(cursor)?;
-    let (month, _) = parse_month(cursor, Stop::AbruptDigit)?;
+    let (month, _) = parse_month(cursor, Stop::AfterYearInYearMonth)?;
     Ok(DateRecord {
         year,
         month,
@@ -131,10 +133,10 @@ pub fn parse_month_day_date<'a, T: EncodingType>(
         return parse_month_day_parts(cursor, profile);
     }
     if !is_hyphen(cursor.byte_at(0)) {
-        return parse_month_day_at(cursor, profile, 0);
+        return parse_month_day_at(cursor, profile, 0, Stop::MonthDayStart);
     }
     if is_hyphen(cursor.byte_at(1)) {
-        return parse_month_day_at(cursor, profile, 2);
+        return parse_month_day_at(cursor, profile, 2, Stop::MonthDayMonthDigits);
     }
     parse_month_day_parts(cursor, profile)
 }
@@ -147,18 +149,19 @@ fn parse_month_day_at<'a, T: EncodingType>(
     cursor: &mut Cursor<'a, T>,
     profile: Profile,
     start: usize,
+    first: Stop,
 ) -> Result<DateRecord, Stop>
     requires early { start ≤ 2 }
     requires long { start + 2 ≤ length cursor.old.rest }
     ensures date { YieldsAt (λ date. (date, map T.letter cursor.new.rest)) result (map T.letter cursor.new.rest)
-        (unmarked_at profile (drop start (map T.letter cursor.old.rest))) }
+        (unmarked_at first profile (drop start (map T.letter cursor.old.rest))) }
     ensures looks { Spends 8 cursor.old cursor.new }
 {
     let Some(month) = cursor.fixed_number(start) else {
         cursor.advance_by(start);
-        return parse_unmarked(cursor, profile);
+        return parse_unmarked(cursor, profile, first);
     };
-    if let Err(stop) = check_month(month) {
+    if let Err(stop) = check_month(month, Stop::MonthDayMonthRange) {
         cursor.advance_by(start + 2);
         return Err(stop);
     }
@@ -203,7 +206,7 @@ pub fn parse_month_day_parts<'a, T: EncodingType>(
     ensures looks { SpendsInAll 7 7 cursor.old cursor.new }
 {
     take_marks(cursor)?;
-    parse_unmarked(cursor, profile)
+    parse_unmarked(cursor, profile, Stop::MonthDayMonthDigits)
 }
 
 /// Reads a month-day part by part, after the two hyphens that can be before its month.
@@ -211,12 +214,13 @@ pub fn parse_month_day_parts<'a, T: EncodingType>(
 fn parse_unmarked<'a, T: EncodingType>(
     cursor: &mut Cursor<'a, T>,
     profile: Profile,
+    first: Stop,
 ) -> Result<DateRecord, Stop>
-    ensures date { Reads T.letter (λ date. date) cursor.old result cursor.new (unmarked_at profile) }
+    ensures date { Reads T.letter (λ date. date) cursor.old result cursor.new (unmarked_at first profile) }
     ensures looks { SpendsInAll 5 5 cursor.old cursor.new }
 {
-    let month = cursor.two_digits(Stop::DateMonth)?;
-    check_month(month)?;
+    let month = cursor.two_digits(first, Stop::MonthDayMonthDigits)?;
+    check_month(month, Stop::MonthDayMonthRange)?;
     parse_day_of_month(cursor, profile, month)
 }
 
@@ -231,8 +235,8 @@ fn parse_day_of_month<'a, T: EncodingType>(
         (lone_day_at error_of profile month) }
     ensures looks { SpendsInAll 3 3 cursor.old cursor.new }
 {
-    take_hyphen(cursor, Stop::AbruptDigit, Stop::DateDay)?;
-    let day = cursor.two_digits(Stop::DateDay)?;
+    take_hyphen(cursor, Stop::AfterMonthDayMonth)?;
+    let day = cursor.two_digits(Stop::MonthDayDayDigits, Stop::MonthDayDayDigits)?;
     check_month_day(profile, month, day)
 }
 
@@ -248,16 +252,15 @@ fn take_marks<'a, T: EncodingType>(cursor: &mut Cursor<'a, T>) -> Result<bool, S
         (marks_at error_of) }
     ensures looks { SpendsInAll 2 2 cursor.old cursor.new }
 {
-    if !take_hyphen(cursor, Stop::AbruptMonthDay, Stop::DateMonth)? {
+    if !take_hyphen(cursor, Stop::MonthDayStart)? {
         return Ok(false);
     }
-    match cursor.look()? {
-        None => Err(Stop::AbruptMonthDay),
+    match cursor.look(Stop::MonthDayHyphen)? {
         Some(byte) if is_hyphen(byte) => {
             cursor.advance();
             Ok(true)
         }
-        Some(_) => Err(Stop::MonthDayHyphen),
+        _ => Err(Stop::MonthDayHyphen),
     }
 }
 
@@ -266,10 +269,10 @@ fn take_marks<'a, T: EncodingType>(cursor: &mut Cursor<'a, T>) -> Result<bool, S
 #[inline(always)]
 pub fn check_month_day(profile: Profile, month: u8, day: u8) -> Result<DateRecord, Stop>
     ensures { Checks (λ date. date) result (date_of (pos 0) month day)
-        (nat_le (least_day profile) day && nat_le day (greatest_day month)) InvalidMonthDay }
+        (nat_le (least_day profile) day && nat_le day (greatest_day month)) (stop_of (of_month_day (month_day_range profile))) }
 {
     if !has_month_day(profile, month, day) {
-        return Err(Stop::InvalidMonthDay);
+        return Err(Stop::MonthDayRange);
     }
     Ok(DateRecord {
         year: 0,

@@ -18,7 +18,7 @@ ghost use Rattle.ixdtf_reading.specs.reading.Cores.{offset_core_at};
 ghost use Rattle.ixdtf_reading.specs.reading.DateTimes.{num_offset_at, open_end, numeric_core};
 ghost use Rattle.ixdtf_reading.specs.reading.Zones.{offset_at, offset_alone_at, minute_offset_alone_at};
 
-use crate::time::{Clock, TimeShape, parse_clock};
+use crate::time::{Clock, TimeShape, close_after, parse_clock};
 use ixdtf_grammar::encoding::EncodingType;
 use ixdtf_grammar::records::{
     FullPrecisionOffset, MinutePrecisionOffset, Sign, TimeRecord, UtcOffsetRecord,
@@ -241,8 +241,7 @@ pub fn parse_offset_text<'a, T: EncodingType>(
         (offset_at error_of) }
     ensures looks { Spends 15 cursor.old cursor.new }
 {
-    match cursor.look()? {
-        None => Err(Stop::AbruptOffset),
+    match cursor.look(Stop::OffsetStart)? {
         Some(byte) if is_ascii_sign(byte) => {
             cursor.advance();
             if let Some(offset) = take_last_offset(cursor, byte) {
@@ -250,9 +249,9 @@ pub fn parse_offset_text<'a, T: EncodingType>(
             }
             let mut time = TimeRecord::default();
             let shape = parse_clock(cursor, Clock::Offset, &mut time)?;
-            cursor.close()?;
+            close_after(cursor, Clock::Offset, shape)?;
             Ok(offset_from(byte, shape, time))
         }
-        Some(_) => Err(Stop::OffsetNeedsSign),
+        _ => Err(Stop::OffsetStart),
     }
 }

@@ -13,14 +13,14 @@ ghost use Rattle.ixdtf_grammar.specs.declared.records.DateRecord.{DateRecord};
 ghost use Rattle.ixdtf_grammar.specs.declared.records.TimeRecord.{TimeRecord};
 ghost use Rattle.ixdtf_grammar.specs.language.Languages.{parsed_with};
 ghost use Rattle.ixdtf_grammar.specs.language.Letters.{hyphen, colon, time_letter};
-ghost use Rattle.ixdtf_grammar.specs.table.Faults.Fault.{DateYear};
 ghost use Rattle.ixdtf_grammar.specs.table.DateTimeFronts.Field.{month_field, day_field};
 ghost use Rattle.ixdtf_grammar.specs.table.LineNames.LineName.{of_date_time};
-ghost use Rattle.ixdtf_grammar.specs.table.LineNames.DateTimeLine.{after_secfrac};
-ghost use Rattle.ixdtf_reading.specs.reading.Clauses.{Reads, Spends, SpendsOr, KeepsBrackets, core_in, fault_of_stop};
+ghost use Rattle.ixdtf_grammar.specs.table.LineNames.DateTimeLine.{four_digits, after_secfrac};
+ghost use Rattle.ixdtf_reading.specs.reading.Clauses.{Reads, Spends, SpendsOr, KeepsBrackets, core_in};
 ghost use Rattle.ixdtf_reading.specs.reading.Looks.{error_of, as_number, digit_look, digits_by, look_for, next_by, letter_at};
 ghost use Rattle.ixdtf_reading.specs.reading.DateTimes.{field_at, is_month, is_day, numeric_core, secfrac_digits_at, num_offset_at, time_offset_at, secfrac_at, after_whole_second_at};
-ghost use Rattle.ixdtf_reading.specs.reading.DateTimes.{open_end, date_time_by, rfc_3339_at};
+ghost use Rattle.ixdtf_reading.specs.reading.DateTimes.{open_end, date_time_by, line_after_offset, rfc_3339_at};
+ghost use Rattle.ixdtf_reading.specs.reading.Stops.{stop_of};
 ghost use Rattle.ixdtf_times.specs.ThroughSecond.{time_through_second, day_through_second, date_time_through_second, NoDateTime};
 
 use crate::date_times::take_fixed_date_time;
@@ -33,8 +33,7 @@ use ixdtf_grammar::records::{
     UtcOffsetRecordOrZ,
 };
 use ixdtf_reading::classes::{
-    is_ascii_sign, is_decimal_separator, is_hyphen, is_time_designator, is_time_separator,
-    is_utc_designator,
+    is_ascii_sign, is_hyphen, is_time_designator, is_time_separator, is_utc_designator,
 };
 use ixdtf_reading::cursor::Cursor;
 use ixdtf_reading::stop::Stop;
@@ -44,10 +43,10 @@ use ixdtf_reading::stop::Stop;
 #[inline(always)]
 fn take_colon<'a, T: EncodingType>(cursor: &mut Cursor<'a, T>, stop: Stop) -> Result<u8, Stop>
     ensures colon { Reads T.letter (λ byte. byte) cursor.old result cursor.new
-        (next_by (look_for colon (Some (fault_of_stop stop)) (fault_of_stop stop))) }
+        (next_by (look_for colon stop)) }
     ensures looks { Spends 1 cursor.old cursor.new }
 {
-    match cursor.look()? {
+    match cursor.look(stop)? {
         Some(byte) if is_time_separator(byte) => {
             cursor.advance();
             Ok(byte)
@@ -59,21 +58,17 @@ fn take_colon<'a, T: EncodingType>(cursor: &mut Cursor<'a, T>, stop: Stop) -> Re
 /// Consumes a hyphen of a date. Returns `at_end` at the end of the input, `NonAsciiCodePoint` at a bad code unit, and
 /// `DateSeparator` at any other code unit.
 #[inline(always)]
-fn take_date_hyphen<'a, T: EncodingType>(
-    cursor: &mut Cursor<'a, T>,
-    at_end: Stop,
-) -> Result<u8, Stop>
+fn take_date_hyphen<'a, T: EncodingType>(cursor: &mut Cursor<'a, T>, stop: Stop) -> Result<u8, Stop>
     ensures hyphen { Reads T.letter (λ byte. byte) cursor.old result cursor.new
-        (next_by (look_for hyphen (Some (fault_of_stop at_end)) (fault_of_stop Stop.DateSeparator))) }
+        (next_by (look_for hyphen stop)) }
     ensures looks { Spends 1 cursor.old cursor.new }
 {
-    match cursor.look()? {
-        None => Err(at_end),
+    match cursor.look(stop)? {
         Some(byte) if is_hyphen(byte) => {
             cursor.advance();
             Ok(byte)
         }
-        Some(_) => Err(Stop::DateSeparator),
+        _ => Err(stop),
     }
 }
 
@@ -82,15 +77,15 @@ fn take_date_hyphen<'a, T: EncodingType>(
 #[inline(always)]
 fn take_time_letter<'a, T: EncodingType>(cursor: &mut Cursor<'a, T>) -> Result<u8, Stop>
     ensures letter { Reads T.letter (λ byte. byte) cursor.old result cursor.new
-        (next_by (look_for time_letter (Some (fault_of_stop Stop.TimeSeparator)) (fault_of_stop Stop.TimeSeparator))) }
+        (next_by (look_for time_letter Stop.AfterDayField)) }
     ensures looks { Spends 1 cursor.old cursor.new }
 {
-    match cursor.look()? {
+    match cursor.look(Stop::AfterDayField)? {
         Some(byte) if is_time_designator(byte) => {
             cursor.advance();
             Ok(byte)
         }
-        _ => Err(Stop::TimeSeparator),
+        _ => Err(Stop::AfterDayField),
     }
 }
 
@@ -101,13 +96,13 @@ fn take_time_letter<'a, T: EncodingType>(cursor: &mut Cursor<'a, T>) -> Result<u
 #[inline(always)]
 fn parse_year<'a, T: EncodingType>(cursor: &mut Cursor<'a, T>) -> Result<u16, Stop>
     ensures number { Reads T.letter (λ number. number) cursor.old result cursor.new
-        (λ text. as_number (digits_by (digit_look DateYear) 4 text)) }
+        (λ text. as_number (digits_by (digit_look (stop_of (of_date_time four_digits))) 4 text)) }
     ensures looks { SpendsOr 1 0 cursor.old result cursor.new }
 {
-    let thousands = cursor.next_digit(Stop::DateYear)?;
-    let hundreds = cursor.next_digit(Stop::DateYear)?;
-    let tens = cursor.next_digit(Stop::DateYear)?;
-    let ones = cursor.next_digit(Stop::DateYear)?;
+    let thousands = cursor.next_digit(Stop::FourDigits)?;
+    let hundreds = cursor.next_digit(Stop::FourDigits)?;
+    let tens = cursor.next_digit(Stop::FourDigits)?;
+    let ones = cursor.next_digit(Stop::FourDigits)?;
     Ok(
         1000 * u16::from(thousands - b'0')
             + 100 * u16::from(hundreds - b'0')
@@ -123,8 +118,8 @@ fn parse_month<'a, T: EncodingType>(cursor: &mut Cursor<'a, T>) -> Result<u8, St
         (field_at error_of month_field is_month) }
     ensures looks { SpendsOr 2 0 cursor.old result cursor.new }
 {
-    let month = cursor.two_digits(Stop::DateMonth)?;
-    check_month(month)
+    let month = cursor.two_digits(Stop::MonthFieldDigits, Stop::MonthFieldDigits)?;
+    check_month(month, Stop::MonthFieldRange)
 }
 
 /// Reads a day. If the month of the year does not have the day, returns `InvalidDayRange`.
@@ -138,9 +133,9 @@ fn parse_day<'a, T: EncodingType>(
         (field_at error_of day_field (is_day (pos year) month)) }
     ensures looks { SpendsOr 2 0 cursor.old result cursor.new }
 {
-    let day = cursor.two_digits(Stop::DateDay)?;
+    let day = cursor.two_digits(Stop::DayFieldDigits, Stop::DayFieldDigits)?;
     if !has_day(i32::from(year), month, day) {
-        return Err(Stop::InvalidDayRange);
+        return Err(Stop::DayFieldRange);
     }
     Ok(day)
 }
@@ -178,13 +173,12 @@ fn take_lead<'a, T: EncodingType>(cursor: &mut Cursor<'a, T>) -> Result<u8, Stop
         (letter_at error_of (of_date_time after_secfrac)) }
     ensures looks { Spends 1 cursor.old cursor.new }
 {
-    match cursor.look()? {
-        None => Err(Stop::AbruptOffset),
+    match cursor.look(Stop::AfterSecfrac)? {
         Some(byte) if byte.is_ascii_digit() || is_ascii_sign(byte) || is_utc_designator(byte) => {
             cursor.advance();
             Ok(byte)
         }
-        Some(_) => Err(Stop::OffsetNeedsSign),
+        _ => Err(Stop::AfterSecfrac),
     }
 }
 
@@ -195,7 +189,7 @@ fn parse_secfrac<'a, T: EncodingType>(cursor: &mut Cursor<'a, T>) -> Result<Frac
         (secfrac_digits_at error_of) }
     ensures looks { Spends 2 cursor.old cursor.new }
 {
-    parse_fraction(cursor)
+    parse_fraction(cursor, Stop::AfterPoint, Stop::AfterSecfrac)
 }
 
 /// Reads the digits of a fraction after its `.`, and the offset after the fraction. Writes the time and the offset into the
@@ -233,8 +227,7 @@ fn parse_after_seconds<'a, T: EncodingType>(
     ensures looks { Spends 12 cursor.old cursor.new }
 {
     found.date = Some(date);
-    match cursor.look()? {
-        None => Err(Stop::AbruptOffset),
+    match cursor.look(Stop::AfterSecondField)? {
         Some(byte) if byte == b'.' => {
             cursor.advance();
             parse_fractional(cursor, whole, found)
@@ -244,8 +237,7 @@ fn parse_after_seconds<'a, T: EncodingType>(
             found.time = Some(whole.with_fraction(None));
             parse_time_offset(cursor, byte, found)
         }
-        Some(byte) if is_decimal_separator(byte) => Err(Stop::FractionPart),
-        Some(_) => Err(Stop::OffsetNeedsSign),
+        _ => Err(Stop::AfterSecondField),
     }
 }
 
@@ -280,9 +272,23 @@ fn parse_offset_by_numbers<'a, T: EncodingType>(
         (num_offset_at error_of open_end date time sign) }
     ensures looks { Spends 3 cursor.old cursor.new }
 {
-    let offset_hour = next_number(cursor, 23, Stop::TimeHour)?;
-    take_colon(cursor, Stop::UtcTimeSeparator)?;
-    let offset_minute = next_number(cursor, 59, Stop::TimeMinuteSecond)?;
+    let hour_digits = Stop::OffsetHourFieldDigits;
+    let offset_hour = next_number(
+        cursor,
+        23,
+        hour_digits,
+        hour_digits,
+        Stop::OffsetHourFieldRange,
+    )?;
+    take_colon(cursor, Stop::AfterOffsetHourField)?;
+    let minute_digits = Stop::OffsetMinuteFieldDigits;
+    let offset_minute = next_number(
+        cursor,
+        59,
+        minute_digits,
+        minute_digits,
+        Stop::OffsetMinuteFieldRange,
+    )?;
     Ok(MinutePrecisionOffset {
         sign: sign_from(sign),
         hour: offset_hour,
@@ -297,11 +303,26 @@ fn pass_time<'a, T: EncodingType>(cursor: &mut Cursor<'a, T>) -> Result<u8, Stop
         time_through_second }
     ensures looks { Spends 4 cursor.old cursor.new }
 {
-    next_number(cursor, 23, Stop::TimeHour)?;
-    take_colon(cursor, Stop::TimeSeparator)?;
-    next_number(cursor, 59, Stop::TimeMinuteSecond)?;
-    take_colon(cursor, Stop::TimeSeparator)?;
-    next_number(cursor, 60, Stop::TimeSecond)
+    let hour_digits = Stop::HourFieldDigits;
+    next_number(cursor, 23, hour_digits, hour_digits, Stop::HourFieldRange)?;
+    take_colon(cursor, Stop::AfterHourField)?;
+    let minute_digits = Stop::MinuteFieldDigits;
+    next_number(
+        cursor,
+        59,
+        minute_digits,
+        minute_digits,
+        Stop::MinuteFieldRange,
+    )?;
+    take_colon(cursor, Stop::AfterMinuteField)?;
+    let second_digits = Stop::SecondFieldDigits;
+    next_number(
+        cursor,
+        60,
+        second_digits,
+        second_digits,
+        Stop::SecondFieldRange,
+    )
 }
 
 /// Consumes a day, then `T` or `t`, and then a time. Returns the second of the time. The month and the hyphen before the
@@ -329,9 +350,9 @@ fn pass_date_and_time<'a, T: EncodingType>(cursor: &mut Cursor<'a, T>) -> Result
     ensures looks { Spends 7 cursor.old cursor.new }
 {
     let year = parse_year(cursor)?;
-    take_date_hyphen(cursor, Stop::AbruptDate)?;
+    take_date_hyphen(cursor, Stop::AfterFourDigits)?;
     let month = parse_month(cursor)?;
-    take_date_hyphen(cursor, Stop::DateSeparator)?;
+    take_date_hyphen(cursor, Stop::AfterMonthField)?;
     pass_day_and_time(cursor, year, month)
 }
 
@@ -341,12 +362,12 @@ fn pass_date_and_time<'a, T: EncodingType>(cursor: &mut Cursor<'a, T>) -> Result
 fn first_stop<'a, T: EncodingType>(cursor: &mut Cursor<'a, T>) -> Stop
     requires no_date_time { NoDateTime (map T.letter cursor.old.rest) }
     ensures stop { date_time_by error_of open_end (map T.letter cursor.old.rest) ≡
-        Err (fault_of_stop result, map T.letter cursor.new.rest) }
+        Err (result, map T.letter cursor.new.rest) }
     ensures looks { Spends 7 cursor.old cursor.new }
 {
     match pass_date_and_time(cursor) {
         // This does not happen: it is proved that such a text has an error.
-        Ok(_) => Stop::InvalidEnd,
+        Ok(_) => Stop::AfterSecondField,
         Err(stop) => stop,
     }
 }
@@ -386,5 +407,16 @@ pub fn parse_rfc3339_text<'a, T: EncodingType>(
     ensures looks { Spends 38 cursor.old cursor.new }
 {
     parse_internet_date_time(cursor, found)?;
-    cursor.close()
+    cursor.close(stop_after_offset(found.offset))
+}
+
+/// Returns the `Stop` of the table line after a date-time with this offset.
+#[inline(always)]
+pub fn stop_after_offset(offset: Option<UtcOffsetRecordOrZ>) -> Stop
+    ensures { result ≡ stop_of (line_after_offset offset) }
+{
+    match offset {
+        Some(UtcOffsetRecordOrZ::Z) => Stop::AfterUtc,
+        Some(UtcOffsetRecordOrZ::Offset(_)) | None => Stop::AfterOffsetMinuteField,
+    }
 }

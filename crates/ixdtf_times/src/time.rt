@@ -6,13 +6,16 @@ ghost use Rattle.std.specs.Prelude.{◌≡◌, ◌+◌, ◌≤◌, ◌∷◌, []
 ghost use Rattle.ixdtf_grammar.specs.language.Letters.{Text, digit};
 ghost use Rattle.ixdtf_grammar.specs.language.Letters.Letter.{Plain};
 ghost use Rattle.ixdtf_grammar.specs.language.Fractions.{fraction_of};
-ghost use Rattle.ixdtf_grammar.specs.language.Times.{Clock as clocks, greatest_second, writes_seconds};
-ghost use Rattle.ixdtf_grammar.specs.table.Lines.{mixed, second_fault, seconds_after};
-ghost use Rattle.ixdtf_reading.specs.reading.Clauses.{Reads, Spends, SpendsOr, Checks, more_digits_at, fault_of_stop};
-ghost use Rattle.ixdtf_times.specs.TimeTypes.{clock_of, shape_of, open_time_of, time_to_second};
+ghost use Rattle.ixdtf_grammar.specs.language.Times.{Clock as GrammarClock, Clock as clocks, greatest_second, writes_seconds};
+ghost use Rattle.ixdtf_grammar.specs.table.LineNames.ClockLine.{hour_digit, hour_range, minute_digits, second_digits};
+ghost use Rattle.ixdtf_grammar.specs.table.LineNames.LineName.{of_clock};
+ghost use Rattle.ixdtf_grammar.specs.table.Lines.{seconds_after};
+ghost use Rattle.ixdtf_reading.specs.reading.Clauses.{Reads, Spends, SpendsOr, Checks, YieldsAt, clock_by, end_look, fraction_by, more_digits_at, number_at_most};
+ghost use Rattle.ixdtf_times.specs.TimeTypes.{clock_of, clock_line_of, shape_of, open_time_of, time_to_second};
 ghost use Rattle.ixdtf_reading.specs.reading.FixedPlaces.{time_place, time_in_range};
-ghost use Rattle.ixdtf_reading.specs.reading.Looks.{error_of, before, digit_look, number_by};
-ghost use Rattle.ixdtf_reading.specs.reading.Times.{time_of, second_start, clock_at, minute_at, second_at, after_second_at, fraction_at};
+ghost use Rattle.ixdtf_reading.specs.reading.Looks.{error_of, peek_by, seen};
+ghost use Rattle.ixdtf_reading.specs.reading.Stops.{stop_of};
+ghost use Rattle.ixdtf_reading.specs.reading.Times.{time_of, second_start, clock_at, fraction_at, line_after, minute_at, minutes_shape, minute_past, number_at, second_at, second_past, after_second_at};
 
 use ixdtf_grammar::encoding::EncodingType;
 use ixdtf_grammar::records::{Fraction, LeadingDigits, TimeRecord};
@@ -45,15 +48,138 @@ impl Clock {
         }
     }
 
-    /// Returns the `Stop` for a colon or a digit that follows a minute but does not begin a second.
+    /// Returns the greatest second.
     #[inline(always)]
-    fn mixed(self) -> Stop
-        ensures { fault_of_stop result ≡ mixed (clock_of self) }
+    fn greatest_second(self) -> u8
+        ensures { result ≡ greatest_second (clock_of self) }
     {
         match self {
-            Clock::Time => Stop::TimeSeparator,
-            Clock::Offset => Stop::UtcTimeSeparator,
-            Clock::MinuteOffset => Stop::InvalidMinutePrecisionOffset,
+            Clock::Time => 60,
+            Clock::Offset | Clock::MinuteOffset => 59,
+        }
+    }
+
+    /// Returns the `Stop` of the table line after a time of this shape.
+    #[inline(always)]
+    pub fn stop_after(self, shape: TimeShape) -> Stop
+        ensures { result ≡ stop_of (line_after (clock_of self) (shape_of shape)) }
+    {
+        match shape {
+            TimeShape::Hours => self.stop(ClockLine::AfterHour),
+            TimeShape::BasicMinutes => self.stop(ClockLine::AfterBasicMinute),
+            TimeShape::ColonMinutes => self.stop(ClockLine::AfterColonMinute),
+            TimeShape::Seconds => self.stop(ClockLine::AfterSecond),
+            TimeShape::Fractions => self.stop(ClockLine::AfterFraction),
+        }
+    }
+
+    /// Returns the `Stop` of the table line after a minute. `colons` says whether a colon is before the minute.
+    #[inline(always)]
+    fn stop_after_minute(self, colons: bool) -> Stop
+        ensures { result ≡ stop_of (line_after (clock_of self) (minutes_shape colons)) }
+    {
+        if colons {
+            self.stop(ClockLine::AfterColonMinute)
+        } else {
+            self.stop(ClockLine::AfterBasicMinute)
+        }
+    }
+
+    /// Returns the `Stop` of a table line of the clock.
+    #[inline(always)]
+    pub fn stop(self, line: ClockLine) -> Stop
+        ensures { result ≡ stop_of (of_clock (clock_of self) (clock_line_of line)) }
+    {
+        match self {
+            Clock::Time => line.time_stop(),
+            Clock::Offset => line.offset_stop(),
+            Clock::MinuteOffset => line.zone_offset_stop(),
+        }
+    }
+}
+
+/// A table line of times, or of offsets after their sign.
+#[derive(Clone, Copy)]
+pub enum ClockLine {
+    HourStart,
+    HourDigit,
+    HourRange,
+    AfterHour,
+    MinuteDigits,
+    MinuteRange,
+    AfterBasicMinute,
+    AfterColonMinute,
+    SecondDigits,
+    SecondRange,
+    AfterSecond,
+    FractionStart,
+    AfterFraction,
+}
+
+impl ClockLine {
+    /// Returns the `Stop` of the line of times.
+    #[inline(always)]
+    fn time_stop(self) -> Stop
+        ensures { result ≡ stop_of (of_clock clocks.Time (clock_line_of self)) }
+    {
+        match self {
+            ClockLine::HourStart => Stop::HourStart,
+            ClockLine::HourDigit => Stop::HourDigit,
+            ClockLine::HourRange => Stop::HourRange,
+            ClockLine::AfterHour => Stop::AfterHour,
+            ClockLine::MinuteDigits => Stop::MinuteDigits,
+            ClockLine::MinuteRange => Stop::MinuteRange,
+            ClockLine::AfterBasicMinute => Stop::AfterBasicMinute,
+            ClockLine::AfterColonMinute => Stop::AfterColonMinute,
+            ClockLine::SecondDigits => Stop::SecondDigits,
+            ClockLine::SecondRange => Stop::SecondRange,
+            ClockLine::AfterSecond => Stop::AfterSecond,
+            ClockLine::FractionStart => Stop::FractionStart,
+            ClockLine::AfterFraction => Stop::AfterFraction,
+        }
+    }
+
+    /// Returns the `Stop` of the line of offsets.
+    #[inline(always)]
+    fn offset_stop(self) -> Stop
+        ensures { result ≡ stop_of (of_clock clocks.Offset (clock_line_of self)) }
+    {
+        match self {
+            ClockLine::HourStart => Stop::OffsetHourStart,
+            ClockLine::HourDigit => Stop::OffsetHourDigit,
+            ClockLine::HourRange => Stop::OffsetHourRange,
+            ClockLine::AfterHour => Stop::OffsetAfterHour,
+            ClockLine::MinuteDigits => Stop::OffsetMinuteDigits,
+            ClockLine::MinuteRange => Stop::OffsetMinuteRange,
+            ClockLine::AfterBasicMinute => Stop::OffsetAfterBasicMinute,
+            ClockLine::AfterColonMinute => Stop::OffsetAfterColonMinute,
+            ClockLine::SecondDigits => Stop::OffsetSecondDigits,
+            ClockLine::SecondRange => Stop::OffsetSecondRange,
+            ClockLine::AfterSecond => Stop::OffsetAfterSecond,
+            ClockLine::FractionStart => Stop::OffsetFractionStart,
+            ClockLine::AfterFraction => Stop::OffsetAfterFraction,
+        }
+    }
+
+    /// Returns the `Stop` of the line of offsets without seconds.
+    #[inline(always)]
+    fn zone_offset_stop(self) -> Stop
+        ensures { result ≡ stop_of (of_clock clocks.MinuteOffset (clock_line_of self)) }
+    {
+        match self {
+            ClockLine::HourStart => Stop::ZoneOffsetHourStart,
+            ClockLine::HourDigit => Stop::ZoneOffsetHourDigit,
+            ClockLine::HourRange => Stop::ZoneOffsetHourRange,
+            ClockLine::AfterHour => Stop::ZoneOffsetAfterHour,
+            ClockLine::MinuteDigits => Stop::ZoneOffsetMinuteDigits,
+            ClockLine::MinuteRange => Stop::ZoneOffsetMinuteRange,
+            ClockLine::AfterBasicMinute => Stop::ZoneOffsetAfterBasicMinute,
+            ClockLine::AfterColonMinute => Stop::ZoneOffsetAfterColonMinute,
+            ClockLine::SecondDigits => Stop::ZoneOffsetSecondDigits,
+            ClockLine::SecondRange => Stop::ZoneOffsetSecondRange,
+            ClockLine::AfterSecond => Stop::ZoneOffsetAfterSecond,
+            ClockLine::FractionStart => Stop::ZoneOffsetFractionStart,
+            ClockLine::AfterFraction => Stop::ZoneOffsetAfterFraction,
         }
     }
 }
@@ -159,8 +285,7 @@ fn write_time(time: &mut TimeRecord, hour: u8, minute: u8, second: u8, fraction:
 /// Returns the number if it is at most `greatest`, and otherwise `stop`.
 #[inline(always)]
 fn check_most(number: u8, greatest: u8, stop: Stop) -> Result<u8, Stop>
-    ensures { Checks (λ number. number) result number
-        (nat_le number greatest) (fault_of_stop stop) }
+    ensures { Checks (λ number. number) result number (nat_le number greatest) stop }
 {
     if number > greatest {
         return Err(stop);
@@ -170,21 +295,22 @@ fn check_most(number: u8, greatest: u8, stop: Stop) -> Result<u8, Stop>
 
 /// Consumes two digits, and returns their number, which is at most `greatest`.
 ///
-/// Returns `AbruptDigit` at the end of the input, `NonAsciiCodePoint` at a bad code unit, and `stop` at any other code unit and
-/// for a greater number.
+/// Returns `first` if the first digit is missing, `second` if the second one is missing, and `past` for a greater number.
 #[inline(always)]
-#[tactic(auto, unfolding(ixdtf_reading::specs::reading::Looks::number_by, ixdtf_reading::specs::reading::Looks::in_range))]
+#[tactic(auto, unfolding(ixdtf_reading::specs::reading::Looks::in_range))]
 pub fn next_number<'a, T: EncodingType>(
     cursor: &mut Cursor<'a, T>,
     greatest: u8,
-    stop: Stop,
+    first: Stop,
+    second: Stop,
+    past: Stop,
 ) -> Result<u8, Stop>
     ensures number { Reads T.letter (λ number. number) cursor.old result cursor.new
-        (number_by (digit_look (fault_of_stop stop)) greatest (before (fault_of_stop stop))) }
+        (number_at_most first second greatest past) }
     ensures looks { SpendsOr 2 0 cursor.old result cursor.new }
 {
-    let number = cursor.two_digits(stop)?;
-    check_most(number, greatest, stop)
+    let number = cursor.two_digits(first, second)?;
+    check_most(number, greatest, past)
 }
 
 /// Reads a time or an offset, and writes it to `time`. Returns which parts it has.
@@ -202,8 +328,23 @@ pub fn parse_clock<'a, T: EncodingType>(
         (clock_at error_of (clock_of clock)) }
     ensures looks { Spends 5 cursor.old cursor.new }
 {
-    let hour = next_number(cursor, 23, Stop::TimeHour)?;
-    match cursor.look()? {
+    parse_clock_from(cursor, clock, clock.stop(ClockLine::HourStart), time)
+}
+
+/// Does the work of `parse_clock`. Returns `first` if the first digit is missing.
+#[inline(always)]
+pub fn parse_clock_from<'a, T: EncodingType>(
+    cursor: &mut Cursor<'a, T>,
+    clock: Clock,
+    first: Stop,
+    time: &mut TimeRecord,
+) -> Result<TimeShape, Stop>
+    ensures time { Reads T.letter (open_time_of time.new) cursor.old result cursor.new
+        (clock_by first (clock_of clock)) }
+    ensures looks { Spends 5 cursor.old cursor.new }
+{
+    let hour = next_hour(cursor, clock, first)?;
+    match look_after(cursor, clock, TimeShape::Hours)? {
         Some(byte) if is_time_separator(byte) => {
             cursor.advance();
             parse_minute(cursor, clock, true, hour, time)
@@ -233,15 +374,17 @@ fn parse_minute<'a, T: EncodingType>(
         (minute_at error_of (clock_of clock) colons hour) }
     ensures looks { Spends 4 cursor.old cursor.new }
 {
-    let minute = next_number(cursor, 59, Stop::TimeMinuteSecond)?;
-    match cursor.look()? {
+    let minute = next_minute(cursor, clock)?;
+    match look_after_minute(cursor, clock, colons)? {
         Some(byte) if clock.starts_second(colons, byte) => {
             if colons {
                 cursor.advance();
             }
             parse_second(cursor, clock, hour, minute, time)
         }
-        Some(byte) if is_time_separator(byte) || byte.is_ascii_digit() => Err(clock.mixed()),
+        Some(byte) if is_time_separator(byte) || byte.is_ascii_digit() => {
+            Err(clock.stop_after_minute(colons))
+        }
         _ => {
             write_time(time, hour, minute, 0, None);
             Ok(if colons {
@@ -253,18 +396,104 @@ fn parse_minute<'a, T: EncodingType>(
     }
 }
 
+/// Returns the code unit after a time of this shape, without consuming it.
+#[inline(always)]
+fn look_after<'a, T: EncodingType>(
+    cursor: &mut Cursor<'a, T>,
+    clock: Clock,
+    shape: TimeShape,
+) -> Result<Option<u8>, Stop>
+    ensures letter { YieldsAt (λ found. found) result (map T.letter cursor.old.rest)
+        (seen (stop_of (line_after (clock_of clock) (shape_of shape))) (map T.letter cursor.old.rest)) }
+    ensures rest { cursor.new.rest ≡ cursor.old.rest }
+    ensures looks { cursor.new.looks ≡ cursor.old.looks + 1 }
+{
+    cursor.look(clock.stop_after(shape))
+}
+
+/// Expects the end of the input after a time of this shape.
+#[inline(always)]
+pub fn close_after<'a, T: EncodingType>(
+    cursor: &mut Cursor<'a, T>,
+    clock: Clock,
+    shape: TimeShape,
+) -> Result<(), Stop>
+    ensures end { Reads T.letter (λ _. None) cursor.old result cursor.new
+        (peek_by (end_look (stop_of (line_after (clock_of clock) (shape_of shape))))) }
+    ensures rest { cursor.new.rest ≡ cursor.old.rest }
+    ensures looks { Spends 1 cursor.old cursor.new }
+{
+    cursor.close(clock.stop_after(shape))
+}
+
+/// Returns the code unit after a minute, without consuming it. `colons` says whether a colon is before the minute.
+#[inline(always)]
+fn look_after_minute<'a, T: EncodingType>(
+    cursor: &mut Cursor<'a, T>,
+    clock: Clock,
+    colons: bool,
+) -> Result<Option<u8>, Stop>
+    ensures letter { YieldsAt (λ found. found) result (map T.letter cursor.old.rest)
+        (seen (stop_of (line_after (clock_of clock) (minutes_shape colons))) (map T.letter cursor.old.rest)) }
+    ensures rest { cursor.new.rest ≡ cursor.old.rest }
+    ensures looks { cursor.new.looks ≡ cursor.old.looks + 1 }
+{
+    cursor.look(clock.stop_after_minute(colons))
+}
+
+/// Reads the digits of a fraction after its `.` or `,`.
+#[inline(always)]
+fn parse_clock_fraction<'a, T: EncodingType>(
+    cursor: &mut Cursor<'a, T>,
+    clock: Clock,
+) -> Result<Fraction, Stop>
+    ensures fraction { Reads T.letter (λ fraction. fraction) cursor.old result cursor.new
+        (fraction_at error_of (clock_of clock)) }
+    ensures looks { Spends 2 cursor.old cursor.new }
+{
+    let start = clock.stop(ClockLine::FractionStart);
+    let digits = clock.stop(ClockLine::AfterFraction);
+    parse_fraction(cursor, start, digits)
+}
+
+/// Consumes the two digits of an hour, and returns their number. Returns `first` if the first digit is missing.
+#[inline(always)]
+fn next_hour<'a, T: EncodingType>(
+    cursor: &mut Cursor<'a, T>,
+    clock: Clock,
+    first: Stop,
+) -> Result<u8, Stop>
+    ensures hour { Reads T.letter (λ number. number) cursor.old result cursor.new
+        (number_at_most first (stop_of (of_clock (clock_of clock) hour_digit)) 23 (stop_of (of_clock (clock_of clock) hour_range))) }
+    ensures looks { SpendsOr 2 0 cursor.old result cursor.new }
+{
+    let second = clock.stop(ClockLine::HourDigit);
+    let past = clock.stop(ClockLine::HourRange);
+    next_number(cursor, 23, first, second, past)
+}
+
+/// Consumes the two digits of a minute, and returns their number.
+#[inline(always)]
+fn next_minute<'a, T: EncodingType>(cursor: &mut Cursor<'a, T>, clock: Clock) -> Result<u8, Stop>
+    ensures minute { Reads T.letter (λ number. number) cursor.old result cursor.new
+        (number_at error_of (of_clock (clock_of clock) minute_digits) 59 (minute_past (clock_of clock))) }
+    ensures looks { SpendsOr 2 0 cursor.old result cursor.new }
+{
+    let digits = clock.stop(ClockLine::MinuteDigits);
+    let past = clock.stop(ClockLine::MinuteRange);
+    next_number(cursor, 59, digits, digits, past)
+}
+
 /// Consumes the two digits of a second, and returns their number: at most 60 in a time, and 59 in an offset.
 #[inline(always)]
 fn next_second<'a, T: EncodingType>(cursor: &mut Cursor<'a, T>, clock: Clock) -> Result<u8, Stop>
     ensures second { Reads T.letter (λ number. number) cursor.old result cursor.new
-        (number_by (digit_look (second_fault (clock_of clock)))
-        (greatest_second (clock_of clock)) (before (second_fault (clock_of clock)))) }
+        (number_at error_of (of_clock (clock_of clock) second_digits) (greatest_second (clock_of clock)) (second_past (clock_of clock))) }
     ensures looks { SpendsOr 2 0 cursor.old result cursor.new }
 {
-    match clock {
-        Clock::Time => next_number(cursor, 60, Stop::TimeSecond),
-        Clock::Offset | Clock::MinuteOffset => next_number(cursor, 59, Stop::TimeMinuteSecond),
-    }
+    let digits = clock.stop(ClockLine::SecondDigits);
+    let past = clock.stop(ClockLine::SecondRange);
+    next_number(cursor, clock.greatest_second(), digits, digits, past)
 }
 
 /// Reads the second, and a fraction if it follows.
@@ -281,26 +510,27 @@ fn parse_second<'a, T: EncodingType>(
     ensures looks { Spends 3 cursor.old cursor.new }
 {
     let second = next_second(cursor, clock)?;
-    parse_after_second(cursor, hour, minute, second, time)
+    parse_after_second(cursor, clock, hour, minute, second, time)
 }
 
-/// Reads a fraction after a second, if there is one. Fractions have the same form for every clock.
+/// Reads a fraction after a second, if there is one.
 #[inline(always)]
 pub fn parse_after_second<'a, T: EncodingType>(
     cursor: &mut Cursor<'a, T>,
+    clock: Clock,
     hour: u8,
     minute: u8,
     second: u8,
     time: &mut TimeRecord,
 ) -> Result<TimeShape, Stop>
     ensures time { Reads T.letter (open_time_of time.new) cursor.old result cursor.new
-        (after_second_at error_of clocks.Time hour minute second) }
+        (after_second_at error_of (clock_of clock) hour minute second) }
     ensures looks { Spends 3 cursor.old cursor.new }
 {
-    match cursor.look()? {
+    match look_after(cursor, clock, TimeShape::Seconds)? {
         Some(byte) if is_decimal_separator(byte) => {
             cursor.advance();
-            let fraction = parse_fraction(cursor)?;
+            let fraction = parse_clock_fraction(cursor, clock)?;
             write_time(time, hour, minute, second, Some(fraction));
             Ok(TimeShape::Fractions)
         }
@@ -313,35 +543,42 @@ pub fn parse_after_second<'a, T: EncodingType>(
 
 /// Reads the digits of a fraction after its `.` or `,`.
 ///
-/// Returns `NonAsciiCodePoint` at a bad code unit, even if this code unit is directly after the last digit. At least one
-/// digit must follow the `.` or the `,`. Returns `FractionPart` if the input ends there, or if the code unit there is
-/// neither a digit nor bad.
+/// Returns `start` if there is no digit, and `digits` if a bad code unit follows the digits.
 #[inline(always)]
-pub fn parse_fraction<'a, T: EncodingType>(cursor: &mut Cursor<'a, T>) -> Result<Fraction, Stop>
+pub fn parse_fraction<'a, T: EncodingType>(
+    cursor: &mut Cursor<'a, T>,
+    start: Stop,
+    digits: Stop,
+) -> Result<Fraction, Stop>
     ensures fraction { Reads T.letter (λ fraction. fraction) cursor.old result cursor.new
-        (fraction_at error_of clocks.Time) }
+        (fraction_by start digits) }
     ensures looks { Spends 2 cursor.old cursor.new }
 {
     let mut here = cursor.fork();
-    let read = parse_digits(&mut here);
+    let read = parse_digits(&mut here, start, digits);
     *cursor = here;
     read
 }
 
 /// Reads the digits of a fraction. The function is not inlined, because few texts have a fraction.
 #[inline(never)]
-fn parse_digits<'a, T: EncodingType>(cursor: &mut Cursor<'a, T>) -> Result<Fraction, Stop>
+#[tactic(auto, unfolding(ixdtf_reading::specs::reading::Clauses::fraction_by, ixdtf_reading::specs::reading::Looks::look_readings))]
+fn parse_digits<'a, T: EncodingType>(
+    cursor: &mut Cursor<'a, T>,
+    start: Stop,
+    digits: Stop,
+) -> Result<Fraction, Stop>
     ensures fraction { Reads T.letter (λ fraction. fraction) cursor.old result cursor.new
-        (fraction_at error_of clocks.Time) }
+        (fraction_by start digits) }
     ensures looks { Spends 2 cursor.old cursor.new }
 {
     let mut here = cursor.fork();
-    let read = match here.look() {
+    let read = match here.look(start) {
         Ok(Some(byte)) if byte.is_ascii_digit() => {
             here.advance();
-            parse_more_digits(&mut here, byte)
+            parse_more_digits(&mut here, byte, digits)
         }
-        Ok(_) => Err(Stop::FractionPart),
+        Ok(_) => Err(start),
         Err(stop) => Err(stop),
     };
     *cursor = here;
@@ -349,20 +586,21 @@ fn parse_digits<'a, T: EncodingType>(cursor: &mut Cursor<'a, T>) -> Result<Fract
 }
 
 /// Reads the digits of a fraction after the first one. The first 18 digits give the value. Later digits are only
-/// counted.
+/// counted. Returns `stop` at a bad code unit.
 #[inline(always)]
 fn parse_more_digits<'a, T: EncodingType>(
     cursor: &mut Cursor<'a, T>,
     first: u8,
+    stop: Stop,
 ) -> Result<Fraction, Stop>
     requires digit { IsTrue (digit first) }
     ensures fraction { Reads T.letter (λ fraction. fraction) cursor.old result cursor.new
-        (more_digits_at (Plain first ∷ [])) }
+        (more_digits_at stop (Plain first ∷ [])) }
     ensures looks { Spends 1 cursor.old cursor.new }
 {
     let mut digits = LeadingDigits::start(first);
     while digits.is_short() {
-        match cursor.look()? {
+        match cursor.look(stop)? {
             Some(byte) if byte.is_ascii_digit() => {
                 cursor.advance();
                 digits = digits.with_digit(byte);
@@ -370,23 +608,24 @@ fn parse_more_digits<'a, T: EncodingType>(
             _ => return Ok(digits.fraction()),
         }
     }
-    count_more_digits(cursor, digits.fraction())
+    count_more_digits(cursor, digits.fraction(), stop)
 }
 
-/// Counts the digits of a fraction after the first 18.
+/// Counts the digits of a fraction after the first 18. Returns `stop` at a bad code unit.
 #[inline(always)]
 fn count_more_digits<'a, T: EncodingType>(
     cursor: &mut Cursor<'a, T>,
     leading: Fraction,
+    stop: Stop,
 ) -> Result<Fraction, Stop>
     requires long { 18 ≤ leading.count }
     ensures fraction { (front : Text) → leading ≡ fraction_of front →
         Reads T.letter (λ fraction. fraction) cursor.old result cursor.new
-        (more_digits_at front) }
+        (more_digits_at stop front) }
     ensures looks { Spends 1 cursor.old cursor.new }
 {
     let mut fraction = leading;
-    while let Some(byte) = cursor.look()? {
+    while let Some(byte) = cursor.look(stop)? {
         if !byte.is_ascii_digit() {
             break;
         }

@@ -7,7 +7,7 @@
 //! users call work on a second cursor. If such a reader fails, the cursor of the parser is unchanged.
 
 use crate::classes::two_digit_number;
-use crate::stop::{FromStop, Stop, error_of_stop};
+use crate::stop::{FromStop, Next, Stop, StopAt};
 use crate::encoding::EncodingType;
 use core::fmt;
 
@@ -84,9 +84,14 @@ impl<'a, T: EncodingType> Cursor<'a, T> {
     ///
     /// If `read` is `Ok`, `self` continues where `here` is. If `read` is a `Stop`, `self` keeps its remaining input,
     /// and `settle` returns the error of the `Stop`. The position of this error is the number of code units from `self`
-    /// to `here`.
+    /// to `here`. `brackets` says whether the reader reads brackets.
     #[inline(always)]
-    pub fn settle<R, E: FromStop>(&mut self, here: Self, read: Result<R, Stop>) -> Result<R, E> {
+    pub fn settle<R, E: FromStop>(
+        &mut self,
+        here: Self,
+        brackets: bool,
+        read: Result<R, Stop>,
+    ) -> Result<R, E> {
         match read {
             Ok(found) => {
                 *self = here;
@@ -94,29 +99,41 @@ impl<'a, T: EncodingType> Cursor<'a, T> {
             }
             Err(stop) => {
                 let at = self.remaining().saturating_sub(here.remaining());
-                Err(error_of_stop(stop, at))
+                let mut here = here;
+                let error = error_at(&mut here, brackets, stop, at);
+                Err(error)
             }
+        }
+    }
+
+    /// Returns what follows, for the error of a `Stop`.
+    #[inline(always)]
+    pub fn next(&mut self) -> Next {
+        match self.look_at(0, Stop::YearStart) {
+            Ok(None) => Next::End,
+            Ok(Some(byte)) => Next::Byte(byte),
+            Err(_) => Next::Bad,
         }
     }
 
     /// Returns the code unit at an index of the remaining input, as a byte.
     ///
-    /// Returns `None` if the input is too short, and `NonAsciiCodePoint` for a bad code unit. In the library, only this
-    /// function calls `get_ascii`.
+    /// Returns `None` if the input is too short, and `stop` for a bad code unit. In the library, only this function calls
+    /// `get_ascii`.
     #[inline(always)]
-    pub fn look_at(&mut self, index: usize) -> Result<Option<u8>, Stop> {
+    pub fn look_at(&mut self, index: usize, stop: Stop) -> Result<Option<u8>, Stop> {
         match T::get_ascii(self.rest, index) {
             Ok(found) => Ok(found),
-            Err(_) => Err(Stop::NonAsciiCodePoint),
+            Err(_) => Err(stop),
         }
     }
 
     /// Returns the first code unit of the remaining input, as a byte, without consuming it.
     ///
-    /// Returns `None` at the end of the input, and `NonAsciiCodePoint` for a bad code unit.
+    /// Returns `None` at the end of the input, and `stop` for a bad code unit.
     #[inline(always)]
-    pub fn look(&mut self) -> Result<Option<u8>, Stop> {
-        self.look_at(0)
+    pub fn look(&mut self, stop: Stop) -> Result<Option<u8>, Stop> {
+        self.look_at(0, stop)
     }
 
     /// Consumes the first code unit, if there is one.
@@ -127,62 +144,42 @@ impl<'a, T: EncodingType> Cursor<'a, T> {
         }
     }
 
-    /// Consumes one digit, and returns it as an ASCII byte.
-    ///
-    /// Returns `AbruptDigit` at the end of the input, `NonAsciiCodePoint` at a bad code unit, and `other` at any other
-    /// code unit. If the function returns an error, it consumes nothing.
+    /// Consumes one digit, and returns it as an ASCII byte. Returns `stop` if there is no digit, and then consumes nothing.
     #[inline(always)]
-    pub fn next_digit(&mut self, other: Stop) -> Result<u8, Stop> {
-        match self.look()? {
-            None => Err(Stop::AbruptDigit),
-            Some(byte) if byte.is_ascii_digit() => {
-                self.advance();
-                Ok(byte)
-            }
-            Some(_) => Err(other),
+    pub fn next_digit(&mut self, stop: Stop) -> Result<u8, Stop> {
+        let byte = self.byte_at(0);
+        if byte.is_ascii_digit() {
+            self.advance();
+            return Ok(byte);
         }
-    }
-
-    /// Returns the digit at `index` of the remaining input, as an ASCII byte.
-    ///
-    /// Returns `AbruptDigit` if the input is too short, `NonAsciiCodePoint` at a bad code unit, and `other` at any other
-    /// code unit.
-    #[inline(always)]
-    fn digit_at(&mut self, index: usize, other: Stop) -> Result<u8, Stop> {
-        match self.look_at(index)? {
-            None => Err(Stop::AbruptDigit),
-            Some(byte) if byte.is_ascii_digit() => Ok(byte),
-            Some(_) => Err(other),
-        }
+        Err(stop)
     }
 
     /// Consumes two digits, and returns their number.
     ///
-    /// One test finds the end of the input, and one comparison tests both digits. Returns `AbruptDigit` at the end of
-    /// the input, `NonAsciiCodePoint` at a bad code unit, and `other` at any other code unit. If the function returns
-    /// an error, it does not consume the code unit of the error. If a digit is before this code unit, it consumes this
-    /// digit.
+    /// One test finds the end of the input, and one comparison tests both digits. Returns `first` if the first digit is
+    /// missing, and `second` if the second one is missing. The cursor is then at the missing digit.
     #[inline(always)]
-    pub fn two_digits(&mut self, other: Stop) -> Result<u8, Stop> {
+    pub fn two_digits(&mut self, first: Stop, second: Stop) -> Result<u8, Stop> {
         if self.rest.len() < 2 {
-            self.digit_at(0, other)?;
+            if !self.byte_at(0).is_ascii_digit() {
+                return Err(first);
+            }
             self.advance();
-            return Err(Stop::AbruptDigit);
+            return Err(second);
         }
-        let first = self.look_at(0);
-        let second = self.look_at(1);
-        let tens = byte_of(first);
-        let ones = byte_of(second);
+        let tens = self.byte_at(0);
+        let ones = self.byte_at(1);
         let number = two_digit_number(tens, ones);
         if number <= 99 {
             self.advance_by(2);
             return Ok(number);
         }
         if !tens.is_ascii_digit() {
-            return Err(no_digit(first, other));
+            return Err(first);
         }
         self.advance();
-        Err(no_digit(second, other))
+        Err(second)
     }
 
     /// Consumes `count` code units.
@@ -197,7 +194,7 @@ impl<'a, T: EncodingType> Cursor<'a, T> {
     /// characters contains 0.
     #[inline(always)]
     pub fn byte_at(&mut self, index: usize) -> u8 {
-        match self.look_at(index) {
+        match self.look_at(index, Stop::YearStart) {
             Ok(Some(byte)) => byte,
             _ => 0,
         }
@@ -206,7 +203,7 @@ impl<'a, T: EncodingType> Cursor<'a, T> {
     /// Returns `letter` if it is the code unit at `index` of the remaining input, and otherwise `None`.
     #[inline(always)]
     pub fn fixed_letter(&mut self, index: usize, letter: u8) -> Option<u8> {
-        match self.look_at(index) {
+        match self.look_at(index, Stop::YearStart) {
             Ok(Some(byte)) if byte == letter => Some(byte),
             _ => None,
         }
@@ -240,12 +237,12 @@ impl<'a, T: EncodingType> Cursor<'a, T> {
         T::check_calendar_key(key)
     }
 
-    /// Expects the end of the input. Returns `NonAsciiCodePoint` at a bad code unit, and `InvalidEnd` at any other one.
+    /// Expects the end of the input. Returns `stop` at any code unit.
     #[inline(always)]
-    pub fn close(&mut self) -> Result<(), Stop> {
-        match self.look()? {
+    pub fn close(&mut self, stop: Stop) -> Result<(), Stop> {
+        match self.look(stop)? {
             None => Ok(()),
-            Some(_) => Err(Stop::InvalidEnd),
+            Some(_) => Err(stop),
         }
     }
 }
@@ -255,21 +252,16 @@ fn are_equal<T: EncodingType>(left: &[T::CodeUnit], right: &[T::CodeUnit]) -> bo
     left == right
 }
 
-/// Returns the code unit that was read, as an ASCII byte. Returns 0 at the end of the input and for a bad code unit.
+/// Makes the error of a `Stop` with position `at`. The cursor `here` is at the position. `brackets` says whether the reader reads
+/// brackets.
 #[inline(always)]
-fn byte_of(found: Result<Option<u8>, Stop>) -> u8 {
-    match found {
-        Ok(Some(byte)) => byte,
-        _ => 0,
-    }
-}
-
-/// Returns the `Stop` for a code unit that is not a digit: `other`, unless the input ends or the code unit is bad.
-#[inline(always)]
-fn no_digit(found: Result<Option<u8>, Stop>, other: Stop) -> Stop {
-    match found {
-        Ok(None) => Stop::AbruptDigit,
-        Ok(Some(_)) => other,
-        Err(stop) => stop,
-    }
+pub fn error_at<'a, T: EncodingType, E: FromStop>(
+    here: &mut Cursor<'a, T>,
+    brackets: bool,
+    stop: Stop,
+    at: usize,
+) -> E {
+    let next = here.next();
+    let code = stop.code(brackets, next);
+    E::of_stop(StopAt { stop, code, at })
 }

@@ -1,15 +1,746 @@
 // Made by tools/to_rust.py of crates/ixdtf_reading/src/stop.rt. Do not edit.
 
-//! `Stop`, the one-byte error code that the library uses inside.
+//! `Stop`, the table line at which a function stopped.
 
+use Code::*;
 use crate::{LocatedError, ParseError};
 
-/// The reason why a function stopped. There is one variant for each error that a reader can return. The error
-/// `ParseError::AbruptEnd` has a location, and there is one variant for each of its locations.
+/// The reason why a function stopped: the table line at which it stopped, or the refusal of an annotation.
 ///
-/// A `Stop` has a size of one byte. It is turned into a `ParseError` only where a public reader returns.
+/// What follows the prefix of the line decides the error ([`Stop::code`]). A `Stop` has a size of one byte.
 #[derive(Clone, Copy)]
 pub enum Stop {
+    // Dates
+    YearStart,
+    YearDigits,
+    ExtendedYearDigits,
+    MinusZeroYear,
+    AfterYear,
+    MonthDigits,
+    MonthRange,
+    AfterHyphenedMonth,
+    AfterBasicMonth,
+    DayDigits,
+    DayRange,
+    AfterDate,
+    // Year-months
+    AfterYearInYearMonth,
+    AfterYearMonth,
+    // Month-days
+    MonthDayStart,
+    MonthDayHyphen,
+    MonthDayMonthDigits,
+    MonthDayMonthRange,
+    AfterMonthDayMonth,
+    MonthDayDayDigits,
+    MonthDayRange,
+    AfterMonthDay,
+    // Times without a date
+    TimeStart,
+    TimeReadsAsMonthDay,
+    TimeReadsAsYearMonth,
+    // Times of day
+    HourStart,
+    HourDigit,
+    HourRange,
+    AfterHour,
+    MinuteDigits,
+    MinuteRange,
+    AfterBasicMinute,
+    AfterColonMinute,
+    SecondDigits,
+    SecondRange,
+    AfterSecond,
+    FractionStart,
+    AfterFraction,
+    // Offsets after a time, and offsets without a time
+    OffsetHourStart,
+    OffsetHourDigit,
+    OffsetHourRange,
+    OffsetAfterHour,
+    OffsetMinuteDigits,
+    OffsetMinuteRange,
+    OffsetAfterBasicMinute,
+    OffsetAfterColonMinute,
+    OffsetSecondDigits,
+    OffsetSecondRange,
+    OffsetAfterSecond,
+    OffsetFractionStart,
+    OffsetAfterFraction,
+    // Offsets that are time zones
+    ZoneOffsetHourStart,
+    ZoneOffsetHourDigit,
+    ZoneOffsetHourRange,
+    ZoneOffsetAfterHour,
+    ZoneOffsetMinuteDigits,
+    ZoneOffsetMinuteRange,
+    ZoneOffsetAfterBasicMinute,
+    ZoneOffsetAfterColonMinute,
+    ZoneOffsetSecondDigits,
+    ZoneOffsetSecondRange,
+    ZoneOffsetAfterSecond,
+    ZoneOffsetFractionStart,
+    ZoneOffsetAfterFraction,
+    // The other lines of offsets
+    OffsetStart,
+    AfterZulu,
+    // Date-times of RFC 3339
+    FourDigits,
+    AfterFourDigits,
+    MonthFieldDigits,
+    DayFieldDigits,
+    HourFieldDigits,
+    MinuteFieldDigits,
+    SecondFieldDigits,
+    OffsetHourFieldDigits,
+    OffsetMinuteFieldDigits,
+    MonthFieldRange,
+    DayFieldRange,
+    HourFieldRange,
+    MinuteFieldRange,
+    SecondFieldRange,
+    OffsetHourFieldRange,
+    OffsetMinuteFieldRange,
+    AfterMonthField,
+    AfterDayField,
+    AfterHourField,
+    AfterMinuteField,
+    AfterSecondField,
+    AfterOffsetHourField,
+    AfterOffsetMinuteField,
+    AfterPoint,
+    AfterSecfrac,
+    AfterUtc,
+    // Names of time zones
+    IdentifierStart,
+    ZoneNameStart,
+    InZoneName,
+    AfterZoneSlash,
+    // Brackets
+    FirstBracketStart,
+    FirstCriticalStart,
+    FirstBracketScan,
+    FirstNameForm,
+    FirstOffsetForm,
+    AfterBracket,
+    // Annotations
+    KeyStart,
+    CriticalKeyStart,
+    InKey,
+    ValueStart,
+    InValue,
+    AfterValueHyphen,
+    // Durations
+    DurationStart,
+    AfterDurationSign,
+    AfterDurationDesignator,
+    AfterDateGroups,
+    AfterTimeDesignator,
+    AfterTimeGroups,
+    AfterFractionGroup,
+    DateGroupDigits,
+    TimeGroupDigits,
+    DateGroupRange,
+    TimeGroupRange,
+    DateUnitOrder,
+    TimeUnitOrder,
+    DateUnitRange,
+    GroupFractionStart,
+    GroupFractionDigits,
+    // Refused annotations. These two have no table line
+    UnrecognizedCritical,
+    CriticalDuplicateCalendar,
+}
+
+/// What follows the prefix of a table line.
+#[derive(Clone, Copy)]
+pub enum Next {
+    /// The end of the text.
+    End,
+    /// A bad code unit.
+    Bad,
+    /// Another code unit, as a byte.
+    Byte(u8),
+}
+
+/// The codes of a table line: at the end of the text, at a bad code unit, and at another code unit. The last field says whether
+/// some of the other code units have another code.
+type Codes = (Code, Code, Code, bool);
+
+impl Stop {
+    /// Returns the code of the error, if `next` follows the prefix of the line. `brackets` says whether the reader reads brackets.
+    #[inline(always)]
+    pub fn code(self, brackets: bool, next: Next) -> Code {
+        let codes = self.codes(brackets);
+        match next {
+            Next::End => codes.0,
+            Next::Bad => codes.1,
+            Next::Byte(byte) => {
+                if codes.3 {
+                    return self.code_at(brackets, byte).unwrap_or(codes.2);
+                }
+                codes.2
+            }
+        }
+    }
+
+    /// Returns the codes of the line.
+    ///
+    /// The result is a reference. If the codes were copied, `rustc` would no longer know how many codes there are, and
+    /// `Code::error` would test the index into its table.
+    #[inline(always)]
+    fn codes(self, brackets: bool) -> &'static Codes {
+        if brackets {
+            return &CODES[self as usize];
+        }
+        &LONE_CODES[self as usize]
+    }
+
+    /// If the line has another error at this byte than at most other code units, returns the code of that error.
+    #[cold]
+    #[inline(never)]
+    fn code_at(self, brackets: bool, byte: u8) -> Option<Code> {
+        let mixes = byte == b':' || byte.is_ascii_digit();
+        match self {
+            Stop::AfterBasicMonth if byte == b'-' => Some(Code::DateSeparator),
+            Stop::AfterBasicMinute | Stop::AfterColonMinute if mixes => Some(Code::TimeSeparator),
+            Stop::OffsetAfterBasicMinute | Stop::OffsetAfterColonMinute if mixes => Some(
+                Code::UtcTimeSeparator,
+            ),
+            Stop::ZoneOffsetAfterBasicMinute | Stop::ZoneOffsetAfterColonMinute if mixes => Some(
+                Code::InvalidMinutePrecisionOffset,
+            ),
+            Stop::AfterSecondField if byte == b'.' || byte == b',' => Some(Code::FractionPart),
+            Stop::InZoneName if !brackets && byte == b']' => Some(Code::InvalidEnd),
+            _ => None,
+        }
+    }
+}
+
+// The codes of each `Stop`, in the order of the variants, in a reader that reads brackets.
+const CODES: &[Codes; 126] = &[
+    (AbruptDigit, NonAsciiCodePoint, DateYear, false),
+    (AbruptDigit, NonAsciiCodePoint, DateYear, false),
+    (AbruptDigit, NonAsciiCodePoint, DateExtendedYear, false),
+    (DateExtendedYear, DateExtendedYear, DateExtendedYear, false),
+    (AbruptDate, NonAsciiCodePoint, DateMonth, false),
+    (AbruptDigit, NonAsciiCodePoint, DateMonth, false),
+    (
+        InvalidMonthRange,
+        InvalidMonthRange,
+        InvalidMonthRange,
+        false,
+    ),
+    (DateSeparator, NonAsciiCodePoint, DateSeparator, false),
+    (AbruptDigit, NonAsciiCodePoint, DateDay, true),
+    (AbruptDigit, NonAsciiCodePoint, DateDay, false),
+    (InvalidDayRange, InvalidDayRange, InvalidDayRange, false),
+    (InvalidEnd, NonAsciiCodePoint, InvalidEnd, false),
+    (AbruptDigit, NonAsciiCodePoint, DateMonth, false),
+    (InvalidEnd, NonAsciiCodePoint, InvalidEnd, false),
+    (AbruptMonthDay, NonAsciiCodePoint, DateMonth, false),
+    (AbruptMonthDay, NonAsciiCodePoint, MonthDayHyphen, false),
+    (AbruptDigit, NonAsciiCodePoint, DateMonth, false),
+    (
+        InvalidMonthRange,
+        InvalidMonthRange,
+        InvalidMonthRange,
+        false,
+    ),
+    (AbruptDigit, NonAsciiCodePoint, DateDay, false),
+    (AbruptDigit, NonAsciiCodePoint, DateDay, false),
+    (InvalidMonthDay, InvalidMonthDay, InvalidMonthDay, false),
+    (InvalidEnd, NonAsciiCodePoint, InvalidEnd, false),
+    (AbruptDigit, NonAsciiCodePoint, TimeHour, false),
+    (
+        AmbiguousTimeMonthDay,
+        AmbiguousTimeMonthDay,
+        AmbiguousTimeMonthDay,
+        false,
+    ),
+    (
+        AmbiguousTimeYearMonth,
+        AmbiguousTimeYearMonth,
+        AmbiguousTimeYearMonth,
+        false,
+    ),
+    (AbruptDigit, NonAsciiCodePoint, TimeHour, false),
+    (AbruptDigit, NonAsciiCodePoint, TimeHour, false),
+    (TimeHour, TimeHour, TimeHour, false),
+    (InvalidEnd, NonAsciiCodePoint, InvalidEnd, false),
+    (AbruptDigit, NonAsciiCodePoint, TimeMinuteSecond, false),
+    (TimeMinuteSecond, TimeMinuteSecond, TimeMinuteSecond, false),
+    (InvalidEnd, NonAsciiCodePoint, InvalidEnd, true),
+    (InvalidEnd, NonAsciiCodePoint, InvalidEnd, true),
+    (AbruptDigit, NonAsciiCodePoint, TimeSecond, false),
+    (TimeSecond, TimeSecond, TimeSecond, false),
+    (InvalidEnd, NonAsciiCodePoint, InvalidEnd, false),
+    (FractionPart, NonAsciiCodePoint, FractionPart, false),
+    (InvalidEnd, NonAsciiCodePoint, InvalidEnd, false),
+    (AbruptDigit, NonAsciiCodePoint, TimeHour, false),
+    (AbruptDigit, NonAsciiCodePoint, TimeHour, false),
+    (TimeHour, TimeHour, TimeHour, false),
+    (InvalidEnd, NonAsciiCodePoint, InvalidEnd, false),
+    (AbruptDigit, NonAsciiCodePoint, TimeMinuteSecond, false),
+    (TimeMinuteSecond, TimeMinuteSecond, TimeMinuteSecond, false),
+    (InvalidEnd, NonAsciiCodePoint, InvalidEnd, true),
+    (InvalidEnd, NonAsciiCodePoint, InvalidEnd, true),
+    (AbruptDigit, NonAsciiCodePoint, TimeMinuteSecond, false),
+    (TimeMinuteSecond, TimeMinuteSecond, TimeMinuteSecond, false),
+    (InvalidEnd, NonAsciiCodePoint, InvalidEnd, false),
+    (FractionPart, NonAsciiCodePoint, FractionPart, false),
+    (InvalidEnd, NonAsciiCodePoint, InvalidEnd, false),
+    (AbruptDigit, NonAsciiCodePoint, TimeHour, false),
+    (AbruptDigit, NonAsciiCodePoint, TimeHour, false),
+    (TimeHour, TimeHour, TimeHour, false),
+    (AnnotationClose, NonAsciiCodePoint, AnnotationClose, false),
+    (AbruptDigit, NonAsciiCodePoint, TimeMinuteSecond, false),
+    (TimeMinuteSecond, TimeMinuteSecond, TimeMinuteSecond, false),
+    (AnnotationClose, NonAsciiCodePoint, AnnotationClose, true),
+    (AnnotationClose, NonAsciiCodePoint, AnnotationClose, true),
+    (AbruptDigit, NonAsciiCodePoint, TimeMinuteSecond, false),
+    (TimeMinuteSecond, TimeMinuteSecond, TimeMinuteSecond, false),
+    (AnnotationClose, NonAsciiCodePoint, AnnotationClose, false),
+    (FractionPart, NonAsciiCodePoint, FractionPart, false),
+    (AnnotationClose, NonAsciiCodePoint, AnnotationClose, false),
+    (AbruptOffset, NonAsciiCodePoint, OffsetNeedsSign, false),
+    (InvalidEnd, NonAsciiCodePoint, InvalidEnd, false),
+    (AbruptDigit, NonAsciiCodePoint, DateYear, false),
+    (AbruptDate, NonAsciiCodePoint, DateSeparator, false),
+    (AbruptDigit, NonAsciiCodePoint, DateMonth, false),
+    (AbruptDigit, NonAsciiCodePoint, DateDay, false),
+    (AbruptDigit, NonAsciiCodePoint, TimeHour, false),
+    (AbruptDigit, NonAsciiCodePoint, TimeMinuteSecond, false),
+    (AbruptDigit, NonAsciiCodePoint, TimeSecond, false),
+    (AbruptDigit, NonAsciiCodePoint, TimeHour, false),
+    (AbruptDigit, NonAsciiCodePoint, TimeMinuteSecond, false),
+    (
+        InvalidMonthRange,
+        InvalidMonthRange,
+        InvalidMonthRange,
+        false,
+    ),
+    (InvalidDayRange, InvalidDayRange, InvalidDayRange, false),
+    (TimeHour, TimeHour, TimeHour, false),
+    (TimeMinuteSecond, TimeMinuteSecond, TimeMinuteSecond, false),
+    (TimeSecond, TimeSecond, TimeSecond, false),
+    (TimeHour, TimeHour, TimeHour, false),
+    (TimeMinuteSecond, TimeMinuteSecond, TimeMinuteSecond, false),
+    (DateSeparator, NonAsciiCodePoint, DateSeparator, false),
+    (TimeSeparator, NonAsciiCodePoint, TimeSeparator, false),
+    (TimeSeparator, NonAsciiCodePoint, TimeSeparator, false),
+    (TimeSeparator, NonAsciiCodePoint, TimeSeparator, false),
+    (AbruptOffset, NonAsciiCodePoint, OffsetNeedsSign, true),
+    (UtcTimeSeparator, NonAsciiCodePoint, UtcTimeSeparator, false),
+    (InvalidEnd, NonAsciiCodePoint, InvalidEnd, false),
+    (FractionPart, NonAsciiCodePoint, FractionPart, false),
+    (AbruptOffset, NonAsciiCodePoint, OffsetNeedsSign, false),
+    (InvalidEnd, NonAsciiCodePoint, InvalidEnd, false),
+    (AbruptZone, NonAsciiCodePoint, TzLeadingChar, false),
+    (TzLeadingChar, NonAsciiCodePoint, TzLeadingChar, false),
+    (AnnotationClose, NonAsciiCodePoint, IanaChar, false),
+    (
+        IanaCharPostSeparator,
+        NonAsciiCodePoint,
+        IanaCharPostSeparator,
+        false,
+    ),
+    (AbruptBracket, NonAsciiCodePoint, TzLeadingChar, false),
+    (AbruptBracket, NonAsciiCodePoint, TzLeadingChar, false),
+    (AbruptBracket, NonAsciiCodePoint, AbruptBracket, false),
+    (IanaChar, IanaChar, IanaChar, false),
+    (
+        InvalidMinutePrecisionOffset,
+        InvalidMinutePrecisionOffset,
+        InvalidMinutePrecisionOffset,
+        false,
+    ),
+    (InvalidEnd, NonAsciiCodePoint, InvalidEnd, false),
+    (
+        AnnotationKeyLeadingChar,
+        NonAsciiCodePoint,
+        AnnotationKeyLeadingChar,
+        false,
+    ),
+    (
+        AnnotationKeyLeadingChar,
+        NonAsciiCodePoint,
+        AnnotationKeyLeadingChar,
+        false,
+    ),
+    (
+        AnnotationKeyValueSeparator,
+        NonAsciiCodePoint,
+        AnnotationKeyChar,
+        false,
+    ),
+    (
+        AnnotationValueChar,
+        NonAsciiCodePoint,
+        AnnotationValueChar,
+        false,
+    ),
+    (
+        AnnotationClose,
+        NonAsciiCodePoint,
+        AnnotationValueChar,
+        false,
+    ),
+    (
+        AnnotationValueCharPostHyphen,
+        NonAsciiCodePoint,
+        AnnotationValueCharPostHyphen,
+        false,
+    ),
+    (
+        AbruptDurationStart,
+        NonAsciiCodePoint,
+        DurationDisgnator,
+        false,
+    ),
+    (
+        AbruptDurationDesignator,
+        NonAsciiCodePoint,
+        DurationDisgnator,
+        false,
+    ),
+    (AbruptDuration, NonAsciiCodePoint, InvalidEnd, false),
+    (InvalidEnd, NonAsciiCodePoint, InvalidEnd, false),
+    (
+        TimeDurationDesignator,
+        NonAsciiCodePoint,
+        TimeDurationDesignator,
+        false,
+    ),
+    (InvalidEnd, NonAsciiCodePoint, InvalidEnd, false),
+    (InvalidEnd, NonAsciiCodePoint, InvalidEnd, false),
+    (
+        AbruptDateDesignator,
+        NonAsciiCodePoint,
+        AbruptDateDesignator,
+        false,
+    ),
+    (
+        AbruptTimeDesignator,
+        NonAsciiCodePoint,
+        AbruptTimeDesignator,
+        false,
+    ),
+    (
+        DurationValueExceededRange,
+        DurationValueExceededRange,
+        DurationValueExceededRange,
+        false,
+    ),
+    (
+        DurationValueExceededRange,
+        DurationValueExceededRange,
+        DurationValueExceededRange,
+        false,
+    ),
+    (
+        DateDurationPartOrder,
+        DateDurationPartOrder,
+        DateDurationPartOrder,
+        false,
+    ),
+    (
+        TimeDurationPartOrder,
+        TimeDurationPartOrder,
+        TimeDurationPartOrder,
+        false,
+    ),
+    (
+        DurationValueExceededRange,
+        DurationValueExceededRange,
+        DurationValueExceededRange,
+        false,
+    ),
+    (FractionPart, NonAsciiCodePoint, FractionPart, false),
+    (
+        AbruptTimeDesignator,
+        NonAsciiCodePoint,
+        AbruptTimeDesignator,
+        false,
+    ),
+    (
+        UnrecognizedCritical,
+        UnrecognizedCritical,
+        UnrecognizedCritical,
+        false,
+    ),
+    (
+        CriticalDuplicateCalendar,
+        CriticalDuplicateCalendar,
+        CriticalDuplicateCalendar,
+        false,
+    ),
+];
+
+// The codes of each `Stop`, in the order of the variants, in a reader that reads no brackets.
+const LONE_CODES: &[Codes; 126] = &[
+    (AbruptDigit, NonAsciiCodePoint, DateYear, false),
+    (AbruptDigit, NonAsciiCodePoint, DateYear, false),
+    (AbruptDigit, NonAsciiCodePoint, DateExtendedYear, false),
+    (DateExtendedYear, DateExtendedYear, DateExtendedYear, false),
+    (AbruptDate, NonAsciiCodePoint, DateMonth, false),
+    (AbruptDigit, NonAsciiCodePoint, DateMonth, false),
+    (
+        InvalidMonthRange,
+        InvalidMonthRange,
+        InvalidMonthRange,
+        false,
+    ),
+    (DateSeparator, NonAsciiCodePoint, DateSeparator, false),
+    (AbruptDigit, NonAsciiCodePoint, DateDay, true),
+    (AbruptDigit, NonAsciiCodePoint, DateDay, false),
+    (InvalidDayRange, InvalidDayRange, InvalidDayRange, false),
+    (InvalidEnd, NonAsciiCodePoint, InvalidEnd, false),
+    (AbruptDigit, NonAsciiCodePoint, DateMonth, false),
+    (InvalidEnd, NonAsciiCodePoint, InvalidEnd, false),
+    (AbruptMonthDay, NonAsciiCodePoint, DateMonth, false),
+    (AbruptMonthDay, NonAsciiCodePoint, MonthDayHyphen, false),
+    (AbruptDigit, NonAsciiCodePoint, DateMonth, false),
+    (
+        InvalidMonthRange,
+        InvalidMonthRange,
+        InvalidMonthRange,
+        false,
+    ),
+    (AbruptDigit, NonAsciiCodePoint, DateDay, false),
+    (AbruptDigit, NonAsciiCodePoint, DateDay, false),
+    (InvalidMonthDay, InvalidMonthDay, InvalidMonthDay, false),
+    (InvalidEnd, NonAsciiCodePoint, InvalidEnd, false),
+    (AbruptDigit, NonAsciiCodePoint, TimeHour, false),
+    (
+        AmbiguousTimeMonthDay,
+        AmbiguousTimeMonthDay,
+        AmbiguousTimeMonthDay,
+        false,
+    ),
+    (
+        AmbiguousTimeYearMonth,
+        AmbiguousTimeYearMonth,
+        AmbiguousTimeYearMonth,
+        false,
+    ),
+    (AbruptDigit, NonAsciiCodePoint, TimeHour, false),
+    (AbruptDigit, NonAsciiCodePoint, TimeHour, false),
+    (TimeHour, TimeHour, TimeHour, false),
+    (InvalidEnd, NonAsciiCodePoint, InvalidEnd, false),
+    (AbruptDigit, NonAsciiCodePoint, TimeMinuteSecond, false),
+    (TimeMinuteSecond, TimeMinuteSecond, TimeMinuteSecond, false),
+    (InvalidEnd, NonAsciiCodePoint, InvalidEnd, true),
+    (InvalidEnd, NonAsciiCodePoint, InvalidEnd, true),
+    (AbruptDigit, NonAsciiCodePoint, TimeSecond, false),
+    (TimeSecond, TimeSecond, TimeSecond, false),
+    (InvalidEnd, NonAsciiCodePoint, InvalidEnd, false),
+    (FractionPart, NonAsciiCodePoint, FractionPart, false),
+    (InvalidEnd, NonAsciiCodePoint, InvalidEnd, false),
+    (AbruptDigit, NonAsciiCodePoint, TimeHour, false),
+    (AbruptDigit, NonAsciiCodePoint, TimeHour, false),
+    (TimeHour, TimeHour, TimeHour, false),
+    (InvalidEnd, NonAsciiCodePoint, InvalidEnd, false),
+    (AbruptDigit, NonAsciiCodePoint, TimeMinuteSecond, false),
+    (TimeMinuteSecond, TimeMinuteSecond, TimeMinuteSecond, false),
+    (InvalidEnd, NonAsciiCodePoint, InvalidEnd, true),
+    (InvalidEnd, NonAsciiCodePoint, InvalidEnd, true),
+    (AbruptDigit, NonAsciiCodePoint, TimeMinuteSecond, false),
+    (TimeMinuteSecond, TimeMinuteSecond, TimeMinuteSecond, false),
+    (InvalidEnd, NonAsciiCodePoint, InvalidEnd, false),
+    (FractionPart, NonAsciiCodePoint, FractionPart, false),
+    (InvalidEnd, NonAsciiCodePoint, InvalidEnd, false),
+    (AbruptDigit, NonAsciiCodePoint, TimeHour, false),
+    (AbruptDigit, NonAsciiCodePoint, TimeHour, false),
+    (TimeHour, TimeHour, TimeHour, false),
+    (InvalidEnd, NonAsciiCodePoint, InvalidEnd, false),
+    (AbruptDigit, NonAsciiCodePoint, TimeMinuteSecond, false),
+    (TimeMinuteSecond, TimeMinuteSecond, TimeMinuteSecond, false),
+    (InvalidEnd, NonAsciiCodePoint, InvalidEnd, true),
+    (InvalidEnd, NonAsciiCodePoint, InvalidEnd, true),
+    (AbruptDigit, NonAsciiCodePoint, TimeMinuteSecond, false),
+    (TimeMinuteSecond, TimeMinuteSecond, TimeMinuteSecond, false),
+    (InvalidEnd, NonAsciiCodePoint, InvalidEnd, false),
+    (FractionPart, NonAsciiCodePoint, FractionPart, false),
+    (InvalidEnd, NonAsciiCodePoint, InvalidEnd, false),
+    (AbruptOffset, NonAsciiCodePoint, OffsetNeedsSign, false),
+    (InvalidEnd, NonAsciiCodePoint, InvalidEnd, false),
+    (AbruptDigit, NonAsciiCodePoint, DateYear, false),
+    (AbruptDate, NonAsciiCodePoint, DateSeparator, false),
+    (AbruptDigit, NonAsciiCodePoint, DateMonth, false),
+    (AbruptDigit, NonAsciiCodePoint, DateDay, false),
+    (AbruptDigit, NonAsciiCodePoint, TimeHour, false),
+    (AbruptDigit, NonAsciiCodePoint, TimeMinuteSecond, false),
+    (AbruptDigit, NonAsciiCodePoint, TimeSecond, false),
+    (AbruptDigit, NonAsciiCodePoint, TimeHour, false),
+    (AbruptDigit, NonAsciiCodePoint, TimeMinuteSecond, false),
+    (
+        InvalidMonthRange,
+        InvalidMonthRange,
+        InvalidMonthRange,
+        false,
+    ),
+    (InvalidDayRange, InvalidDayRange, InvalidDayRange, false),
+    (TimeHour, TimeHour, TimeHour, false),
+    (TimeMinuteSecond, TimeMinuteSecond, TimeMinuteSecond, false),
+    (TimeSecond, TimeSecond, TimeSecond, false),
+    (TimeHour, TimeHour, TimeHour, false),
+    (TimeMinuteSecond, TimeMinuteSecond, TimeMinuteSecond, false),
+    (DateSeparator, NonAsciiCodePoint, DateSeparator, false),
+    (TimeSeparator, NonAsciiCodePoint, TimeSeparator, false),
+    (TimeSeparator, NonAsciiCodePoint, TimeSeparator, false),
+    (TimeSeparator, NonAsciiCodePoint, TimeSeparator, false),
+    (AbruptOffset, NonAsciiCodePoint, OffsetNeedsSign, true),
+    (UtcTimeSeparator, NonAsciiCodePoint, UtcTimeSeparator, false),
+    (InvalidEnd, NonAsciiCodePoint, InvalidEnd, false),
+    (FractionPart, NonAsciiCodePoint, FractionPart, false),
+    (AbruptOffset, NonAsciiCodePoint, OffsetNeedsSign, false),
+    (InvalidEnd, NonAsciiCodePoint, InvalidEnd, false),
+    (AbruptZone, NonAsciiCodePoint, TzLeadingChar, false),
+    (TzLeadingChar, NonAsciiCodePoint, TzLeadingChar, false),
+    (InvalidEnd, NonAsciiCodePoint, IanaChar, true),
+    (
+        IanaCharPostSeparator,
+        NonAsciiCodePoint,
+        IanaCharPostSeparator,
+        false,
+    ),
+    (AbruptBracket, NonAsciiCodePoint, TzLeadingChar, false),
+    (AbruptBracket, NonAsciiCodePoint, TzLeadingChar, false),
+    (AbruptBracket, NonAsciiCodePoint, AbruptBracket, false),
+    (IanaChar, IanaChar, IanaChar, false),
+    (
+        InvalidMinutePrecisionOffset,
+        InvalidMinutePrecisionOffset,
+        InvalidMinutePrecisionOffset,
+        false,
+    ),
+    (InvalidEnd, NonAsciiCodePoint, InvalidEnd, false),
+    (
+        AnnotationKeyLeadingChar,
+        NonAsciiCodePoint,
+        AnnotationKeyLeadingChar,
+        false,
+    ),
+    (
+        AnnotationKeyLeadingChar,
+        NonAsciiCodePoint,
+        AnnotationKeyLeadingChar,
+        false,
+    ),
+    (
+        AnnotationKeyValueSeparator,
+        NonAsciiCodePoint,
+        AnnotationKeyChar,
+        false,
+    ),
+    (
+        AnnotationValueChar,
+        NonAsciiCodePoint,
+        AnnotationValueChar,
+        false,
+    ),
+    (
+        AnnotationClose,
+        NonAsciiCodePoint,
+        AnnotationValueChar,
+        false,
+    ),
+    (
+        AnnotationValueCharPostHyphen,
+        NonAsciiCodePoint,
+        AnnotationValueCharPostHyphen,
+        false,
+    ),
+    (
+        AbruptDurationStart,
+        NonAsciiCodePoint,
+        DurationDisgnator,
+        false,
+    ),
+    (
+        AbruptDurationDesignator,
+        NonAsciiCodePoint,
+        DurationDisgnator,
+        false,
+    ),
+    (AbruptDuration, NonAsciiCodePoint, InvalidEnd, false),
+    (InvalidEnd, NonAsciiCodePoint, InvalidEnd, false),
+    (
+        TimeDurationDesignator,
+        NonAsciiCodePoint,
+        TimeDurationDesignator,
+        false,
+    ),
+    (InvalidEnd, NonAsciiCodePoint, InvalidEnd, false),
+    (InvalidEnd, NonAsciiCodePoint, InvalidEnd, false),
+    (
+        AbruptDateDesignator,
+        NonAsciiCodePoint,
+        AbruptDateDesignator,
+        false,
+    ),
+    (
+        AbruptTimeDesignator,
+        NonAsciiCodePoint,
+        AbruptTimeDesignator,
+        false,
+    ),
+    (
+        DurationValueExceededRange,
+        DurationValueExceededRange,
+        DurationValueExceededRange,
+        false,
+    ),
+    (
+        DurationValueExceededRange,
+        DurationValueExceededRange,
+        DurationValueExceededRange,
+        false,
+    ),
+    (
+        DateDurationPartOrder,
+        DateDurationPartOrder,
+        DateDurationPartOrder,
+        false,
+    ),
+    (
+        TimeDurationPartOrder,
+        TimeDurationPartOrder,
+        TimeDurationPartOrder,
+        false,
+    ),
+    (
+        DurationValueExceededRange,
+        DurationValueExceededRange,
+        DurationValueExceededRange,
+        false,
+    ),
+    (FractionPart, NonAsciiCodePoint, FractionPart, false),
+    (
+        AbruptTimeDesignator,
+        NonAsciiCodePoint,
+        AbruptTimeDesignator,
+        false,
+    ),
+    (
+        UnrecognizedCritical,
+        UnrecognizedCritical,
+        UnrecognizedCritical,
+        false,
+    ),
+    (
+        CriticalDuplicateCalendar,
+        CriticalDuplicateCalendar,
+        CriticalDuplicateCalendar,
+        false,
+    ),
+];
+
+/// The code of an error. There is one variant for each error that a reader can return. The error `ParseError::AbruptEnd` has
+/// a location, and there is one variant for each of its locations.
+#[derive(Clone, Copy)]
+pub enum Code {
     NonAsciiCodePoint,
     AbruptDigit,
     AbruptDate,
@@ -60,8 +791,8 @@ pub enum Stop {
     TimeDurationDesignator,
 }
 
-impl Stop {
-    /// Returns the `ParseError` of this `Stop`.
+impl Code {
+    /// Returns the `ParseError` of this code.
     ///
     /// The function is inlined, so that a reader that calls it needs no function call.
     #[inline(always)]
@@ -70,7 +801,7 @@ impl Stop {
     }
 }
 
-// The error of each `Stop`, in the order of the variants.
+// The error of each code, in the order of the variants.
 const ERRORS: &[ParseError; 48] = &[
     ParseError::NonAsciiCodePoint,
     ParseError::AbruptEnd { location: "digit" },
@@ -142,30 +873,42 @@ const ERRORS: &[ParseError; 48] = &[
 
 const _: () = assert!(size_of::<Stop>() == 1);
 
-/// A `Stop` and its position.
+/// Returns `Err(stop)`.
+///
+/// The attribute `cold` tells the compiler that errors are rare. Without it, the compiled code sets the number of the `Stop` before
+/// it tests a code unit, and so also if there is no error.
+#[cold]
+#[inline(always)]
+pub fn stopped<R>(stop: Stop) -> Result<R, Stop> {
+    Err(stop)
+}
+
+/// A `Stop`, the code of its error, and its position.
 #[derive(Clone, Copy)]
 pub struct StopAt {
     /// The `Stop`.
     pub stop: Stop,
+    /// The code of the error.
+    pub code: Code,
     /// The position: the number of code units before the error.
     pub at: usize,
 }
 
-/// An error that can be made from a `Stop`: `ParseError`, or `LocatedError` with the position.
+/// An error that can be made from a `StopAt`: `ParseError`, or `LocatedError` with the position.
 ///
 /// A function that can return either of the two is generic in the type of its error, with this trait as the bound.
 pub trait FromStop {
-    /// Makes the error from a `Stop` with position `at`.
-    fn of_stop(stop: Stop, at: usize) -> Self;
+    /// Makes the error.
+    fn of_stop(why: StopAt) -> Self;
 }
 
 impl FromStop for LocatedError {
     /// Makes the error with its position.
     #[inline(always)]
-    fn of_stop(stop: Stop, at: usize) -> LocatedError {
+    fn of_stop(why: StopAt) -> LocatedError {
         LocatedError {
-            error: stop.error(),
-            at,
+            error: why.code.error(),
+            at: why.at,
         }
     }
 }
@@ -173,17 +916,17 @@ impl FromStop for LocatedError {
 impl FromStop for ParseError {
     /// Makes the error, without its position.
     #[inline(always)]
-    fn of_stop(stop: Stop, _at: usize) -> ParseError {
-        stop.error()
+    fn of_stop(why: StopAt) -> ParseError {
+        why.code.error()
     }
 }
 
-/// Makes the error from a `Stop` with position `at`.
+/// Makes the error.
 ///
 /// The function is not inlined, so that the code of its callers stays small. But it is generic, so the compiler knows its
 /// body when it compiles a caller. If the caller does not use the error, the compiler can remove the call.
 #[cold]
 #[inline(never)]
-pub fn error_of_stop<E: FromStop>(stop: Stop, at: usize) -> E {
-    E::of_stop(stop, at)
+pub fn error_of_stop<E: FromStop>(why: StopAt) -> E {
+    E::of_stop(why)
 }

@@ -26,19 +26,21 @@ pub trait LineTask<const LIMIT: usize> {
 pub struct Driven {
     /// The number of bytes that were read.
     pub bytes: u64,
-    /// `Ok` if all bytes were read and all results were written. Otherwise the error that ended the run.
+    /// `Ok` if all bytes were read, all results were written, and the sink was flushed. Otherwise the error that ended the run.
     pub end: Result<(), RunError>,
 }
 
-/// Reads the source to its end, and passes each of its lines to the task. The task writes its results to the sink.
+/// Reads the source up to its end or an error, and passes each line to the task. The task writes its results to the sink.
 ///
 /// A newline ends a line. If bytes follow the last newline, they are the last line. A source without a newline is one line,
 /// unless it is empty.
 ///
-/// Before each read and at the end, all results are written to the sink. At the end, the sink is also flushed.
+/// Before each read, all results of the lines before it are written to the sink. When the source has ended, the other results
+/// are written, and then the sink is flushed. If a read ends the run, the sink is not flushed, and bytes after the last newline
+/// are not passed to the task.
 ///
-/// A read asks for `LIMIT` bytes. If a read could make the number of bytes in the run greater than `u64::MAX`, the function
-/// returns `RunError::Read` instead of reading.
+/// A read asks for at most `LIMIT` bytes. Before each read, the function adds `LIMIT` to the total number of bytes that were read
+/// so far. If the sum is greater than `u64::MAX`, the run ends without this read, and [`Driven::end`] is `Err(RunError::Read)`.
 pub fn drive<S: Source, K: Sink, T: LineTask<LIMIT>, const LIMIT: usize>(
     source: &mut S,
     sink: &mut K,

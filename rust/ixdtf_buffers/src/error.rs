@@ -6,7 +6,8 @@
 /// The error that ended a run.
 #[derive(Clone, Copy, Debug, PartialEq)]
 pub enum RunError {
-    /// A read returned an error, or the next read could make the number of bytes in the run greater than `u64::MAX`.
+    /// A read returned an error. Or the run stopped before a read, because the total number of bytes that were read could have
+    /// become greater than `u64::MAX`.
     Read = 1,
     /// A write or a flush returned an error, or a write accepted no bytes.
     Write = 2,

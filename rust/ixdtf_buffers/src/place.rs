@@ -14,8 +14,8 @@ const HIGHS: u64 = ONES << 7;
 
 /// Returns the index of the first byte that is equal to `wanted`.
 ///
-/// The first byte is compared separately. If many fields or lines are empty, each comparison of many bytes would otherwise have to wait for
-/// the result of the comparison before it.
+/// The function compares `bytes[0]` with `wanted` before it compares the bytes of a word. In a text with many empty lines or fields, `bytes[0]`
+/// is often the wanted byte. Then the result is 0, and no comparison of a word is needed.
 pub fn place_of(wanted: u8, bytes: &[u8]) -> Option<usize> {
     match bytes {
         [] => None,

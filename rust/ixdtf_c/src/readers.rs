@@ -155,6 +155,6 @@ where
             calendar.write(kept);
             0
         }
-        Err(stop) => number_and_location(stop.error()).0,
+        Err(error) => number_and_location(error).0,
     }
 }

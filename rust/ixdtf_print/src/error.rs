@@ -21,8 +21,8 @@ use core::fmt;
 pub enum PrintError {
     /// The record has no canonical text. For [`print`](crate::print), there are three kinds of such records: a record
     /// without a date, a record with an offset but without a time, and a record with a value that `parse` never returns,
-    /// such as the month 13 or February 30. The documentation of each other function that prints says which records it
-    /// refuses.
+    /// such as the month 13 or February 30. The documentation of every function that prints says which records have no
+    /// canonical text.
     NotPrintable,
     /// The canonical text of the record is longer than the slice. For [`print`](crate::print), the function
     /// [`printed_length`](crate::printed_length) returns the length of the canonical text. If `parse` returned the record,

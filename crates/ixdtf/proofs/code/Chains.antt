@@ -6,6 +6,7 @@ use Rattle.ixdtf_grammar.specs.{declared.records.Annotation.Annotation, language
 use Rattle.ixdtf_grammar.specs.language.{Readers.{Reader, CoreKind, has_exact_zones, Reader.bracketed}, Languages.{Parsed, parsed_with, IsBracketed, Derives.as_parsed}}
 use Rattle.ixdtf_grammar.specs.{table.{Faults.Fault, Rows.{Row, Fits}}, Handlers.{first_calendar, RefusedBeside, NoneRefused, LastRefused, calendar_value}}
 use Rattle.ixdtf_grammar.specs.Handlers.{with_calendar, pair_of, Calls, handed, replies_of, Step, IsChain}
+use Rattle.ixdtf_reading.specs.{declared.stop.Stop.Stop, reading.Stops.Refuses}
 use Rattle.ixdtf_reading.specs.reading.{Looks.{Placed, error_of}, Brackets.{Bracket, zone_in, pairs_in}}
 use Rattle.ixdtf_reading.specs.reading.Chains.{FitsAfterBrackets, PairsUpTo, PairsRead, TextGives, TextRead}
 use Rattle.ixdtf_reading.proofs.{to_reading.ExactBracket.IsBracketBy, to_grammar.Wholes.{after_brackets, tail_of, bracket_stands}, theorems.Replies.first_calendar-more}
@@ -85,8 +86,9 @@ module _ {T U F : Type 0} (number : U → ℕ) (step : Step T U F) (handler : F)
       kept = is ∙ sym (first_calendar-more [] (reply_of reply)) ∙ ap first_calendar (sym one_reply);
     }
 
-    pub read_first_refused : (fault : Fault) → RefusedBeside None (reply_of reply) fault → PairsRead number step handler next first text (Err (fault, text))
-    read_first_refused fault refused =
+    pub read_first_refused : (stop : Stop) → (fault : Fault) × Refuses stop fault × RefusedBeside None (reply_of reply) fault
+        → PairsRead number step handler next first text (Err (stop, text))
+    read_first_refused stop (fault, refuses, refused) =
         let last : LastRefused (replies_of number one_call) fault = record {
           earlier = [];
           reply = reply_of reply;
@@ -94,7 +96,7 @@ module _ {T U F : Type 0} (number : U → ℕ) (step : Step T U F) (handler : F)
           none = NoneRefused-nothing;
           refused = refused;
         } in
-        record { calls = one_call; chain = one_chain; more = []; all = one_handed; gives = (text, ([], refl, refl), inl (last, refl)) }
+        record { calls = one_call; chain = one_chain; more = []; all = one_handed; gives = (text, ([], refl, refl), inl ((fault, last, refuses), refl)) }
 
   -- The handler is called with one more annotation.
   module _ {state : F} {rest : Text} {calendar : Option Pair} {annotation : Annotation T U} {bracket : Text} (after : Text)
@@ -138,8 +140,9 @@ module _ {T U F : Type 0} (number : U → ℕ) (step : Step T U F) (handler : F)
     }
 
     -- The reply is refused.
-    pub read_refused : (fault : Fault) → RefusedBeside calendar (reply_of reply) fault → PairsRead number step handler next first text (Err (fault, after))
-    read_refused fault refused =
+    pub read_refused : (stop : Stop) → (fault : Fault) × Refuses stop fault × RefusedBeside calendar (reply_of reply) fault
+        → PairsRead number step handler next first text (Err (stop, after))
+    read_refused stop (fault, refuses, refused) =
         let last : LastRefused (replies_of number more_calls) fault = record {
           earlier = replies_of number so_far.calls;
           reply = reply_of reply;
@@ -152,7 +155,7 @@ module _ {T U F : Type 0} (number : U → ℕ) (step : Step T U F) (handler : F)
           chain = more_chain;
           more = so_far.more ++ pair_of number annotation ∷ [];
           all = more_handed;
-          gives = (after, more_upto, inl (last, refl));
+          gives = (after, more_upto, inl ((fault, last, refuses), refl));
         }
 
   -- No text is left.

@@ -4,12 +4,12 @@ use Rattle.ixdtf_grammar.specs.{declared.located.LocatedError.LocatedError, lang
 use Rattle.ixdtf_grammar.specs.{language.Readers.{Reader, CoreKind, Reader.bracketed}, table.Faults.{Fault, fault_of_located}, Handlers.{Step, replies_of}}
 use Rattle.ixdtf_grammar.specs.{Promises.{ReadsText, ReadsTextAt, HandlesText, HandlesTextAt, ReadsPartAt, most_looks_beside}}
 use Rattle.ixdtf_grammar.specs.Views.{Unread, UnreadUnder, most_looks, LeavesBehind}
-use Rattle.ixdtf_reading.specs.{declared.stop.StopAt.StopAt, reading.{Clauses.fault_of_stop_at, Chains.{Counting, TextRead}, Looks.{Read, Placed}}}
+use Rattle.ixdtf_reading.specs.{declared.stop.StopAt.StopAt, reading.{Chains.{Counting, TextRead}, Looks.{Read, Placed}}}
 use Rattle.ixdtf_reading.proofs.{code.Located.Located, theorems.Handled.{OwnReplies, handled, handled_of, gives_result, handled_accepted, unhandled_form}}
 use Rattle.ixdtf_reading.proofs.theorems.HandledAt.{handled_at_ok, handled_at_err, handled_to_at_ok, handled_to_at_err, unhandled_at}
 use Rattle.ixdtf_reading.proofs.theorems.OnePlace.{one_unhandled_place}
 use Rattle.ixdtf.proofs.code.Counted.{cost_of, own_costs_nothing, text_of}
-use Rattle.ixdtf.specs.Readings.{ReadsInto, ReadsUnhandled, HandlesTextTo}
+use Rattle.ixdtf.specs.Readings.{ReadsInto, ReadsUnhandled, HandlesTextTo, fault_of_stop_at}
 
 -- The results of reading into a record: success, and an error.
 abbrev ended : Result Unit StopAt
@@ -53,11 +53,11 @@ unhandled letter number step handler last found kind old new (Ok x) own read =
     }
 unhandled letter number step handler last found kind old new (Err why) own read =
     let text = map letter old.rest in
-    let (left, lengths, counted) = read.replied in
+    let (left, lengths, counted, code) = read.replied in
     let alone = text_of number step counted in
-    let stands = unhandled_at number step handler last (bracketed kind) text own why (left, lengths, alone) in
+    let stands = unhandled_at number step handler last (bracketed kind) text own why (left, lengths, alone, code) in
     let nothing = own_costs_nothing number step own counted.calls _ _ counted.chain in record {
-      form = unhandled_form (handled number step handler (bracketed kind) text _ last alone) own;
+      form = rw code (unhandled_form (handled number step handler (bracketed kind) text _ last alone) own);
       err = stands;
       place = one_unhandled_place kind text (fault_of_stop_at why) why.at stands;
       leaves = leaves_err fault_of_stop_at (omega (arith, nothing)) why why refl read.leaves;
@@ -128,8 +128,8 @@ module _ {T U F X E : Type 0} (letter : ℕ → Letter) (number : U → ℕ) (st
   handles_err found e why same read =
       let text = map letter old.rest in
       let alone = text_of number step read.replied.2 in
-      let gives = gives_result reader text _ _ (Err (fault_of_stop_at why, read.replied.0)) alone.gives in record {
-        handled = handled_of number step handler reader text (Err (fault e)) alone.calls last alone.chain (rw same gives);
+      let gives = gives_result reader text _ _ (Err (why.stop, read.replied.0)) alone.gives in record {
+        handled = handled_of number step handler reader text (Err (fault e)) alone.calls last alone.chain (rw (same, read.replied.3) gives);
         no_row = tt;
         no_other_reader = tt;
         leaves = leaves_err fault (within read.replied.2) e why same read.leaves;
@@ -154,9 +154,9 @@ module _ {T U F X E : Type 0} (letter : ℕ → Letter) (number : U → ℕ) (st
         → HandlesTextAt letter number step handler fault stands view reader old (Err e) new
     unfolding handled_to_at_err
     handles_err_at found e why same there read =
-        let (left, lengths, counted) = read.replied in record {
+        let (left, lengths, counted, code) = read.replied in record {
           handled = handled_at_err number step handler last reader (map letter old.rest) fault stands view why e same there
-              (left, lengths, text_of number step counted);
+              (left, lengths, text_of number step counted, code);
           no_row = tt;
           no_other_reader = tt;
           leaves = leaves_err fault (within counted) e why same read.leaves;
@@ -176,9 +176,9 @@ module _ {T U F X E : Type 0} (letter : ℕ → Letter) (number : U → ℕ) (st
         → HandlesTextTo letter number step handler last fault stands view reader old (Err e) new
     unfolding handled_to_at_err
     handles_err_to found e why same there read =
-        let (left, lengths, counted) = read.replied in
+        let (left, lengths, counted, code) = read.replied in
         let alone = text_of number step counted in
-        let to = handled_to_at_err number step handler last reader (map letter old.rest) fault stands view why e same there (left, lengths, alone) in
+        let to = handled_to_at_err number step handler last reader (map letter old.rest) fault stands view why e same there (left, lengths, alone, code) in
         record { handled = to; no_row = tt; no_other_reader = tt; leaves = leaves_err fault (within counted) e why same read.leaves; profile = read.profile }
 
 -- ---- a part on its own

@@ -7,7 +7,7 @@ use Rattle.ixdtf_reading.specs.reading.{Looks.{Read, Placed, error_of}, Cores.{C
 use Rattle.ixdtf_reading.specs.reading.Chains.{PairsRead, TextRead, TextReadAfter}
 use Rattle.ixdtf_reading.proofs.{parts.Looks.OnRead, to_grammar.Cores.{Splits, CoreFront, ReadsCore, core_read}}
 use Rattle.ixdtf_reading.proofs.to_grammar.{ExactBracket.{BracketFront, FitsBracket, bracket_by_read}, Wholes.after_core_by}
-use Rattle.ixdtf_reading.proofs.to_reading.ExactBracket.{IsBracketBy}
+use Rattle.ixdtf_reading.proofs.to_reading.ExactBracket.{IsBracketBy, bracket_by_takes}
 use Rattle.ixdtf.specs.Readings.{core_looks}
 use Rattle.ixdtf_brackets.specs.BracketTypes.{exact_looks}
 use Rattle.ixdtf.proofs.code.Chains.{text_result, text_fault, text_derived, text_read}
@@ -63,10 +63,11 @@ bracket_is exact inner rest bracket is = subst (OnBracket exact inner) is (brack
 
 -- The rest after a bracket is not longer than the text.
 pub bracket_shortens : (exact : Bool) (letter : ℕ → Letter) (units left : List ℕ) (bracket : Bracket) → bracket_by error_of exact (map letter units) ≡ Ok (bracket, map letter left)
-    → length left ≤ suc (length units)
+    → length left ≤ length units
 bracket_shortens exact letter units left bracket is =
     let h = bracket_is exact _ _ bracket is in
-    omega (arith, ap (λ t. length t) h.1, length-append h.0 (map letter left), length-map units letter, length-map left letter)
+    let opens = bracket_by_takes error_of exact h.0 [] bracket h.2 in
+    omega (arith, ap (λ t. length t) h.1, ap (λ t. length t) opens.1, length-append h.0 (map letter left), length-map units letter, length-map left letter)
 
 -- ---- the complete text
 

@@ -10,10 +10,10 @@ ghost use Rattle.ixdtf_grammar.specs.language.Readers.{CoreKind, has_exact_zones
 ghost use Rattle.ixdtf.specs.Readings.{core_looks};
 ghost use Rattle.ixdtf_grammar.specs.language.Readers.CoreKind.{date_time};
 ghost use Rattle.ixdtf_grammar.specs.table.LineNames.{LineName};
-ghost use Rattle.ixdtf_reading.specs.reading.Clauses.{Reads, Spends, SpendsOr, YieldsAt, core_in, KeepsBrackets, timed_core_at};
-ghost use Rattle.ixdtf_times.specs.TimeTypes.{open_time_of, opens_bracket};
+ghost use Rattle.ixdtf_reading.specs.reading.Clauses.{Reads, Spends, SpendsOr, YieldsAt, clock_by, core_in, KeepsBrackets, timed_core_at};
+ghost use Rattle.ixdtf_reading.specs.reading.Stops.{stop_of};
+ghost use Rattle.ixdtf_times.specs.TimeTypes.{open_time_of, opens_bracket, shape_of};
 ghost use Rattle.ixdtf_reading.specs.reading.Looks.{error_of};
-ghost use Rattle.ixdtf_reading.specs.reading.Times.{clock_at};
 ghost use Rattle.ixdtf_reading.specs.reading.Cores.{ClosedCore, core_end_at, offset_core_at, after_time_at, whole_time_core_at, unfronted, core_at};
 
 use ixdtf_grammar::encoding::EncodingType;
@@ -31,8 +31,10 @@ use ixdtf_times::months::{
     parse_month_day_date, parse_month_day_parts, parse_year_month_date, parse_year_month_parts,
 };
 use ixdtf_times::offsets::{AfterCore, offset_from, take_fixed_offset};
-use ixdtf_times::rfc3339::parse_internet_date_time;
-use ixdtf_times::time::{Clock, TimeShape, WholeTime, parse_after_second, parse_clock};
+use ixdtf_times::rfc3339::{parse_internet_date_time, stop_after_offset};
+use ixdtf_times::time::{
+    Clock, TimeShape, WholeTime, parse_after_second, parse_clock, parse_clock_from,
+};
 
 /// A type that reads cores of one kind. A core is the part of a text before its first `[`.
 ///
@@ -99,7 +101,7 @@ impl CoreReader for InternetDateTimes {
         found: &mut IxdtfParseRecord<'a, T>,
     ) -> Result<AfterCore, Stop> {
         parse_internet_date_time(cursor, found)?;
-        close_core(cursor)
+        close_core(cursor, stop_after_offset(found.offset))
     }
 
     #[inline(always)]
@@ -124,7 +126,7 @@ impl CoreReader for YearMonths {
     ) -> Result<AfterCore, Stop> {
         let date = parse_year_month_date(cursor)?;
         found.date = Some(date);
-        close_core(cursor)
+        close_core(cursor, Stop::AfterYearMonth)
     }
 
     #[inline(always)]
@@ -149,7 +151,7 @@ impl CoreReader for MonthDays {
     ) -> Result<AfterCore, Stop> {
         let date = parse_month_day_date(cursor, profile)?;
         found.date = Some(date);
-        close_core(cursor)
+        close_core(cursor, Stop::AfterMonthDay)
     }
 
     #[inline(always)]
@@ -173,13 +175,13 @@ impl CoreReader for Times {
         found: &mut IxdtfParseRecord<'a, T>,
     ) -> Result<AfterCore, Stop> {
         let start = cursor.rest();
-        match cursor.look()? {
+        match cursor.look(Stop::TimeStart)? {
             Some(byte) if is_time_designator(byte) => {
                 cursor.advance();
-                parse_timed(cursor, found)
+                parse_timed(cursor, Stop::HourStart, found)
             }
             _ => {
-                let after = parse_timed(cursor, found)?;
+                let after = parse_timed(cursor, Stop::TimeStart, found)?;
                 check_front(cursor, start, profile)?;
                 Ok(after)
             }
@@ -235,13 +237,20 @@ fn parse_after_fixed<'a, T: EncodingType>(
 {
     found.date = Some(date);
     let mut time = TimeRecord::default();
-    parse_after_second(cursor, whole.hour, whole.minute, whole.second, &mut time)?;
-    parse_after_time(cursor, time, found)
+    let shape = parse_after_second(
+        cursor,
+        Clock::Time,
+        whole.hour,
+        whole.minute,
+        whole.second,
+        &mut time,
+    )?;
+    parse_after_time(cursor, shape, time, found)
 }
 
 /// Reads a date part by part into the record. If a separator follows, reads a time and an offset too.
 #[inline(always)]
-#[tactic(auto, unfolding(ixdtf_reading::specs::reading::Cores::date_time_readings, ixdtf_reading::specs::reading::Clauses::timed_core_at))]
+#[tactic(auto, unfolding(ixdtf_reading::specs::reading::Cores::date_time_readings, ixdtf_reading::specs::reading::Clauses::timed_core_at), using(ixdtf_times::proofs::code::HourDigits::hour_is_number))]
 fn parse_date_by_parts<'a, T: EncodingType>(
     cursor: &mut Cursor<'a, T>,
     found: &mut IxdtfParseRecord<'a, T>,
@@ -255,51 +264,54 @@ fn parse_date_by_parts<'a, T: EncodingType>(
 {
     let date = parse_date(cursor)?;
     found.date = Some(date);
-    match cursor.look()? {
+    match cursor.look(Stop::AfterDate)? {
         Some(byte) if is_date_time_separator(byte) => {
             cursor.advance();
-            parse_timed(cursor, found)
+            parse_timed(cursor, Stop::HourStart, found)
         }
-        _ => close_core(cursor),
+        _ => close_core(cursor, Stop::AfterDate),
     }
 }
 
 // ==== Times ====
 
-/// Reads a time into the record, and `Z` or an offset if it follows. The record may already have a date.
+/// Reads a time into the record, and `Z` or an offset if it follows. The record may already have a date. Returns `first`
+/// if the first digit of the time is missing.
 #[inline(always)]
 #[tactic(auto, unfolding(ixdtf_reading::specs::reading::Clauses::timed_core_at))]
 fn parse_timed<'a, T: EncodingType>(
     cursor: &mut Cursor<'a, T>,
+    first: Stop,
     found: &mut IxdtfParseRecord<'a, T>,
 ) -> Result<AfterCore, Stop>
     requires no_time { found.old.time ≡ None }
     requires no_offset { found.old.offset ≡ None }
     ensures core { Reads T.letter (λ after. (core_in found.new, opens_bracket after)) cursor.old result cursor.new
-        (timed_core_at found.old.date) }
+        (timed_core_at first found.old.date) }
     ensures kept { KeepsBrackets found.old found.new }
     ensures looks { Spends 18 cursor.old cursor.new }
 {
     let mut time = TimeRecord::default();
-    parse_time_of_day(cursor, &mut time)?;
-    parse_after_time(cursor, time, found)
+    let shape = parse_time_of_day(cursor, first, &mut time)?;
+    parse_after_time(cursor, shape, time, found)
 }
 
-/// Reads a time, and not what follows it.
+/// Reads a time, and not what follows it. Returns `first` if its first digit is missing.
 ///
 /// For speed, the function works on a second cursor. The second cursor is a local variable, so it can stay in
 /// registers. A cursor behind a reference, such as `cursor`, is written to memory at each step.
 #[inline(always)]
 fn parse_time_of_day<'a, T: EncodingType>(
     cursor: &mut Cursor<'a, T>,
+    first: Stop,
     time: &mut TimeRecord,
 ) -> Result<TimeShape, Stop>
     ensures time { Reads T.letter (open_time_of time.new) cursor.old result cursor.new
-        (clock_at error_of of_day) }
+        (clock_by first of_day) }
     ensures looks { Spends 5 cursor.old cursor.new }
 {
     let mut here = cursor.fork();
-    let read = parse_clock(&mut here, Clock::Time, time);
+    let read = parse_clock_from(&mut here, Clock::Time, first, time);
     *cursor = here;
     read
 }
@@ -328,35 +340,36 @@ fn check_front<'a, T: EncodingType>(
     }
     if parse_month_day_parts(&mut front, profile).is_ok() {
         *cursor = front;
-        return Err(Stop::AmbiguousTimeMonthDay);
+        return Err(Stop::TimeReadsAsMonthDay);
     }
     let mut again = front.fork_at(start);
     if parse_year_month_parts(&mut again).is_ok() {
         *cursor = again;
-        return Err(Stop::AmbiguousTimeYearMonth);
+        return Err(Stop::TimeReadsAsYearMonth);
     }
     // The accesses from `start` on count too.
     cursor.keep_looks(again);
     Ok(())
 }
 
-/// Writes the time into the record, and reads `Z` or an offset if it follows.
+/// Writes the time into the record, and reads `Z` or an offset if it follows. `shape` is the shape of the time.
 #[inline(always)]
 #[tactic(auto, unfolding(ixdtf_reading::specs::reading::Cores::after_time_at, ixdtf_reading::specs::reading::Cores::offset_core_at))]
 fn parse_after_time<'a, T: EncodingType>(
     cursor: &mut Cursor<'a, T>,
+    shape: TimeShape,
     time: TimeRecord,
     found: &mut IxdtfParseRecord<'a, T>,
 ) -> Result<AfterCore, Stop>
     requires no_offset { found.old.offset ≡ None }
-    ensures core { (shape : _) →
-        Reads T.letter (λ after. (core_in found.new, opens_bracket after)) cursor.old result cursor.new
-        (after_time_at error_of found.old.date (shape, time)) }
+    ensures core { Reads T.letter (λ after. (core_in found.new, opens_bracket after)) cursor.old result cursor.new
+        (after_time_at error_of found.old.date (shape_of shape, time)) }
     ensures kept { KeepsBrackets found.old found.new }
     ensures looks { Spends 13 cursor.old cursor.new }
 {
     found.time = Some(time);
-    match cursor.look()? {
+    let stop = Clock::Time.stop_after(shape);
+    match cursor.look(stop)? {
         Some(byte) if is_ascii_sign(byte) => {
             cursor.advance();
             parse_signed(cursor, byte, found)
@@ -364,9 +377,9 @@ fn parse_after_time<'a, T: EncodingType>(
         Some(byte) if is_utc_designator(byte) => {
             cursor.advance();
             found.offset = Some(UtcOffsetRecordOrZ::Z);
-            close_core(cursor)
+            close_core(cursor, Stop::AfterZulu)
         }
-        _ => close_core(cursor),
+        _ => close_core(cursor, stop),
     }
 }
 
@@ -414,25 +427,28 @@ fn parse_offset_part_by_part<'a, T: EncodingType>(
     let shape = parse_clock(cursor, Clock::Offset, &mut time)?;
     let offset = offset_from(sign, shape, time);
     found.offset = Some(UtcOffsetRecordOrZ::Offset(offset));
-    close_core(cursor)
+    close_core(cursor, Clock::Offset.stop_after(shape))
 }
 
-/// Expects the end of the input or a `[` after a core. Returns which of the two it is. Returns `NonAsciiCodePoint` for
-/// a 16-bit code unit outside 1 to 126, and `InvalidEnd` for any other code unit.
+/// Expects the end of the input or a `[` after a core. Returns which of the two it is. Returns `stop` for any other code
+/// unit.
 #[inline(always)]
 #[tactic(auto, unfolding(ixdtf_reading::specs::reading::Cores::core_end_at, ixdtf_reading::specs::reading::Looks::peek_by))]
-fn close_core<'a, T: EncodingType>(cursor: &mut Cursor<'a, T>) -> Result<AfterCore, Stop>
-    ensures core { (name : LineName) (core : Core) →
+fn close_core<'a, T: EncodingType>(
+    cursor: &mut Cursor<'a, T>,
+    stop: Stop,
+) -> Result<AfterCore, Stop>
+    ensures core { (name : LineName) (core : Core) → stop ≡ stop_of name →
         Reads T.letter (λ after. (core, opens_bracket after)) cursor.old result cursor.new
         (core_end_at error_of name core) }
     ensures looks { Spends 1 cursor.old cursor.new }
 {
-    match cursor.look()? {
+    match cursor.look(stop)? {
         None => Ok(AfterCore::End),
         Some(byte) if is_annotation_open(byte) => {
             cursor.advance();
             Ok(AfterCore::Bracket)
         }
-        Some(_) => Err(Stop::InvalidEnd),
+        Some(_) => Err(stop),
     }
 }

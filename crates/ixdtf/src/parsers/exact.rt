@@ -11,6 +11,7 @@ use crate::parsers::IxdtfParser;
 use crate::{LocatedError, ParserResult};
 use ixdtf_grammar::encoding::EncodingType;
 use ixdtf_grammar::records::IxdtfParseRecord;
+use ixdtf_reading::cursor::error_at;
 use ixdtf_times::rfc3339::parse_rfc3339_text;
 
 impl<'a, T: EncodingType> IxdtfParser<'a, T> {
@@ -95,8 +96,9 @@ impl<'a, T: EncodingType> IxdtfParser<'a, T> {
                 Ok(found)
             }
             Err(stop) => {
+                let error = error_at(&mut here, false, stop, 0);
                 self.cursor.keep_looks(here);
-                return Err(stop.error());
+                return Err(error);
             }
         }
     }
@@ -141,11 +143,9 @@ impl<'a, T: EncodingType> IxdtfParser<'a, T> {
             }
             Err(stop) => {
                 let at = self.cursor.remaining().saturating_sub(here.remaining());
+                let error = error_at(&mut here, false, stop, at);
                 self.cursor.keep_looks(here);
-                return Err(LocatedError {
-                    error: stop.error(),
-                    at,
-                });
+                return Err(error);
             }
         }
     }

@@ -4,7 +4,6 @@ ghost use Rattle.std.specs.Prelude.{◌≡◌, [], ◌∷◌, option_map, IfOk, 
 ghost use Rattle.std.specs.Option.{option_or};
 ghost use Rattle.ixdtf_grammar.specs.table.Faults.{Fault, fault_of, fault_of_located, stands_behind};
 ghost use Rattle.ixdtf_grammar.specs.Handlers.{RefusedBeside, first_calendar, pair_of};
-ghost use Rattle.ixdtf_reading.specs.reading.Clauses.{fault_of_stop};
 ghost use Rattle.ixdtf_grammar.specs.language.Readers.{parse as reader_parse, parse_year_month as reader_parse_year_month};
 ghost use Rattle.ixdtf_grammar.specs.language.Readers.{parse_rfc9557 as reader_parse_rfc9557};
 ghost use Rattle.ixdtf_grammar.specs.language.Readers.{parse_month_day as reader_parse_month_day, parse_time as reader_parse_time};
@@ -20,7 +19,7 @@ use crate::parsers::{
 use crate::{LocatedError, ParseError, ParserResult};
 use ixdtf_grammar::encoding::EncodingType;
 use ixdtf_grammar::records::{Annotation, IxdtfParseRecord};
-use ixdtf_reading::stop::{Stop, error_of_stop};
+use ixdtf_reading::stop::{Next, error_of_stop};
 
 impl<'a, T: EncodingType> IxdtfParser<'a, T> {
     /// Parses the remaining input like [`parse`](Self::parse), and lets a handler decide about each annotation.
@@ -434,7 +433,7 @@ impl<'a, T: EncodingType> IxdtfParser<'a, T> {
         let mut found = IxdtfParseRecord::default();
         match self.read_into::<C, F>(&mut handler, &mut found) {
             Ok(()) => Ok(found),
-            Err(why) => return Err(error_of_stop(why.stop, why.at)),
+            Err(why) => return Err(error_of_stop(why)),
         }
     }
 
@@ -464,7 +463,7 @@ impl<'a, T: EncodingType> IxdtfParser<'a, T> {
         let mut found = IxdtfParseRecord::default();
         match self.read_into::<C, F>(handler, &mut found) {
             Ok(()) => Ok(found),
-            Err(refused) => return Err(error_of_stop(refused.stop, refused.at)),
+            Err(refused) => return Err(error_of_stop(refused)),
         }
     }
 
@@ -481,7 +480,7 @@ impl<'a, T: EncodingType> IxdtfParser<'a, T> {
         &mut self,
         calendar: &mut Option<Annotation<'a, T>>,
         reply: Option<Annotation<'a, T>>,
-    ) -> Result<(), Stop>
+    ) -> ParserResult<()>
         ensures accepted { IfOk result (λ _. (fault : Fault) →
             ¬ (RefusedBeside (option_map (pair_of T.number) calendar.old)
             (option_map (pair_of T.number) reply.entry) fault)) }
@@ -491,10 +490,14 @@ impl<'a, T: EncodingType> IxdtfParser<'a, T> {
             (first_calendar (option_map (pair_of T.number) reply.entry ∷ []))) }
         ensures err { IfErr result (λ e.
             RefusedBeside (option_map (pair_of T.number) calendar.old)
-            (option_map (pair_of T.number) reply.entry) (fault_of_stop e)) }
+            (option_map (pair_of T.number) reply.entry) (fault_of e)) }
         ensures rest { self.new.rest ≡ self.old.rest }
         ensures profile { self.new.profile ≡ self.old.profile }
     {
-        keep_first_calendar::<T>(&mut self.cursor, calendar, reply)
+        if let Err(stop) = keep_first_calendar::<T>(&mut self.cursor, calendar, reply) {
+            // The error of a refusal does not depend on what follows.
+            return Err(stop.code(true, Next::End).error());
+        }
+        Ok(())
     }
 }

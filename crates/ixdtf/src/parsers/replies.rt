@@ -5,8 +5,9 @@
 ghost use Rattle.std.specs.Prelude.{◌≡◌, ℕ, ◌+◌, ◌*◌, ◌≤◌, [], ◌∷◌, map, length, None, option_map, OnOk, IfOk, IfErr};
 ghost use Rattle.std.specs.Option.{option_or};
 ghost use Rattle.ixdtf_grammar.specs.table.Faults.{Fault};
-ghost use Rattle.ixdtf_reading.specs.reading.Clauses.{Spends, fault_of_stop, yielded_at};
+ghost use Rattle.ixdtf_reading.specs.reading.Clauses.{Spends, yielded_at};
 ghost use Rattle.ixdtf_grammar.specs.Handlers.{RefusedBeside, first_calendar, pair_of};
+ghost use Rattle.ixdtf_reading.specs.reading.Stops.{Refuses};
 ghost use Rattle.ixdtf_reading.specs.reading.Chains.{PairsRead, Counting, reply_units, first_pairs};
 
 use ixdtf_grammar::encoding::EncodingType;
@@ -48,9 +49,9 @@ pub(crate) fn keep_first_calendar<'a, T: EncodingType>(
         option_map (pair_of T.number) calendar.new ≡
         option_or (option_map (pair_of T.number) calendar.old)
         (first_calendar (option_map (pair_of T.number) reply.entry ∷ []))) }
-    ensures err { IfErr result (λ e.
+    ensures err { IfErr result (λ stop. (fault : Fault) × Refuses stop fault ×
         RefusedBeside (option_map (pair_of T.number) calendar.old)
-        (option_map (pair_of T.number) reply.entry) (fault_of_stop e)) }
+        (option_map (pair_of T.number) reply.entry) fault) }
     ensures rest { cursor.new.rest ≡ cursor.old.rest }
     ensures counted { cursor.old.looks ≤ cursor.new.looks }
     ensures few { cursor.new.looks ≤ cursor.old.looks + 4 + 2 * reply_units reply.entry }

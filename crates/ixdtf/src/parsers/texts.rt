@@ -53,8 +53,13 @@ impl<'a, T: EncodingType> IxdtfParser<'a, T> {
             }
             Err(stop) => {
                 let at = self.cursor.remaining().saturating_sub(here.remaining());
+                let next = here.next();
                 self.cursor.keep_looks(here);
-                Err(StopAt { stop, at })
+                Err(StopAt {
+                    stop,
+                    code: stop.code(true, next),
+                    at,
+                })
             }
         }
     }
@@ -76,7 +81,7 @@ where
         TextRead T.number (Counting F.step) (handler.old, 0) (handler.new, spent)
         (bracketed (C.kind profile)) (map T.letter cursor.old.rest)
         (yielded_at (λ _. parsed_of T.number found.new) result (map T.letter cursor.new.rest)) ×
-        (cursor.new.looks ≤ cursor.old.looks + (most_looks cursor.old.rest + spent)) }
+        (cursor.new.looks + 1 ≤ cursor.old.looks + (most_looks cursor.old.rest + spent)) }
     ensures empty { OnOk result (cursor.new.rest ≡ []) }
     ensures counted { cursor.old.looks ≤ cursor.new.looks }
 {
@@ -107,7 +112,7 @@ where
         TextReadAfter T.number (Counting F.step) (handler.old, 0) (handler.new, spent)
         is_exact (core_in found.old) true (map T.letter cursor.old.rest)
         (yielded_at (λ _. parsed_of T.number found.new) result (map T.letter cursor.new.rest)) ×
-        Spends (2 * length cursor.old.rest + exact_looks is_exact (length cursor.old.rest) + 28 + spent) cursor.old cursor.new }
+        Spends (2 * length cursor.old.rest + exact_looks is_exact (length cursor.old.rest) + 26 + spent) cursor.old cursor.new }
     ensures empty { OnOk result (cursor.new.rest ≡ []) }
 {
     let mut here = cursor.fork();

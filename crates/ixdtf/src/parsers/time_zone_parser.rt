@@ -12,7 +12,7 @@ use ixdtf_brackets::zone::{parse_iana_identifier_text, parse_identifier_text};
 use ixdtf_grammar::LocatedError;
 use ixdtf_grammar::encoding::{EncodingType, Utf8, Utf16};
 use ixdtf_grammar::records::{TimeZoneRecord, UtcOffsetRecord};
-use ixdtf_reading::cursor::Cursor;
+use ixdtf_reading::cursor::{Cursor, error_at};
 use ixdtf_times::offsets::parse_offset_text;
 use std::marker::Model;
 
@@ -144,7 +144,7 @@ impl<'a, T: EncodingType> TimeZoneParser<'a, T> {
     {
         let mut here = self.cursor.fork();
         let read = parse_identifier_text(&mut here);
-        self.cursor.settle(here, read)
+        self.cursor.settle(here, false, read)
     }
 
     /// Parses the remaining input as an offset from UTC, such as `+05:30`.
@@ -211,7 +211,7 @@ impl<'a, T: EncodingType> TimeZoneParser<'a, T> {
     {
         let mut here = self.cursor.fork();
         let read = parse_offset_text(&mut here);
-        self.cursor.settle(here, read)
+        self.cursor.settle(here, false, read)
     }
 
     /// Parses the remaining input as the name of a time zone, such as `Europe/Berlin`.
@@ -261,8 +261,9 @@ impl<'a, T: EncodingType> TimeZoneParser<'a, T> {
                 Ok(name)
             }
             Err(stop) => {
+                let error = error_at(&mut here, false, stop, 0);
                 self.cursor.keep_looks(here);
-                Err(stop.error())
+                Err(error)
             }
         }
     }
@@ -298,7 +299,7 @@ impl<'a, T: EncodingType> TimeZoneParser<'a, T> {
     {
         let mut here = self.cursor.fork();
         let outcome = parse_offset_text(&mut here);
-        self.cursor.settle(here, outcome)
+        self.cursor.settle(here, false, outcome)
     }
 
     /// Parses the remaining input as the name of a time zone, like
@@ -330,7 +331,7 @@ impl<'a, T: EncodingType> TimeZoneParser<'a, T> {
     {
         let mut here = self.cursor.fork();
         let outcome = parse_iana_identifier_text(&mut here);
-        self.cursor.settle(here, outcome)
+        self.cursor.settle(here, false, outcome)
     }
 
     /// Parses the remaining input as a time zone, like [`parse_identifier`](Self::parse_identifier). An error includes its
@@ -363,6 +364,6 @@ impl<'a, T: EncodingType> TimeZoneParser<'a, T> {
     {
         let mut here = self.cursor.fork();
         let outcome = parse_identifier_text(&mut here);
-        self.cursor.settle(here, outcome)
+        self.cursor.settle(here, false, outcome)
     }
 }

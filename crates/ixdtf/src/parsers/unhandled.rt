@@ -135,7 +135,7 @@ impl<'a, T: EncodingType> IxdtfParser<'a, T> {
         let mut found = IxdtfParseRecord::default();
         match self.read_unhandled::<DateTimes>(&mut found) {
             Ok(()) => Ok(found),
-            Err(why) => return Err(why.stop.error()),
+            Err(why) => return Err(why.code.error()),
         }
     }
 
@@ -195,7 +195,7 @@ impl<'a, T: EncodingType> IxdtfParser<'a, T> {
         let mut found = IxdtfParseRecord::default();
         match self.read_unhandled::<InternetDateTimes>(&mut found) {
             Ok(()) => Ok(found),
-            Err(why) => return Err(why.stop.error()),
+            Err(why) => return Err(why.code.error()),
         }
     }
 
@@ -254,7 +254,7 @@ impl<'a, T: EncodingType> IxdtfParser<'a, T> {
         match self.read_unhandled::<YearMonths>(&mut found) {
             Ok(()) if lacks_date(&mut found) => return Ok(found),
             Ok(()) => Ok(found),
-            Err(why) => return Err(why.stop.error()),
+            Err(why) => return Err(why.code.error()),
         }
     }
 
@@ -320,7 +320,7 @@ impl<'a, T: EncodingType> IxdtfParser<'a, T> {
         match self.read_unhandled::<MonthDays>(&mut found) {
             Ok(()) if lacks_date(&mut found) => return Ok(found),
             Ok(()) => Ok(found),
-            Err(why) => return Err(why.stop.error()),
+            Err(why) => return Err(why.code.error()),
         }
     }
 
@@ -394,7 +394,7 @@ impl<'a, T: EncodingType> IxdtfParser<'a, T> {
         let mut outcome = Ok(IxdtfParseRecord::default());
         if let Ok(found) = &mut outcome {
             if let Err(why) = self.read_unhandled::<Times>(found) {
-                outcome = Err(why.stop.error());
+                outcome = Err(why.code.error());
             }
         }
         outcome
@@ -435,7 +435,7 @@ impl<'a, T: EncodingType> IxdtfParser<'a, T> {
         match self.read_unhandled::<DateTimes>(&mut parsed) {
             Ok(()) => Ok(parsed),
             Err(why) => return Err(LocatedError {
-                error: why.stop.error(),
+                error: why.code.error(),
                 at: why.at,
             }),
         }
@@ -482,7 +482,7 @@ impl<'a, T: EncodingType> IxdtfParser<'a, T> {
         match self.read_unhandled::<InternetDateTimes>(&mut parsed) {
             Ok(()) => Ok(parsed),
             Err(why) => return Err(LocatedError {
-                error: why.stop.error(),
+                error: why.code.error(),
                 at: why.at,
             }),
         }
@@ -521,7 +521,7 @@ impl<'a, T: EncodingType> IxdtfParser<'a, T> {
         match self.read_unhandled::<YearMonths>(&mut parsed) {
             Ok(()) => Ok(parsed),
             Err(why) => return Err(LocatedError {
-                error: why.stop.error(),
+                error: why.code.error(),
                 at: why.at,
             }),
         }
@@ -560,7 +560,7 @@ impl<'a, T: EncodingType> IxdtfParser<'a, T> {
         match self.read_unhandled::<MonthDays>(&mut parsed) {
             Ok(()) => Ok(parsed),
             Err(why) => return Err(LocatedError {
-                error: why.stop.error(),
+                error: why.code.error(),
                 at: why.at,
             }),
         }
@@ -599,7 +599,7 @@ impl<'a, T: EncodingType> IxdtfParser<'a, T> {
         match self.read_unhandled::<Times>(&mut parsed) {
             Ok(()) => Ok(parsed),
             Err(why) => return Err(LocatedError {
-                error: why.stop.error(),
+                error: why.code.error(),
                 at: why.at,
             }),
         }

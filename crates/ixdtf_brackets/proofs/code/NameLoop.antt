@@ -1,11 +1,10 @@
 -- The code units of the name of a zone, consumed one by one.
 use Rattle.std.proofs.Common.{◌≡◌, ℕ, ◌&&◌, Bool, true, false, List, ◌∷◌, ◌++◌, map, drop, Option, Some, None, option_map, IsSome, Ok, Err, refl, ap}
 use Rattle.std.proofs.{Common.{◌∙◌, if◌then◌else◌}, Math.Bool.and-false}
-use Rattle.ixdtf_brackets.specs.{declared.zone.NameState.NameState, BracketTypes.{part_after, name_after}}
+use Rattle.ixdtf_brackets.specs.{declared.zone.NameState.NameState, BracketTypes.{part_after, name_after, stop_by}}
 use Rattle.ixdtf_grammar.specs.language.Letters.{Letter, Text, Class, zone_char, slash, Letter.{Plain, Bad}}
-use Rattle.ixdtf_grammar.specs.table.Faults.Fault.{NonAsciiCodePoint, IanaCharPostSeparator}
-use Rattle.ixdtf_reading.specs.reading.{Looks.{Placed, Read, seen, error_of}, Zones.{with_letter, name_stops, name_run}, Runs.{Taken, letters_by}}
-use Rattle.ixdtf_reading.specs.reading.Brackets.{next_is}
+use Rattle.ixdtf_reading.specs.{declared.stop.Stop.Stop, reading.Brackets.{next_is, name_stop}}
+use Rattle.ixdtf_reading.specs.reading.{Looks.{Placed, Read, seen, error_of}, Zones.{with_letter, name_stops, name_run}, Runs.{Taken, always, letters_by}}
 use Rattle.ixdtf_reading.proofs.code.{FirstLetter.{first_is, nothing_is}, LetterLoops.{test_held, test_failed, run_failed, run_passed, Stays, IsSoFar}}
 use Rattle.ixdtf_reading.proofs.code.LetterLoops.{goes_on, ceases, fails, goes_over, fails_over, next_shown, next_stays}
 use Rattle.ixdtf_reading.proofs.parts.Steps.{with_letters, letters_ok, letters_err}
@@ -31,39 +30,47 @@ name_over letters next c rest e = go _ refl _ refl e
     go false p true q e = let same : false ≡ next.may_end = cc in rw (p, q, ← same) refl
     go false p false q e = absurd cc
 
-name_bad : (letters : NameState) (rest : Text) → reading letters (Bad ∷ rest) ≡ Err (NonAsciiCodePoint, Bad ∷ rest)
+-- The `Stop`s of a name, if it is known that the bracket is a zone.
+abbrev pub zone_stops : NameState → Stop
+zone_stops = stop_by (name_stop true) (name_stop false)
+
+name_bad : (letters : NameState) (rest : Text) → reading letters (Bad ∷ rest) ≡ Err (zone_stops letters, Bad ∷ rest)
 unfolding name_run
-name_bad letters rest = refl
+name_bad letters rest = go letters.may_end refl
+  where
+    go : (b : Bool) → letters.may_end ≡ b → reading letters (Bad ∷ rest) ≡ Err (zone_stops letters, Bad ∷ rest)
+    go true p = rw p refl
+    go false p = rw p refl
 
 -- If the next code unit cannot continue the name, the name ends here, or it is an error that it ends here.
-name_halts : (letters : NameState) (rest : Text) (next : Option ℕ) → seen rest ≡ Ok next → Stays name_after letters next
-    → reading letters rest ≡ name_stops (IanaCharPostSeparator, rest) letters.may_end rest
+name_halts : (stop : Stop) (letters : NameState) (rest : Text) (next : Option ℕ) → seen stop rest ≡ Ok next → Stays zone_stops name_after letters next
+    → reading letters rest ≡ name_stops (name_stop false, rest) letters.may_end rest
 unfolding name_run
-name_halts letters rest None e stays = rw (nothing_is rest e) refl
-name_halts letters rest (Some c) e stays = rw (first_is rest c e) (go _ refl _ refl stays)
+name_halts stop letters rest None e stays = rw (nothing_is stop rest e) refl
+name_halts stop letters rest (Some c) e stays = rw (first_is stop rest c e) (go _ refl _ refl stays)
   where
     go : (b : Bool) → zone_char c ≡ b → (d : Bool) → (slash c && letters.may_end) ≡ d
         → option_map {U = NameState} (λ may_end. record { may_end = may_end }) (if b then Some true else (if d then Some false else None)) ≡ None
-        → reading letters (Plain c ∷ drop 1 rest) ≡ name_stops (IanaCharPostSeparator, Plain c ∷ drop 1 rest) letters.may_end (Plain c ∷ drop 1 rest)
+        → reading letters (Plain c ∷ drop 1 rest) ≡ name_stops (name_stop false, Plain c ∷ drop 1 rest) letters.may_end (Plain c ∷ drop 1 rest)
     go true p d q e = absurd cc
     go false p true q e = absurd cc
     go false p false q e = rw (p, q) refl
 
-pub name_failed : (text : Text) (fault : Placed) → letters_by name_after name_start text ≡ Err fault → name_run error_of true text ≡ Err fault
-name_failed text fault e = run_failed name_after reading name_over name_bad name_start text fault e
+pub name_failed : (text : Text) (fault : Placed) → letters_by zone_stops name_after name_start text ≡ Err fault → name_run error_of true text ≡ Err fault
+name_failed text fault e = run_failed zone_stops name_after reading name_over name_bad name_start text fault e
 
-module _ (text rest : Text) (taken : Taken NameState) (passed : letters_by name_after name_start text ≡ Ok (taken, rest)) where
-  name_passed : name_run error_of true text ≡ with_letters taken.letters (name_stops (IanaCharPostSeparator, rest) taken.state.may_end rest)
+module _ (text rest : Text) (taken : Taken NameState) (passed : letters_by zone_stops name_after name_start text ≡ Ok (taken, rest)) where
+  name_passed : name_run error_of true text ≡ with_letters taken.letters (name_stops (name_stop false, rest) taken.state.may_end rest)
   name_passed =
-      run_passed name_after reading name_over name_bad name_start text rest taken passed
-      ∙ ap (with_letters taken.letters) (name_halts taken.state rest taken.next (next_shown name_after name_start text rest taken passed)
-      (next_stays name_after name_start text rest taken passed))
+      run_passed zone_stops name_after reading name_over name_bad name_start text rest taken passed
+      ∙ ap (with_letters taken.letters) (name_halts _ taken.state rest taken.next (next_shown zone_stops name_after name_start text rest taken passed)
+      (next_stays zone_stops name_after name_start text rest taken passed))
 
   pub name_ended : taken.state.may_end ≡ true → name_run error_of true text ≡ Ok (taken.letters, rest)
   name_ended is = name_passed ∙ rw is (letters_ok taken.letters rest)
 
-  pub name_refused : taken.state.may_end ≡ false → name_run error_of true text ≡ Err (IanaCharPostSeparator, rest)
-  name_refused is = name_passed ∙ rw is (letters_err taken.letters (IanaCharPostSeparator, rest))
+  pub name_refused : taken.state.may_end ≡ false → name_run error_of true text ≡ Err (name_stop false, rest)
+  name_refused is = name_passed ∙ rw is (letters_err taken.letters (name_stop false, rest))
 
 -- ---- parts of a name
 
@@ -75,14 +82,15 @@ part_stays : (letters : Unit {0}) (c : ℕ) → part_after letters c ≡ None �
 part_stays letters c e = test_failed (zone_char c) letters e
 
 -- After a part, if no slash follows, the name does not continue.
-pub part_last : (letters : Unit {0}) (next : Option ℕ) → Stays part_after letters next → next_is slash next ≡ false → Stays name_after name_start next
-part_last letters None stays other = tt
-part_last letters (Some c) stays other = rw (part_stays letters c stays, other) refl
+pub part_last : (stop : Unit {0} → Stop) (name_stop : NameState → Stop) (letters : Unit {0}) (next : Option ℕ) → Stays stop part_after letters next
+    → next_is slash next ≡ false → Stays name_stop name_after name_start next
+part_last stop name_stop letters None stays other = tt
+part_last stop name_stop letters (Some c) stays other = rw (part_stays letters c stays, other) refl
 
 -- After a slash, if no part follows, the name does not continue.
-pub slash_last : (next : Option ℕ) → next_is zone_char next ≡ false → Stays name_after name_slash next
-slash_last None other = tt
-slash_last (Some c) other = rw (other, and-false (slash c)) refl
+pub slash_last : (stop : NameState → Stop) (next : Option ℕ) → next_is zone_char next ≡ false → Stays stop name_after name_slash next
+slash_last stop None other = tt
+slash_last stop (Some c) other = rw (other, and-false (slash c)) refl
 
 -- A slash after a part continues the name.
 pub part_slashed : (letters : Unit {0}) (c : ℕ) → part_after letters c ≡ None → slash c ≡ true → name_after name_start c ≡ Some name_slash
@@ -101,55 +109,69 @@ pub is_some : (class : Class) (next : Option ℕ) → next_is class next ≡ tru
 is_some class None e = absurd cc
 is_some class (Some c) e = refl
 
-module _ {letter : ℕ → Letter} (faithful : (unit n : ℕ) → letter unit ≡ Plain n → n ≡ unit) {whole rest : List ℕ}
-    (far : IsSoFar name_after letter name_start whole rest name_start) (letters : Unit {0}) where
-  -- Reading a part failed.
-  pub part_fails : (fault : Placed) → letters_by part_after letters (map letter rest) ≡ Err fault → letters_by name_after name_start (map letter whole) ≡ Err fault
-  part_fails fault e = fails_over part_after name_after name_start part_within letter name_start whole rest far letters fault e
+module _ (in_name after_slash : Stop) {letter : ℕ → Letter} (faithful : (unit n : ℕ) → letter unit ≡ Plain n → n ≡ unit) (whole : List ℕ) where
+  -- The `Stop`s of the whole name.
+  abbrev stops : NameState → Stop
+  stops = stop_by in_name after_slash
 
-  module _ (left : List ℕ) (taken : Taken (Unit {0})) (passed : letters_by part_after letters (map letter rest) ≡ Ok (taken, map letter left))
-      (split : rest ≡ taken.letters ++ left) where
-    part_passed : IsSoFar name_after letter name_start whole left name_start
-    part_passed = goes_over part_after name_after name_start part_within letter name_start whole rest far left taken.letters letters taken split passed refl
+  abbrev Far : List ℕ → NameState → Type 0
+  Far rest state = IsSoFar stops name_after letter name_start whole rest state
 
-    next_seen : seen (map letter left) ≡ Ok taken.next
-    next_seen = next_shown part_after letters (map letter rest) (map letter left) taken passed
+  module _ {rest : List ℕ} (far : IsSoFar (stop_by in_name after_slash) name_after letter name_start whole rest name_start) (letters : Unit {0}) where
+    -- Reading a part failed.
+    pub part_fails : (fault : Placed) → letters_by (always in_name) part_after letters (map letter rest) ≡ Err fault
+        → letters_by (stop_by in_name after_slash) name_after name_start (map letter whole) ≡ Err fault
+    part_fails fault e =
+        fails_over (always in_name) part_after stops name_after name_start (λ state. refl) part_within letter name_start whole rest far letters fault e
 
-    stays_so : Stays part_after taken.state taken.next
-    stays_so = next_stays part_after letters (map letter rest) (map letter left) taken passed
+    module _ (left : List ℕ) (taken : Taken (Unit {0})) (passed : letters_by (always in_name) part_after letters (map letter rest) ≡ Ok (taken, map letter left))
+        (split : rest ≡ taken.letters ++ left) where
+      part_passed : Far left name_start
+      part_passed = goes_over (always in_name) part_after stops name_after name_start (λ state. refl) part_within letter name_start whole rest far left
+          taken.letters letters taken split passed refl
 
-    -- No slash follows the part.
-    pub part_ceases : next_is slash taken.next ≡ false
-        → (all : List ℕ) × (whole ≡ all ++ left)
-        × (letters_by name_after name_start (map letter whole) ≡ Ok (record { letters = all; state = name_start; next = taken.next }, map letter left))
-    part_ceases other = (
-      part_passed.taken,
-      part_passed.units,
-      ceases name_after letter faithful name_start whole left name_start part_passed taken.next next_seen (part_last taken.state taken.next stays_so other),
-    )
+      next_seen : seen in_name (map letter left) ≡ Ok taken.next
+      next_seen = next_shown (always in_name) part_after letters (map letter rest) (map letter left) taken passed
 
-    -- A slash follows the part.
-    pub part_slashes : (after : List ℕ) → next_is slash taken.next ≡ true → after ≡ drop 1 left → IsSoFar name_after letter name_start whole after name_slash
-    part_slashes after is moved =
-        let found = some_next slash taken.next is in
-        goes_on name_after letter faithful name_start whole left name_start part_passed after name_slash found.0 (next_seen ∙ ap Ok found.1)
-        (part_slashed taken.state found.0 (rw found.1 at stays_so) found.2) moved
+      stays_so : Stays (always in_name) part_after taken.state taken.next
+      stays_so = next_stays (always in_name) part_after letters (map letter rest) (map letter left) taken passed
 
-module _ {letter : ℕ → Letter} (faithful : (unit n : ℕ) → letter unit ≡ Plain n → n ≡ unit) {whole rest : List ℕ}
-    (far : IsSoFar name_after letter name_start whole rest name_slash) where
-  -- The code unit after a slash is bad.
-  pub slash_fails : (fault : Placed) → seen (map letter rest) ≡ Err fault → letters_by name_after name_start (map letter whole) ≡ Err fault
-  slash_fails fault e = fails name_after letter faithful name_start whole rest name_slash far fault e
+      -- No slash follows the part.
+      pub part_ceases : next_is slash taken.next ≡ false
+          → (all : List ℕ) × (whole ≡ all ++ left)
+          × (letters_by (stop_by in_name after_slash) name_after name_start (map letter whole)
+          ≡ Ok (record { letters = all; state = name_start; next = taken.next }, map letter left))
+      part_ceases other = (
+        part_passed.taken,
+        part_passed.units,
+        ceases stops name_after letter faithful name_start whole left name_start part_passed _ taken.next next_seen (part_last (always in_name) stops taken.state taken.next stays_so other),
+      )
 
-  -- No part follows the slash.
-  pub slash_ceases : (next : Option ℕ) → seen (map letter rest) ≡ Ok next → next_is zone_char next ≡ false
-      → (all : List ℕ) × (whole ≡ all ++ rest)
-      × (letters_by name_after name_start (map letter whole) ≡ Ok (record { letters = all; state = name_slash; next = next }, map letter rest))
-  slash_ceases next e other = (far.taken, far.units, ceases name_after letter faithful name_start whole rest name_slash far next e (slash_last next other))
+      -- A slash follows the part.
+      pub part_slashes : (after : List ℕ) → next_is slash taken.next ≡ true → after ≡ drop 1 left
+          → IsSoFar (stop_by in_name after_slash) name_after letter name_start whole after name_slash
+      part_slashes after is moved =
+          let found = some_next slash taken.next is in
+          goes_on stops name_after letter faithful name_start whole left name_start part_passed _ after name_slash found.0 (next_seen ∙ ap Ok found.1)
+          (part_slashed taken.state found.0 (rw found.1 at stays_so) found.2) moved
 
-  -- A part follows the slash.
-  pub slash_goes_on : (next : Option ℕ) (left : List ℕ) → seen (map letter rest) ≡ Ok next → next_is zone_char next ≡ true → left ≡ drop 1 rest
-      → IsSoFar name_after letter name_start whole left name_start
-  slash_goes_on next left e is moved =
-      let found = some_next zone_char next is in
-      goes_on name_after letter faithful name_start whole rest name_slash far left name_start found.0 (e ∙ ap Ok found.1) (slash_joined found.0 found.2) moved
+  module _ {rest : List ℕ} (far : IsSoFar (stop_by in_name after_slash) name_after letter name_start whole rest name_slash) where
+    -- The code unit after a slash is bad.
+    pub slash_fails : (fault : Placed) → seen after_slash (map letter rest) ≡ Err fault
+        → letters_by (stop_by in_name after_slash) name_after name_start (map letter whole) ≡ Err fault
+    slash_fails fault e = fails stops name_after letter faithful name_start whole rest name_slash far fault e
+
+    -- No part follows the slash.
+    pub slash_ceases : (next : Option ℕ) → seen after_slash (map letter rest) ≡ Ok next → next_is zone_char next ≡ false
+        → (all : List ℕ) × (whole ≡ all ++ rest)
+        × (letters_by (stop_by in_name after_slash) name_after name_start (map letter whole)
+        ≡ Ok (record { letters = all; state = name_slash; next = next }, map letter rest))
+    slash_ceases next e other =
+        (far.taken, far.units, ceases stops name_after letter faithful name_start whole rest name_slash far _ next e (slash_last stops next other))
+
+    -- A part follows the slash.
+    pub slash_goes_on : (next : Option ℕ) (left : List ℕ) → seen after_slash (map letter rest) ≡ Ok next → next_is zone_char next ≡ true → left ≡ drop 1 rest
+        → IsSoFar (stop_by in_name after_slash) name_after letter name_start whole left name_start
+    slash_goes_on next left e is moved =
+        let found = some_next zone_char next is in
+        goes_on stops name_after letter faithful name_start whole rest name_slash far _ left name_start found.0 (e ∙ ap Ok found.1) (slash_joined found.0 found.2) moved

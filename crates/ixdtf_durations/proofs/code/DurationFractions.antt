@@ -1,10 +1,10 @@
 -- The fraction of a group, and the code unit after it.
-use Rattle.std.proofs.Common.{◌≡◌, ℕ, Bool, true, false, [], ◌∷◌, ◌++◌, List, drop, Some, None, Ok, Err, refl, sym, ap, ◌∙◌, append_assoc, append-nil}
+use Rattle.ixdtf_reading.specs.declared.stop.Stop.TheVariants as stops
+use Rattle.std.proofs.Common.{◌≡◌, ℕ, Bool, true, false, [], ◌∷◌, ◌++◌, List, drop, Option, Some, None, Result, Ok, Err, refl, sym, ap, ◌∙◌, append_assoc, append-nil}
 use Rattle.ixdtf_grammar.specs.declared.{profile.Profile.Profile, records.{Sign.Sign, DurationParseRecord.DurationParseRecord}}
-use Rattle.ixdtf_grammar.specs.language.{Letters.{Text, digit, Letter.{Plain, Bad}}, Digits.decimal, Fractions.{FractionParts, fraction_of}, Times.Clock.Time}
-use Rattle.ixdtf_grammar.specs.{language.Durations.{Group, designator, unit_of, Half.time}, table.Faults.Fault.{NonAsciiCodePoint, FractionPart}}
-use Rattle.ixdtf_grammar.specs.table.Lines.{abrupt_time_designator}
-use Rattle.ixdtf_reading.specs.reading.{Looks.{Placed, before, Read, ◌>>=◌, error_of, look_at, seen, next_by, digit_run}, Times.fraction_at}
+use Rattle.ixdtf_grammar.specs.language.{Letters.{Text, digit, Letter.{Plain, Bad}}, Digits.decimal, Fractions.{FractionParts, fraction_of}}
+use Rattle.ixdtf_grammar.specs.language.Durations.{Group, designator, unit_of, Half.time}
+use Rattle.ixdtf_reading.specs.{reading.{Looks.{Placed, before, Read, ◌>>=◌, look_at, seen, next_by, digit_run}, Clauses.fraction_by}}
 use Rattle.ixdtf_reading.specs.reading.Durations.{step, run, fraction_group, State.{at_mark, in_fraction}}
 use Rattle.ixdtf_reading.proofs.code.FirstLetter.{first_is, nothing_is}
 use Rattle.ixdtf_durations.specs.reading.DurationClauses.{run_from, time_group_of, after_time_group}
@@ -14,7 +14,7 @@ ok_is : {A : Type 0} (x y : A × Text) → ◌≡◌ {A = Read Placed A} (Ok x) 
 ok_is x y e = cc
 
 abbrev digits_of : Text → Read Placed Text
-digits_of text = digit_run (before NonAsciiCodePoint) text
+digits_of text = digit_run (before stops.GroupFractionDigits) text
 
 module _ (profile : Profile) (s : Sign) (dates times : List Group) (ds : Text) where
   -- Reads on after more digits of a fraction. `fs` has the digits before them.
@@ -40,9 +40,17 @@ module _ (profile : Profile) (s : Sign) (dates times : List Group) (ds : Text) w
           let stop : digits_of (Plain c ∷ rest) ≡ Ok ([], Plain c ∷ rest) = rw is refl in
           ap (λ t. run_from profile (in_fraction s dates times ds t) (Plain c ∷ rest)) (sym (append-nil fs)) ∙ ap (after_digits fs) (sym stop)
 
+-- The fraction of a group.
+abbrev pub group_fraction : Text → Read Placed FractionParts
+group_fraction text = fraction_by stops.GroupFractionStart stops.GroupFractionDigits text
+
+-- The code unit after the digits of a fraction.
+abbrev seen_behind : Text → Result (Option ℕ) Placed
+seen_behind text = seen stops.GroupFractionDigits text
+
 -- The next code unit is not a digit.
 abbrev NoDigitNext : Text → Type 0
-NoDigitNext text = (c : ℕ) → seen text ≡ Ok (Some c) → digit c ≡ false
+NoDigitNext text = (c : ℕ) → seen_behind text ≡ Ok (Some c) → digit c ≡ false
 
 digits_end : (text more rest : Text) → digits_of text ≡ Ok (more, rest) → NoDigitNext rest
 unfolding digit_run look_at
@@ -86,9 +94,9 @@ first_over c rest (Ok more) reads is fraction left at =
     }
 
 -- A fraction was read.
-pub fraction_over : (text : Text) (fraction : FractionParts) (rest : Text) → fraction_at error_of Time text ≡ Ok (fraction, rest)
+pub fraction_over : (text : Text) (fraction : FractionParts) (rest : Text) → group_fraction text ≡ Ok (fraction, rest)
     → IsFractionOver text fraction rest
-unfolding fraction_at next_by look_at
+unfolding fraction_by next_by look_at
 fraction_over [] fraction rest at = absurd cc
 fraction_over (Bad ∷ text) fraction rest at = absurd cc
 fraction_over (Plain c ∷ text) fraction rest at = go (digit c) refl
@@ -98,11 +106,11 @@ fraction_over (Plain c ∷ text) fraction rest at = go (digit c) refl
     go false is = absurd (let never = rw is at at in cc)
 
 -- Reading a fraction failed.
-pub fraction_fails : (text : Text) (fault : Placed) → fraction_at error_of Time text ≡ Err fault
+pub fraction_fails : (text : Text) (fault : Placed) → group_fraction text ≡ Err fault
     → (profile : Profile) (s : Sign) (dates times : List Group) (ds : Text) → run_from profile (at_mark s dates times ds) text ≡ Err fault
-unfolding fraction_at next_by look_at run step
-fraction_fails [] fault at profile s dates times ds = let same : (FractionPart, []) ≡ fault = cc in rw same refl
-fraction_fails (Bad ∷ text) fault at profile s dates times ds = let same : (NonAsciiCodePoint, Bad ∷ text) ≡ fault = cc in rw same refl
+unfolding fraction_by next_by look_at run step
+fraction_fails [] fault at profile s dates times ds = let same : (stops.GroupFractionStart, []) ≡ fault = cc in rw same refl
+fraction_fails (Bad ∷ text) fault at profile s dates times ds = let same : (stops.GroupFractionStart, Bad ∷ text) ≡ fault = cc in rw same refl
 fraction_fails (Plain c ∷ text) fault at profile s dates times ds = go (digit c) refl
   where
     digits_fail : (read : Read Placed Text) → with_first c read ≡ Err fault → after_digits profile s dates times ds (Plain c ∷ []) read ≡ Err fault
@@ -111,7 +119,7 @@ fraction_fails (Plain c ∷ text) fault at profile s dates times ds = go (digit 
 
     go : (b : Bool) → digit c ≡ b → run_from profile (at_mark s dates times ds) (Plain c ∷ text) ≡ Err fault
     go true is = rw (is, over_digits profile s dates times ds _ text) (digits_fail (digits_of text) (rw is at at))
-    go false is = let same : (FractionPart, Plain c ∷ text) ≡ fault = cc (rw is at at) in rw (is, same) refl
+    go false is = let same : (stops.GroupFractionStart, Plain c ∷ text) ≡ fault = cc (rw is at at) in rw (is, same) refl
 
 -- ---- the code unit after a fraction
 
@@ -121,14 +129,14 @@ module _ (text : Text) (fraction : FractionParts) (rest : Text) (over : IsFracti
   abbrev from_mark : Read Placed DurationParseRecord
   from_mark = run_from profile (at_mark s dates times ds) text
 
-  pub no_letter : seen rest ≡ Ok None → from_mark ≡ Err (abrupt_time_designator, rest)
+  pub no_letter : seen_behind rest ≡ Ok None → from_mark ≡ Err (stops.GroupFractionDigits, rest)
   unfolding run
-  no_letter none = over.leads profile s dates times ds ∙ rw (nothing_is rest none) refl
+  no_letter none = over.leads profile s dates times ds ∙ rw (nothing_is _ rest none) refl
 
-  pub breaks : (fault : Placed) → seen rest ≡ Err fault → from_mark ≡ Err fault
+  pub breaks : (fault : Placed) → seen_behind rest ≡ Err fault → from_mark ≡ Err fault
   breaks fault bad = over.leads profile s dates times ds ∙ fails _ _ rest fault bad
 
-  module _ (c : ℕ) (found : seen rest ≡ Ok (Some c)) where
+  module _ (c : ℕ) (found : seen_behind rest ≡ Ok (Some c)) where
     group_is : (value : ℕ) → value ≡ decimal ds
         → ◌≡◌ {A = Group} (fraction_group ds over.fs c) (time_group_of (record { value = value; fraction = Some fraction; letter = c }))
     group_is value number i = record { unit = unit_of time c; value = sym number i; fraction = Some (sym over.is i) }
@@ -140,5 +148,5 @@ module _ (text : Text) (fraction : FractionParts) (rest : Text) (over : IsFracti
       where
         go : (b : Bool) → designator time c ≡ b → run_from profile (in_fraction s dates times ds over.fs) rest
             ≡ after_time_group profile s dates times (record { value = value; fraction = Some fraction; letter = c }) new
-        go true is = rw (moved, first_is rest c found, over.no_digit c found, is) (end_step profile s dates times _ _ (drop 1 rest) (group_is value number))
-        go false is = rw (moved, first_is rest c found, over.no_digit c found, is) refl
+        go true is = rw (moved, first_is _ rest c found, over.no_digit c found, is) (end_step profile s dates times _ _ (drop 1 rest) (group_is value number))
+        go false is = rw (moved, first_is _ rest c found, over.no_digit c found, is) refl

@@ -4,11 +4,11 @@ use Rattle.std.proofs.{Common.if◌then◌else◌, lemmas.Bool.Decides.nat_tests
 use Rattle.ixdtf_grammar.specs.declared.{profile.Profile.Profile, records.{Sign.Sign, DurationParseRecord.DurationParseRecord}}
 use Rattle.ixdtf_grammar.specs.language.Letters.{Letter, Text, digit, decimal_mark, hour_letter, minute_letter, Letter.Plain}
 use Rattle.ixdtf_grammar.specs.language.Durations.{Half, Group, designator, unit_of, greatest, greatest_value, in_order, Half.{date, time}}
-use Rattle.ixdtf_grammar.specs.{language.Durations.DurationUnit.{hours, minutes, seconds}, table.{Faults.Fault, DurationFronts.Context}}
+use Rattle.ixdtf_grammar.specs.{language.Durations.DurationUnit.{hours, minutes, seconds}, table.DurationFronts.Context}
 use Rattle.ixdtf_grammar.specs.table.DurationFronts.Context.{in_dates, in_times}
 use Rattle.ixdtf_reading.specs.reading.Looks.{Placed, Read, ◌>>=◌, error_of}
 use Rattle.ixdtf_reading.specs.reading.Durations.{State, add_group, end_group, step, run, integer_group, State.{between, in_number, at_mark, ended}}
-use Rattle.ixdtf_reading.proofs.code.FirstLetter.{first_is}
+use Rattle.ixdtf_reading.specs.declared.stop.Stop.{Stop}
 use Rattle.ixdtf_durations.specs.{declared.group_numbers.Number.Number, reading.DurationClauses.{run_from, run_where, IsNumber}}
 use Rattle.ixdtf_durations.specs.reading.DurationClauses.{behind_unit, date_group_of, date_read, after_time_group, date_group_fits, time_group_fits}
 
@@ -20,14 +20,14 @@ mark_no_designator c is = grind (arith, nat_tests)
 -- ---- groups
 
 -- Reading continues if both tests succeed.
-both_tests : (profile : Profile) (a b : Bool) (x y : Fault) (state : State) (text : Text)
+both_tests : (profile : Profile) (a b : Bool) (x y : Stop) (state : State) (text : Text)
     → (((if a then (if b then Ok state else Err (x, text)) else Err (y, text)) >>= λ next. run_from profile next text))
     ≡ run_where profile (if a then (if b then Ok tt else Err x) else Err y) state text
 both_tests profile true true x y state text = refl
 both_tests profile true false x y state text = refl
 both_tests profile false b x y state text = refl
 
-one_test : (profile : Profile) (a : Bool) (y : Fault) (state : State) (text : Text)
+one_test : (profile : Profile) (a : Bool) (y : Stop) (state : State) (text : Text)
     → (((if a then Ok state else Err (y, text)) >>= λ next. run_from profile next text)) ≡ run_where profile (if a then Ok tt else Err y) state text
 one_test profile true y state text = refl
 one_test profile false y state text = refl
@@ -68,8 +68,8 @@ module _ (letter : ℕ → Letter) (first : ℕ) (old : List ℕ) (number : Numb
     where
       go : (b : Bool) → designator date number.next ≡ b → run_from profile (in_number (in_dates s dates) reads.ds) (map letter new)
           ≡ run_where profile (date_read profile dates number) (between (in_dates s (date_group_of number ∷ dates))) (behind_unit date number.next (map letter new))
-      go true is = rw (first_is (map letter new) number.next reads.next, no_digit, is) (date_step profile s dates _ _ (drop 1 (map letter new)) (group_is date))
-      go false is = rw (first_is (map letter new) number.next reads.next, no_digit, is) refl
+      go true is = rw (reads.next, no_digit, is) (date_step profile s dates _ _ (drop 1 (map letter new)) (group_is date))
+      go false is = rw (reads.next, no_digit, is) refl
 
   -- A time group ends at the code unit after the number, or the code unit is an error.
   pub ends_time : (profile : Profile) (s : Sign) (dates times : List Group) → decimal_mark number.next ≡ false → nat_le number.value greatest_value ≡ true
@@ -85,13 +85,13 @@ module _ (letter : ℕ → Letter) (first : ℕ) (old : List ℕ) (number : Numb
 
       go : (b : Bool) → designator time number.next ≡ b → run_from profile (in_number (in_times s dates times) reads.ds) (map letter new)
           ≡ after_time_group profile s dates times (record { value = number.value; fraction = None; letter = number.next }) (map letter new)
-      go true is = rw (first_is (map letter new) number.next reads.next, no_digit, is)
+      go true is = rw (reads.next, no_digit, is)
           (time_step profile s dates times _ _ (drop 1 (map letter new)) (group_is time) (in_range (hour_letter number.next) (minute_letter number.next)))
-      go false is = rw (first_is (map letter new) number.next reads.next, no_digit, is, miss) refl
+      go false is = rw (reads.next, no_digit, is, miss) refl
 
   -- The code unit after the number is a decimal mark, which was consumed.
   pub at_decimal_mark : (profile : Profile) (s : Sign) (dates times : List Group) (left : Text) → left ≡ drop 1 (map letter new) → decimal_mark number.next ≡ true
       → from_first profile (in_times s dates times) ≡ run_from profile (at_mark s dates times reads.ds) left
   unfolding run step
   at_decimal_mark profile s dates times left moved is =
-      reads.leads profile _ ∙ rw (first_is (map letter new) number.next reads.next, no_digit, mark_no_designator _ is, is, moved) refl
+      reads.leads profile _ ∙ rw (reads.next, no_digit, mark_no_designator _ is, is, moved) refl

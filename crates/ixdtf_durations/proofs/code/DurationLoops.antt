@@ -1,17 +1,17 @@
 -- The groups of a duration, read one by one.
-use Rattle.std.proofs.Common.{◌≡◌, ℕ, Bool, true, false, [], ◌∷◌, List, ◌+◌, slice_set, drop, map, Option, Some, None, Ok, Err, refl, ◌∙◌}
+use Rattle.ixdtf_reading.specs.declared.stop.Stop.TheVariants as stops
+use Rattle.std.proofs.Common.{◌≡◌, ℕ, Bool, true, false, [], ◌∷◌, List, ◌+◌, slice_set, drop, map, Option, Some, None, IsSome, Ok, Err, refl, ◌∙◌}
 use Rattle.ixdtf_grammar.specs.declared.{profile.Profile.Profile, records.{Sign.Sign, DurationParseRecord.DurationParseRecord}}
 use Rattle.ixdtf_grammar.specs.declared.records.{TimeDurationRecord.TimeDurationRecord, DateDurationRecord.DateDurationRecord}
 use Rattle.ixdtf_grammar.specs.language.{Letters.{Letter, Text, digit, time_letter, Letter.Plain}, Fractions.FractionParts}
-use Rattle.ixdtf_grammar.specs.{language.Durations.{Group, unit_of, least_step, date_duration, time_duration_to, Half.{date, time}}, table.Faults.Fault}
-use Rattle.ixdtf_grammar.specs.table.{Faults.Fault.InvalidEnd, DurationFronts.Context.{in_dates, in_times}}
+use Rattle.ixdtf_grammar.specs.{language.Durations.{Group, unit_of, least_step, date_duration, time_duration_to, Half.{date, time}}, table.DurationFronts.Context.{in_dates, in_times}}
 use Rattle.ixdtf_durations.specs.{declared.{group_numbers.Number.Number, time_groups.TimeGroup.TimeGroup}, reading.DurationClauses.{run_from, run_where, date_group_of}}
-use Rattle.ixdtf_durations.specs.reading.DurationClauses.{time_group_of, rank, date_rank_from, time_rank_from, behind_unit, date_read, after_group}
+use Rattle.ixdtf_durations.specs.reading.DurationClauses.{time_group_of, rank, date_rank_from, time_rank_from, digits_stop, behind_unit, date_read, after_group}
 use Rattle.ixdtf_durations.specs.reading.DurationClauses.{after_time_group, HasSmallDates, IsDateRecord, IsTimeRecord, AreDates, dated}
 use Rattle.ixdtf_durations.proofs.code.{DurationRanks.below, DurationGroups.{HasDates, HasTimes, date_added, date_refused, time_added, time_refused}}
 use Rattle.ixdtf_durations.proofs.code.DurationSteps.{fails, at_digit, dates_end, dates_at_mark, dates_at_other, times_end, fraction_end, more_times_at_other}
 use Rattle.ixdtf_durations.proofs.code.DurationSteps.{fraction_at_other}
-use Rattle.ixdtf_reading.specs.reading.{Looks.{Placed, Read, seen}, Durations.State.{between, in_number}}
+use Rattle.ixdtf_reading.specs.{declared.stop.Stop.Stop, reading.{Looks.{Placed, Read, seen}, Durations.State.{between, in_number}}}
 
 -- ---- dates
 
@@ -46,26 +46,26 @@ module _ (profile : Profile) (first : ℕ) (whole : Text) where
       leads = λ s. far.leads s ∙ read s far.dates ∙ rw (added.0, moved) refl;
     }
 
-    pub date_refused_on : (fault : Fault) → date_rank_from least n ≡ Err fault → (s : Sign) → first_dates s ≡ Err (fault, next)
-    date_refused_on fault is s = far.leads s ∙ read s far.dates ∙ rw (date_refused profile values least far.dates far.has n fault is, moved) refl
+    pub date_refused_on : (stop : Stop) → date_rank_from least n ≡ Err stop → (s : Sign) → first_dates s ≡ Err (stop, next)
+    date_refused_on stop is s = far.leads s ∙ read s far.dates ∙ rw (date_refused profile values least far.dates far.has n stop is, moved) refl
 
   module _ {rest : Text} {values : List ℕ} {least : ℕ} (far : DatesRead rest values least) where
     pub dates_small : HasSmallDates values
     dates_small = rw far.has.numbers (below _ _ far.has.small.0, below _ _ far.has.small.1, below _ _ far.has.small.2)
 
-    pub dates_go_on : (next : Text) (c : ℕ) → seen rest ≡ Ok (Some c) → digit c ≡ true → next ≡ drop 1 rest
+    pub dates_go_on : (stop : Stop) (next : Text) (c : ℕ) → seen stop rest ≡ Ok (Some c) → digit c ≡ true → next ≡ drop 1 rest
         → DatesSoFar next values least c
-    dates_go_on next c found is moved = record {
+    dates_go_on stop next c found is moved = record {
       dates = far.last ∷ far.earlier;
       has = far.has;
-      leads = λ s. far.leads s ∙ at_digit profile rest c found _ is ∙ rw moved refl;
+      leads = λ s. far.leads s ∙ at_digit profile rest stop c found _ is ∙ rw moved refl;
     }
 
-    pub dates_stop : (c : ℕ) → seen rest ≡ Ok (Some c) → digit c ≡ false → time_letter c ≡ false
-        → (s : Sign) → first_dates s ≡ Err (InvalidEnd, rest)
-    dates_stop c found miss nor s = far.leads s ∙ dates_at_other profile rest c found s _ miss nor
+    pub dates_stop : (stop : Stop) (c : ℕ) → seen stop rest ≡ Ok (Some c) → digit c ≡ false → time_letter c ≡ false
+        → (s : Sign) → first_dates s ≡ Err (stops.AfterDateGroups, rest)
+    dates_stop stop c found miss nor s = far.leads s ∙ dates_at_other profile rest stop c found s _ miss nor
 
-    pub dates_break : (fault : Placed) → seen rest ≡ Err fault → (s : Sign) → first_dates s ≡ Err fault
+    pub dates_break : (fault : Placed) → seen stops.AfterDateGroups rest ≡ Err fault → (s : Sign) → first_dates s ≡ Err fault
     dates_break fault bad s = far.leads s ∙ fails _ _ rest fault bad
 
     module _ (letter : ℕ → Letter) (old : List ℕ) (is_whole : whole ≡ map letter old) (new : List ℕ) (found : DateDurationRecord)
@@ -73,25 +73,39 @@ module _ (profile : Profile) (first : ℕ) (whole : Text) where
       record_is : date_duration (far.last ∷ far.earlier) ≡ Some found
       record_is = is far.last far.earlier far.has.numbers
 
-      pub dates_timed : (c : ℕ) → seen rest ≡ Ok (Some c) → time_letter c ≡ true → map letter new ≡ drop 1 rest
+      pub dates_timed : (stop : Stop) (c : ℕ) → seen stop rest ≡ Ok (Some c) → time_letter c ≡ true → map letter new ≡ drop 1 rest
           → AreDates profile letter first old (record { «record» = found; timed = true }) new
-      dates_timed c looked mark moved = record {
+      dates_timed stop c looked mark moved = record {
         groups = far.last ∷ far.earlier;
         has = record_is;
-        timed = λ yes s. rw (← is_whole, moved) (far.leads s ∙ dates_at_mark profile rest c looked s _ mark);
+        timed = λ yes s. rw (← is_whole, moved) (far.leads s ∙ dates_at_mark profile rest stop c looked s _ mark);
         untimed = λ never. absurd cc;
       }
 
-      pub dates_alone : seen rest ≡ Ok None → map letter new ≡ rest
+      pub dates_alone : (stop : Stop) → seen stop rest ≡ Ok None → map letter new ≡ rest
           → AreDates profile letter first old (record { «record» = found; timed = false }) new
-      dates_alone none stayed = record {
+      dates_alone stop none stayed = record {
         groups = far.last ∷ far.earlier;
         has = record_is;
         timed = λ never. absurd cc;
-        untimed = λ yes s. rw (← is_whole, stayed) (far.leads s ∙ dates_end profile rest none s far.last far.earlier ∙ rw record_is refl);
+        untimed = λ yes s. rw (← is_whole, stayed) (far.leads s ∙ dates_end profile rest stop none s far.last far.earlier ∙ rw record_is refl);
       }
 
 -- ---- times
+
+-- The `Stop` after a time group.
+abbrev pub stop_behind : Option FractionParts → Stop
+stop_behind None = stops.AfterTimeGroups
+stop_behind (Some fraction) = stops.AfterFractionGroup
+
+-- The two `Stop`s of a group with a fraction.
+pub fraction_digits_stop : (fraction : Option FractionParts) → IsSome fraction → digits_stop fraction ≡ stops.GroupFractionDigits
+fraction_digits_stop None some = absurd cc
+fraction_digits_stop (Some fraction) some = refl
+
+pub fraction_stop_behind : (fraction : Option FractionParts) → IsSome fraction → stop_behind fraction ≡ stops.AfterFractionGroup
+fraction_stop_behind None some = absurd cc
+fraction_stop_behind (Some fraction) some = refl
 
 module _ (profile : Profile) (first : ℕ) (whole : Text) where
   -- The result of reading from the first digit of the time groups on.
@@ -116,23 +130,24 @@ module _ (profile : Profile) (first : ℕ) (whole : Text) where
       (read : (s : Sign) (dates times : List Group) → run_from profile (in_number (in_times s dates times) (Plain c ∷ [])) rest
       ≡ after_time_group profile s dates times g mid)
       (moved : next ≡ behind_unit time g.letter mid) where
-    pub time_added_on : (r step : ℕ) → time_rank_from least g.letter ≡ Ok r → step ≡ least_step profile
+    pub time_added_on : (digits : Stop) (r step : ℕ) → digits_stop g.fraction ≡ digits → time_rank_from digits least g.letter ≡ Ok r → step ≡ least_step profile
         → TimesRead next (slice_set values r g.value) (r + step) g r
-    time_added_on r step is stepped = let added = time_added profile values least far.times far.has g r is in record {
+    time_added_on digits r step at is stepped = let added = time_added profile values least far.times far.has g r (rw at is) in record {
       earlier = far.times;
       has = rw stepped added.2;
       ranked = added.1;
       leads = λ s dates. far.leads s dates ∙ read s dates far.times ∙ rw (added.0, moved) refl;
     }
 
-    pub time_refused_on : (fault : Fault) → time_rank_from least g.letter ≡ Err fault → (s : Sign) (dates : List Group) → first_times s dates ≡ Err (fault, next)
-    time_refused_on fault is s dates =
-        far.leads s dates ∙ read s dates far.times ∙ rw (time_refused profile values least far.times far.has g fault is, moved) refl
+    pub time_refused_on : (digits stop : Stop) → digits_stop g.fraction ≡ digits → time_rank_from digits least g.letter ≡ Err stop
+        → (s : Sign) (dates : List Group) → first_times s dates ≡ Err (stop, next)
+    time_refused_on digits stop at is s dates =
+        far.leads s dates ∙ read s dates far.times ∙ rw (time_refused profile values least far.times far.has g stop (rw at is), moved) refl
 
   module _ {rest : Text} {values : List ℕ} {least : ℕ} {g : TimeGroup} {r : ℕ} (far : TimesRead rest values least g r) where
-    pub times_go_on : (next : Text) (c : ℕ) → seen rest ≡ Ok (Some c) → digit c ≡ true → g.fraction ≡ None → next ≡ drop 1 rest
+    pub times_go_on : (stop : Stop) (next : Text) (c : ℕ) → seen stop rest ≡ Ok (Some c) → digit c ≡ true → g.fraction ≡ None → next ≡ drop 1 rest
         → TimesSoFar next values least c
-    times_go_on next c found is none moved = record {
+    times_go_on stop next c found is none moved = record {
       times = time_group_of g ∷ far.earlier;
       has = far.has;
       leads = λ s dates. far.leads s dates ∙ go s dates g.fraction none ∙ rw moved refl;
@@ -141,29 +156,35 @@ module _ (profile : Profile) (first : ℕ) (whole : Text) where
         go : (s : Sign) (dates : List Group) (fraction : Option FractionParts) → fraction ≡ None
             → run_from profile (after_group fraction s dates far.earlier (time_group_of g)) rest
             ≡ run_from profile (in_number (in_times s dates (time_group_of g ∷ far.earlier)) (Plain c ∷ [])) (drop 1 rest)
-        go s dates None without = at_digit profile rest c found (in_times s dates (time_group_of g ∷ far.earlier)) is
+        go s dates None without = at_digit profile rest stop c found (in_times s dates (time_group_of g ∷ far.earlier)) is
         go s dates (Some fraction) without = absurd cc
 
-    pub times_stop : (c : ℕ) → seen rest ≡ Ok (Some c) → (digit c ≡ true → g.fraction ≡ None → ⊥)
-        → (s : Sign) (dates : List Group) → first_times s dates ≡ Err (InvalidEnd, rest)
-    times_stop c found never s dates = far.leads s dates ∙ go g.fraction refl (digit c) refl
+    pub times_stop : (looked : Stop) (stop : Stop) (c : ℕ) → stop_behind g.fraction ≡ stop → seen looked rest ≡ Ok (Some c)
+        → (digit c ≡ true → g.fraction ≡ None → ⊥) → (s : Sign) (dates : List Group) → first_times s dates ≡ Err (stop, rest)
+    times_stop looked stop c at found never s dates = far.leads s dates ∙ go g.fraction refl (digit c) refl ∙ rw at refl
       where
         go : (fraction : Option FractionParts) → g.fraction ≡ fraction → (b : Bool) → digit c ≡ b
-            → run_from profile (after_group fraction s dates far.earlier (time_group_of g)) rest ≡ Err (InvalidEnd, rest)
+            → run_from profile (after_group fraction s dates far.earlier (time_group_of g)) rest ≡ Err (stop_behind fraction, rest)
         go None none true is = absurd (never is none)
-        go None none false is = more_times_at_other profile rest c found s dates (time_group_of g) far.earlier is
-        go (Some fraction) some b is = fraction_at_other profile rest c found s dates far.earlier (time_group_of g)
+        go None none false is = more_times_at_other profile rest looked c found s dates (time_group_of g) far.earlier is
+        go (Some fraction) some b is = fraction_at_other profile rest looked c found s dates far.earlier (time_group_of g)
 
-    pub times_break : (fault : Placed) → seen rest ≡ Err fault → (s : Sign) (dates : List Group) → first_times s dates ≡ Err fault
-    times_break fault bad s dates = far.leads s dates ∙ fails _ _ rest fault bad
+    pub times_break : (stop : Stop) (fault : Placed) → stop_behind g.fraction ≡ stop → seen stop rest ≡ Err fault
+        → (s : Sign) (dates : List Group) → first_times s dates ≡ Err fault
+    times_break stop fault at bad s dates = far.leads s dates ∙ go g.fraction (rw at bad)
+      where
+        go : (fraction : Option FractionParts) → seen (stop_behind fraction) rest ≡ Err fault
+            → run_from profile (after_group fraction s dates far.earlier (time_group_of g)) rest ≡ Err fault
+        go None fails_here = fails _ _ rest fault fails_here
+        go (Some fraction) fails_here = fails _ _ rest fault fails_here
 
-    pub times_end_with : (found : TimeDurationRecord) → seen rest ≡ Ok None → IsTimeRecord values r g.fraction found
+    pub times_end_with : (stop : Stop) (found : TimeDurationRecord) → seen stop rest ≡ Ok None → IsTimeRecord values r g.fraction found
         → (s : Sign) (dates : List Group) → first_times s dates ≡ Ok (dated s (date_duration dates) (Some found), rest)
-    times_end_with found none is s dates =
+    times_end_with stop found none is s dates =
         far.leads s dates ∙ go g.fraction ∙ rw (is g.letter (time_group_of g ∷ far.earlier) far.ranked far.has.numbers) refl
       where
         go : (fraction : Option FractionParts)
             → run_from profile (after_group fraction s dates far.earlier (time_group_of g)) rest
             ≡ Ok (dated s (date_duration dates) (time_duration_to (unit_of time g.letter) g.fraction (time_group_of g ∷ far.earlier)), rest)
-        go None = times_end profile rest none s dates (time_group_of g) far.earlier
-        go (Some fraction) = fraction_end profile rest none s dates far.earlier (time_group_of g)
+        go None = times_end profile rest stop none s dates (time_group_of g) far.earlier
+        go (Some fraction) = fraction_end profile rest stop none s dates far.earlier (time_group_of g)

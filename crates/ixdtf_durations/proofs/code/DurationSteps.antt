@@ -1,84 +1,88 @@
 -- Reading a duration from a state on, by the next code unit.
+use Rattle.ixdtf_reading.specs.declared.stop.Stop.TheVariants as stops
 use Rattle.std.proofs.Common.{◌≡◌, ℕ, ◌≤◌, true, false, List, [], ◌∷◌, drop, length, map, Option, Some, None, Result, Ok, Err, refl, ap, ◌∙◌, arith, nat_le}
 use Rattle.std.proofs.lemmas.Bool.Decides.{nat_tests}
 use Rattle.ixdtf_grammar.specs.declared.{profile.Profile.Profile, records.{Sign.{Sign, TheVariants.Positive}, DurationParseRecord.DurationParseRecord}}
 use Rattle.ixdtf_grammar.specs.{Views.Unread, language.Letters.{Letter, Text, digit, sign, duration_designator, time_letter, Letter.{Plain, Bad}}}
 use Rattle.ixdtf_grammar.specs.language.{Digits.decimal, Offsets.sign_of, Durations.{Group, greatest_value, duration_of}}
-use Rattle.ixdtf_grammar.specs.table.Faults.Fault.{NonAsciiCodePoint, InvalidEnd, DurationDisgnator, TimeDurationDesignator}
-use Rattle.ixdtf_grammar.specs.table.{Lines.{abrupt_duration_start, abrupt_duration_designator, abrupt_duration}, DurationFronts.Context}
+use Rattle.ixdtf_grammar.specs.table.DurationFronts.{Context}
 use Rattle.ixdtf_grammar.specs.table.DurationFronts.Context.{in_dates, in_times}
-use Rattle.ixdtf_reading.specs.{declared.stop.Stop.Stop, reading.{Looks.{Placed, Read, error_of, look_at, seen}, Clauses.Reads}}
-use Rattle.ixdtf_reading.specs.reading.Durations.{State, state_look, step, run, duration_at}
+use Rattle.ixdtf_reading.specs.{declared.stop.Stop.Stop, reading.{Looks.{Placed, Read, error_of, look_at, seen}, Stops.duration_stop, Clauses.Reads}}
+use Rattle.ixdtf_reading.specs.reading.Durations.{State, line_of_state, state_look, step, run, duration_at}
 use Rattle.ixdtf_reading.specs.reading.Durations.State.{started, signed, between, in_number, ended}
 use Rattle.ixdtf_reading.proofs.code.FirstLetter.{first_is, nothing_is}
 use Rattle.ixdtf_durations.specs.reading.DurationClauses.{run_from, ReadsOn}
 
-at_bad_is : (profile : Profile) (s : State) (text : Text) → (state_look error_of profile s).at_bad text ≡ (NonAsciiCodePoint, text)
+-- The `Stop` of the next code unit in each state.
+abbrev pub state_stop : State → Stop
+state_stop s = duration_stop (line_of_state s)
+
+at_bad_is : (profile : Profile) (s : State) (text : Text) → (state_look error_of profile s).at_bad text ≡ (state_stop s, text)
 at_bad_is profile (between (in_dates s [])) text = refl
 at_bad_is profile (between (in_times s dates [])) text = refl
 at_bad_is profile s text = refl
 
 -- The look failed: the next code unit is bad.
-pub fails : (profile : Profile) (s : State) (text : Text) (fault : Placed) → seen text ≡ Err fault → run_from profile s text ≡ Err fault
+pub fails : (profile : Profile) (s : State) (text : Text) (fault : Placed) → seen (state_stop s) text ≡ Err fault → run_from profile s text ≡ Err fault
 unfolding look_at run
-fails profile s (Bad ∷ more) fault e = let same : (NonAsciiCodePoint, Bad ∷ more) ≡ fault = cc in rw (at_bad_is profile s, same) refl
+fails profile s (Bad ∷ more) fault e = let same : (state_stop s, Bad ∷ more) ≡ fault = cc in rw (at_bad_is profile s, same) refl
 fails profile s text fault e = absurd cc
 
 module _ (profile : Profile) (text : Text) where
   -- The text ends.
-  module _ (none : seen text ≡ Ok None) where
-    pub start_at_end : run_from profile started text ≡ Err (abrupt_duration_start, text)
+  module _ (stop : Stop) (none : seen stop text ≡ Ok None) where
+    pub start_at_end : run_from profile started text ≡ Err (stops.DurationStart, text)
     unfolding run
-    start_at_end = rw (nothing_is text none) refl
+    start_at_end = rw (nothing_is stop text none) refl
 
-    pub signed_at_end : (s : Sign) → run_from profile (signed s) text ≡ Err (abrupt_duration_designator, text)
+    pub signed_at_end : (s : Sign) → run_from profile (signed s) text ≡ Err (stops.AfterDurationSign, text)
     unfolding run
-    signed_at_end s = rw (nothing_is text none) refl
+    signed_at_end s = rw (nothing_is stop text none) refl
 
-    pub opened_at_end : (s : Sign) → run_from profile (between (in_dates s [])) text ≡ Err (abrupt_duration, text)
+    pub opened_at_end : (s : Sign) → run_from profile (between (in_dates s [])) text ≡ Err (stops.AfterDurationDesignator, text)
     unfolding run
-    opened_at_end s = rw (nothing_is text none) refl
+    opened_at_end s = rw (nothing_is stop text none) refl
 
-    pub times_at_end : (s : Sign) (dates : _) → run_from profile (between (in_times s dates [])) text ≡ Err (TimeDurationDesignator, text)
+    pub times_at_end : (s : Sign) (dates : _) → run_from profile (between (in_times s dates [])) text ≡ Err (stops.AfterTimeDesignator, text)
     unfolding run
-    times_at_end s dates = rw (nothing_is text none) refl
+    times_at_end s dates = rw (nothing_is stop text none) refl
 
     pub dates_end : (s : Sign) (g : Group) (dates : _) → run_from profile (between (in_dates s (g ∷ dates))) text ≡ Ok (duration_of s (g ∷ dates) [], text)
     unfolding run
-    dates_end s g dates = rw (nothing_is text none) refl
+    dates_end s g dates = rw (nothing_is stop text none) refl
 
     pub times_end : (s : Sign) (dates : _) (g : Group) (times : _)
         → run_from profile (between (in_times s dates (g ∷ times))) text ≡ Ok (duration_of s dates (g ∷ times), text)
     unfolding run
-    times_end s dates g times = rw (nothing_is text none) refl
+    times_end s dates g times = rw (nothing_is stop text none) refl
 
     pub fraction_end : (s : Sign) (dates times : _) (g : Group) → run_from profile (ended s dates times g) text ≡ Ok (duration_of s dates (g ∷ times), text)
     unfolding run
-    fraction_end s dates times g = rw (nothing_is text none) refl
+    fraction_end s dates times g = rw (nothing_is stop text none) refl
 
   -- The next code unit is `c`.
-  module _ (c : ℕ) (first : seen text ≡ Ok (Some c)) where
+  module _ (stop : Stop) (c : ℕ) (first : seen stop text ≡ Ok (Some c)) where
     pub start_at_sign : sign c ≡ true → run_from profile started text ≡ run_from profile (signed (sign_of c)) (drop 1 text)
     unfolding run step
-    start_at_sign is = rw (first_is text c first, is) refl
+    start_at_sign is = rw (first_is stop text c first, is) refl
 
     pub start_at_designator : sign c ≡ false → duration_designator c ≡ true
         → run_from profile started text ≡ run_from profile (between (in_dates Positive [])) (drop 1 text)
     unfolding run step
-    start_at_designator miss is = rw (first_is text c first, miss, is) refl
+    start_at_designator miss is = rw (first_is stop text c first, miss, is) refl
 
-    pub start_at_other : sign c ≡ false → duration_designator c ≡ false → run_from profile started text ≡ Err (DurationDisgnator, text)
+    pub start_at_other : sign c ≡ false → duration_designator c ≡ false → run_from profile started text ≡ Err (stops.DurationStart, text)
     unfolding run
-    start_at_other miss nor = rw (first_is text c first, miss, nor) refl
+    start_at_other miss nor = rw (first_is stop text c first, miss, nor) refl
 
     pub signed_at_designator : (s : Sign) → duration_designator c ≡ true
         → run_from profile (signed s) text ≡ run_from profile (between (in_dates s [])) (drop 1 text)
     unfolding run step
-    signed_at_designator s is = rw (first_is text c first, is) refl
+    signed_at_designator s is = rw (first_is stop text c first, is) refl
 
-    pub signed_at_other : (s : Sign) → duration_designator c ≡ false → run_from profile (signed s) text ≡ Err (DurationDisgnator, text)
+    pub signed_at_other : (s : Sign) → duration_designator c ≡ false → run_from profile (signed s) text ≡ Err (stops.AfterDurationSign, text)
     unfolding run
-    signed_at_other s miss = rw (first_is text c first, miss) refl
+    signed_at_other s miss = rw (first_is stop text c first, miss) refl
 
     no_digit : time_letter c ≡ true → digit c ≡ false
     no_digit is = grind (arith, nat_tests)
@@ -87,26 +91,27 @@ module _ (profile : Profile) (text : Text) where
     pub dates_at_mark : (s : Sign) (dates : _) → time_letter c ≡ true
         → run_from profile (between (in_dates s dates)) text ≡ run_from profile (between (in_times s dates [])) (drop 1 text)
     unfolding run step
-    dates_at_mark s [] is = rw (first_is text c first, no_digit is, is) refl
-    dates_at_mark s (g ∷ dates) is = rw (first_is text c first, no_digit is, is) refl
+    dates_at_mark s [] is = rw (first_is stop text c first, no_digit is, is) refl
+    dates_at_mark s (g ∷ dates) is = rw (first_is stop text c first, no_digit is, is) refl
 
-    pub dates_at_other : (s : Sign) (dates : _) → digit c ≡ false → time_letter c ≡ false → run_from profile (between (in_dates s dates)) text ≡ Err (InvalidEnd, text)
+    pub dates_at_other : (s : Sign) (dates : _) → digit c ≡ false → time_letter c ≡ false
+        → run_from profile (between (in_dates s dates)) text ≡ Err (state_stop (between (in_dates s dates)), text)
     unfolding run
-    dates_at_other s [] miss nor = rw (first_is text c first, miss, nor) refl
-    dates_at_other s (g ∷ dates) miss nor = rw (first_is text c first, miss, nor) refl
+    dates_at_other s [] miss nor = rw (first_is stop text c first, miss, nor) refl
+    dates_at_other s (g ∷ dates) miss nor = rw (first_is stop text c first, miss, nor) refl
 
-    pub times_at_other : (s : Sign) (dates : _) → digit c ≡ false → run_from profile (between (in_times s dates [])) text ≡ Err (TimeDurationDesignator, text)
+    pub times_at_other : (s : Sign) (dates : _) → digit c ≡ false → run_from profile (between (in_times s dates [])) text ≡ Err (stops.AfterTimeDesignator, text)
     unfolding run
-    times_at_other s dates miss = rw (first_is text c first, miss) refl
+    times_at_other s dates miss = rw (first_is stop text c first, miss) refl
 
     pub more_times_at_other : (s : Sign) (dates : _) (g : Group) (times : _) → digit c ≡ false
-        → run_from profile (between (in_times s dates (g ∷ times))) text ≡ Err (InvalidEnd, text)
+        → run_from profile (between (in_times s dates (g ∷ times))) text ≡ Err (stops.AfterTimeGroups, text)
     unfolding run
-    more_times_at_other s dates g times miss = rw (first_is text c first, miss) refl
+    more_times_at_other s dates g times miss = rw (first_is stop text c first, miss) refl
 
-    pub fraction_at_other : (s : Sign) (dates times : _) (g : Group) → run_from profile (ended s dates times g) text ≡ Err (InvalidEnd, text)
+    pub fraction_at_other : (s : Sign) (dates times : _) (g : Group) → run_from profile (ended s dates times g) text ≡ Err (stops.AfterFractionGroup, text)
     unfolding run
-    fraction_at_other s dates times g = rw (first_is text c first) refl
+    fraction_at_other s dates times g = rw (first_is stop text c first) refl
 
     one_digit : digit c ≡ true → nat_le (decimal (Plain c ∷ [])) greatest_value ≡ true
     unfolding greatest_value
@@ -116,20 +121,20 @@ module _ (profile : Profile) (text : Text) where
     pub at_digit : (context : Context) → digit c ≡ true
         → run_from profile (between context) text ≡ run_from profile (in_number context (Plain c ∷ [])) (drop 1 text)
     unfolding run step
-    at_digit (in_dates s []) is = rw (first_is text c first, is, one_digit is) refl
-    at_digit (in_dates s (g ∷ dates)) is = rw (first_is text c first, is, one_digit is) refl
-    at_digit (in_times s dates []) is = rw (first_is text c first, is, one_digit is) refl
-    at_digit (in_times s dates (g ∷ times)) is = rw (first_is text c first, is, one_digit is) refl
+    at_digit (in_dates s []) is = rw (first_is stop text c first, is, one_digit is) refl
+    at_digit (in_dates s (g ∷ dates)) is = rw (first_is stop text c first, is, one_digit is) refl
+    at_digit (in_times s dates []) is = rw (first_is stop text c first, is, one_digit is) refl
+    at_digit (in_times s dates (g ∷ times)) is = rw (first_is stop text c first, is, one_digit is) refl
 
 -- A group begins, and its first digit was consumed.
-pub to_digit : (profile : Profile) (text next : Text) (c : ℕ) → seen text ≡ Ok (Some c) → digit c ≡ true → next ≡ drop 1 text
+pub to_digit : (stop : Stop) (profile : Profile) (text next : Text) (c : ℕ) → seen stop text ≡ Ok (Some c) → digit c ≡ true → next ≡ drop 1 text
     → (context : Context) → run_from profile (between context) text ≡ run_from profile (in_number context (Plain c ∷ [])) next
-to_digit profile text next c first is moved context = at_digit profile text c first context is ∙ rw moved refl
+to_digit stop profile text next c first is moved context = at_digit profile text stop c first context is ∙ rw moved refl
 
 -- A `T` or `t` follows `P` or the date groups, and was consumed.
-pub to_mark : (profile : Profile) (text next : Text) (c : ℕ) → seen text ≡ Ok (Some c) → time_letter c ≡ true → next ≡ drop 1 text
+pub to_mark : (stop : Stop) (profile : Profile) (text next : Text) (c : ℕ) → seen stop text ≡ Ok (Some c) → time_letter c ≡ true → next ≡ drop 1 text
     → (s : Sign) (dates : List Group) → run_from profile (between (in_dates s dates)) text ≡ run_from profile (between (in_times s dates [])) next
-to_mark profile text next c first is moved s dates = dates_at_mark profile text c first s dates is ∙ rw moved refl
+to_mark stop profile text next c first is moved s dates = dates_at_mark profile text stop c first s dates is ∙ rw moved refl
 
 -- The text that is left after a code unit was consumed.
 pub letters_left : (letter : ℕ → Letter) (old new : List ℕ) → new ≡ drop 1 old → map letter new ≡ drop 1 (map letter old)
@@ -137,20 +142,20 @@ letters_left letter [] new is = ap (map letter) is
 letters_left letter (u ∷ us) new is = ap (map letter) is
 
 -- A look found that the next code unit is `c`, which is not consumed.
-pub record LetterStays (letter : ℕ → Letter) (rest looked : List ℕ) (c : ℕ) : Type 0 where
-  pub found : seen (map letter rest) ≡ Ok (Some c)
-  pub here : seen (map letter looked) ≡ Ok (Some c)
+pub record LetterStays (stop : Stop) (letter : ℕ → Letter) (rest looked : List ℕ) (c : ℕ) : Type 0 where
+  pub found : seen stop (map letter rest) ≡ Ok (Some c)
+  pub here : map letter looked ≡ Plain c ∷ drop 1 (map letter looked)
   pub left : map letter looked ≡ map letter rest
   pub more : 1 ≤ length looked
 
-pub letter_stays : {letter : ℕ → Letter} {rest looked : List ℕ} {saw : Option ℕ} {c : ℕ}
-    → seen (map letter rest) ≡ Ok saw → saw ≡ Some c → looked ≡ rest → LetterStays letter rest looked c
+pub letter_stays : {stop : Stop} {letter : ℕ → Letter} {rest looked : List ℕ} {saw : Option ℕ} {c : ℕ}
+    → seen stop (map letter rest) ≡ Ok saw → saw ≡ Some c → looked ≡ rest → LetterStays stop letter rest looked c
 unfolding look_at
-letter_stays {letter} {rest} {looked} {saw} {c} sees is stays =
-    let found : seen (map letter rest) ≡ Ok (Some c) = cc in
-    record { found = found; here = rw stays found; left = ap (map letter) stays; more = rw stays (some_unit rest found) }
+letter_stays {stop} {letter} {rest} {looked} {saw} {c} sees is stays =
+    let found : seen stop (map letter rest) ≡ Ok (Some c) = cc in
+    record { found = found; here = rw stays (first_is stop _ c found); left = ap (map letter) stays; more = rw stays (some_unit rest found) }
   where
-    some_unit : (rest : List ℕ) → seen (map letter rest) ≡ Ok (Some c) → 1 ≤ length rest
+    some_unit : (rest : List ℕ) → seen stop (map letter rest) ≡ Ok (Some c) → 1 ≤ length rest
     some_unit [] found = absurd cc
     some_unit (u ∷ us) found = omega arith
 

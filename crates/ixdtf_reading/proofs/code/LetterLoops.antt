@@ -2,8 +2,8 @@
 use Rattle.std.proofs.Common.{◌≡◌, ℕ, ◌+◌, ◌-◌, Bool, true, false, if◌then◌else◌, List, [], ◌∷◌, ◌++◌, length, map, drop, take, Option, Some, None, Ok, Err, refl}
 use Rattle.std.specs.List.{slice_range}
 use Rattle.std.proofs.{Common.{sym, ap, subst, ◌∙◌, arith, append_assoc, Result}, lemmas.List.{take-map, length-map, length-append, take_all, take-append-le}}
-use Rattle.ixdtf_grammar.specs.{language.Letters.{Letter, Text, Letter.{Plain, Bad}}, table.Faults.Fault.NonAsciiCodePoint}
-use Rattle.ixdtf_reading.specs.reading.{Looks.{Placed, Read, look_at, seen}, Zones.with_letter, Runs.{Taken, one_more, nothing_taken, on_letter, letters_by}}
+use Rattle.ixdtf_grammar.specs.language.Letters.{Letter, Text, Letter.{Plain, Bad}}
+use Rattle.ixdtf_reading.specs.{declared.stop.Stop.Stop, reading.{Looks.{Placed, Read, look_at, seen}, Zones.with_letter, Runs.{Taken, one_more, nothing_taken, on_letter, letters_by}}}
 use Rattle.ixdtf_reading.proofs.{code.FirstLetter.{nothing_is, first_is as letter_first}, parts.Steps.{steps, steps_both, steps_err, with_letters}}
 
 -- The test is true if the result has a value. The next lemma says that it is false if there is none.
@@ -14,13 +14,13 @@ pub test_failed : {A : Type 0} (b : Bool) (x : A) → (if b then Some x else Non
 test_failed b x e = grind (arith, e)
 
 -- A look found the code unit `c`.
-pub first_is : (letter : ℕ → Letter) → ((unit n : ℕ) → letter unit ≡ Plain n → n ≡ unit) → (units : List ℕ) (c : ℕ)
-    → seen (map letter units) ≡ Ok (Some c) → (more : List ℕ) × (units ≡ c ∷ more) × (map letter units ≡ Plain c ∷ map letter more)
+pub first_is : (stop : Stop) (letter : ℕ → Letter) → ((unit n : ℕ) → letter unit ≡ Plain n → n ≡ unit) → (units : List ℕ) (c : ℕ)
+    → seen stop (map letter units) ≡ Ok (Some c) → (more : List ℕ) × (units ≡ c ∷ more) × (map letter units ≡ Plain c ∷ map letter more)
 unfolding look_at
-first_is letter faithful [] c e = absurd cc
-first_is letter faithful (u ∷ more) c e = go (letter u) refl e
+first_is stop letter faithful [] c e = absurd cc
+first_is stop letter faithful (u ∷ more) c e = go (letter u) refl e
   where
-    go : (l : Letter) → letter u ≡ l → seen (l ∷ map letter more) ≡ Ok (Some c)
+    go : (l : Letter) → letter u ≡ l → seen stop (l ∷ map letter more) ≡ Ok (Some c)
         → (rest : List ℕ) × (u ∷ more ≡ c ∷ rest) × (letter u ∷ map letter more ≡ Plain c ∷ map letter rest)
     go (Plain n) is e =
         let same : n ≡ c = cc in
@@ -48,10 +48,10 @@ module _ {S B : Type 0} {step : ℕ → Result B Placed → Result B Placed} {re
   }
 
   -- One code unit continues the run.
-  pub one_far : ((unit n : ℕ) → letter unit ≡ Plain n → n ≡ unit) → (left : List ℕ) (next : S) (c : ℕ) → seen (map letter rest) ≡ Ok (Some c)
+  pub one_far : (stop : Stop) → ((unit n : ℕ) → letter unit ≡ Plain n → n ≡ unit) → (left : List ℕ) (next : S) (c : ℕ) → seen stop (map letter rest) ≡ Ok (Some c)
       → ((more : Text) → reading state (Plain c ∷ more) ≡ step c (reading next more)) → left ≡ drop 1 rest → IsFar step reading letter start whole left next
-  one_far faithful left next c e goes_on moved =
-      let here = first_is letter faithful rest c e in
+  one_far stop faithful left next c e goes_on moved =
+      let here = first_is stop letter faithful rest c e in
       let same : here.0 ≡ left = sym (moved ∙ ap (λ t. drop 1 t) here.1) in
       more_far left (c ∷ []) next (here.1 ∙ ap (λ t. c ∷ t) same)
       (ap (reading state) here.2 ∙ goes_on (map letter here.0) ∙ ap (λ t. step c (reading next (map letter t))) same)
@@ -61,9 +61,9 @@ module _ {S B : Type 0} {step : ℕ → Result B Placed → Result B Placed} {re
   far_fails failed fault e = far.read ∙ ap (steps step far.taken) e ∙ steps_err step failed far.taken fault
 
 -- A reading function that consumes each code unit that continues the run.
-module _ {S B : Type 0} (after : S → ℕ → Option S) (step : ℕ → Result B Placed → Result B Placed) (reading : S → Text → Result B Placed)
+module _ {S B : Type 0} (stop : S → Stop) (after : S → ℕ → Option S) (step : ℕ → Result B Placed → Result B Placed) (reading : S → Text → Result B Placed)
     (over : (state next : S) (c : ℕ) (rest : Text) → after state c ≡ Some next → reading state (Plain c ∷ rest) ≡ step c (reading next rest))
-    (at_bad : (state : S) (rest : Text) → reading state (Bad ∷ rest) ≡ Err (NonAsciiCodePoint, Bad ∷ rest))
+    (at_bad : (state : S) (rest : Text) → reading state (Bad ∷ rest) ≡ Err (stop state, Bad ∷ rest))
     (failed : (c : ℕ) (e : Placed) → step c (Err e) ≡ Err e) where
   -- Reading goes on after the code units that were consumed.
   abbrev Walked : S → Text → Read Placed (Taken S) → Type 0
@@ -75,34 +75,34 @@ module _ {S B : Type 0} (after : S → ℕ → Option S) (step : ℕ → Result 
   walked_more state next c rest (Ok x) is h = over state next c rest is ∙ ap (step c) h
   walked_more state next c rest (Err e) is h = over state next c rest is ∙ ap (step c) h ∙ failed c e
 
-  walked_on : (state : S) (c : ℕ) (rest : Text) (next : Option S) → after state c ≡ next → ((n : S) → Walked n rest (letters_by after n rest))
-      → Walked state (Plain c ∷ rest) (on_letter next (λ n. one_more c (letters_by after n rest)) (Ok (nothing_taken state (Some c), Plain c ∷ rest)))
+  walked_on : (state : S) (c : ℕ) (rest : Text) (next : Option S) → after state c ≡ next → ((n : S) → Walked n rest (letters_by stop after n rest))
+      → Walked state (Plain c ∷ rest) (on_letter next (λ n. one_more c (letters_by stop after n rest)) (Ok (nothing_taken state (Some c), Plain c ∷ rest)))
   walked_on state c rest None is same = refl
   walked_on state c rest (Some next) is same = walked_more state next c rest _ is (same next)
 
-  walked : (state : S) (text : Text) → Walked state text (letters_by after state text)
+  walked : (state : S) (text : Text) → Walked state text (letters_by stop after state text)
   unfolding letters_by
   walked state [] = refl
   walked state (Bad ∷ rest) = at_bad state rest
   walked state (Plain c ∷ rest) = walked_on state c rest (after state c) refl (λ n. walked n rest)
 
-  pub walk_failed : (state : S) (text : Text) (fault : Placed) → letters_by after state text ≡ Err fault → reading state text ≡ Err fault
+  pub walk_failed : (state : S) (text : Text) (fault : Placed) → letters_by stop after state text ≡ Err fault → reading state text ≡ Err fault
   walk_failed state text fault e = let w : Walked state text (Err fault) = subst (Walked state text) e (walked state text) in w
 
-  pub walk_passed : (state : S) (text rest : Text) (taken : Taken S) → letters_by after state text ≡ Ok (taken, rest)
+  pub walk_passed : (state : S) (text rest : Text) (taken : Taken S) → letters_by stop after state text ≡ Ok (taken, rest)
       → reading state text ≡ steps step taken.letters (reading taken.state rest)
   walk_passed state text rest taken e = let w : Walked state text (Ok (taken, rest)) = subst (Walked state text) e (walked state text) in w
 
 -- A reading function that returns code units.
-module _ {S : Type 0} (after : S → ℕ → Option S) (reading : S → Text → Read Placed (List ℕ))
+module _ {S : Type 0} (stop : S → Stop) (after : S → ℕ → Option S) (reading : S → Text → Read Placed (List ℕ))
     (over : (state next : S) (c : ℕ) (rest : Text) → after state c ≡ Some next → reading state (Plain c ∷ rest) ≡ with_letter c (reading next rest))
-    (at_bad : (state : S) (rest : Text) → reading state (Bad ∷ rest) ≡ Err (NonAsciiCodePoint, Bad ∷ rest)) where
-  pub run_failed : (state : S) (text : Text) (fault : Placed) → letters_by after state text ≡ Err fault → reading state text ≡ Err fault
-  run_failed = walk_failed after with_letter reading over at_bad (λ c e. refl)
+    (at_bad : (state : S) (rest : Text) → reading state (Bad ∷ rest) ≡ Err (stop state, Bad ∷ rest)) where
+  pub run_failed : (state : S) (text : Text) (fault : Placed) → letters_by stop after state text ≡ Err fault → reading state text ≡ Err fault
+  run_failed = walk_failed stop after with_letter reading over at_bad (λ c e. refl)
 
-  pub run_passed : (state : S) (text rest : Text) (taken : Taken S) → letters_by after state text ≡ Ok (taken, rest)
+  pub run_passed : (state : S) (text rest : Text) (taken : Taken S) → letters_by stop after state text ≡ Ok (taken, rest)
       → reading state text ≡ with_letters taken.letters (reading taken.state rest)
-  run_passed = walk_passed after with_letter reading over at_bad (λ c e. refl)
+  run_passed = walk_passed stop after with_letter reading over at_bad (λ c e. refl)
 
 -- ---- runs
 
@@ -111,18 +111,18 @@ steps_taken : {S : Type 0} (letters : List ℕ) (state : S) (next : Option ℕ) 
 steps_taken [] state next rest = refl
 steps_taken (c ∷ letters) state next rest = ap (one_more c) (steps_taken letters state next rest)
 
-module _ {S : Type 0} (after : S → ℕ → Option S) where
-  run_more : (state next : S) (c : ℕ) (rest : Text) → after state c ≡ Some next → letters_by after state (Plain c ∷ rest) ≡ one_more c (letters_by after next rest)
+module _ {S : Type 0} (stop : S → Stop) (after : S → ℕ → Option S) where
+  run_more : (state next : S) (c : ℕ) (rest : Text) → after state c ≡ Some next → letters_by stop after state (Plain c ∷ rest) ≡ one_more c (letters_by stop after next rest)
   unfolding letters_by
   run_more state next c rest is = rw is refl
 
-  run_bad : (state : S) (rest : Text) → letters_by after state (Bad ∷ rest) ≡ Err (NonAsciiCodePoint, Bad ∷ rest)
+  run_bad : (state : S) (rest : Text) → letters_by stop after state (Bad ∷ rest) ≡ Err (stop state, Bad ∷ rest)
   unfolding letters_by
   run_bad state rest = refl
 
-  run_fails : (state : S) (text : Text) (fault : Placed) → seen text ≡ Err fault → letters_by after state text ≡ Err fault
+  run_fails : (state : S) (text : Text) (fault : Placed) → seen (stop state) text ≡ Err fault → letters_by stop after state text ≡ Err fault
   unfolding look_at letters_by
-  run_fails state (Bad ∷ more) fault e = let same : (NonAsciiCodePoint, Bad ∷ more) ≡ fault = cc in rw same refl
+  run_fails state (Bad ∷ more) fault e = let same : (stop state, Bad ∷ more) ≡ fault = cc in rw same refl
   run_fails state text fault e = absurd cc
 
   -- The code unit does not continue the run, or the text ends.
@@ -131,41 +131,41 @@ module _ {S : Type 0} (after : S → ℕ → Option S) where
   Stays state (Some c) = after state c ≡ None
 
   abbrev Shown : Read Placed (Taken S) → Type 0
-  Shown (Ok x) = (seen x.1 ≡ Ok x.0.next) × Stays x.0.state x.0.next
+  Shown (Ok x) = (seen (stop x.0.state) x.1 ≡ Ok x.0.next) × Stays x.0.state x.0.next
   Shown (Err e) = Unit {0}
 
   shown_more : (c : ℕ) (read : Read Placed (Taken S)) → Shown read → Shown (one_more c read)
   shown_more c (Ok x) h = h
   shown_more c (Err e) h = tt
 
-  shown_on : (state : S) (c : ℕ) (rest : Text) (next : Option S) → after state c ≡ next → ((n : S) → Shown (letters_by after n rest))
-      → Shown (on_letter next (λ n. one_more c (letters_by after n rest)) (Ok (nothing_taken state (Some c), Plain c ∷ rest)))
+  shown_on : (state : S) (c : ℕ) (rest : Text) (next : Option S) → after state c ≡ next → ((n : S) → Shown (letters_by stop after n rest))
+      → Shown (on_letter next (λ n. one_more c (letters_by stop after n rest)) (Ok (nothing_taken state (Some c), Plain c ∷ rest)))
   unfolding look_at
   shown_on state c rest None e same = (refl, e)
   shown_on state c rest (Some next) e same = shown_more c _ (same next)
 
-  shown : (state : S) (text : Text) → Shown (letters_by after state text)
+  shown : (state : S) (text : Text) → Shown (letters_by stop after state text)
   unfolding letters_by look_at
   shown state [] = (refl, tt)
   shown state (Bad ∷ rest) = tt
   shown state (Plain c ∷ rest) = shown_on state c rest (after state c) refl (λ n. shown n rest)
 
   -- The code unit that does not continue the run is the next one.
-  pub next_shown : (state : S) (text rest : Text) (taken : Taken S) → letters_by after state text ≡ Ok (taken, rest)
-      → seen rest ≡ Ok taken.next
+  pub next_shown : (state : S) (text rest : Text) (taken : Taken S) → letters_by stop after state text ≡ Ok (taken, rest)
+      → seen (stop taken.state) rest ≡ Ok taken.next
   next_shown state text rest taken e = let h : Shown (Ok (taken, rest)) = subst (λ read. Shown read) e (shown state text) in h.0
 
-  pub next_stays : (state : S) (text rest : Text) (taken : Taken S) → letters_by after state text ≡ Ok (taken, rest) → Stays taken.state taken.next
+  pub next_stays : (state : S) (text rest : Text) (taken : Taken S) → letters_by stop after state text ≡ Ok (taken, rest) → Stays taken.state taken.next
   next_stays state text rest taken e = let h : Shown (Ok (taken, rest)) = subst (λ read. Shown read) e (shown state text) in h.1
 
-  run_ceases : (state : S) (text : Text) (next : Option ℕ) → seen text ≡ Ok next → Stays state next
-      → letters_by after state text ≡ Ok (nothing_taken state next, text)
+  run_ceases : (some_stop : Stop) (state : S) (text : Text) (next : Option ℕ) → seen some_stop text ≡ Ok next → Stays state next
+      → letters_by stop after state text ≡ Ok (nothing_taken state next, text)
   unfolding letters_by
-  run_ceases state text None e is = rw (nothing_is text e) refl
-  run_ceases state text (Some c) e is = rw (letter_first text c e, is) refl
+  run_ceases some_stop state text None e is = rw (nothing_is some_stop text e) refl
+  run_ceases some_stop state text (Some c) e is = rw (letter_first some_stop text c e, is) refl
 
   abbrev pub IsSoFar : (ℕ → Letter) → S → List ℕ → List ℕ → S → Type 0
-  IsSoFar letter start whole rest state = IsFar one_more (letters_by after) letter start whole rest state
+  IsSoFar letter start whole rest state = IsFar one_more (letters_by stop after) letter start whole rest state
 
   pub begins : (letter : ℕ → Letter) (start : S) (whole : List ℕ) → IsSoFar letter start whole whole start
   begins letter start whole = record { taken = []; units = refl; read = refl }
@@ -173,17 +173,47 @@ module _ {S : Type 0} (after : S → ℕ → Option S) where
   module _ (letter : ℕ → Letter) (faithful : (unit n : ℕ) → letter unit ≡ Plain n → n ≡ unit) (start : S) (whole rest : List ℕ) (state : S)
       (far : IsSoFar letter start whole rest state) where
     -- The code unit continues the run.
-    pub goes_on : (left : List ℕ) (next : S) (c : ℕ) → seen (map letter rest) ≡ Ok (Some c) → after state c ≡ Some next
+    pub goes_on : (some_stop : Stop) (left : List ℕ) (next : S) (c : ℕ) → seen some_stop (map letter rest) ≡ Ok (Some c) → after state c ≡ Some next
         → left ≡ drop 1 rest → IsSoFar letter start whole left next
-    goes_on left next c e is moved = one_far far faithful left next c e (λ more. run_more state next c more is) moved
+    goes_on some_stop left next c e is moved = one_far far some_stop faithful left next c e (λ more. run_more state next c more is) moved
 
     -- The run ends here.
-    pub ceases : (next : Option ℕ) → seen (map letter rest) ≡ Ok next → Stays state next
-        → letters_by after start (map letter whole) ≡ Ok (record { letters = far.taken; state = state; next = next }, map letter rest)
-    ceases next e is = far.read ∙ ap (steps one_more far.taken) (run_ceases state (map letter rest) next e is) ∙ steps_taken far.taken state next (map letter rest)
+    pub ceases : (some_stop : Stop) (next : Option ℕ) → seen some_stop (map letter rest) ≡ Ok next → Stays state next
+        → letters_by stop after start (map letter whole) ≡ Ok (record { letters = far.taken; state = state; next = next }, map letter rest)
+    ceases some_stop next e is = far.read ∙ ap (steps one_more far.taken) (run_ceases some_stop state (map letter rest) next e is) ∙ steps_taken far.taken state next (map letter rest)
 
-    pub fails : (fault : Placed) → seen (map letter rest) ≡ Err fault → letters_by after start (map letter whole) ≡ Err fault
+    pub fails : (fault : Placed) → seen (stop state) (map letter rest) ≡ Err fault → letters_by stop after start (map letter whole) ≡ Err fault
     fails fault e = far_fails far (λ c e. refl) fault (run_fails state (map letter rest) fault e)
+
+-- ---- runs with other `Stop`s
+
+-- If the first run ends, so does the second one.
+abbrev Alike : {S : Type 0} → Read Placed (Taken S) → Read Placed (Taken S) → Type 0
+Alike (Ok x) other = other ≡ Ok x
+Alike (Err e) other = Unit {0}
+
+alike_more : {S : Type 0} (c : ℕ) (read other : Read Placed (Taken S)) → Alike read other → Alike (one_more c read) (one_more c other)
+alike_more c (Ok x) other same = ap (one_more c) same
+alike_more c (Err e) other same = tt
+
+alike_on : {S : Type 0} (c : ℕ) (next : Option S) (read other : S → Read Placed (Taken S)) (here : Read Placed (Taken S)) → Alike here here
+    → ((n : S) → Alike (read n) (other n)) → Alike (on_letter next (λ n. one_more c (read n)) here) (on_letter next (λ n. one_more c (other n)) here)
+alike_on c None read other here same all = same
+alike_on c (Some n) read other here same all = alike_more c (read n) (other n) (all n)
+
+alike : {S : Type 0} (stop other : S → Stop) (after : S → ℕ → Option S) (state : S) (text : Text) → Alike (letters_by stop after state text) (letters_by other after state text)
+unfolding letters_by
+alike stop other after state [] = refl
+alike stop other after state (Bad ∷ rest) = tt
+alike stop other after state (Plain c ∷ rest) =
+    alike_on c (after state c) (λ n. letters_by stop after n rest) (λ n. letters_by other after n rest) (Ok (nothing_taken state (Some c), Plain c ∷ rest)) refl
+    (λ n. alike stop other after n rest)
+
+-- A run that ends does so with other `Stop`s too.
+pub ends_alike : {S : Type 0} (stop other : S → Stop) (after : S → ℕ → Option S) (state : S) (text : Text) (x : Taken S × Text)
+    → letters_by stop after state text ≡ Ok x → letters_by other after state text ≡ Ok x
+ends_alike stop other after state text x e = let same : Alike (Ok x) (letters_by other after state text) =
+    subst (λ read. Alike read (letters_by other after state text)) e (alike stop other after state text) in same
 
 -- The code units that were consumed are the first ones of those before: all except those that follow.
 pub front_before : {U : Type 0} (number : U → ℕ) (start : List U) (behind : ℕ) (taken rest whole : List ℕ) → map number start ≡ whole → whole ≡ taken ++ rest
@@ -210,22 +240,23 @@ behind_last number after rest left all split stays = omega (arith, stays, length
 -- ---- code units of one kind within another
 
 -- Code units of one class that do not change the state of another run.
-module _ {S U : Type 0} (after : S → ℕ → Option S) (wider : U → ℕ → Option U) (here : U)
+module _ {S U : Type 0} (stop : S → Stop) (after : S → ℕ → Option S) (wide_stop : U → Stop) (wider : U → ℕ → Option U) (here : U)
+    (same_stop : (state : S) → wide_stop here ≡ stop state)
     (within : (state next : S) (c : ℕ) → after state c ≡ Some next → wider here c ≡ Some here) where
   abbrev wide : S → Text → Read Placed (Taken U)
-  wide state text = letters_by wider here text
+  wide state text = letters_by wide_stop wider here text
 
   wide_over : (state next : S) (c : ℕ) (rest : Text) → after state c ≡ Some next → wide state (Plain c ∷ rest) ≡ one_more c (wide next rest)
-  wide_over state next c rest is = run_more wider here here c rest (within state next c is)
+  wide_over state next c rest is = run_more wide_stop wider here here c rest (within state next c is)
 
-  module _ (letter : ℕ → Letter) (start : U) (whole rest : List ℕ) (far : IsSoFar wider letter start whole rest here) where
+  module _ (letter : ℕ → Letter) (start : U) (whole rest : List ℕ) (far : IsSoFar wide_stop wider letter start whole rest here) where
     -- These code units were consumed.
     pub goes_over : (left letters : List ℕ) (state : S) (taken : Taken S) → rest ≡ letters ++ left
-        → letters_by after state (map letter rest) ≡ Ok (taken, map letter left) → taken.letters ≡ letters → IsSoFar wider letter start whole left here
+        → letters_by stop after state (map letter rest) ≡ Ok (taken, map letter left) → taken.letters ≡ letters → IsSoFar wide_stop wider letter start whole left here
     goes_over left letters state taken split passed same = more_far far left letters here split
-        (walk_passed after one_more wide wide_over (λ state rest. run_bad wider here rest) (λ c e. refl) state (map letter rest) (map letter left) taken passed
-        ∙ ap (λ t. steps one_more t (letters_by wider here (map letter left))) same)
+        (walk_passed stop after one_more wide wide_over (λ state rest. run_bad wide_stop wider here rest ∙ ap (λ s. Err (s, Bad ∷ rest)) (same_stop state)) (λ c e. refl) state (map letter rest) (map letter left) taken passed
+        ∙ ap (λ t. steps one_more t (letters_by wide_stop wider here (map letter left))) same)
 
-    pub fails_over : (state : S) (fault : Placed) → letters_by after state (map letter rest) ≡ Err fault → letters_by wider start (map letter whole) ≡ Err fault
+    pub fails_over : (state : S) (fault : Placed) → letters_by stop after state (map letter rest) ≡ Err fault → letters_by wide_stop wider start (map letter whole) ≡ Err fault
     fails_over state fault e = far_fails far (λ c e. refl) fault
-        (walk_failed after one_more wide wide_over (λ state rest. run_bad wider here rest) (λ c e. refl) state (map letter rest) fault e)
+        (walk_failed stop after one_more wide wide_over (λ state rest. run_bad wide_stop wider here rest ∙ ap (λ s. Err (s, Bad ∷ rest)) (same_stop state)) (λ c e. refl) state (map letter rest) fault e)

@@ -1,9 +1,10 @@
 -- The clauses of a reader without annotations that returns the positions of its errors. They follow from its reading function.
 use Rattle.std.proofs.{Common.{◌≡◌, ℕ, ◌-◌, ◌≤◌, List, [], length, map, Result, Ok, Err, IfErr, sym, ap, ◌∙◌, arith}, lemmas.List.{length-map, length-append}}
-use Rattle.ixdtf_grammar.specs.{declared.located.LocatedError.LocatedError, Views.Unread, language.{Languages.Found, Letters.{Letter, Text}, Readers.Reader}}
+use Rattle.ixdtf_grammar.specs.{declared.located.LocatedError.LocatedError, Views.Unread, language.{Languages.Found, Letters.{Letter, Text}, Readers.{Reader, has_brackets}}}
 use Rattle.ixdtf_grammar.specs.table.{Faults.{Fault, fault_of_located, stands_behind}, Lines.{Line, Line.{line, scanned, whole}}}
 use Rattle.ixdtf_grammar.specs.table.{Outcomes.{HasFaultAt, OnlyPlace}, Rows.{Row, Place, Stops, Fits, left_at, Place.{end, other, bad, anywhere}}}
-use Rattle.ixdtf_reading.specs.{declared.stop.Stop.Stop, reading.{Looks.{Read, Placed, error_of}, Clauses.{Reads, Settles, fault_of_stop}}}
+use Rattle.ixdtf_reading.specs.{declared.stop.Stop.Stop, reading.{Looks.{Read, Placed, error_of}, Clauses.{Reads, Settles}, Stops.fault_at}}
+use Rattle.ixdtf_reading.proofs.theorems.StopFaults.{fault_of_row}
 use Rattle.ixdtf_reading.specs.reading.Wholes.{finding, read_at}
 use Rattle.ixdtf_reading.proofs.{code.ReadersWithoutPairs.{ReadsNoPairs, error_after, Exact, exact}, parts.Looks.OnRead, theorems.OneOutcome.place_once}
 
@@ -37,25 +38,25 @@ module _ {U A : Type 0} (letter : ℕ → Letter) (view : U → A) (reader : Rea
     pub place : IfErr result (λ e. OnlyPlace reader (map letter old.rest) (fault_of_located e) e.at)
 
   -- The row of the fault fits, and `at` is the number of code units before its position.
-  fault_at : (start : List ℕ) → start ≡ old.rest → (stop : Stop) (e : LocatedError) → reading (map letter old.rest) ≡ Err (fault_of_stop stop, map letter new.rest)
-      → fault_of_located e ≡ fault_of_stop stop → stands_behind (length start - length new.rest) e
+  row_at : (start : List ℕ) → start ≡ old.rest → (stop : Stop) (e : LocatedError) → reading (map letter old.rest) ≡ Err (stop, map letter new.rest)
+      → fault_of_located e ≡ fault_at (has_brackets reader) stop (map letter new.rest) → stands_behind (length start - length new.rest) e
       → HasFaultAt reader (map letter old.rest) [] (fault_of_located e) e.at
-  fault_at start is stop e h named at =
+  row_at start is stop e h named at =
       let row = rw h at gives in
       let left : map letter new.rest ≡ left_at row.0.place = ap (λ p. p.1) row.1 in
       let short = left_fits reader row.0 [] (map letter old.rest) row.2 in (
         row.0,
         row.2,
-        sym (named ∙ ap (λ p. p.0) row.1),
+        sym (fault_of_row reader row.0 [] _ row.2) ∙ ap (λ (p : Placed). fault_at (has_brackets reader) p.0 p.1) (sym row.1) ∙ sym named,
         omega (arith, at, short, ap (λ t. length t) is, ap (λ t. length t) left, length-map new.rest letter, length-map old.rest letter),
       )
 
   stands : (start : List ℕ) → start ≡ old.rest → (read : Result U Stop) (result : Result U LocatedError) → Reads letter view old read new reading
-      → Settles fault_of_located read result → IfErr result (λ e. stands_behind (length start - length new.rest) e)
+      → Settles fault_of_located (has_brackets reader) (map letter new.rest) read result → IfErr result (λ e. stands_behind (length start - length new.rest) e)
       → IfErr result (λ e. HasFaultAt reader (map letter old.rest) [] (fault_of_located e) e.at)
   stands start is read (Ok y) h s at = tt
   stands start is (Ok x) (Err e) h s at = absurd s
-  stands start is (Err stop) (Err e) h s at = fault_at start is stop e h s at
+  stands start is (Err stop) (Err e) h s at = row_at start is stop e h s at
 
   once : (result : Result U LocatedError) → IfErr result (λ e. HasFaultAt reader (map letter old.rest) [] (fault_of_located e) e.at)
       → IfErr result (λ e. OnlyPlace reader (map letter old.rest) (fault_of_located e) e.at)
@@ -63,7 +64,7 @@ module _ {U A : Type 0} (letter : ℕ → Letter) (view : U → A) (reader : Rea
   once (Err e) h = place_once reader (map letter old.rest) [] (fault_of_located e) e.at h
 
   pub located : (start : List ℕ) → start ≡ old.rest → (read : Result U Stop) (result : Result U LocatedError) → Reads letter view old read new reading
-      → Settles fault_of_located read result → IfErr result (λ e. stands_behind (length start - length new.rest) e) → Located result
+      → Settles fault_of_located (has_brackets reader) (map letter new.rest) read result → IfErr result (λ e. stands_behind (length start - length new.rest) e) → Located result
   located start is read result h s at = let there = stands start is read result h s at in record {
     plain = exact letter view reader found same none reading old new reads fault_of_located read result h s;
     err = there;

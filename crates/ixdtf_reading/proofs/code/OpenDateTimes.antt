@@ -1,6 +1,6 @@
--- If the end of a date-time is read in the same way at each of its table lines, the date-time can be read before its end.
+-- A date-time can be read before its end, because its core says at which table line it ends.
 use Rattle.std.proofs.Common.{◌≡◌, ℕ, Bool, true, false, Ok, Err, Option, Some, None, refl, pos, if◌then◌else◌}
-use Rattle.ixdtf_grammar.specs.declared.records.{DateRecord.DateRecord, TimeRecord.TimeRecord}
+use Rattle.ixdtf_grammar.specs.declared.records.{DateRecord.DateRecord, MinutePrecisionOffset.MinutePrecisionOffset, TimeRecord.TimeRecord}
 use Rattle.ixdtf_grammar.specs.language.{Letters.{Text, zulu}, Digits.decimal, Cores.Core}
 use Rattle.ixdtf_grammar.specs.table.{LineNames.LineName.of_date_time, DateTimeFronts.{point, Field.{second_field, offset_minute_field}}}
 use Rattle.ixdtf_grammar.specs.table.LineNames.DateTimeLine.{four_digits, after_four_digits, after_field, after_secfrac, after_utc}
@@ -8,11 +8,13 @@ use Rattle.ixdtf_grammar.specs.language.Languages.{parsed_with}
 use Rattle.ixdtf_reading.specs.reading.{Clauses.end_look, Cores.{core_end_at, internet_date_time_core_at}, DateTimes.{date_time_ends, rfc_3339_at}, Dates.date_of, Times.time_of}
 use Rattle.ixdtf_reading.specs.reading.{Looks.{Read, Placed, ◌>>=◌, error_of, peek_by, letter_at, digits_at}, DateTimes.{Finish, open_end, num_offset, numeric_core, utc_core}}
 use Rattle.ixdtf_reading.specs.reading.DateTimes.{offset_minute_at, num_offset_at, secfrac_digits_at, time_offset_at, secfrac_at, after_whole_second_at, whole_second_at}
-use Rattle.ixdtf_reading.specs.reading.DateTimes.{whole_minute_at, full_time_at, full_day_at, full_month_at, date_time_by}
+use Rattle.ixdtf_reading.specs.reading.DateTimes.{whole_minute_at, full_time_at, full_day_at, full_month_at, date_time_by, line_after_offset}
+use Rattle.ixdtf_reading.specs.reading.Stops.{stop_of}
 
 module _ {A : Type 0} (finish : Finish Placed A) (last : Core → Text → Read Placed A)
-    (utc : (core : Core) (text : Text) → finish (of_date_time after_utc) core text ≡ last core text)
-    (numeric : (core : Core) (text : Text) → finish (of_date_time (after_field offset_minute_field)) core text ≡ last core text) where
+    (utc : (date : DateRecord) (time : TimeRecord) (text : Text) → finish (of_date_time after_utc) (utc_core date time) text ≡ last (utc_core date time) text)
+    (numeric : (date : DateRecord) (time : TimeRecord) (offset : MinutePrecisionOffset) (text : Text)
+    → finish (of_date_time (after_field offset_minute_field)) (numeric_core date time offset) text ≡ last (numeric_core date time offset) text) where
   -- The end after a core that was read.
   abbrev ended : Read Placed Core → Read Placed A
   ended read = read >>= λ core. last core.0 core.1
@@ -31,7 +33,7 @@ module _ {A : Type 0} (finish : Finish Placed A) (last : Core → Text → Read 
   offset_minute_open : (date : DateRecord) (time : TimeRecord) (c hour : ℕ) (text : Text)
       → offset_minute_at error_of finish date time c hour text ≡ ended (offset_minute_at error_of open_end date time c hour text)
   unfolding offset_minute_at
-  offset_minute_open date time c hour text = part _ _ _ (λ minute. numeric _ minute.1)
+  offset_minute_open date time c hour text = part _ _ _ (λ minute. numeric _ _ _ minute.1)
 
   num_offset_open : (date : DateRecord) (time : TimeRecord) (c : ℕ) (text : Text)
       → num_offset_at error_of finish date time c text ≡ ended (num_offset_at error_of open_end date time c text)
@@ -41,7 +43,7 @@ module _ {A : Type 0} (finish : Finish Placed A) (last : Core → Text → Read 
   pub time_offset_open : (date : DateRecord) (time : TimeRecord) (c : ℕ) (text : Text)
       → time_offset_at error_of finish date time c text ≡ ended (time_offset_at error_of open_end date time c text)
   unfolding time_offset_at
-  time_offset_open date time c text = choice (zulu c) _ _ _ _ (utc _ text) (num_offset_open date time c text)
+  time_offset_open date time c text = choice (zulu c) _ _ _ _ (utc _ _ text) (num_offset_open date time c text)
 
   secfrac_open : (date : DateRecord) (hour minute second : ℕ) (text : Text)
       → secfrac_at error_of finish date hour minute second text ≡ ended (secfrac_at error_of open_end date hour minute second text)
@@ -88,13 +90,14 @@ module _ {A : Type 0} (finish : Finish Placed A) (last : Core → Text → Read 
 
 -- A date-time of RFC 3339, and the end of the text.
 pub rfc_3339_open : (text : Text) → rfc_3339_at error_of text
-    ≡ (date_time_by error_of open_end text >>= λ core. peek_by end_look core.1 >>= λ next. Ok (parsed_with core.0 None, next.1))
+    ≡ (date_time_by error_of open_end text >>= λ core. peek_by (end_look (stop_of (line_after_offset core.0.offset))) core.1 >>= λ next. Ok (parsed_with core.0 None, next.1))
 unfolding date_time_ends
-rfc_3339_open text = date_time_open (date_time_ends error_of) (λ core rest. peek_by end_look rest >>= λ next. Ok (parsed_with core None, next.1))
-    (λ core rest. refl) (λ core rest. refl) text
+rfc_3339_open text = date_time_open (date_time_ends error_of)
+    (λ core rest. peek_by (end_look (stop_of (line_after_offset core.offset))) rest >>= λ next. Ok (parsed_with core None, next.1))
+    (λ date time rest. refl) (λ date time offset rest. refl) text
 
 -- A date-time of RFC 3339, and the end of the text or `[`.
 pub internet_date_time_open : (text : Text) → internet_date_time_core_at error_of text
-    ≡ (date_time_by error_of open_end text >>= λ core. core_end_at error_of (of_date_time after_utc) core.0 core.1)
-unfolding core_end_at
-internet_date_time_open text = date_time_open (core_end_at error_of) (core_end_at error_of (of_date_time after_utc)) (λ core rest. refl) (λ core rest. refl) text
+    ≡ (date_time_by error_of open_end text >>= λ core. core_end_at error_of (line_after_offset core.0.offset) core.0 core.1)
+internet_date_time_open text = date_time_open (core_end_at error_of) (λ core. core_end_at error_of (line_after_offset core.offset) core)
+    (λ date time rest. refl) (λ date time offset rest. refl) text

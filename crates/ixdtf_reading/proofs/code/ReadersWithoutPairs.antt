@@ -1,11 +1,12 @@
 -- The clauses of a reader that reads no annotations. They follow from its reading function.
 use Rattle.std.proofs.Common.{refl, ◌≡◌, ℕ, List, [], map, Result, Ok, Err, sym, ap, ◌∙◌, IfErr, OnOk, IsFalse}
-use Rattle.ixdtf_grammar.specs.{declared.profile.Profile.Profile, language.{Letters.{Letter, Text}, Brackets.Pair, Readers.Reader}}
+use Rattle.ixdtf_grammar.specs.{declared.profile.Profile.Profile, language.{Letters.{Letter, Text}, Brackets.Pair, Readers.{Reader, has_brackets}}}
 use Rattle.ixdtf_grammar.specs.language.Readers.Reader.{bracketed, parse_rfc3339, parse_offset, parse_identifier, parse_iana_identifier, parse_duration}
 use Rattle.ixdtf_grammar.specs.{language.Languages.{Found, Derives}, table.{Faults.{Fault, never_comes}, Rows.{Row, Fits}}}
 use Rattle.ixdtf_grammar.specs.{table.Outcomes.{HasFault, NoRowFits, OnlyFault}, Views.{Unread, returned_by}, Laws.InNoOther}
 use Rattle.ixdtf_grammar.proofs.theorems.NoRow.{fault_comes}
-use Rattle.ixdtf_reading.specs.{declared.stop.Stop.Stop, reading.{Clauses.{Reads, Settles, fault_of_stop}, Looks.{Read, Placed, error_of}}}
+use Rattle.ixdtf_reading.specs.{declared.stop.Stop.Stop, reading.{Clauses.{Reads, Settles}, Looks.{Read, Placed, error_of}, Stops.fault_at}}
+use Rattle.ixdtf_reading.proofs.theorems.StopFaults.{fault_of_row}
 use Rattle.ixdtf_reading.specs.reading.Wholes.{finding, read_at}
 use Rattle.ixdtf_reading.proofs.{to_grammar.Wholes.{OnWhole, whole_read}, to_reading.Wholes.takes, theorems.OnlyOutcome.{Accepted, accepted, only_fault}}
 use Rattle.ixdtf_reading.proofs.code.Units.{no_units}
@@ -65,17 +66,19 @@ module _ {A : Type 0} (reader : Reader) (found : A → Found) (same : (x y : A) 
   accepted_where_read x rest is = accepted reader text (found x, [], (returned_here (Ok (x, rest)) is).1)
 
   -- If reading returned a fault, the grammar derives nothing.
-  err_where_refused : (fault : Fault) (left : Text) → reading ≡ Err (fault, left) → (y : A)
+  err_where_refused : (fault : Fault) (stop : Stop) (left : Text) → reading ≡ Err (stop, left) → (y : A)
       → (Err fault ≡ done y → Derives reader text (found y) []) × (Derives reader text (found y) [] → Err fault ≡ done y)
-  err_where_refused fault left is y = (
+  err_where_refused fault stop left is y = (
     λ e. absurd (failed_is y fault e),
-    λ d. absurd (failed_is ((found y, []), []) (fault, left) (sym (reads ∙ ap (finding found) is) ∙ takes error_after reader text (found y) [] d)),
+    λ d. absurd (failed_is ((found y, []), []) (stop, left) (sym (reads ∙ ap (finding found) is) ∙ takes error_after reader text (found y) [] d)),
   )
 
   -- A fault is the error of a row that fits.
-  err_where_fits : (fault : Fault) (left : Text) → reading ≡ Err (fault, left) → ReadsNoPairs reader → HasFault reader text [] fault
-  err_where_fits fault left is none =
-      let row = returned_here _ is in (row.1, no_pairs reader row.1 row.0 text none row.3, ap (λ p. p.0) (sym row.2))
+  err_where_fits : (stop : Stop) (left : Text) → reading ≡ Err (stop, left) → ReadsNoPairs reader → HasFault reader text [] (fault_at (has_brackets reader) stop left)
+  err_where_fits stop left is none =
+      let row = returned_here _ is in
+      let fits = no_pairs reader row.1 row.0 text none row.3 in
+      (row.1, fits, sym (fault_of_row reader row.1 [] text fits) ∙ ap (λ (p : Placed). fault_at (has_brackets reader) p.0 p.1) (sym row.2))
 
 -- The result of a public reader, if the private function returned this result and the cursor was settled with it.
 module _ {U A : Type 0} (letter : ℕ → Letter) (view : U → A) (reader : Reader) (found : A → Found) (same : (x y : A) → found x ≡ found y → x ≡ y)
@@ -93,7 +96,7 @@ module _ {U A : Type 0} (letter : ℕ → Letter) (view : U → A) (reader : Rea
     pub empty : (left : List ℕ) → OnOk result (left ≡ new.rest) → OnOk result (left ≡ [])
 
   pub exact : {E : Type 0} (named : E → Fault) (read : Result U Stop) (result : Result U E) → Reads letter view old read new reading
-      → Settles named read result → Exact named result
+      → Settles named (has_brackets reader) (map letter new.rest) read result → Exact named result
   exact named (Ok x) (Ok y) h s = let read = accepted_where_read reader found same _ _ reads (view x) _ h in record {
     ok = rw s (ok_where_derived reader found same (map letter old.rest) _ reads (view x) (map letter new.rest) h);
     err = tt;
@@ -106,8 +109,8 @@ module _ {U A : Type 0} (letter : ℕ → Letter) (view : U → A) (reader : Rea
   exact named (Ok x) (Err e) h s = absurd s
   exact named (Err stop) (Ok y) h s = absurd s
   exact named (Err stop) (Err e) h s = let fits : HasFault reader (map letter old.rest) [] (named e) =
-      rw s (err_where_fits reader found same (map letter old.rest) _ reads (fault_of_stop stop) (map letter new.rest) h none) in record {
-        ok = rw s (err_where_refused reader found same (map letter old.rest) _ reads (fault_of_stop stop) (map letter new.rest) h);
+      rw s (err_where_fits reader found same (map letter old.rest) _ reads stop (map letter new.rest) h none) in record {
+        ok = rw s (err_where_refused reader found same (map letter old.rest) _ reads (fault_at (has_brackets reader) stop (map letter new.rest)) stop (map letter new.rest) h);
         err = fits;
         comes = fault_comes reader _ [] (named e) fits;
         no_row = tt;

@@ -1,63 +1,74 @@
 -- Two digits, read by looks at the first two indices, and their number.
-use Rattle.std.proofs.Common.{◌≡◌, ℕ, ◌+◌, ◌-◌, ◌*◌, ◌/◌, ◌%◌, ◌≤◌, ◌<◌, true, IsTrue, List, [], ◌∷◌, length, map, drop, Option, Some, None, Result, Ok, Err, refl, arith}
+use Rattle.std.proofs.Common.{◌≡◌, ◌∙◌, ℕ, ◌+◌, ◌-◌, ◌*◌, ◌/◌, ◌%◌, ◌≤◌, ◌<◌, true, IsTrue, IsFalse, List, [], ◌∷◌, length, map, drop, Option, Some, None, Result, Ok, Err, refl, arith}
 use Rattle.std.proofs.lemmas.Bool.Decides.{nat_tests}
 use Rattle.std.proofs.lemmas.Nat.{div-mul-add, mod-mul-add}
 use Rattle.std.proofs.Math.Nat.{div-one, mod-eq_of_lt}
 use Rattle.ixdtf_grammar.proofs.PaddedDigits.{decimal-whole}
 use Rattle.ixdtf_grammar.specs.language.Digits.{decimal}
-use Rattle.ixdtf_reading.specs.{declared.stop.Stop.Stop, reading.Looks.{Placed, Read, ◌>>=◌, look_at, next_by, digits_by, digit_look, two_digits_of}}
-use Rattle.ixdtf_reading.specs.reading.{Clauses.{digit_seen, Yields}, FixedPlaces.{byte_of_look, tens_value, ones_value}}
-use Rattle.ixdtf_reading.proofs.code.Units.{placed}
-use Rattle.ixdtf_grammar.specs.{language.Letters.{Letter, Text, digit, Letter.{Plain, Bad}}, table.{Faults.Fault, Lines.abrupt_digit}}
-use Rattle.ixdtf_grammar.specs.Views.{ascii_at, looked}
+use Rattle.ixdtf_reading.specs.{declared.stop.Stop.Stop, reading.Looks.{Placed, Read, ◌>>=◌, look_at, next_by, digits_by, digit_look, two_digits_by, two_digits_of}}
+use Rattle.ixdtf_reading.specs.reading.FixedPlaces.{byte_place, first_byte, tens_value, ones_value}
+use Rattle.ixdtf_grammar.specs.language.Letters.{Text, digit, Letter.{Plain, Bad}}
 
--- A look found a digit.
-pub seen_digit : (other : Fault) (found : Result (Option ℕ) Stop) (seen : Result (Option ℕ) Fault) → Yields (λ x. x) found seen
-    → IsTrue (digit (byte_of_look found)) → digit_seen other seen ≡ Ok (byte_of_look found)
-seen_digit other (Ok None) seen is digits = absurd cc
-seen_digit other (Ok (Some c)) seen is digits = rw (is, digits) refl
-seen_digit other (Err stop) seen is digits = absurd cc
+module _ (first second : Stop) where
+  abbrev two : Text → Read Placed Text
+  two text = two_digits_by first second text
 
-module _ (letter : ℕ → Letter) (other : Fault) where
-  abbrev two : List ℕ → Read Placed Text
-  two units = digits_by (digit_look other) 2 (map letter units)
+  -- The first code unit is no digit.
+  pub no_first : (text : Text) → IsFalse (digit (byte_place 0 text)) → two text ≡ Err (first, text)
+  unfolding two_digits_by next_by look_at
+  no_first [] none = refl
+  no_first (Bad ∷ rest) none = refl
+  no_first (Plain c ∷ rest) none = rw none refl
 
-  -- There are fewer than two code units.
-  pub too_short : (units : List ℕ) → length units < 2 → two units ≡ (placed (map letter units) (digit_seen other (ascii_at letter 0 units)) >>= λ a. Err (abrupt_digit, drop 1 (map letter units)))
-  unfolding digits_by next_by look_at
-  too_short [] short = refl
-  too_short (u ∷ []) short = go (letter u)
+  abbrev alone : ℕ × Text → Read Placed Text
+  alone next = Ok (Plain next.0 ∷ [], next.1)
+
+  abbrev before_all : ℕ → Text × Text → Read Placed Text
+  before_all a more = Ok (Plain a ∷ more.0, more.1)
+
+  abbrev after : ℕ → ℕ × Text → Read Placed Text
+  after a next = Ok (Plain a ∷ Plain next.0 ∷ [], next.1)
+
+  joined : (a : ℕ) (r : Read Placed ℕ) → ((r >>= alone) >>= before_all a) ≡ (r >>= after a)
+  joined a (Ok x) = refl
+  joined a (Err e) = refl
+
+  after_first : (a : ℕ) (rest : Text) → IsTrue (digit a) → two (Plain a ∷ rest) ≡ (next_by (digit_look second) rest >>= after a)
+  unfolding two_digits_by next_by digits_by look_at
+  after_first a rest is = rw is (joined a (next_by (digit_look second) rest))
+
+  -- The first code unit is a digit, and the second is none.
+  pub no_second : (text : Text) → IsTrue (digit (byte_place 0 text)) → IsFalse (digit (byte_place 1 text)) → two text ≡ Err (second, drop 1 text)
+  unfolding next_by look_at
+  no_second [] is none = absurd cc
+  no_second (Bad ∷ rest) is none = absurd cc
+  no_second (Plain a ∷ rest) is none = after_first a rest is ∙ go rest none
     where
-      go : (l : Letter) → digits_by (digit_look other) 2 (l ∷ []) ≡ (placed (l ∷ []) (digit_seen other (looked (Some l))) >>= λ a. Err (abrupt_digit, []))
-      go Bad = refl
-      go (Plain c) = grind arith
-  too_short (u ∷ v ∷ units) short = absurd (omega arith)
+      go : (rest : Text) → IsFalse (digit (first_byte rest)) → (next_by (digit_look second) rest >>= after a) ≡ Err (second, rest)
+      go [] none = refl
+      go (Bad ∷ more) none = refl
+      go (Plain c ∷ more) none = rw none refl
 
-  abbrev Second : ℕ → List ℕ → Letter → Type 0
-  Second a units l = digits_by (digit_look other) 2 (Plain a ∷ l ∷ map letter units)
-      ≡ (placed (l ∷ map letter units) (digit_seen other (looked (Some l))) >>= λ b. Ok (Plain a ∷ Plain b ∷ [], map letter units))
+  -- The first code unit is a digit, and there is no second one.
+  pub short_second : (text : Text) → length text < 2 → IsTrue (digit (byte_place 0 text)) → two text ≡ Err (second, drop 1 text)
+  short_second [] short is = absurd cc
+  short_second (Plain a ∷ []) short is = no_second (Plain a ∷ []) is refl
+  short_second (Bad ∷ rest) short is = absurd cc
+  short_second (x ∷ y ∷ rest) short is = absurd (omega arith)
 
-  second : (a : ℕ) (units : List ℕ) (l : Letter) → digit a ≡ true → Second a units l
-  unfolding digits_by next_by look_at
-  second a units Bad at = rw at refl
-  second a units (Plain c) at = grind (arith, at)
-
-  abbrev First : Letter → List ℕ → Letter → Type 0
-  First v units l = digits_by (digit_look other) 2 (l ∷ v ∷ map letter units)
-      ≡ (placed (l ∷ v ∷ map letter units) (digit_seen other (looked (Some l))) >>= λ a. placed (v ∷ map letter units) (digit_seen other (looked (Some v))) >>= λ b. Ok (Plain a ∷ Plain b ∷ [], map letter units))
-
-  first : (l v : Letter) (units : List ℕ) → First v units l
-  unfolding digits_by next_by look_at
-  first Bad v units = refl
-  first (Plain c) v units = grind (arith, second c units v)
-
-  -- There are at least two code units.
-  pub long_enough : (units : List ℕ) → 2 ≤ length units
-      → two units ≡ (placed (map letter units) (digit_seen other (ascii_at letter 0 units)) >>= λ a. placed (drop 1 (map letter units)) (digit_seen other (ascii_at letter 1 units))
-      >>= λ b. Ok (Plain a ∷ Plain b ∷ [], map letter (drop 2 units)))
-  long_enough [] long = absurd (omega arith)
-  long_enough (u ∷ []) long = absurd (omega arith)
-  long_enough (u ∷ v ∷ units) long = first (letter u) (letter v) units
+  -- The first two code units are digits.
+  pub both : (text : Text) → IsTrue (digit (byte_place 0 text)) → IsTrue (digit (byte_place 1 text))
+      → two text ≡ Ok (Plain (byte_place 0 text) ∷ Plain (byte_place 1 text) ∷ [], drop 2 text)
+  unfolding next_by look_at
+  both [] is is_too = absurd cc
+  both (Bad ∷ rest) is is_too = absurd cc
+  both (Plain a ∷ rest) is is_too = after_first a rest is ∙ go rest is_too
+    where
+      go : (rest : Text) → IsTrue (digit (first_byte rest))
+          → (next_by (digit_look second) rest >>= after a) ≡ Ok (Plain a ∷ Plain (first_byte rest) ∷ [], drop 1 rest)
+      go [] is = absurd cc
+      go (Bad ∷ more) is = absurd cc
+      go (Plain c ∷ more) is = rw is refl
 
 -- ---- the number of two digits
 

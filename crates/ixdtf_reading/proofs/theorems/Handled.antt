@@ -1,14 +1,15 @@
 -- The clauses of the readers with a handler, from the result of the code for a chain of calls.
-use Rattle.std.proofs.Common.{◌≡◌, ◌≢◌, ◌↔◌, ℕ, IsFalse, List, [], ◌∷◌, Option, Some, None, Result, Ok, Err, IfOk, refl, sym, ◌∙◌, ap, subst, inl, inr}
+use Rattle.std.proofs.Common.{◌≡◌, ◌≢◌, ◌↔◌, ℕ, Bool, IsFalse, List, [], ◌∷◌, Option, Some, None, Result, Ok, Err, IfOk, refl, sym, ◌∙◌, ap, subst, inl, inr}
 use Rattle.std.proofs.{Common.{map, option_map}, lemmas.Simd.map-map}
 use Rattle.ixdtf_grammar.specs.{declared.records.{Annotation.Annotation, IxdtfParseRecord.IxdtfParseRecord}, Views.{returned_by, parsed_of}}
-use Rattle.ixdtf_grammar.specs.language.{Letters.Text, Brackets.Pair, Readers.Reader, Languages.{Parsed, Found.parsed}}
+use Rattle.ixdtf_grammar.specs.language.{Letters.Text, Brackets.Pair, Readers.{Reader, has_brackets}, Languages.{Parsed, Found.parsed}}
 use Rattle.ixdtf_grammar.specs.table.Faults.{Fault, Fault.{UnrecognizedCritical, CriticalDuplicateCalendar}, never_comes}
 use Rattle.ixdtf_grammar.specs.Handlers.{Reply, first_calendar, RefusedBeside, calendar_value, pair_of}
 use Rattle.ixdtf_grammar.specs.Handlers.{Calls, handed, replies_of, Step, IsChain, own_replies, Handled, HandledTo, UnhandledRecord, UnhandledFault}
 use Rattle.ixdtf_grammar.specs.Laws.{GivesResult}
 use Rattle.ixdtf_grammar.proofs.theorems.NoRow.{fault_comes, row_is_no_refusal}
-use Rattle.ixdtf_reading.specs.reading.{Chains.{TextGives, TextRead}, Looks.Placed, Clauses.UnhandledForm}
+use Rattle.ixdtf_reading.specs.reading.{Chains.{TextGives, TextRead}, Looks.Placed, Stops.fault_at, Clauses.UnhandledForm}
+use Rattle.ixdtf_reading.proofs.theorems.StopFaults.{fault_of_row, fault_of_refusal}
 use Rattle.ixdtf_reading.proofs.theorems.OnlyOutcome.{Accepted, accepted, gives_only}
 use Rattle.ixdtf_reading.proofs.theorems.{Replies.{refused_split, each_is_none}, OneUnhandledOutcome.one_unhandled_result, OneChain.one_result}
 use Rattle.ixdtf_reading.proofs.theorems.Replies.{first_calendar-nones}
@@ -118,25 +119,25 @@ module _ {T U F : Type 0} (number : U → ℕ) (step : Step T U F) (handler : F)
 
 -- ---- with and without the position
 
--- The result, without the position of a fault.
-abbrev pub unplaced : {A : Type 0} → Result A Placed → Result A Fault
-unplaced (Ok x) = Ok x
-unplaced (Err placed) = Err placed.0
+-- The result, with the fault of a `Stop`. The first argument says whether the reader reads brackets.
+abbrev pub unplaced : {A : Type 0} → Bool → Result A Placed → Result A Fault
+unplaced brackets (Ok x) = Ok x
+unplaced brackets (Err placed) = Err (fault_at brackets placed.0 placed.1)
 
 pub gives_result : (reader : Reader) (text : Text) (pairs : List Pair) (replies : List Reply) (placed : Result Parsed Placed)
-    → TextGives reader text pairs replies placed → GivesResult reader text pairs replies (unplaced placed)
+    → TextGives reader text pairs replies placed → GivesResult reader text pairs replies (unplaced (has_brackets reader) placed)
 gives_result reader text pairs replies (Ok found) gives = gives
 gives_result reader text pairs replies (Err placed) gives = elim gives [
-  | inl p ↦ inl ((p.0.0, placed.1, p.0.1, p.0.2, p.0.3), p.1)
-  | inr p ↦ inr ((p.0.0, p.0.1, ap (λ q. q.0) p.0.2), p.1)
+  | inl p ↦ inl ((p.0.0, placed.1, p.0.1, p.0.2, p.0.3), rw (fault_of_refusal (has_brackets reader) placed.0 p.1.0 placed.1 p.1.2) p.1.1)
+  | inr p ↦ inr ((p.0.0, p.0.1, sym (fault_of_row reader p.0.0 pairs text p.0.1) ∙ ap (λ (q : Placed). fault_at (has_brackets reader) q.0 q.1) p.0.2), p.1)
 ]
 
 module _ {T U F : Type 0} (number : U → ℕ) (step : Step T U F) (handler : F) (reader : Reader) (text : Text) (placed : Result Parsed Placed) where
-  abbrev pub handled : (last : F) → TextRead number step handler last reader text placed → Handled number step handler reader text (unplaced placed)
-  handled last read = handled_of number step handler reader text (unplaced placed) read.calls last read.chain (gives_result reader text _ _ placed read.gives)
+  abbrev pub handled : (last : F) → TextRead number step handler last reader text placed → Handled number step handler reader text (unplaced (has_brackets reader) placed)
+  handled last read = handled_of number step handler reader text (unplaced (has_brackets reader) placed) read.calls last read.chain (gives_result reader text _ _ placed read.gives)
 
-  abbrev pub handled_to : (last : F) → TextRead number step handler last reader text placed → HandledTo number step handler last reader text (unplaced placed)
-  handled_to last read = handled_to_of number step handler reader text (unplaced placed) read.calls last read.chain (gives_result reader text _ _ placed read.gives)
+  abbrev pub handled_to : (last : F) → TextRead number step handler last reader text placed → HandledTo number step handler last reader text (unplaced (has_brackets reader) placed)
+  handled_to last read = handled_to_of number step handler reader text (unplaced (has_brackets reader) placed) read.calls last read.chain (gives_result reader text _ _ placed read.gives)
 
 -- The promise of a variant without a handler, from the result with a handler that returns each annotation.
 pub unhandled_form : {T U F : Type 0} {number : U → ℕ} {step : Step T U F} {handler : F} {reader : Reader} {text : Text} {result : Result Parsed Fault}

@@ -1,103 +1,51 @@
 -- The statements that the clauses of private functions use, and the meaning of the types of the code. No public clause uses them.
-use Rattle.ixdtf_reading.specs.declared.stop.Stop.TheVariants as stops
-use Rattle.std.specs.Prelude.{◌≡◌, ◌↔◌, ℕ, Bool, IsTrue, IsFalse, OnOk, IfErr, ◌+◌, ◌≤◌, map, length, Option, Some, None, Result, Ok, Err, ◌++◌}
+use Rattle.std.specs.Prelude.{◌≡◌, ◌↔◌, ℕ, Bool, IsTrue, IsFalse, OnOk, IfErr, ◌+◌, ◌≤◌, ◌∷◌, [], map, length, Option, Some, None, Result, Ok, Err, ◌++◌}
 use Rattle.std.specs.Prelude.{if◌then◌else◌}
 use Rattle.ixdtf_grammar.specs.declared.{profile.Profile.Profile, records.{DateRecord.DateRecord, IxdtfParseRecord.IxdtfParseRecord}}
-use Rattle.ixdtf_grammar.specs.language.{Letters.{Letter, Text, ◌or◌, none, digit, hyphen, closing}, Fractions.{FractionParts, fraction_of}}
-use Rattle.ixdtf_grammar.specs.language.{Times.{Clock as clocks}, Cores.{Core, core_of}, Readers.Reader, Languages.Parsed}
-use Rattle.ixdtf_grammar.specs.table.{Faults.{Fault, Fault as faults}, Outcomes.NoRowFits, Lines.{abrupt_digit, abrupt_date, abrupt_month_day}}
-use Rattle.ixdtf_grammar.specs.table.Lines.{abrupt_bracket, abrupt_offset, abrupt_zone, abrupt_duration_start, abrupt_duration_designator, abrupt_duration}
-use Rattle.ixdtf_grammar.specs.{table.Lines.{abrupt_date_designator, abrupt_time_designator}, Views.Unread}
+use Rattle.ixdtf_grammar.specs.language.{Letters.{Letter, Letter.Plain, Text, ◌or◌, none, digit, hyphen, closing}, Fractions.{FractionParts, fraction_of}}
+use Rattle.ixdtf_grammar.specs.language.{Times.{Clock, Clock as clocks}, Cores.{Core, core_of}, Readers.Reader, Languages.Parsed}
+use Rattle.ixdtf_grammar.specs.{table.{Faults.Fault, LineNames.{LineName.of_clock, ClockLine.{hour_digit, hour_range}}, Outcomes.NoRowFits}, Views.Unread}
 use Rattle.ixdtf_grammar.specs.{Handlers.{UnhandledRecord, UnhandledFault, UnhandledOnlyFault}, Laws.InNoOther}
-use Rattle.ixdtf_reading.specs.{declared.stop.{Stop.Stop, StopAt.StopAt}, reading.Looks.{Read, Look, Placed, before, look_for, ◌>>=◌, error_of, digit_run}}
-use Rattle.ixdtf_reading.specs.reading.{Times.clock_at, Cores.{ClosedCore, after_time_at}}
+use Rattle.ixdtf_reading.specs.{declared.stop.Stop.Stop, reading.Looks.{Read, Look, Placed, before, look_for, look_or_end, digit_look, next_by, two_digits_by, in_range, ◌>>=◌, error_of, digit_run}}
+use Rattle.ixdtf_reading.specs.reading.{Stops.{fault_at, stop_of}, Times.{OpenTime, after_hour_at}, Cores.{ClosedCore, after_time_at}}
 
--- The fault that a `Stop` stands for.
-abbrev pub fault_of_stop : Stop → Fault
-fault_of_stop stops.NonAsciiCodePoint = faults.NonAsciiCodePoint
-fault_of_stop stops.AbruptDigit = abrupt_digit
-fault_of_stop stops.AbruptDate = abrupt_date
-fault_of_stop stops.AbruptBracket = abrupt_bracket
-fault_of_stop stops.AbruptOffset = abrupt_offset
-fault_of_stop stops.AbruptZone = abrupt_zone
-fault_of_stop stops.InvalidEnd = faults.InvalidEnd
-fault_of_stop stops.InvalidMonthRange = faults.InvalidMonthRange
-fault_of_stop stops.InvalidDayRange = faults.InvalidDayRange
-fault_of_stop stops.DateYear = faults.DateYear
-fault_of_stop stops.DateExtendedYear = faults.DateExtendedYear
-fault_of_stop stops.DateMonth = faults.DateMonth
-fault_of_stop stops.DateDay = faults.DateDay
-fault_of_stop stops.TimeHour = faults.TimeHour
-fault_of_stop stops.TimeMinuteSecond = faults.TimeMinuteSecond
-fault_of_stop stops.TimeSecond = faults.TimeSecond
-fault_of_stop stops.FractionPart = faults.FractionPart
-fault_of_stop stops.DateSeparator = faults.DateSeparator
-fault_of_stop stops.TimeSeparator = faults.TimeSeparator
-fault_of_stop stops.AnnotationClose = faults.AnnotationClose
-fault_of_stop stops.AnnotationKeyValueSeparator = faults.AnnotationKeyValueSeparator
-fault_of_stop stops.AnnotationKeyLeadingChar = faults.AnnotationKeyLeadingChar
-fault_of_stop stops.AnnotationKeyChar = faults.AnnotationKeyChar
-fault_of_stop stops.AnnotationValueCharPostHyphen = faults.AnnotationValueCharPostHyphen
-fault_of_stop stops.AnnotationValueChar = faults.AnnotationValueChar
-fault_of_stop stops.InvalidMinutePrecisionOffset = faults.InvalidMinutePrecisionOffset
-fault_of_stop stops.CriticalDuplicateCalendar = faults.CriticalDuplicateCalendar
-fault_of_stop stops.UnrecognizedCritical = faults.UnrecognizedCritical
-fault_of_stop stops.TzLeadingChar = faults.TzLeadingChar
-fault_of_stop stops.IanaCharPostSeparator = faults.IanaCharPostSeparator
-fault_of_stop stops.IanaChar = faults.IanaChar
-fault_of_stop stops.UtcTimeSeparator = faults.UtcTimeSeparator
-fault_of_stop stops.OffsetNeedsSign = faults.OffsetNeedsSign
-fault_of_stop stops.AbruptMonthDay = abrupt_month_day
-fault_of_stop stops.MonthDayHyphen = faults.MonthDayHyphen
-fault_of_stop stops.InvalidMonthDay = faults.InvalidMonthDay
-fault_of_stop stops.AmbiguousTimeMonthDay = faults.AmbiguousTimeMonthDay
-fault_of_stop stops.AmbiguousTimeYearMonth = faults.AmbiguousTimeYearMonth
-fault_of_stop stops.AbruptDurationStart = abrupt_duration_start
-fault_of_stop stops.AbruptDurationDesignator = abrupt_duration_designator
-fault_of_stop stops.AbruptDuration = abrupt_duration
-fault_of_stop stops.AbruptDateDesignator = abrupt_date_designator
-fault_of_stop stops.AbruptTimeDesignator = abrupt_time_designator
-fault_of_stop stops.DurationDisgnator = faults.DurationDisgnator
-fault_of_stop stops.DurationValueExceededRange = faults.DurationValueExceededRange
-fault_of_stop stops.DateDurationPartOrder = faults.DateDurationPartOrder
-fault_of_stop stops.TimeDurationPartOrder = faults.TimeDurationPartOrder
-fault_of_stop stops.TimeDurationDesignator = faults.TimeDurationDesignator
-
--- The fault that the `Stop` of a `StopAt` stands for.
-abbrev pub fault_of_stop_at : StopAt → Fault
-fault_of_stop_at why = fault_of_stop why.stop
-
--- The result of a private function. `view` is applied to its value, and its `Stop` is replaced by the fault.
-abbrev pub yielded : {X Y : Type 0} → (X → Y) → Result X Stop → Result Y Fault
+-- The result of a private function. `view` is applied to its value.
+abbrev pub yielded : {X Y : Type 0} → (X → Y) → Result X Stop → Result Y Stop
 yielded view (Ok x) = Ok (view x)
-yielded view (Err e) = Err (fault_of_stop e)
+yielded view (Err stop) = Err stop
 
--- As above. The fault also has the remaining text.
+-- As above. The `Stop` also has the remaining text.
 abbrev pub yielded_at : {X Y : Type 0} → (X → Y) → Result X Stop → Text → Result Y Placed
 yielded_at view (Ok x) left = Ok (view x)
-yielded_at view (Err e) left = Err (fault_of_stop e, left)
+yielded_at view (Err stop) left = Err (stop, left)
 
 -- The result of a private function, as `yielded` gives it, is `wanted`.
-abbrev pub Yields : {X Y : Type 0} → (X → Y) → Result X Stop → Result Y Fault → Type 0
+abbrev pub Yields : {X Y : Type 0} → (X → Y) → Result X Stop → Result Y Stop → Type 0
 Yields view (Ok x) wanted = wanted ≡ Ok (view x)
-Yields view (Err e) wanted = wanted ≡ Err (fault_of_stop e)
+Yields view (Err stop) wanted = wanted ≡ Err stop
 
--- As above. The fault also has the remaining text.
+-- As above. The `Stop` also has the remaining text.
 abbrev pub YieldsAt : {X Y : Type 0} → (X → Y) → Result X Stop → Text → Result Y Placed → Type 0
 YieldsAt view (Ok x) left wanted = wanted ≡ Ok (view x)
-YieldsAt view (Err e) left wanted = wanted ≡ Err (fault_of_stop e, left)
+YieldsAt view (Err stop) left wanted = wanted ≡ Err (stop, left)
+
+-- The code unit that a look at an index found. At a bad code unit, the look stops.
+abbrev pub stopped_by : Stop → Result (Option ℕ) Fault → Result (Option ℕ) Stop
+stopped_by stop (Ok found) = Ok found
+stopped_by stop (Err fault) = Err stop
 
 -- The result of a function, and the remaining input after it, are what the reading function returns for the input before it.
 abbrev pub Reads : {X Y : Type 0} → (ℕ → Letter) → (X → Y) → Unread → Result X Stop → Unread → (Text → Read Placed Y) → Type 0
 Reads letter view old (Ok x) new reading = reading (map letter old.rest) ≡ Ok (view x, map letter new.rest)
-Reads letter view old (Err e) new reading = reading (map letter old.rest) ≡ Err (fault_of_stop e, map letter new.rest)
+Reads letter view old (Err stop) new reading = reading (map letter old.rest) ≡ Err (stop, map letter new.rest)
 
--- A public function returns the value of a private function, or the error of its `Stop`.
-abbrev pub Settles : {X E : Type 0} → (E → Fault) → Result X Stop → Result X E → Type 0
-Settles named (Ok x) (Ok y) = y ≡ x
-Settles named (Ok x) (Err e) = ⊥
-Settles named (Err stop) (Ok y) = ⊥
-Settles named (Err stop) (Err e) = named e ≡ fault_of_stop stop
+-- A public function returns the value of a private function, or the error of its `Stop`. `brackets` says whether the reader reads
+-- brackets, and `left` is the text from the position of the `Stop` on.
+abbrev pub Settles : {X E : Type 0} → (E → Fault) → Bool → Text → Result X Stop → Result X E → Type 0
+Settles named brackets left (Ok x) (Ok y) = y ≡ x
+Settles named brackets left (Ok x) (Err e) = ⊥
+Settles named brackets left (Err stop) (Ok y) = ⊥
+Settles named brackets left (Err stop) (Err e) = named e ≡ fault_at brackets stop left
 
 -- Besides one access for each code unit that was consumed, at most `more` accesses were made. The count did not decrease.
 abbrev pub Spends : ℕ → Unread → Unread → Type 0
@@ -120,38 +68,45 @@ pub record UnhandledForm (reader : Reader) (text : Text) (result : Result Parsed
   pub no_other_reader : OnOk result ((profile : Profile) → InNoOther profile reader text)
   pub only : IfErr result (λ fault. UnhandledOnlyFault reader text fault)
 
--- The function returned the value, and `test` is true; or it returned a `Stop` for `fault`, and `test` is false.
-abbrev pub Checks : {X Y : Type 0} → (X → Y) → Result X Stop → Y → Bool → Fault → Type 0
-Checks view (Ok x) wanted test fault = (view x ≡ wanted) × IsTrue test
-Checks view (Err e) wanted test fault = (fault_of_stop e ≡ fault) × IsFalse test
+-- The function returned the value, and `test` is true; or it returned `stop`, and `test` is false.
+abbrev pub Checks : {X Y : Type 0} → (X → Y) → Result X Stop → Y → Bool → Stop → Type 0
+Checks view (Ok x) wanted test stop = (view x ≡ wanted) × IsTrue test
+Checks view (Err e) wanted test stop = (e ≡ stop) × IsFalse test
 
--- ---- looks, as the code makes them: their errors do not name a table line
+-- ---- looks, as the code makes them
 
 -- The look that expects the end of the text.
-abbrev pub end_look : Look Placed
-end_look = look_for none None faults.InvalidEnd
+abbrev pub end_look : Stop → Look Placed
+end_look stop = look_or_end none stop
 
--- The look for a hyphen or a digit. The arguments are the errors at the end of the text and at any other code unit.
-abbrev pub hyphen_look : Fault → Fault → Look Placed
-hyphen_look at_end other = look_for (hyphen or digit) (Some at_end) other
+-- The look for a hyphen or a digit.
+abbrev pub hyphen_look : Stop → Look Placed
+hyphen_look stop = look_for (hyphen or digit) stop
 
--- The look for the `]` of a bracket. `fault` is the error at any other code unit.
-abbrev pub closing_look : Fault → Look Placed
-closing_look fault = look_for closing (Some faults.AnnotationClose) fault
+-- The look for the `]` of a bracket.
+abbrev pub closing_look : Stop → Look Placed
+closing_look stop = look_for closing stop
 
--- The result of a look for a digit, if `other` is the error at any other code unit.
-abbrev pub digit_seen : Fault → Result (Option ℕ) Fault → Result ℕ Fault
-digit_seen other (Ok None) = Err abrupt_digit
-digit_seen other (Ok (Some c)) = if digit c then Ok c else Err other
-digit_seen other (Err e) = Err e
+-- Reads the digits of a fraction after its first digits `front`. Returns the fraction of all these digits. It stops at a bad code unit.
+abbrev pub more_digits_at : Stop → Text → Text → Read Placed FractionParts
+more_digits_at stop front text = digit_run (before stop) text >>= λ more. Ok (fraction_of (front ++ more.0), more.1)
 
--- Reads the digits of a fraction after its first digits `front`. Returns the fraction of all these digits.
-abbrev pub more_digits_at : Text → Text → Read Placed FractionParts
-more_digits_at front text = digit_run (before faults.NonAsciiCodePoint) text >>= λ more. Ok (fraction_of (front ++ more.0), more.1)
+-- Reads the digits of a fraction. It stops at `start` if there is no digit, and at `digits` if a bad code unit follows the digits.
+unfoldable pub fraction_by : Stop → Stop → Text → Read Placed FractionParts
+fraction_by start digits text = next_by (digit_look start) text >>= λ first. more_digits_at digits (Plain first.0 ∷ []) first.1
 
--- Reads a time and an optional offset, after `date`, if there is one.
-unfoldable pub timed_core_at : Option DateRecord → Text → Read Placed ClosedCore
-timed_core_at date text = clock_at error_of clocks.Time text >>= λ time. after_time_at error_of date time.0 time.1
+-- Reads two digits, whose number must be at most `greatest`. It stops at `first` or `second` if a digit is missing, and at `past` if
+-- the number is greater.
+abbrev pub number_at_most : Stop → Stop → ℕ → Stop → Text → Read Placed ℕ
+number_at_most first second greatest past text = two_digits_by first second text >>= in_range greatest (before past)
+
+-- Reads a time, or an offset after its sign. It stops at `first` if the first digit is missing.
+unfoldable pub clock_by : Stop → Clock → Text → Read Placed OpenTime
+clock_by first clock text = number_at_most first (stop_of (of_clock clock hour_digit)) 23 (stop_of (of_clock clock hour_range)) text >>= λ hour. after_hour_at error_of clock hour.0 hour.1
+
+-- Reads a time and an optional offset, after `date`, if there is one. It stops at `first` if the first digit is missing.
+unfoldable pub timed_core_at : Stop → Option DateRecord → Text → Read Placed ClosedCore
+timed_core_at first date text = clock_by first clocks.Time text >>= λ time. after_time_at error_of date time.0 time.1
 
 -- ---- records
 

@@ -2,7 +2,7 @@
 -- `finish` reads it. Its arguments are the table line at which the date-time ends, and the core.
 use Rattle.std.specs.Prelude.{ℕ, Bool, false, [], ◌∷◌, Option, Some, None, Ok, Err, ℤ, pos, nat_le, ◌&&◌, if◌then◌else◌}
 use Rattle.ixdtf_grammar.specs.declared.records.{DateRecord.DateRecord, TimeRecord.TimeRecord, UtcOffsetRecord.TheVariants.{MinutePrecision}}
-use Rattle.ixdtf_grammar.specs.declared.records.{MinutePrecisionOffset.MinutePrecisionOffset, UtcOffsetRecordOrZ.TheVariants.{Offset, Z}}
+use Rattle.ixdtf_grammar.specs.declared.records.{MinutePrecisionOffset.MinutePrecisionOffset, UtcOffsetRecordOrZ.{UtcOffsetRecordOrZ, TheVariants.{Offset, Z}}}
 use Rattle.ixdtf_grammar.specs.language.{Letters.{Text, zulu, Letter.Plain}, Digits.decimal, Dates.month_length, Fractions.{FractionParts, fraction_of}, Offsets.sign_of}
 use Rattle.ixdtf_grammar.specs.language.{Cores.{Core, core_of}, Languages.{Parsed, parsed_with}}
 use Rattle.ixdtf_grammar.specs.table.{Faults.Fault.NonAsciiCodePoint, LineNames.{LineName, LineName.of_date_time}, Lines.{range_fault, line_of}}
@@ -135,6 +135,12 @@ date_time_by fault finish text = do
   full_month_at fault finish (pos (decimal years.0)) mark.1
 
 -- ---- complete texts
+
+-- The table line after a date-time with this offset.
+abbrev pub line_after_offset : Option UtcOffsetRecordOrZ → LineName
+line_after_offset None = of_date_time (after_field offset_minute_field)
+line_after_offset (Some (Offset offset)) = of_date_time (after_field offset_minute_field)
+line_after_offset (Some Z) = of_date_time after_utc
 
 -- Expects the end of the text. The record has no zone and no calendar.
 unfoldable pub date_time_ends : {E : Type 0} → (Row → E) → Finish E Parsed

@@ -3,8 +3,9 @@
 -- it returns the row itself, or the error of the row.
 use Rattle.std.specs.Prelude.{ℕ, Bool, true, zero, suc, [], ◌∷◌, drop, Option, Some, None, Result, Ok, Err, nat_le, if◌then◌else◌}
 use Rattle.ixdtf_grammar.specs.{language.{Letters.{Text, Class, digit, none, any, Letter.{Plain, Bad}}, Digits.{decimal, padded_digits}}, table.Faults.Fault}
-use Rattle.ixdtf_grammar.specs.table.{Faults.Fault.NonAsciiCodePoint, LineNames.LineName, Lines.{Line, Ending, line_of, abrupt_digit}}
+use Rattle.ixdtf_grammar.specs.table.{Faults.Fault.NonAsciiCodePoint, LineNames.LineName, Lines.{Line, Ending, line_of}}
 use Rattle.ixdtf_grammar.specs.table.{Lines.{Line.{line, scanned, whole}, Ending.{ok, error}}, Rows.{Row, Place, left_at, Place.{end, other, bad, anywhere}}}
+use Rattle.ixdtf_reading.specs.{declared.stop.Stop.Stop, reading.Stops.stop_of}
 
 -- The result of a reading function: a value and the text after it, or a fault.
 abbrev pub Read : Type 0 → Type 0 → Type 0
@@ -18,24 +19,26 @@ abbrev pub ◌>>=◌ : {E A B : Type 0} → Result A E → (A → Result B E) �
 abbrev pub row_of : LineName → Place → Fault → Row
 row_of name place fault = record { name = name; place = place; error = fault }
 
--- An error, and the rest of the text from the position of the error on.
+-- A `Stop`, and the rest of the text from its position on.
 abbrev pub Placed : Type 0
-Placed = Fault × Text
+Placed = Stop × Text
 
--- An error at the beginning of a text. With `always_before`, it does not depend on the code unit.
-abbrev pub before : Fault → Text → Placed
-before fault text = (fault, text)
+-- A `Stop` at the beginning of a text. With `always_before`, it does not depend on the code unit. With `end_before`, the text may end.
+abbrev pub before : Stop → Text → Placed
+before stop text = (stop, text)
 
-abbrev pub always_before : Fault → ℕ → Text → Placed
-always_before fault c text = (fault, text)
+abbrev pub always_before : Stop → ℕ → Text → Placed
+always_before stop c text = (stop, text)
 
-abbrev pub end_before : Option Fault → Text → Option Placed
-end_before None text = None
-end_before (Some fault) text = Some (fault, text)
+abbrev pub end_before : Stop → Text → Option Placed
+end_before stop text = Some (stop, text)
 
--- The error of a row, and the rest of the text from its position on.
+abbrev pub may_end : Text → Option Placed
+may_end text = None
+
+-- The `Stop` of a row, and the rest of the text from its position on.
 abbrev pub error_of : Row → Placed
-error_of row = (row.error, left_at row.place)
+error_of row = (stop_of row.name, left_at row.place)
 
 -- One look at the next code unit. `goes_on` has the code units that it accepts. The other fields are the faults at the end of the
 -- text, at any other code unit and at `Bad`.
@@ -73,18 +76,26 @@ look_of fault name (whole front e) = record {
 abbrev pub look_at_line : {E : Type 0} → (Row → E) → LineName → Look E
 look_at_line fault name = look_of fault name (line_of true name)
 
--- The look for a code unit of the class. The other arguments are the errors at the end of the text and at any other code unit.
-abbrev pub look_for : Class → Option Fault → Fault → Look Placed
-look_for class at_end fault = record {
+-- The look for a code unit of the class. It stops at the end of the text and at any other code unit.
+abbrev pub look_for : Class → Stop → Look Placed
+look_for class stop = record {
   goes_on = class;
-  at_end = end_before at_end;
-  at_other = always_before fault;
-  at_bad = before NonAsciiCodePoint;
+  at_end = end_before stop;
+  at_other = always_before stop;
+  at_bad = before stop;
 }
 
--- The look for a digit. `fault` is the error at any other code unit.
-abbrev pub digit_look : Fault → Look Placed
-digit_look fault = look_for digit (Some abrupt_digit) fault
+-- As above, but the text may end.
+abbrev pub look_or_end : Class → Stop → Look Placed
+look_or_end class stop = record {
+  goes_on = class;
+  at_end = may_end;
+  at_other = always_before stop;
+  at_bad = before stop;
+}
+
+abbrev pub digit_look : Stop → Look Placed
+digit_look stop = look_for digit stop
 
 -- The next code unit, or `None` at the end of the text. If the next code unit is `Bad`, the fault is `at_bad`.
 unfoldable pub look_at : {E : Type 0} → E → Text → Result (Option ℕ) E
@@ -92,9 +103,9 @@ look_at at_bad [] = Ok None
 look_at at_bad (Bad ∷ rest) = Err at_bad
 look_at at_bad (Plain c ∷ rest) = Ok (Some c)
 
--- The next code unit. The error at `Bad` is the one of the code, `NonAsciiCodePoint`.
-abbrev pub seen : Text → Result (Option ℕ) Placed
-seen text = look_at (NonAsciiCodePoint, text) text
+-- The next code unit. At `Bad`, it stops.
+abbrev pub seen : Stop → Text → Result (Option ℕ) Placed
+seen stop text = look_at (stop, text) text
 
 abbrev pub missing : {E A : Type 0} → Option E → E → Result A E
 missing None at_bad = Err at_bad
@@ -121,6 +132,11 @@ digits_by l (suc n) text =
 
 abbrev pub digits_at : {E : Type 0} → (Row → E) → LineName → ℕ → Text → Read E Text
 digits_at fault name n text = digits_by (look_at_line fault name) n text
+
+-- Consumes two digits. It stops at `first` if the first one is missing, and at `second` if the second one is missing.
+unfoldable pub two_digits_by : Stop → Stop → Text → Read Placed Text
+two_digits_by first second text =
+    next_by (digit_look first) text >>= λ next. digits_by (digit_look second) 1 next.1 >>= λ more. Ok (Plain next.0 ∷ more.0, more.1)
 
 -- The two digits of a number below 100.
 unfoldable pub two_digits_of : ℕ → Text
@@ -175,5 +191,5 @@ digit_run at_bad (Plain c ∷ rest) =
 
 -- To unfold this unfolds the reading functions of single code units and digits.
 unfoldable pub look_readings : ℕ
-unfolding next_by digits_by peek_by mark_by in_range digit_run
+unfolding next_by digits_by two_digits_by peek_by mark_by in_range digit_run
 look_readings = 0

@@ -7,7 +7,7 @@ use Rattle.ixdtf_grammar.specs.table.LineNames.BracketLine.{after_bracket}
 use Rattle.ixdtf_grammar.specs.table.{LineNames.PairLine.{key_start, critical_key_start, in_key, value_start, in_value, after_value_hyphen}, Rows.Row}
 use Rattle.ixdtf_grammar.specs.table.Rows.Place.{end, other, bad}
 use Rattle.ixdtf_reading.specs.reading.Looks.{Read, Look, Placed, look_for, ◌>>=◌, row_of, look_at_line, letter_at, peek_by, look_readings}
-use Rattle.ixdtf_reading.specs.reading.Zones.{with_letter}
+use Rattle.ixdtf_reading.specs.{declared.stop.Stop.Stop, reading.Zones.with_letter}
 
 -- Reads the code units of a key and the `=` after them.
 unfoldable pub key_run : {E : Type 0} → (Row → E) → Text → Read E (List ℕ)
@@ -35,9 +35,9 @@ pub data ValueStep : Type 0 where
   Ends : ValueStep
   Stops : ValueStep
 
--- The look for the first code unit of a component. `fault` is the error at any other code unit and at the end of the text.
-abbrev pub component_look : Fault → Look Placed
-component_look fault = look_for value_char (Some fault) fault
+-- The look for the first code unit of a component.
+abbrev pub component_look : Stop → Look Placed
+component_look stop = look_for value_char stop
 
 -- The table line of a value in this state.
 abbrev pub value_line : ValueState → PairLine

@@ -1,8 +1,8 @@
 -- Runs: code units that are consumed one by one, with a state.
 use Rattle.std.specs.Prelude.{◌≡◌, ℕ, Bool, false, List, [], ◌∷◌, ◌++◌, map, Option, Some, None, Result, Ok, Err, if◌then◌else◌}
 use Rattle.ixdtf_reading.specs.declared.stop.Stop.{Stop}
-use Rattle.ixdtf_reading.specs.reading.{Clauses.fault_of_stop, Looks.{Read, Placed}}
-use Rattle.ixdtf_grammar.specs.{language.Letters.{Letter, Text, Class, key_char, value_char, Letter.{Plain, Bad}}, table.Faults.Fault.NonAsciiCodePoint}
+use Rattle.ixdtf_reading.specs.reading.Looks.{Read, Placed}
+use Rattle.ixdtf_grammar.specs.language.Letters.{Letter, Text, Class, key_char, value_char, Letter.{Plain, Bad}}
 use Rattle.ixdtf_grammar.specs.Views.{Unread}
 
 -- The code units that were consumed, the state after them, and the next code unit, which does not continue the run.
@@ -24,12 +24,16 @@ abbrev pub on_letter : {S A : Type 0} → Option S → (S → A) → A → A
 on_letter None go stay = stay
 on_letter (Some next) go stay = go next
 
--- Consumes code units as long as `after` gives a next state.
-unfoldable pub letters_by : {S : Type 0} → (S → ℕ → Option S) → S → Text → Read Placed (Taken S)
-letters_by after state [] = Ok (nothing_taken state None, [])
-letters_by after state (Bad ∷ rest) = Err (NonAsciiCodePoint, Bad ∷ rest)
-letters_by after state (Plain c ∷ rest) =
-    on_letter (after state c) (λ next. one_more c (letters_by after next rest)) (Ok (nothing_taken state (Some c), Plain c ∷ rest))
+-- Consumes code units as long as `after` gives a next state. `stop` gives the `Stop` at a bad code unit after a state.
+unfoldable pub letters_by : {S : Type 0} → (S → Stop) → (S → ℕ → Option S) → S → Text → Read Placed (Taken S)
+letters_by stop after state [] = Ok (nothing_taken state None, [])
+letters_by stop after state (Bad ∷ rest) = Err (stop state, Bad ∷ rest)
+letters_by stop after state (Plain c ∷ rest) =
+    on_letter (after state c) (λ next. one_more c (letters_by stop after next rest)) (Ok (nothing_taken state (Some c), Plain c ∷ rest))
+
+-- The `Stop` is the same after each state.
+abbrev pub always : {S : Type 0} → Stop → S → Stop
+always stop state = stop
 
 -- The state after one code unit of a class. A run of one class has only one state.
 -- `key_after` is for keys, and `component_after` for components of values.
@@ -49,7 +53,7 @@ found_in class (Ok None) = false
 found_in class (Err stop) = false
 
 -- A function consumed the run of code units of the class, and returned what follows the run, or the error of the run.
-abbrev pub PassesOver : (ℕ → Letter) → Unread → Result (Option ℕ) Stop → Unread → Class → Type 0
-PassesOver letter old (Ok next) new class = (letters : List ℕ) × (old.rest ≡ letters ++ new.rest)
-    × (letters_by (within class) tt (map letter old.rest) ≡ Ok (record { letters = letters; state = tt; next = next }, map letter new.rest))
-PassesOver letter old (Err stop) new class = letters_by (within class) tt (map letter old.rest) ≡ Err (fault_of_stop stop, map letter new.rest)
+abbrev pub PassesOver : (ℕ → Letter) → Stop → Unread → Result (Option ℕ) Stop → Unread → Class → Type 0
+PassesOver letter stop old (Ok next) new class = (letters : List ℕ) × (old.rest ≡ letters ++ new.rest)
+    × (letters_by (always stop) (within class) tt (map letter old.rest) ≡ Ok (record { letters = letters; state = tt; next = next }, map letter new.rest))
+PassesOver letter stop old (Err e) new class = letters_by (always stop) (within class) tt (map letter old.rest) ≡ Err (e, map letter new.rest)

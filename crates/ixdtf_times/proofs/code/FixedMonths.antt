@@ -3,10 +3,11 @@ use Rattle.std.proofs.Common.{◌≡◌, ℕ, suc, ◌+◌, Bool, true, false, I
 use Rattle.std.proofs.{Common.{◌≤◌, arith, ◌++◌, append_assoc, inl, inr, length}, lemmas.Bool.{and_parts, cases_Bool}}
 use Rattle.std.specs.Prelude.{Result, Err, nat_le, ◌&&◌, IsFalse}
 use Rattle.ixdtf_grammar.specs.{declared.{profile.Profile.Profile, records.DateRecord.DateRecord}, language.Letters.{Letter, Text, digit, hyphen}, Views.Unread}
-use Rattle.ixdtf_grammar.specs.{language.Letters.Letter.{Plain, Bad}, table.Faults.Fault.{InvalidMonthRange, InvalidMonthDay}, language.Months.{greatest_day, least_day}, table.LineNames.{of_year_month, of_month_day, YearMonthLine.after_year_in_year_month}}
-use Rattle.ixdtf_grammar.specs.table.LineNames.MonthDayLine.{month_day_month_digits}
+use Rattle.ixdtf_grammar.specs.{language.Letters.Letter.{Plain, Bad}, language.Months.{greatest_day, least_day}, table.LineNames.{of_year_month, of_month_day, YearMonthLine.after_year_in_year_month}}
+use Rattle.ixdtf_grammar.specs.table.LineNames.MonthDayLine.{month_day_start, month_day_month_digits, month_day_month_range, month_day_range}
+use Rattle.ixdtf_reading.specs.reading.Stops.{stop_of}
 use Rattle.ixdtf_reading.specs.{declared.stop.Stop.Stop, reading.{Clauses.{Checks, Reads, YieldsAt}, Dates.{date_of, month_at}}}
-use Rattle.ixdtf_reading.specs.reading.Looks.{Read, Placed, error_of, look_at, next_by, mark_by, digits_by, ◌>>=◌}
+use Rattle.ixdtf_reading.specs.reading.Looks.{Read, Placed, error_of, look_at, next_by, mark_by, digits_by, two_digits_by, ◌>>=◌}
 use Rattle.ixdtf_reading.specs.reading.{Months.{year_month_at, marks_at, month_day_at, lone_month_in_range, lone_day_in_range, lone_day_at}}
 use Rattle.ixdtf_reading.specs.reading.FixedPlaces.{byte_place, number_place, year_place, month_of_year_place, ranged_month}
 use Rattle.ixdtf_reading.specs.reading.FixedPlaces.{marks_place, unmarked_at}
@@ -60,28 +61,33 @@ basic_month_is_read text year date years months = month_is_read false text year 
 
 -- ---- month-days
 
-module _ (profile : Profile) (text : Text) (start month : ℕ) where
+-- Two digits that were found are read.
+two_go : (first second : Stop) {place : ℕ} {text : Text} {n : ℕ} (number : Number place text n) (rest : Text) → two_digits_by first second (two number ++ rest) ≡ Ok (two number, rest)
+unfolding two_digits_by digits_by next_by look_at
+two_go first second number rest = rw (number.is_a, number.is_b) refl
+
+module _ (first : Stop) (profile : Profile) (text : Text) (start month : ℕ) where
   abbrev behind : Text
   behind = drop (start + 2) text
 
   -- If the month is found and is 1 to 12, reading goes on after it.
   pub month_goes_on : number_place start text ≡ Some month → IsTrue (nat_le 1 month && nat_le month 12)
-      → unmarked_at profile (drop start text) ≡ lone_day_at error_of profile month behind
+      → unmarked_at first profile (drop start text) ≡ lone_day_at error_of profile month behind
   unfolding lone_month_in_range
   month_goes_on months is =
       let m = number_at_place start text month months in
       let second : suc (suc start) ≡ start + 2 = omega arith in
-      ap (unmarked_at profile) (over_two m (ap (λ p. drop p text) second))
-      ∙ rw (digits_go error_of (of_month_day month_day_month_digits) (λ c. refl) 2 (two m) behind (two_digits m refl).0, ← m.value, is) refl
+      ap (unmarked_at first profile) (over_two m (ap (λ p. drop p text) second))
+      ∙ rw (two_go first (stop_of (of_month_day month_day_month_digits)) m behind, ← m.value, is) refl
 
   pub month_stops : number_place start text ≡ Some month → IsFalse (nat_le 1 month && nat_le month 12)
-      → unmarked_at profile (drop start text) ≡ Err (InvalidMonthRange, behind)
+      → unmarked_at first profile (drop start text) ≡ Err (stop_of (of_month_day month_day_month_range), behind)
   unfolding lone_month_in_range
   month_stops months is_none =
       let m = number_at_place start text month months in
       let second : suc (suc start) ≡ start + 2 = omega arith in
-      ap (unmarked_at profile) (over_two m (ap (λ p. drop p text) second))
-      ∙ rw (digits_go error_of (of_month_day month_day_month_digits) (λ c. refl) 2 (two m) behind (two_digits m refl).0, ← m.value, is_none) refl
+      ap (unmarked_at first profile) (over_two m (ap (λ p. drop p text) second))
+      ∙ rw (two_go first (stop_of (of_month_day month_day_month_digits)) m behind, ← m.value, is_none) refl
 
   -- If a day is found, with or without a hyphen before it, its range decides the result.
   day_is_read : (b : Bool) (place day : ℕ) → behind ≡ hyphens_of b ++ drop place text → number_place place text ≡ Some day
@@ -107,7 +113,7 @@ module _ (profile : Profile) (text : Text) (start month : ℕ) where
 
 -- The result of a function that tested the day is the result of the reading function.
 pub day_tested : (profile : Profile) (month day : ℕ) (rest : Text) (result : Result DateRecord Stop)
-    → Checks (λ date. date) result (date_of (pos 0) month day) (nat_le (least_day profile) day && nat_le day (greatest_day month)) InvalidMonthDay
+    → Checks (λ date. date) result (date_of (pos 0) month day) (nat_le (least_day profile) day && nat_le day (greatest_day month)) (stop_of (of_month_day (month_day_range profile)))
     → YieldsAt (λ date. (date, rest)) result rest (lone_day_in_range error_of profile month day rest)
 unfolding lone_day_in_range
 day_tested profile month day rest (Ok date) is = rw (is.1, is.0) refl
@@ -121,8 +127,8 @@ yields_on letter here new (Ok date) reading wanted same is = same ∙ is
 yields_on letter here new (Err stop) reading wanted same is = same ∙ is
 
 -- Two hyphens at the beginning are consumed.
-pub marked_is_read : (profile : Profile) (text : Text) → IsTrue (marks_place text) → month_day_at error_of profile text ≡ unmarked_at profile (drop 2 text)
-unfolding month_day_at marks_at mark_by next_by look_at
+pub marked_is_read : (profile : Profile) (text : Text) → IsTrue (marks_place text) → month_day_at error_of profile text ≡ unmarked_at (stop_of (of_month_day month_day_month_digits)) profile (drop 2 text)
+unfolding month_day_at marks_at mark_by two_digits_by digits_by next_by look_at
 marked_is_read profile text marks =
     let both = and_parts _ _ marks in
     let first = byte_is_mark 45 0 text refl both.0 in
@@ -131,8 +137,8 @@ marked_is_read profile text marks =
 
 -- A text that does not begin with a hyphen has no hyphens before its month.
 pub unmarked_is_read : (profile : Profile) (text : Text) → IsFalse (hyphen (byte_place 0 text)) → 1 ≤ length text
-    → month_day_at error_of profile text ≡ unmarked_at profile text
-unfolding month_day_at marks_at mark_by digits_by next_by look_at
+    → month_day_at error_of profile text ≡ unmarked_at (stop_of (of_month_day month_day_start)) profile text
+unfolding month_day_at marks_at mark_by two_digits_by digits_by next_by look_at
 unmarked_is_read profile [] is some = absurd (omega arith)
 unmarked_is_read profile (Bad ∷ rest) is some = refl
 unmarked_is_read profile (Plain c ∷ rest) is some = elim (cases_Bool (digit c)) [ inl h ↦ rw (h, is, is, h) refl | inr h ↦ rw (h, is) refl ]

@@ -8,7 +8,7 @@ use crate::classes::{
 };
 use crate::cursor::Cursor;
 use crate::parsers::letters::{Letters, pass_letters};
-use crate::stop::Stop;
+use crate::stop::{Stop, stopped};
 use crate::encoding::EncodingType;
 use crate::records::Annotation;
 
@@ -26,29 +26,30 @@ impl Letters for KeyLetters {
 
 /// Reads a key and the `=` after it, and returns the code units of the key.
 ///
-/// The caller has tested the first code unit of the key. Returns `AnnotationKeyValueSeparator` at the end of the input,
-/// `NonAsciiCodePoint` at a bad code unit, and `AnnotationKeyChar` at any other code unit that is not `=` and that a
-/// key cannot contain.
+/// The caller has tested the first code unit of the key.
 #[inline(always)]
 pub fn parse_annotation_key<'a, T: EncodingType>(
     cursor: &mut Cursor<'a, T>,
 ) -> Result<&'a [T::CodeUnit], Stop> {
     let start = cursor.rest();
     cursor.advance();
-    let next = pass_letters::<T, KeyLetters>(cursor)?;
+    let next = pass_letters::<T, KeyLetters>(cursor, Stop::InKey)?;
     // This slice always exists, as the proof shows. The compiler does not know the proof: because of this test, it
     // compiles no code for a panic.
     let Some(key) = start.get(..start.len() - cursor.rest().len()) else {
-        return Err(Stop::AnnotationKeyChar);
+        return Err(Stop::InKey);
     };
-    match next {
-        None => Err(Stop::AnnotationKeyValueSeparator),
-        Some(byte) if is_annotation_key_value_separator(byte) => {
-            cursor.advance();
-            Ok(key)
-        }
-        Some(_) => Err(Stop::AnnotationKeyChar),
+    if !ends_key(next) {
+        return stopped(Stop::InKey);
     }
+    cursor.advance();
+    Ok(key)
+}
+
+/// Returns whether the code unit is the `=` after a key.
+#[inline(always)]
+pub fn ends_key(next: Option<u8>) -> bool {
+    matches!(next, Some(byte) if is_annotation_key_value_separator(byte))
 }
 
 /// The class of the code units that a component of a value can contain.
@@ -61,19 +62,14 @@ impl Letters for ComponentLetters {
     }
 }
 
-/// Consumes the first code unit of a component.
-///
-/// Returns `NonAsciiCodePoint` at a bad code unit, and `other` at any other code unit and at the end of the input. If
-/// the function returns an error, it consumes nothing.
+/// Consumes the first code unit of a component. Returns `stop` if there is none, and then consumes nothing.
 #[inline(always)]
-fn start_component<'a, T: EncodingType>(cursor: &mut Cursor<'a, T>, other: Stop) -> Result<(), Stop> {
-    match cursor.look()? {
-        Some(byte) if is_annotation_value_component(byte) => {
-            cursor.advance();
-            Ok(())
-        }
-        _ => Err(other),
+fn start_component<'a, T: EncodingType>(cursor: &mut Cursor<'a, T>, stop: Stop) -> Result<(), Stop> {
+    if is_annotation_value_component(cursor.byte_at(0)) {
+        cursor.advance();
+        return Ok(());
     }
+    stopped(stop)
 }
 
 /// Reads a value and the `]` after it, and returns the code units of the value.
@@ -84,20 +80,20 @@ pub fn parse_annotation_value<'a, T: EncodingType>(
     cursor: &mut Cursor<'a, T>,
 ) -> Result<&'a [T::CodeUnit], Stop> {
     let start = cursor.rest();
-    start_component(cursor, Stop::AnnotationValueChar)?;
+    start_component(cursor, Stop::ValueStart)?;
     loop {
-        let next = pass_letters::<T, ComponentLetters>(cursor)?;
+        let next = pass_letters::<T, ComponentLetters>(cursor, Stop::InValue)?;
         match next {
-            None => return Err(Stop::AnnotationClose),
+            None => return stopped(Stop::InValue),
             Some(byte) if is_annotation_close(byte) => {
                 cursor.advance();
                 let behind = cursor.rest().len() + 1;
                 return Ok(&start[..start.len().saturating_sub(behind)]);
             }
             Some(byte) if is_hyphen(byte) => cursor.advance(),
-            Some(_) => return Err(Stop::AnnotationValueChar),
+            Some(_) => return stopped(Stop::InValue),
         }
-        start_component(cursor, Stop::AnnotationValueCharPostHyphen)?;
+        start_component(cursor, Stop::AfterValueHyphen)?;
     }
 }
 
@@ -123,17 +119,18 @@ fn parse_pair<'a, T: EncodingType>(
 fn parse_later_pair<'a, T: EncodingType>(
     cursor: &mut Cursor<'a, T>,
 ) -> Result<Annotation<'a, T>, Stop> {
-    match cursor.look()? {
-        Some(byte) if is_a_key_leading_char(byte) => parse_pair(cursor, false),
-        Some(byte) if is_critical_flag(byte) => {
-            cursor.advance();
-            let mut here = cursor.fork();
-            let read = parse_critical_pair(&mut here);
-            *cursor = here;
-            read
-        }
-        _ => Err(Stop::AnnotationKeyLeadingChar),
+    let lead = cursor.byte_at(0);
+    if is_a_key_leading_char(lead) {
+        return parse_pair(cursor, false);
     }
+    if is_critical_flag(lead) {
+        cursor.advance();
+        let mut here = cursor.fork();
+        let read = parse_critical_pair(&mut here);
+        *cursor = here;
+        return read;
+    }
+    stopped(Stop::KeyStart)
 }
 
 /// Reads an annotation after its `[!`. The annotation is not in the first bracket of the text.
@@ -144,26 +141,24 @@ fn parse_later_pair<'a, T: EncodingType>(
 fn parse_critical_pair<'a, T: EncodingType>(
     cursor: &mut Cursor<'a, T>,
 ) -> Result<Annotation<'a, T>, Stop> {
-    match cursor.look()? {
-        Some(byte) if is_a_key_leading_char(byte) => parse_pair(cursor, true),
-        _ => Err(Stop::AnnotationKeyLeadingChar),
+    if is_a_key_leading_char(cursor.byte_at(0)) {
+        return parse_pair(cursor, true);
     }
+    stopped(Stop::CriticalKeyStart)
 }
 
 /// Reads the next annotation after a complete bracket. Returns `None` at the end of the input.
-///
-/// Returns `NonAsciiCodePoint` if a bad code unit follows the bracket, and `InvalidEnd` at any other code unit except `[`.
 #[inline(always)]
 pub fn next_annotation<'a, T: EncodingType>(
     cursor: &mut Cursor<'a, T>,
 ) -> Result<Option<Annotation<'a, T>>, Stop> {
-    match cursor.look()? {
+    match cursor.look(Stop::AfterBracket)? {
         None => Ok(None),
         Some(byte) if is_annotation_open(byte) => {
             cursor.advance();
             let annotation = parse_later_pair(cursor)?;
             Ok(Some(annotation))
         }
-        Some(_) => Err(Stop::InvalidEnd),
+        Some(_) => Err(Stop::AfterBracket),
     }
 }

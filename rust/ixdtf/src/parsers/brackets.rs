@@ -5,7 +5,7 @@
 use crate::parsers::zone::{NameState, parse_name_in_bracket, parse_offset_in_bracket, pass_name};
 use crate::encoding::EncodingType;
 use crate::records::{Annotation, TimeZoneAnnotation, TimeZoneRecord};
-use crate::parsers::annotations::{KeyLetters, parse_annotation_value};
+use crate::parsers::annotations::{KeyLetters, ends_key, parse_annotation_value};
 use crate::classes::{
     is_a_key_leading_char, is_annotation_close, is_annotation_key_value_separator, is_ascii_sign,
     is_critical_flag, is_tz_leading_char,
@@ -26,20 +26,21 @@ pub fn parse_first_bracket<'a, T: EncodingType>(
     cursor: &mut Cursor<'a, T>,
 ) -> Result<Bracket<'a, T>, Stop> {
     let mut critical = false;
-    let mut lead = cursor.look()?;
+    let mut stop = Stop::FirstBracketStart;
+    let mut lead = cursor.look(stop)?;
     if is_flag(lead) {
         critical = true;
         cursor.advance();
-        lead = cursor.look()?;
+        stop = Stop::FirstCriticalStart;
+        lead = cursor.look(stop)?;
     }
     // Call `parse_inside` at one place only. Its code is large: with two calls it was compiled twice and not inlined,
     // and its result went through memory.
     match lead {
-        None => Err(Stop::AbruptBracket),
         Some(byte) if is_ascii_sign(byte) || is_tz_leading_char(byte) => {
             parse_inside(cursor, critical, byte)
         }
-        Some(_) => Err(Stop::TzLeadingChar),
+        _ => Err(stop),
     }
 }
 
@@ -68,12 +69,6 @@ fn parse_inside<'a, T: EncodingType>(
     Ok(Bracket::Zone(TimeZoneAnnotation { critical, tz }))
 }
 
-/// Returns whether the code unit is the `=` after a key.
-#[inline(always)]
-fn ends_key(next: Option<u8>) -> bool {
-    matches!(next, Some(byte) if is_annotation_key_value_separator(byte))
-}
-
 /// Returns whether the code unit is the `]` of a bracket.
 #[inline(always)]
 fn ends_bracket(next: Option<u8>) -> bool {
@@ -90,7 +85,7 @@ fn parse_name_or_pair<'a, T: EncodingType>(
     critical: bool,
 ) -> Result<Bracket<'a, T>, Stop> {
     let start = cursor.rest();
-    let next = pass_letters::<T, KeyLetters>(cursor)?;
+    let next = pass_letters::<T, KeyLetters>(cursor, Stop::FirstBracketScan)?;
     let behind_key = cursor.rest();
     let key = &start[..start.len().saturating_sub(behind_key.len())];
     if ends_key(next) {
@@ -102,7 +97,7 @@ fn parse_name_or_pair<'a, T: EncodingType>(
             value,
         }));
     }
-    let more = pass_name(cursor)?;
+    let more = pass_name(cursor, Stop::FirstBracketScan, Stop::FirstBracketScan)?;
     if more.state.may_end && ends_bracket(more.next) {
         let count = start.len().saturating_sub(cursor.rest().len());
         cursor.advance();
@@ -112,7 +107,7 @@ fn parse_name_or_pair<'a, T: EncodingType>(
         }));
     }
     if more.next.is_none() {
-        return Err(Stop::AbruptBracket);
+        return Err(Stop::FirstBracketScan);
     }
     let refused = refuse_bracket(cursor.fork(), behind_key, more.state);
     *cursor = refused.there;
@@ -154,15 +149,15 @@ fn refuse_bracket<'a, T: EncodingType>(
 ) -> Refused<'a, T> {
     let behind_name = here.rest();
     let mut ahead = here;
-    match pass_letters::<T, BracketLetters>(&mut ahead) {
+    match pass_letters::<T, BracketLetters>(&mut ahead, Stop::FirstBracketScan) {
         Err(stop) => Refused { stop, there: ahead },
         Ok(next) => match next {
             None => Refused {
-                stop: Stop::AbruptBracket,
+                stop: Stop::FirstBracketScan,
                 there: ahead,
             },
             Some(byte) if is_annotation_key_value_separator(byte) => Refused {
-                stop: Stop::AnnotationKeyChar,
+                stop: Stop::InKey,
                 there: ahead.fork_at(behind_key),
             },
             Some(_) => Refused {

@@ -17,8 +17,10 @@ use crate::parsers::months::{
     parse_month_day_date, parse_month_day_parts, parse_year_month_date, parse_year_month_parts,
 };
 use crate::parsers::offsets::{AfterCore, offset_from, take_fixed_offset};
-use crate::parsers::rfc3339::parse_internet_date_time;
-use crate::parsers::time::{Clock, TimeShape, WholeTime, parse_after_second, parse_clock};
+use crate::parsers::rfc3339::{parse_internet_date_time, stop_after_offset};
+use crate::parsers::time::{
+    Clock, TimeShape, WholeTime, parse_after_second, parse_clock, parse_clock_from,
+};
 
 /// A type that reads cores of one kind. A core is the part of a text before its first `[`.
 ///
@@ -65,7 +67,7 @@ impl CoreReader for InternetDateTimes {
         found: &mut IxdtfParseRecord<'a, T>,
     ) -> Result<AfterCore, Stop> {
         parse_internet_date_time(cursor, found)?;
-        close_core(cursor)
+        close_core(cursor, stop_after_offset(found.offset))
     }
 
     #[inline(always)]
@@ -86,7 +88,7 @@ impl CoreReader for YearMonths {
     ) -> Result<AfterCore, Stop> {
         let date = parse_year_month_date(cursor)?;
         found.date = Some(date);
-        close_core(cursor)
+        close_core(cursor, Stop::AfterYearMonth)
     }
 
     #[inline(always)]
@@ -107,7 +109,7 @@ impl CoreReader for MonthDays {
     ) -> Result<AfterCore, Stop> {
         let date = parse_month_day_date(cursor, profile)?;
         found.date = Some(date);
-        close_core(cursor)
+        close_core(cursor, Stop::AfterMonthDay)
     }
 
     #[inline(always)]
@@ -127,13 +129,13 @@ impl CoreReader for Times {
         found: &mut IxdtfParseRecord<'a, T>,
     ) -> Result<AfterCore, Stop> {
         let start = cursor.rest();
-        match cursor.look()? {
+        match cursor.look(Stop::TimeStart)? {
             Some(byte) if is_time_designator(byte) => {
                 cursor.advance();
-                parse_timed(cursor, found)
+                parse_timed(cursor, Stop::HourStart, found)
             }
             _ => {
-                let after = parse_timed(cursor, found)?;
+                let after = parse_timed(cursor, Stop::TimeStart, found)?;
                 check_front(cursor, start, profile)?;
                 Ok(after)
             }
@@ -175,8 +177,15 @@ fn parse_after_fixed<'a, T: EncodingType>(
 ) -> Result<AfterCore, Stop> {
     found.date = Some(date);
     let mut time = TimeRecord::default();
-    parse_after_second(cursor, whole.hour, whole.minute, whole.second, &mut time)?;
-    parse_after_time(cursor, time, found)
+    let shape = parse_after_second(
+        cursor,
+        Clock::Time,
+        whole.hour,
+        whole.minute,
+        whole.second,
+        &mut time,
+    )?;
+    parse_after_time(cursor, shape, time, found)
 }
 
 /// Reads a date part by part into the record. If a separator follows, reads a time and an offset too.
@@ -187,39 +196,42 @@ fn parse_date_by_parts<'a, T: EncodingType>(
 ) -> Result<AfterCore, Stop> {
     let date = parse_date(cursor)?;
     found.date = Some(date);
-    match cursor.look()? {
+    match cursor.look(Stop::AfterDate)? {
         Some(byte) if is_date_time_separator(byte) => {
             cursor.advance();
-            parse_timed(cursor, found)
+            parse_timed(cursor, Stop::HourStart, found)
         }
-        _ => close_core(cursor),
+        _ => close_core(cursor, Stop::AfterDate),
     }
 }
 
 // ==== Times ====
 
-/// Reads a time into the record, and `Z` or an offset if it follows. The record may already have a date.
+/// Reads a time into the record, and `Z` or an offset if it follows. The record may already have a date. Returns `first`
+/// if the first digit of the time is missing.
 #[inline(always)]
 fn parse_timed<'a, T: EncodingType>(
     cursor: &mut Cursor<'a, T>,
+    first: Stop,
     found: &mut IxdtfParseRecord<'a, T>,
 ) -> Result<AfterCore, Stop> {
     let mut time = TimeRecord::default();
-    parse_time_of_day(cursor, &mut time)?;
-    parse_after_time(cursor, time, found)
+    let shape = parse_time_of_day(cursor, first, &mut time)?;
+    parse_after_time(cursor, shape, time, found)
 }
 
-/// Reads a time, and not what follows it.
+/// Reads a time, and not what follows it. Returns `first` if its first digit is missing.
 ///
 /// For speed, the function works on a second cursor. The second cursor is a local variable, so it can stay in
 /// registers. A cursor behind a reference, such as `cursor`, is written to memory at each step.
 #[inline(always)]
 fn parse_time_of_day<'a, T: EncodingType>(
     cursor: &mut Cursor<'a, T>,
+    first: Stop,
     time: &mut TimeRecord,
 ) -> Result<TimeShape, Stop> {
     let mut here = cursor.fork();
-    let read = parse_clock(&mut here, Clock::Time, time);
+    let read = parse_clock_from(&mut here, Clock::Time, first, time);
     *cursor = here;
     read
 }
@@ -241,25 +253,27 @@ fn check_front<'a, T: EncodingType>(
     }
     if parse_month_day_parts(&mut front, profile).is_ok() {
         *cursor = front;
-        return Err(Stop::AmbiguousTimeMonthDay);
+        return Err(Stop::TimeReadsAsMonthDay);
     }
     let mut again = front.fork_at(start);
     if parse_year_month_parts(&mut again).is_ok() {
         *cursor = again;
-        return Err(Stop::AmbiguousTimeYearMonth);
+        return Err(Stop::TimeReadsAsYearMonth);
     }
     Ok(())
 }
 
-/// Writes the time into the record, and reads `Z` or an offset if it follows.
+/// Writes the time into the record, and reads `Z` or an offset if it follows. `shape` is the shape of the time.
 #[inline(always)]
 fn parse_after_time<'a, T: EncodingType>(
     cursor: &mut Cursor<'a, T>,
+    shape: TimeShape,
     time: TimeRecord,
     found: &mut IxdtfParseRecord<'a, T>,
 ) -> Result<AfterCore, Stop> {
     found.time = Some(time);
-    match cursor.look()? {
+    let stop = Clock::Time.stop_after(shape);
+    match cursor.look(stop)? {
         Some(byte) if is_ascii_sign(byte) => {
             cursor.advance();
             parse_signed(cursor, byte, found)
@@ -267,9 +281,9 @@ fn parse_after_time<'a, T: EncodingType>(
         Some(byte) if is_utc_designator(byte) => {
             cursor.advance();
             found.offset = Some(UtcOffsetRecordOrZ::Z);
-            close_core(cursor)
+            close_core(cursor, Stop::AfterZulu)
         }
-        _ => close_core(cursor),
+        _ => close_core(cursor, stop),
     }
 }
 
@@ -304,19 +318,22 @@ fn parse_offset_part_by_part<'a, T: EncodingType>(
     let shape = parse_clock(cursor, Clock::Offset, &mut time)?;
     let offset = offset_from(sign, shape, time);
     found.offset = Some(UtcOffsetRecordOrZ::Offset(offset));
-    close_core(cursor)
+    close_core(cursor, Clock::Offset.stop_after(shape))
 }
 
-/// Expects the end of the input or a `[` after a core. Returns which of the two it is. Returns `NonAsciiCodePoint` for
-/// a 16-bit code unit outside 1 to 126, and `InvalidEnd` for any other code unit.
+/// Expects the end of the input or a `[` after a core. Returns which of the two it is. Returns `stop` for any other code
+/// unit.
 #[inline(always)]
-fn close_core<'a, T: EncodingType>(cursor: &mut Cursor<'a, T>) -> Result<AfterCore, Stop> {
-    match cursor.look()? {
+fn close_core<'a, T: EncodingType>(
+    cursor: &mut Cursor<'a, T>,
+    stop: Stop,
+) -> Result<AfterCore, Stop> {
+    match cursor.look(stop)? {
         None => Ok(AfterCore::End),
         Some(byte) if is_annotation_open(byte) => {
             cursor.advance();
             Ok(AfterCore::Bracket)
         }
-        Some(_) => Err(Stop::InvalidEnd),
+        Some(_) => Err(stop),
     }
 }

@@ -42,8 +42,8 @@ fn date_rank(letter: u8) -> u8 {
 
 /// Consumes the letter of a date unit after a number, and returns the rank of the unit.
 ///
-/// Returns `AbruptDateDesignator` at any other code unit, which is not consumed. Returns `DateDurationPartOrder` if the
-/// rank is less than `least`, and `DurationValueExceededRange` if the number is too great for the unit.
+/// Returns `DateGroupDigits` at any other code unit, which is not consumed. Returns `DateUnitOrder` if the rank is less
+/// than `least`, and `DateUnitRange` if the number is too great for the unit.
 #[inline(always)]
 fn take_date_unit<'a, T: EncodingType>(
     cursor: &mut Cursor<'a, T>,
@@ -53,14 +53,14 @@ fn take_date_unit<'a, T: EncodingType>(
     let rank = date_rank(number.next);
     if rank < least {
         if rank == 0 {
-            return Err(Stop::AbruptDateDesignator);
+            return Err(Stop::DateGroupDigits);
         }
         cursor.advance_by(1);
-        return Err(Stop::DateDurationPartOrder);
+        return Err(Stop::DateUnitOrder);
     }
     cursor.advance_by(1);
     if number.value > MOST_OF_LONG_UNITS && rank < 4 {
-        return Err(Stop::DurationValueExceededRange);
+        return Err(Stop::DateUnitRange);
     }
     Ok(rank)
 }
@@ -94,11 +94,11 @@ pub fn parse_dates<'a, T: EncodingType>(
     let mut least = 1;
     let mut digit = first;
     loop {
-        let number = parse_number(cursor, digit, Stop::AbruptDateDesignator)?;
+        let number = parse_number(cursor, digit, Stop::DateGroupDigits, Stop::DateGroupRange)?;
         let rank = take_date_unit(cursor, number, least)?;
         keep_number(&mut values, rank, number.value);
         least = rank + profile.least_step();
-        match cursor.look()? {
+        match cursor.look(Stop::AfterDateGroups)? {
             None => {
                 return Ok(Dates {
                     record: date_record(values),
@@ -116,7 +116,7 @@ pub fn parse_dates<'a, T: EncodingType>(
                     timed: true,
                 });
             }
-            Some(_) => return Err(Stop::InvalidEnd),
+            Some(_) => return Err(Stop::AfterDateGroups),
         }
     }
 }

@@ -81,7 +81,7 @@ fn take_date<'a, T: EncodingType>(
     month_end: usize,
     day_end: usize,
 ) -> Result<DateRecord, Stop> {
-    if let Err(stop) = check_month(date.month) {
+    if let Err(stop) = check_month(date.month, Stop::MonthRange) {
         cursor.advance_by(month_end);
         return Err(stop);
     }
@@ -136,7 +136,7 @@ fn fixed_basic_days<'a, T: EncodingType>(
 #[inline(always)]
 fn parse_date_parts<'a, T: EncodingType>(cursor: &mut Cursor<'a, T>) -> Result<DateRecord, Stop> {
     let year = parse_date_year(cursor)?;
-    let (month, hyphened) = parse_month(cursor, Stop::AbruptDate)?;
+    let (month, hyphened) = parse_month(cursor, Stop::AfterYear)?;
     parse_day(cursor, year, month, hyphened)
 }
 
@@ -146,7 +146,7 @@ fn parse_days<'a, T: EncodingType>(
     cursor: &mut Cursor<'a, T>,
     year: u16,
 ) -> Result<DateRecord, Stop> {
-    let (month, hyphened) = parse_month(cursor, Stop::AbruptDate)?;
+    let (month, hyphened) = parse_month(cursor, Stop::AfterYear)?;
     parse_day(cursor, i32::from(year), month, hyphened)
 }
 
@@ -155,8 +155,8 @@ fn parse_days<'a, T: EncodingType>(
 /// Reads a year: four digits, or a sign and six digits.
 #[inline(always)]
 pub fn parse_date_year<'a, T: EncodingType>(cursor: &mut Cursor<'a, T>) -> Result<i32, Stop> {
-    match cursor.look()? {
-        None => Err(Stop::AbruptDigit),
+    match cursor.look(Stop::YearStart)? {
+        None => Err(Stop::YearStart),
         Some(byte) if byte.is_ascii_digit() => {
             cursor.advance();
             parse_four_digit_year(cursor, byte)
@@ -165,7 +165,7 @@ pub fn parse_date_year<'a, T: EncodingType>(cursor: &mut Cursor<'a, T>) -> Resul
             cursor.advance();
             parse_extended_year(cursor, byte)
         }
-        Some(_) => Err(Stop::DateYear),
+        Some(_) => Err(Stop::YearStart),
     }
 }
 
@@ -175,7 +175,7 @@ fn parse_four_digit_year<'a, T: EncodingType>(
     cursor: &mut Cursor<'a, T>,
     thousands: u8,
 ) -> Result<i32, Stop> {
-    let below_thousand = parse_three_digits(cursor, Stop::DateYear)?;
+    let below_thousand = parse_three_digits(cursor, Stop::YearDigits)?;
     Ok((1000 * u32::from(thousands - b'0') + below_thousand) as i32)
 }
 
@@ -190,7 +190,7 @@ fn parse_extended_year<'a, T: EncodingType>(
         return Ok(value as i32);
     }
     if value == 0 {
-        return Err(Stop::DateExtendedYear);
+        return Err(Stop::MinusZeroYear);
     }
     Ok(-(value as i32))
 }
@@ -198,23 +198,22 @@ fn parse_extended_year<'a, T: EncodingType>(
 /// Reads six digits, two by two, and returns their number.
 #[inline(always)]
 fn parse_six_digits<'a, T: EncodingType>(cursor: &mut Cursor<'a, T>) -> Result<u32, Stop> {
-    let high = cursor.two_digits(Stop::DateExtendedYear)?;
-    let middle = cursor.two_digits(Stop::DateExtendedYear)?;
-    let low = cursor.two_digits(Stop::DateExtendedYear)?;
+    let digits = Stop::ExtendedYearDigits;
+    let high = cursor.two_digits(digits, digits)?;
+    let middle = cursor.two_digits(digits, digits)?;
+    let low = cursor.two_digits(digits, digits)?;
     Ok(10_000 * u32::from(high) + 100 * u32::from(middle) + u32::from(low))
 }
 
-/// Consumes three digits, and returns their number.
-///
-/// Returns `AbruptDigit` at the end of the input, `NonAsciiCodePoint` at a bad code unit, and `other` at any other code unit.
+/// Consumes three digits, and returns their number. Returns `stop` if a digit is missing.
 #[inline(always)]
 fn parse_three_digits<'a, T: EncodingType>(
     cursor: &mut Cursor<'a, T>,
-    other: Stop,
+    stop: Stop,
 ) -> Result<u32, Stop> {
-    let hundreds = cursor.next_digit(other)?;
-    let tens = cursor.next_digit(other)?;
-    let ones = cursor.next_digit(other)?;
+    let hundreds = cursor.next_digit(stop)?;
+    let tens = cursor.next_digit(stop)?;
+    let ones = cursor.next_digit(stop)?;
     Ok(100 * u32::from(hundreds - b'0') + 10 * u32::from(tens - b'0') + u32::from(ones - b'0'))
 }
 
@@ -222,36 +221,34 @@ fn parse_three_digits<'a, T: EncodingType>(
 
 /// Consumes a hyphen, if one is next, and returns whether it did.
 ///
-/// If a digit is next, returns `false` and consumes nothing. Returns the error `at_end` at the end of the input,
-/// `NonAsciiCodePoint` at a bad code unit, and `other` at any other code unit.
+/// If a digit is next, returns `false` and consumes nothing. Otherwise returns `stop`.
 #[inline(always)]
 pub fn take_hyphen<'a, T: EncodingType>(
     cursor: &mut Cursor<'a, T>,
-    at_end: Stop,
-    other: Stop,
+    stop: Stop,
 ) -> Result<bool, Stop> {
-    match cursor.look()? {
-        None => Err(at_end),
+    match cursor.look(stop)? {
+        None => Err(stop),
         Some(byte) if is_hyphen(byte) => {
             cursor.advance();
             Ok(true)
         }
         Some(byte) if byte.is_ascii_digit() => Ok(false),
-        Some(_) => Err(other),
+        Some(_) => Err(stop),
     }
 }
 
-/// Reads a month after a year. Returns the month, and whether a hyphen is before it. Returns `at_end` if the text
-/// ends after the year.
+/// Reads a month after a year. Returns the month, and whether a hyphen is before it. Returns `after_year` if neither a
+/// hyphen nor a digit follows the year.
 #[inline(always)]
 pub fn parse_month<'a, T: EncodingType>(
     cursor: &mut Cursor<'a, T>,
-    at_end: Stop,
+    after_year: Stop,
 ) -> Result<(u8, bool), Stop> {
-    let hyphened = take_hyphen(cursor, at_end, Stop::DateMonth)?;
-    let tens = cursor.next_digit(Stop::DateMonth)?;
-    let ones = cursor.next_digit(Stop::DateMonth)?;
-    let month = check_month(two_digit_number(tens, ones))?;
+    let hyphened = take_hyphen(cursor, after_year)?;
+    let tens = cursor.next_digit(Stop::MonthDigits)?;
+    let ones = cursor.next_digit(Stop::MonthDigits)?;
+    let month = check_month(two_digit_number(tens, ones), Stop::MonthRange)?;
     Ok((month, hyphened))
 }
 
@@ -264,52 +261,46 @@ fn parse_day<'a, T: EncodingType>(
     hyphened: bool,
 ) -> Result<DateRecord, Stop> {
     take_separator(cursor, hyphened)?;
-    let day = cursor.two_digits(Stop::DateDay)?;
+    let day = cursor.two_digits(Stop::DayDigits, Stop::DayDigits)?;
     check_date(year, month, day)
 }
 
 /// Consumes the hyphen after a month, if a hyphen is before the month. Otherwise tests that a digit is next, and consumes
 /// nothing.
-///
-/// Returns `NonAsciiCodePoint` at a bad code unit. If only one of the two hyphens is present, returns `DateSeparator`. If
-/// none is present, returns `AbruptDigit` at the end of the input, and `DateDay` at any code unit that is not a digit.
 #[inline(always)]
 fn take_separator<'a, T: EncodingType>(
     cursor: &mut Cursor<'a, T>,
     hyphened: bool,
 ) -> Result<(), Stop> {
-    let next = cursor.look()?;
     if hyphened {
-        return match next {
+        return match cursor.look(Stop::AfterHyphenedMonth)? {
             Some(byte) if is_hyphen(byte) => {
                 cursor.advance();
                 Ok(())
             }
-            _ => Err(Stop::DateSeparator),
+            _ => Err(Stop::AfterHyphenedMonth),
         };
     }
-    match next {
-        None => Err(Stop::AbruptDigit),
+    match cursor.look(Stop::AfterBasicMonth)? {
         Some(byte) if byte.is_ascii_digit() => Ok(()),
-        Some(byte) if is_hyphen(byte) => Err(Stop::DateSeparator),
-        Some(_) => Err(Stop::DateDay),
+        _ => Err(Stop::AfterBasicMonth),
     }
 }
 
-/// Returns the month if it is 1 to 12, and otherwise `InvalidMonthRange`.
+/// Returns the month if it is 1 to 12, and otherwise `stop`.
 #[inline(always)]
-pub fn check_month(month: u8) -> Result<u8, Stop> {
+pub fn check_month(month: u8, stop: Stop) -> Result<u8, Stop> {
     if month < 1 || month > 12 {
-        return Err(Stop::InvalidMonthRange);
+        return Err(stop);
     }
     Ok(month)
 }
 
-/// Returns the date if the month of the year has the day, and otherwise `InvalidDayRange`. The month is not checked.
+/// Returns the date if the month of the year has the day, and otherwise `DayRange`. The month is not checked.
 #[inline(always)]
 pub fn check_date(year: i32, month: u8, day: u8) -> Result<DateRecord, Stop> {
     if !has_day(year, month, day) {
-        return Err(Stop::InvalidDayRange);
+        return Err(Stop::DayRange);
     }
     Ok(DateRecord { year, month, day })
 }

@@ -199,7 +199,7 @@ impl<'a, T: EncodingType> IsoDurationParser<'a, T> {
         let mut here = self.cursor.fork();
         match parse_opening(&mut here) {
             Ok(sign) => self.parse_groups::<ParseError>(here, sign),
-            Err(stop) => self.cursor.settle::<_, ParseError>(here, Err(stop)),
+            Err(stop) => self.cursor.settle::<_, ParseError>(here, false, Err(stop)),
         }
     }
 
@@ -237,7 +237,9 @@ impl<'a, T: EncodingType> IsoDurationParser<'a, T> {
         let mut here = self.cursor.fork();
         match parse_opening(&mut here) {
             Ok(sign) => self.parse_groups::<LocatedError>(here, sign),
-            Err(stop) => self.cursor.settle::<_, LocatedError>(here, Err(stop)),
+            Err(stop) => self
+                .cursor
+                .settle::<_, LocatedError>(here, false, Err(stop)),
         }
     }
 
@@ -254,7 +256,7 @@ impl<'a, T: EncodingType> IsoDurationParser<'a, T> {
     ) -> Result<DurationParseRecord, E> {
         let mut here = from;
         let read = parse_after_designator(&mut here, sign, self.profile);
-        self.cursor.settle(here, read)
+        self.cursor.settle(here, false, read)
     }
 }
 
@@ -266,7 +268,7 @@ fn parse_times<'a, T: EncodingType>(
     date: Option<DateDurationRecord>,
     profile: Profile,
 ) -> Result<DurationParseRecord, Stop> {
-    match cursor.look()? {
+    match cursor.look(Stop::AfterTimeDesignator)? {
         Some(byte) if byte.is_ascii_digit() => {
             cursor.advance();
             match parse_time_groups(cursor, byte, profile) {
@@ -278,7 +280,7 @@ fn parse_times<'a, T: EncodingType>(
                 Err(stop) => Err(stop),
             }
         }
-        _ => Err(Stop::TimeDurationDesignator),
+        _ => Err(Stop::AfterTimeDesignator),
     }
 }
 
@@ -288,21 +290,19 @@ fn parse_designator<'a, T: EncodingType>(
     cursor: &mut Cursor<'a, T>,
     sign: Sign,
 ) -> Result<Sign, Stop> {
-    match cursor.look()? {
-        None => Err(Stop::AbruptDurationDesignator),
+    match cursor.look(Stop::AfterDurationSign)? {
         Some(byte) if is_duration_designator(byte) => {
             cursor.advance();
             Ok(sign)
         }
-        Some(_) => Err(Stop::DurationDisgnator),
+        _ => Err(Stop::AfterDurationSign),
     }
 }
 
 /// Reads the beginning of a duration, up to its `P` or `p`. Returns its sign.
 #[inline(always)]
 fn parse_opening<'a, T: EncodingType>(cursor: &mut Cursor<'a, T>) -> Result<Sign, Stop> {
-    match cursor.look()? {
-        None => Err(Stop::AbruptDurationStart),
+    match cursor.look(Stop::DurationStart)? {
         Some(byte) if is_ascii_sign(byte) => {
             cursor.advance();
             parse_designator(cursor, sign_from(byte))
@@ -311,7 +311,7 @@ fn parse_opening<'a, T: EncodingType>(cursor: &mut Cursor<'a, T>) -> Result<Sign
             cursor.advance();
             Ok(Sign::Positive)
         }
-        Some(_) => Err(Stop::DurationDisgnator),
+        _ => Err(Stop::DurationStart),
     }
 }
 
@@ -341,8 +341,7 @@ fn parse_after_designator<'a, T: EncodingType>(
     sign: Sign,
     profile: Profile,
 ) -> Result<DurationParseRecord, Stop> {
-    match cursor.look()? {
-        None => Err(Stop::AbruptDuration),
+    match cursor.look(Stop::AfterDurationDesignator)? {
         Some(byte) if is_time_designator(byte) => {
             cursor.advance();
             parse_times(cursor, sign, None, profile)
@@ -351,6 +350,6 @@ fn parse_after_designator<'a, T: EncodingType>(
             cursor.advance();
             parse_dated(cursor, sign, byte, profile)
         }
-        Some(_) => Err(Stop::InvalidEnd),
+        _ => Err(Stop::AfterDurationDesignator),
     }
 }

@@ -6,6 +6,7 @@ use crate::parsers::IxdtfParser;
 use crate::{LocatedError, ParserResult};
 use crate::encoding::EncodingType;
 use crate::records::IxdtfParseRecord;
+use crate::cursor::error_at;
 use crate::parsers::rfc3339::parse_rfc3339_text;
 
 impl<'a, T: EncodingType> IxdtfParser<'a, T> {
@@ -87,7 +88,8 @@ impl<'a, T: EncodingType> IxdtfParser<'a, T> {
                 Ok(found)
             }
             Err(stop) => {
-                return Err(stop.error());
+                let error = error_at(&mut here, false, stop, 0);
+                return Err(error);
             }
         }
     }
@@ -129,10 +131,8 @@ impl<'a, T: EncodingType> IxdtfParser<'a, T> {
             }
             Err(stop) => {
                 let at = self.cursor.remaining().saturating_sub(here.remaining());
-                return Err(LocatedError {
-                    error: stop.error(),
-                    at,
-                });
+                let error = error_at(&mut here, false, stop, at);
+                return Err(error);
             }
         }
     }

@@ -52,7 +52,7 @@ impl PartForm {
 fn has_exact_parts<'a, T: EncodingType>(cursor: &mut Cursor<'a, T>) -> bool {
     let mut form = PartForm::Start;
     loop {
-        let byte = match cursor.look() {
+        let byte = match cursor.look(Stop::FirstNameForm) {
             Ok(Some(byte)) => byte,
             Ok(None) => return false,
             Err(_) => return false,
@@ -90,8 +90,8 @@ fn is_exact_zone<'a, T: EncodingType>(
 #[inline(always)]
 fn zone_stop<'a, T: EncodingType>(zone: &TimeZoneAnnotation<'a, T>) -> Stop {
     match &zone.tz {
-        TimeZoneRecord::Name(_) => Stop::IanaChar,
-        TimeZoneRecord::Offset(_) => Stop::InvalidMinutePrecisionOffset,
+        TimeZoneRecord::Name(_) => Stop::FirstNameForm,
+        TimeZoneRecord::Offset(_) => Stop::FirstOffsetForm,
     }
 }
 

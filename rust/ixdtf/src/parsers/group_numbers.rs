@@ -13,13 +13,13 @@ pub struct Number {
     pub next: u8,
 }
 
-/// Returns the number with one more digit, or `DurationValueExceededRange` if it overflows.
+/// Returns the number with one more digit, or `past` if it overflows.
 #[inline(always)]
-fn add_digit(value: u64, byte: u8) -> Result<u64, Stop> {
+fn add_digit(value: u64, byte: u8, past: Stop) -> Result<u64, Stop> {
     match value.checked_mul(10) {
-        None => Err(Stop::DurationValueExceededRange),
+        None => Err(past),
         Some(tens) => match tens.checked_add(u64::from(byte - b'0')) {
-            None => Err(Stop::DurationValueExceededRange),
+            None => Err(past),
             Some(sum) => Ok(sum),
         },
     }
@@ -27,25 +27,25 @@ fn add_digit(value: u64, byte: u8) -> Result<u64, Stop> {
 
 /// Consumes the digits of a number after the first one.
 ///
-/// Returns the number, and the code unit after it, which is not consumed. Returns `end` at the end of the input,
-/// `NonAsciiCodePoint` at a bad code unit, and `DurationValueExceededRange` after the digit with which the number
-/// becomes 2^64 or more.
+/// Returns the number, and the code unit after it, which is not consumed. Returns `digits` at the end of the input and at
+/// a bad code unit, and `past` after the digit with which the number becomes 2^64 or more.
 #[inline(always)]
 pub fn parse_number<'a, T: EncodingType>(
     cursor: &mut Cursor<'a, T>,
     first: u8,
-    end: Stop,
+    digits: Stop,
+    past: Stop,
 ) -> Result<Number, Stop> {
     let mut value = u64::from(first - b'0');
-    while let Some(byte) = cursor.look()? {
+    while let Some(byte) = cursor.look(digits)? {
         if !byte.is_ascii_digit() {
             return Ok(Number { value, next: byte });
         }
-        let grown = add_digit(value, byte);
+        let grown = add_digit(value, byte, past);
         cursor.advance();
         value = grown?;
     }
-    Err(end)
+    Err(digits)
 }
 
 /// Stores the number of a group in `values`. The index is the rank of the unit of the group.

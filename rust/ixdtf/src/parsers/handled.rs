@@ -9,7 +9,7 @@ use crate::parsers::{
 use crate::{LocatedError, ParseError, ParserResult};
 use crate::encoding::EncodingType;
 use crate::records::{Annotation, IxdtfParseRecord};
-use crate::stop::{Stop, error_of_stop};
+use crate::stop::{Next, error_of_stop};
 
 impl<'a, T: EncodingType> IxdtfParser<'a, T> {
     /// Parses the remaining input like [`parse`](Self::parse), and lets a handler decide about each annotation.
@@ -389,7 +389,7 @@ impl<'a, T: EncodingType> IxdtfParser<'a, T> {
         let mut found = IxdtfParseRecord::default();
         match self.read_into::<C, F>(&mut handler, &mut found) {
             Ok(()) => Ok(found),
-            Err(why) => return Err(error_of_stop(why.stop, why.at)),
+            Err(why) => return Err(error_of_stop(why)),
         }
     }
 
@@ -416,7 +416,7 @@ impl<'a, T: EncodingType> IxdtfParser<'a, T> {
         let mut found = IxdtfParseRecord::default();
         match self.read_into::<C, F>(handler, &mut found) {
             Ok(()) => Ok(found),
-            Err(refused) => return Err(error_of_stop(refused.stop, refused.at)),
+            Err(refused) => return Err(error_of_stop(refused)),
         }
     }
 
@@ -433,7 +433,11 @@ impl<'a, T: EncodingType> IxdtfParser<'a, T> {
         &mut self,
         calendar: &mut Option<Annotation<'a, T>>,
         reply: Option<Annotation<'a, T>>,
-    ) -> Result<(), Stop> {
-        keep_first_calendar::<T>(&mut self.cursor, calendar, reply)
+    ) -> ParserResult<()> {
+        if let Err(stop) = keep_first_calendar::<T>(&mut self.cursor, calendar, reply) {
+            // The error of a refusal does not depend on what follows.
+            return Err(stop.code(true, Next::End).error());
+        }
+        Ok(())
     }
 }

@@ -14,40 +14,40 @@ pub trait Letters {
 
 /// Consumes code units as long as they are in the class.
 ///
-/// Returns the next code unit, which is not consumed. Returns `None` at the end of the input, and `NonAsciiCodePoint` at
-/// a bad code unit.
+/// Returns the next code unit, which is not consumed. Returns `None` at the end of the input, and `stop` at a bad code unit.
 #[inline(always)]
 pub fn pass_letters<'a, T: EncodingType, S: Letters>(
     cursor: &mut Cursor<'a, T>,
+    stop: Stop,
 ) -> Result<Option<u8>, Stop> {
     let mut here = cursor.fork();
     // Each round has up to four accesses. They need only one test of the length, and the compiled code moves the cursor
     // once.
     let found = loop {
         if here.remaining() >= 4 {
-            let first = here.look();
+            let first = here.look(stop);
             if !goes_on::<S>(first) {
                 break first;
             }
             here.advance();
-            let second = here.look();
+            let second = here.look(stop);
             if !goes_on::<S>(second) {
                 break second;
             }
             here.advance();
-            let third = here.look();
+            let third = here.look(stop);
             if !goes_on::<S>(third) {
                 break third;
             }
             here.advance();
-            let fourth = here.look();
+            let fourth = here.look(stop);
             if !goes_on::<S>(fourth) {
                 break fourth;
             }
             here.advance();
             continue;
         }
-        let last = here.look();
+        let last = here.look(stop);
         if !goes_on::<S>(last) {
             break last;
         }

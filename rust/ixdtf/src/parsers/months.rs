@@ -28,7 +28,7 @@ pub fn parse_year_month_date<'a, T: EncodingType>(
 /// Returns the first day of a year-month if its month is 1 to 12, and otherwise `InvalidMonthRange`.
 #[inline(always)]
 fn check_year_month(first: DateRecord) -> Result<DateRecord, Stop> {
-    check_month(first.month)?;
+    check_month(first.month, Stop::MonthRange)?;
     Ok(first)
 }
 
@@ -72,7 +72,7 @@ pub fn parse_year_month_parts<'a, T: EncodingType>(
     cursor: &mut Cursor<'a, T>,
 ) -> Result<DateRecord, Stop> {
     let year = parse_date_year(cursor)?;
-    let (month, _) = parse_month(cursor, Stop::AbruptDigit)?;
+    let (month, _) = parse_month(cursor, Stop::AfterYearInYearMonth)?;
     Ok(DateRecord {
         year,
         month,
@@ -93,10 +93,10 @@ pub fn parse_month_day_date<'a, T: EncodingType>(
         return parse_month_day_parts(cursor, profile);
     }
     if !is_hyphen(cursor.byte_at(0)) {
-        return parse_month_day_at(cursor, profile, 0);
+        return parse_month_day_at(cursor, profile, 0, Stop::MonthDayStart);
     }
     if is_hyphen(cursor.byte_at(1)) {
-        return parse_month_day_at(cursor, profile, 2);
+        return parse_month_day_at(cursor, profile, 2, Stop::MonthDayMonthDigits);
     }
     parse_month_day_parts(cursor, profile)
 }
@@ -109,12 +109,13 @@ fn parse_month_day_at<'a, T: EncodingType>(
     cursor: &mut Cursor<'a, T>,
     profile: Profile,
     start: usize,
+    first: Stop,
 ) -> Result<DateRecord, Stop> {
     let Some(month) = cursor.fixed_number(start) else {
         cursor.advance_by(start);
-        return parse_unmarked(cursor, profile);
+        return parse_unmarked(cursor, profile, first);
     };
-    if let Err(stop) = check_month(month) {
+    if let Err(stop) = check_month(month, Stop::MonthDayMonthRange) {
         cursor.advance_by(start + 2);
         return Err(stop);
     }
@@ -148,7 +149,7 @@ pub fn parse_month_day_parts<'a, T: EncodingType>(
     profile: Profile,
 ) -> Result<DateRecord, Stop> {
     take_marks(cursor)?;
-    parse_unmarked(cursor, profile)
+    parse_unmarked(cursor, profile, Stop::MonthDayMonthDigits)
 }
 
 /// Reads a month-day part by part, after the two hyphens that can be before its month.
@@ -156,9 +157,10 @@ pub fn parse_month_day_parts<'a, T: EncodingType>(
 fn parse_unmarked<'a, T: EncodingType>(
     cursor: &mut Cursor<'a, T>,
     profile: Profile,
+    first: Stop,
 ) -> Result<DateRecord, Stop> {
-    let month = cursor.two_digits(Stop::DateMonth)?;
-    check_month(month)?;
+    let month = cursor.two_digits(first, Stop::MonthDayMonthDigits)?;
+    check_month(month, Stop::MonthDayMonthRange)?;
     parse_day_of_month(cursor, profile, month)
 }
 
@@ -169,8 +171,8 @@ fn parse_day_of_month<'a, T: EncodingType>(
     profile: Profile,
     month: u8,
 ) -> Result<DateRecord, Stop> {
-    take_hyphen(cursor, Stop::AbruptDigit, Stop::DateDay)?;
-    let day = cursor.two_digits(Stop::DateDay)?;
+    take_hyphen(cursor, Stop::AfterMonthDayMonth)?;
+    let day = cursor.two_digits(Stop::MonthDayDayDigits, Stop::MonthDayDayDigits)?;
     check_month_day(profile, month, day)
 }
 
@@ -182,16 +184,15 @@ fn parse_day_of_month<'a, T: EncodingType>(
 /// `MonthDayHyphen`.
 #[inline(always)]
 fn take_marks<'a, T: EncodingType>(cursor: &mut Cursor<'a, T>) -> Result<bool, Stop> {
-    if !take_hyphen(cursor, Stop::AbruptMonthDay, Stop::DateMonth)? {
+    if !take_hyphen(cursor, Stop::MonthDayStart)? {
         return Ok(false);
     }
-    match cursor.look()? {
-        None => Err(Stop::AbruptMonthDay),
+    match cursor.look(Stop::MonthDayHyphen)? {
         Some(byte) if is_hyphen(byte) => {
             cursor.advance();
             Ok(true)
         }
-        Some(_) => Err(Stop::MonthDayHyphen),
+        _ => Err(Stop::MonthDayHyphen),
     }
 }
 
@@ -200,7 +201,7 @@ fn take_marks<'a, T: EncodingType>(cursor: &mut Cursor<'a, T>) -> Result<bool, S
 #[inline(always)]
 pub fn check_month_day(profile: Profile, month: u8, day: u8) -> Result<DateRecord, Stop> {
     if !has_month_day(profile, month, day) {
-        return Err(Stop::InvalidMonthDay);
+        return Err(Stop::MonthDayRange);
     }
     Ok(DateRecord {
         year: 0,

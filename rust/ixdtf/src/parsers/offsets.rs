@@ -2,7 +2,7 @@
 
 //! Functions that read offsets from UTC.
 
-use crate::parsers::time::{Clock, TimeShape, parse_clock};
+use crate::parsers::time::{Clock, TimeShape, close_after, parse_clock};
 use crate::encoding::EncodingType;
 use crate::records::{
     FullPrecisionOffset, MinutePrecisionOffset, Sign, TimeRecord, UtcOffsetRecord,
@@ -176,8 +176,7 @@ pub fn offset_from(sign: u8, shape: TimeShape, time: TimeRecord) -> UtcOffsetRec
 pub fn parse_offset_text<'a, T: EncodingType>(
     cursor: &mut Cursor<'a, T>,
 ) -> Result<UtcOffsetRecord, Stop> {
-    match cursor.look()? {
-        None => Err(Stop::AbruptOffset),
+    match cursor.look(Stop::OffsetStart)? {
         Some(byte) if is_ascii_sign(byte) => {
             cursor.advance();
             if let Some(offset) = take_last_offset(cursor, byte) {
@@ -185,9 +184,9 @@ pub fn parse_offset_text<'a, T: EncodingType>(
             }
             let mut time = TimeRecord::default();
             let shape = parse_clock(cursor, Clock::Offset, &mut time)?;
-            cursor.close()?;
+            close_after(cursor, Clock::Offset, shape)?;
             Ok(offset_from(byte, shape, time))
         }
-        Some(_) => Err(Stop::OffsetNeedsSign),
+        _ => Err(Stop::OffsetStart),
     }
 }

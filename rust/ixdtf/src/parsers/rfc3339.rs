@@ -18,8 +18,7 @@ use crate::records::{
     UtcOffsetRecordOrZ,
 };
 use crate::classes::{
-    is_ascii_sign, is_decimal_separator, is_hyphen, is_time_designator, is_time_separator,
-    is_utc_designator,
+    is_ascii_sign, is_hyphen, is_time_designator, is_time_separator, is_utc_designator,
 };
 use crate::cursor::Cursor;
 use crate::stop::Stop;
@@ -28,7 +27,7 @@ use crate::stop::Stop;
 /// code unit.
 #[inline(always)]
 fn take_colon<'a, T: EncodingType>(cursor: &mut Cursor<'a, T>, stop: Stop) -> Result<u8, Stop> {
-    match cursor.look()? {
+    match cursor.look(stop)? {
         Some(byte) if is_time_separator(byte) => {
             cursor.advance();
             Ok(byte)
@@ -40,17 +39,13 @@ fn take_colon<'a, T: EncodingType>(cursor: &mut Cursor<'a, T>, stop: Stop) -> Re
 /// Consumes a hyphen of a date. Returns `at_end` at the end of the input, `NonAsciiCodePoint` at a bad code unit, and
 /// `DateSeparator` at any other code unit.
 #[inline(always)]
-fn take_date_hyphen<'a, T: EncodingType>(
-    cursor: &mut Cursor<'a, T>,
-    at_end: Stop,
-) -> Result<u8, Stop> {
-    match cursor.look()? {
-        None => Err(at_end),
+fn take_date_hyphen<'a, T: EncodingType>(cursor: &mut Cursor<'a, T>, stop: Stop) -> Result<u8, Stop> {
+    match cursor.look(stop)? {
         Some(byte) if is_hyphen(byte) => {
             cursor.advance();
             Ok(byte)
         }
-        Some(_) => Err(Stop::DateSeparator),
+        _ => Err(stop),
     }
 }
 
@@ -58,12 +53,12 @@ fn take_date_hyphen<'a, T: EncodingType>(
 /// any other code unit.
 #[inline(always)]
 fn take_time_letter<'a, T: EncodingType>(cursor: &mut Cursor<'a, T>) -> Result<u8, Stop> {
-    match cursor.look()? {
+    match cursor.look(Stop::AfterDayField)? {
         Some(byte) if is_time_designator(byte) => {
             cursor.advance();
             Ok(byte)
         }
-        _ => Err(Stop::TimeSeparator),
+        _ => Err(Stop::AfterDayField),
     }
 }
 
@@ -73,10 +68,10 @@ fn take_time_letter<'a, T: EncodingType>(cursor: &mut Cursor<'a, T>) -> Result<u
 /// unit that is not a digit.
 #[inline(always)]
 fn parse_year<'a, T: EncodingType>(cursor: &mut Cursor<'a, T>) -> Result<u16, Stop> {
-    let thousands = cursor.next_digit(Stop::DateYear)?;
-    let hundreds = cursor.next_digit(Stop::DateYear)?;
-    let tens = cursor.next_digit(Stop::DateYear)?;
-    let ones = cursor.next_digit(Stop::DateYear)?;
+    let thousands = cursor.next_digit(Stop::FourDigits)?;
+    let hundreds = cursor.next_digit(Stop::FourDigits)?;
+    let tens = cursor.next_digit(Stop::FourDigits)?;
+    let ones = cursor.next_digit(Stop::FourDigits)?;
     Ok(
         1000 * u16::from(thousands - b'0')
             + 100 * u16::from(hundreds - b'0')
@@ -88,8 +83,8 @@ fn parse_year<'a, T: EncodingType>(cursor: &mut Cursor<'a, T>) -> Result<u16, St
 /// Reads a month, 01 to 12. Any other number is `InvalidMonthRange`.
 #[inline(always)]
 fn parse_month<'a, T: EncodingType>(cursor: &mut Cursor<'a, T>) -> Result<u8, Stop> {
-    let month = cursor.two_digits(Stop::DateMonth)?;
-    check_month(month)
+    let month = cursor.two_digits(Stop::MonthFieldDigits, Stop::MonthFieldDigits)?;
+    check_month(month, Stop::MonthFieldRange)
 }
 
 /// Reads a day. If the month of the year does not have the day, returns `InvalidDayRange`.
@@ -99,9 +94,9 @@ fn parse_day<'a, T: EncodingType>(
     year: u16,
     month: u8,
 ) -> Result<u8, Stop> {
-    let day = cursor.two_digits(Stop::DateDay)?;
+    let day = cursor.two_digits(Stop::DayFieldDigits, Stop::DayFieldDigits)?;
     if !has_day(i32::from(year), month, day) {
-        return Err(Stop::InvalidDayRange);
+        return Err(Stop::DayFieldRange);
     }
     Ok(day)
 }
@@ -129,20 +124,19 @@ fn parse_time_offset<'a, T: EncodingType>(
 /// Consumes the first code unit of a time offset, after the digits of a fraction, and returns it.
 #[inline(always)]
 fn take_lead<'a, T: EncodingType>(cursor: &mut Cursor<'a, T>) -> Result<u8, Stop> {
-    match cursor.look()? {
-        None => Err(Stop::AbruptOffset),
+    match cursor.look(Stop::AfterSecfrac)? {
         Some(byte) if byte.is_ascii_digit() || is_ascii_sign(byte) || is_utc_designator(byte) => {
             cursor.advance();
             Ok(byte)
         }
-        Some(_) => Err(Stop::OffsetNeedsSign),
+        _ => Err(Stop::AfterSecfrac),
     }
 }
 
 /// Reads the digits of a fraction after its `.`.
 #[inline(always)]
 fn parse_secfrac<'a, T: EncodingType>(cursor: &mut Cursor<'a, T>) -> Result<Fraction, Stop> {
-    parse_fraction(cursor)
+    parse_fraction(cursor, Stop::AfterPoint, Stop::AfterSecfrac)
 }
 
 /// Reads the digits of a fraction after its `.`, and the offset after the fraction. Writes the time and the offset into the
@@ -169,8 +163,7 @@ fn parse_after_seconds<'a, T: EncodingType>(
     found: &mut IxdtfParseRecord<'a, T>,
 ) -> Result<(), Stop> {
     found.date = Some(date);
-    match cursor.look()? {
-        None => Err(Stop::AbruptOffset),
+    match cursor.look(Stop::AfterSecondField)? {
         Some(byte) if byte == b'.' => {
             cursor.advance();
             parse_fractional(cursor, whole, found)
@@ -180,8 +173,7 @@ fn parse_after_seconds<'a, T: EncodingType>(
             found.time = Some(whole.with_fraction(None));
             parse_time_offset(cursor, byte, found)
         }
-        Some(byte) if is_decimal_separator(byte) => Err(Stop::FractionPart),
-        Some(_) => Err(Stop::OffsetNeedsSign),
+        _ => Err(Stop::AfterSecondField),
     }
 }
 
@@ -205,9 +197,23 @@ fn parse_offset_by_numbers<'a, T: EncodingType>(
     cursor: &mut Cursor<'a, T>,
     sign: u8,
 ) -> Result<MinutePrecisionOffset, Stop> {
-    let offset_hour = next_number(cursor, 23, Stop::TimeHour)?;
-    take_colon(cursor, Stop::UtcTimeSeparator)?;
-    let offset_minute = next_number(cursor, 59, Stop::TimeMinuteSecond)?;
+    let hour_digits = Stop::OffsetHourFieldDigits;
+    let offset_hour = next_number(
+        cursor,
+        23,
+        hour_digits,
+        hour_digits,
+        Stop::OffsetHourFieldRange,
+    )?;
+    take_colon(cursor, Stop::AfterOffsetHourField)?;
+    let minute_digits = Stop::OffsetMinuteFieldDigits;
+    let offset_minute = next_number(
+        cursor,
+        59,
+        minute_digits,
+        minute_digits,
+        Stop::OffsetMinuteFieldRange,
+    )?;
     Ok(MinutePrecisionOffset {
         sign: sign_from(sign),
         hour: offset_hour,
@@ -218,11 +224,26 @@ fn parse_offset_by_numbers<'a, T: EncodingType>(
 /// Consumes a time, and returns the second of this time. The `T` or `t` before it has been consumed.
 #[inline(always)]
 fn pass_time<'a, T: EncodingType>(cursor: &mut Cursor<'a, T>) -> Result<u8, Stop> {
-    next_number(cursor, 23, Stop::TimeHour)?;
-    take_colon(cursor, Stop::TimeSeparator)?;
-    next_number(cursor, 59, Stop::TimeMinuteSecond)?;
-    take_colon(cursor, Stop::TimeSeparator)?;
-    next_number(cursor, 60, Stop::TimeSecond)
+    let hour_digits = Stop::HourFieldDigits;
+    next_number(cursor, 23, hour_digits, hour_digits, Stop::HourFieldRange)?;
+    take_colon(cursor, Stop::AfterHourField)?;
+    let minute_digits = Stop::MinuteFieldDigits;
+    next_number(
+        cursor,
+        59,
+        minute_digits,
+        minute_digits,
+        Stop::MinuteFieldRange,
+    )?;
+    take_colon(cursor, Stop::AfterMinuteField)?;
+    let second_digits = Stop::SecondFieldDigits;
+    next_number(
+        cursor,
+        60,
+        second_digits,
+        second_digits,
+        Stop::SecondFieldRange,
+    )
 }
 
 /// Consumes a day, then `T` or `t`, and then a time. Returns the second of the time. The month and the hyphen before the
@@ -242,9 +263,9 @@ fn pass_day_and_time<'a, T: EncodingType>(
 #[inline(always)]
 fn pass_date_and_time<'a, T: EncodingType>(cursor: &mut Cursor<'a, T>) -> Result<u8, Stop> {
     let year = parse_year(cursor)?;
-    take_date_hyphen(cursor, Stop::AbruptDate)?;
+    take_date_hyphen(cursor, Stop::AfterFourDigits)?;
     let month = parse_month(cursor)?;
-    take_date_hyphen(cursor, Stop::DateSeparator)?;
+    take_date_hyphen(cursor, Stop::AfterMonthField)?;
     pass_day_and_time(cursor, year, month)
 }
 
@@ -254,7 +275,7 @@ fn pass_date_and_time<'a, T: EncodingType>(cursor: &mut Cursor<'a, T>) -> Result
 fn first_stop<'a, T: EncodingType>(cursor: &mut Cursor<'a, T>) -> Stop {
     match pass_date_and_time(cursor) {
         // This does not happen: it is proved that such a text has an error.
-        Ok(_) => Stop::InvalidEnd,
+        Ok(_) => Stop::AfterSecondField,
         Err(stop) => stop,
     }
 }
@@ -283,5 +304,14 @@ pub fn parse_rfc3339_text<'a, T: EncodingType>(
     found: &mut IxdtfParseRecord<'a, T>,
 ) -> Result<(), Stop> {
     parse_internet_date_time(cursor, found)?;
-    cursor.close()
+    cursor.close(stop_after_offset(found.offset))
+}
+
+/// Returns the `Stop` of the table line after a date-time with this offset.
+#[inline(always)]
+pub fn stop_after_offset(offset: Option<UtcOffsetRecordOrZ>) -> Stop {
+    match offset {
+        Some(UtcOffsetRecordOrZ::Z) => Stop::AfterUtc,
+        Some(UtcOffsetRecordOrZ::Offset(_)) | None => Stop::AfterOffsetMinuteField,
+    }
 }

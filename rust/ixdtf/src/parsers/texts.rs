@@ -41,7 +41,12 @@ impl<'a, T: EncodingType> IxdtfParser<'a, T> {
             }
             Err(stop) => {
                 let at = self.cursor.remaining().saturating_sub(here.remaining());
-                Err(StopAt { stop, at })
+                let next = here.next();
+                Err(StopAt {
+                    stop,
+                    code: stop.code(true, next),
+                    at,
+                })
             }
         }
     }

@@ -31,13 +31,124 @@ impl Clock {
         }
     }
 
-    /// Returns the `Stop` for a colon or a digit that follows a minute but does not begin a second.
+    /// Returns the greatest second.
     #[inline(always)]
-    fn mixed(self) -> Stop {
+    fn greatest_second(self) -> u8 {
         match self {
-            Clock::Time => Stop::TimeSeparator,
-            Clock::Offset => Stop::UtcTimeSeparator,
-            Clock::MinuteOffset => Stop::InvalidMinutePrecisionOffset,
+            Clock::Time => 60,
+            Clock::Offset | Clock::MinuteOffset => 59,
+        }
+    }
+
+    /// Returns the `Stop` of the table line after a time of this shape.
+    #[inline(always)]
+    pub fn stop_after(self, shape: TimeShape) -> Stop {
+        match shape {
+            TimeShape::Hours => self.stop(ClockLine::AfterHour),
+            TimeShape::BasicMinutes => self.stop(ClockLine::AfterBasicMinute),
+            TimeShape::ColonMinutes => self.stop(ClockLine::AfterColonMinute),
+            TimeShape::Seconds => self.stop(ClockLine::AfterSecond),
+            TimeShape::Fractions => self.stop(ClockLine::AfterFraction),
+        }
+    }
+
+    /// Returns the `Stop` of the table line after a minute. `colons` says whether a colon is before the minute.
+    #[inline(always)]
+    fn stop_after_minute(self, colons: bool) -> Stop {
+        if colons {
+            self.stop(ClockLine::AfterColonMinute)
+        } else {
+            self.stop(ClockLine::AfterBasicMinute)
+        }
+    }
+
+    /// Returns the `Stop` of a table line of the clock.
+    #[inline(always)]
+    pub fn stop(self, line: ClockLine) -> Stop {
+        match self {
+            Clock::Time => line.time_stop(),
+            Clock::Offset => line.offset_stop(),
+            Clock::MinuteOffset => line.zone_offset_stop(),
+        }
+    }
+}
+
+/// A table line of times, or of offsets after their sign.
+#[derive(Clone, Copy)]
+pub enum ClockLine {
+    HourStart,
+    HourDigit,
+    HourRange,
+    AfterHour,
+    MinuteDigits,
+    MinuteRange,
+    AfterBasicMinute,
+    AfterColonMinute,
+    SecondDigits,
+    SecondRange,
+    AfterSecond,
+    FractionStart,
+    AfterFraction,
+}
+
+impl ClockLine {
+    /// Returns the `Stop` of the line of times.
+    #[inline(always)]
+    fn time_stop(self) -> Stop {
+        match self {
+            ClockLine::HourStart => Stop::HourStart,
+            ClockLine::HourDigit => Stop::HourDigit,
+            ClockLine::HourRange => Stop::HourRange,
+            ClockLine::AfterHour => Stop::AfterHour,
+            ClockLine::MinuteDigits => Stop::MinuteDigits,
+            ClockLine::MinuteRange => Stop::MinuteRange,
+            ClockLine::AfterBasicMinute => Stop::AfterBasicMinute,
+            ClockLine::AfterColonMinute => Stop::AfterColonMinute,
+            ClockLine::SecondDigits => Stop::SecondDigits,
+            ClockLine::SecondRange => Stop::SecondRange,
+            ClockLine::AfterSecond => Stop::AfterSecond,
+            ClockLine::FractionStart => Stop::FractionStart,
+            ClockLine::AfterFraction => Stop::AfterFraction,
+        }
+    }
+
+    /// Returns the `Stop` of the line of offsets.
+    #[inline(always)]
+    fn offset_stop(self) -> Stop {
+        match self {
+            ClockLine::HourStart => Stop::OffsetHourStart,
+            ClockLine::HourDigit => Stop::OffsetHourDigit,
+            ClockLine::HourRange => Stop::OffsetHourRange,
+            ClockLine::AfterHour => Stop::OffsetAfterHour,
+            ClockLine::MinuteDigits => Stop::OffsetMinuteDigits,
+            ClockLine::MinuteRange => Stop::OffsetMinuteRange,
+            ClockLine::AfterBasicMinute => Stop::OffsetAfterBasicMinute,
+            ClockLine::AfterColonMinute => Stop::OffsetAfterColonMinute,
+            ClockLine::SecondDigits => Stop::OffsetSecondDigits,
+            ClockLine::SecondRange => Stop::OffsetSecondRange,
+            ClockLine::AfterSecond => Stop::OffsetAfterSecond,
+            ClockLine::FractionStart => Stop::OffsetFractionStart,
+            ClockLine::AfterFraction => Stop::OffsetAfterFraction,
+        }
+    }
+
+    /// Returns the `Stop` of the line of offsets without seconds.
+    #[inline(always)]
+    fn zone_offset_stop(self) -> Stop {
+        match self {
+            ClockLine::HourStart => Stop::ZoneOffsetHourStart,
+            ClockLine::HourDigit => Stop::ZoneOffsetHourDigit,
+            ClockLine::HourRange => Stop::ZoneOffsetHourRange,
+            ClockLine::AfterHour => Stop::ZoneOffsetAfterHour,
+            ClockLine::MinuteDigits => Stop::ZoneOffsetMinuteDigits,
+            ClockLine::MinuteRange => Stop::ZoneOffsetMinuteRange,
+            ClockLine::AfterBasicMinute => Stop::ZoneOffsetAfterBasicMinute,
+            ClockLine::AfterColonMinute => Stop::ZoneOffsetAfterColonMinute,
+            ClockLine::SecondDigits => Stop::ZoneOffsetSecondDigits,
+            ClockLine::SecondRange => Stop::ZoneOffsetSecondRange,
+            ClockLine::AfterSecond => Stop::ZoneOffsetAfterSecond,
+            ClockLine::FractionStart => Stop::ZoneOffsetFractionStart,
+            ClockLine::AfterFraction => Stop::ZoneOffsetAfterFraction,
         }
     }
 }
@@ -137,16 +248,17 @@ fn check_most(number: u8, greatest: u8, stop: Stop) -> Result<u8, Stop> {
 
 /// Consumes two digits, and returns their number, which is at most `greatest`.
 ///
-/// Returns `AbruptDigit` at the end of the input, `NonAsciiCodePoint` at a bad code unit, and `stop` at any other code unit and
-/// for a greater number.
+/// Returns `first` if the first digit is missing, `second` if the second one is missing, and `past` for a greater number.
 #[inline(always)]
 pub fn next_number<'a, T: EncodingType>(
     cursor: &mut Cursor<'a, T>,
     greatest: u8,
-    stop: Stop,
+    first: Stop,
+    second: Stop,
+    past: Stop,
 ) -> Result<u8, Stop> {
-    let number = cursor.two_digits(stop)?;
-    check_most(number, greatest, stop)
+    let number = cursor.two_digits(first, second)?;
+    check_most(number, greatest, past)
 }
 
 /// Reads a time or an offset, and writes it to `time`. Returns which parts it has.
@@ -159,8 +271,19 @@ pub fn parse_clock<'a, T: EncodingType>(
     clock: Clock,
     time: &mut TimeRecord,
 ) -> Result<TimeShape, Stop> {
-    let hour = next_number(cursor, 23, Stop::TimeHour)?;
-    match cursor.look()? {
+    parse_clock_from(cursor, clock, clock.stop(ClockLine::HourStart), time)
+}
+
+/// Does the work of `parse_clock`. Returns `first` if the first digit is missing.
+#[inline(always)]
+pub fn parse_clock_from<'a, T: EncodingType>(
+    cursor: &mut Cursor<'a, T>,
+    clock: Clock,
+    first: Stop,
+    time: &mut TimeRecord,
+) -> Result<TimeShape, Stop> {
+    let hour = next_hour(cursor, clock, first)?;
+    match look_after(cursor, clock, TimeShape::Hours)? {
         Some(byte) if is_time_separator(byte) => {
             cursor.advance();
             parse_minute(cursor, clock, true, hour, time)
@@ -186,15 +309,17 @@ fn parse_minute<'a, T: EncodingType>(
     hour: u8,
     time: &mut TimeRecord,
 ) -> Result<TimeShape, Stop> {
-    let minute = next_number(cursor, 59, Stop::TimeMinuteSecond)?;
-    match cursor.look()? {
+    let minute = next_minute(cursor, clock)?;
+    match look_after_minute(cursor, clock, colons)? {
         Some(byte) if clock.starts_second(colons, byte) => {
             if colons {
                 cursor.advance();
             }
             parse_second(cursor, clock, hour, minute, time)
         }
-        Some(byte) if is_time_separator(byte) || byte.is_ascii_digit() => Err(clock.mixed()),
+        Some(byte) if is_time_separator(byte) || byte.is_ascii_digit() => {
+            Err(clock.stop_after_minute(colons))
+        }
         _ => {
             write_time(time, hour, minute, 0, None);
             Ok(if colons {
@@ -206,13 +331,73 @@ fn parse_minute<'a, T: EncodingType>(
     }
 }
 
+/// Returns the code unit after a time of this shape, without consuming it.
+#[inline(always)]
+fn look_after<'a, T: EncodingType>(
+    cursor: &mut Cursor<'a, T>,
+    clock: Clock,
+    shape: TimeShape,
+) -> Result<Option<u8>, Stop> {
+    cursor.look(clock.stop_after(shape))
+}
+
+/// Expects the end of the input after a time of this shape.
+#[inline(always)]
+pub fn close_after<'a, T: EncodingType>(
+    cursor: &mut Cursor<'a, T>,
+    clock: Clock,
+    shape: TimeShape,
+) -> Result<(), Stop> {
+    cursor.close(clock.stop_after(shape))
+}
+
+/// Returns the code unit after a minute, without consuming it. `colons` says whether a colon is before the minute.
+#[inline(always)]
+fn look_after_minute<'a, T: EncodingType>(
+    cursor: &mut Cursor<'a, T>,
+    clock: Clock,
+    colons: bool,
+) -> Result<Option<u8>, Stop> {
+    cursor.look(clock.stop_after_minute(colons))
+}
+
+/// Reads the digits of a fraction after its `.` or `,`.
+#[inline(always)]
+fn parse_clock_fraction<'a, T: EncodingType>(
+    cursor: &mut Cursor<'a, T>,
+    clock: Clock,
+) -> Result<Fraction, Stop> {
+    let start = clock.stop(ClockLine::FractionStart);
+    let digits = clock.stop(ClockLine::AfterFraction);
+    parse_fraction(cursor, start, digits)
+}
+
+/// Consumes the two digits of an hour, and returns their number. Returns `first` if the first digit is missing.
+#[inline(always)]
+fn next_hour<'a, T: EncodingType>(
+    cursor: &mut Cursor<'a, T>,
+    clock: Clock,
+    first: Stop,
+) -> Result<u8, Stop> {
+    let second = clock.stop(ClockLine::HourDigit);
+    let past = clock.stop(ClockLine::HourRange);
+    next_number(cursor, 23, first, second, past)
+}
+
+/// Consumes the two digits of a minute, and returns their number.
+#[inline(always)]
+fn next_minute<'a, T: EncodingType>(cursor: &mut Cursor<'a, T>, clock: Clock) -> Result<u8, Stop> {
+    let digits = clock.stop(ClockLine::MinuteDigits);
+    let past = clock.stop(ClockLine::MinuteRange);
+    next_number(cursor, 59, digits, digits, past)
+}
+
 /// Consumes the two digits of a second, and returns their number: at most 60 in a time, and 59 in an offset.
 #[inline(always)]
 fn next_second<'a, T: EncodingType>(cursor: &mut Cursor<'a, T>, clock: Clock) -> Result<u8, Stop> {
-    match clock {
-        Clock::Time => next_number(cursor, 60, Stop::TimeSecond),
-        Clock::Offset | Clock::MinuteOffset => next_number(cursor, 59, Stop::TimeMinuteSecond),
-    }
+    let digits = clock.stop(ClockLine::SecondDigits);
+    let past = clock.stop(ClockLine::SecondRange);
+    next_number(cursor, clock.greatest_second(), digits, digits, past)
 }
 
 /// Reads the second, and a fraction if it follows.
@@ -225,22 +410,23 @@ fn parse_second<'a, T: EncodingType>(
     time: &mut TimeRecord,
 ) -> Result<TimeShape, Stop> {
     let second = next_second(cursor, clock)?;
-    parse_after_second(cursor, hour, minute, second, time)
+    parse_after_second(cursor, clock, hour, minute, second, time)
 }
 
-/// Reads a fraction after a second, if there is one. Fractions have the same form for every clock.
+/// Reads a fraction after a second, if there is one.
 #[inline(always)]
 pub fn parse_after_second<'a, T: EncodingType>(
     cursor: &mut Cursor<'a, T>,
+    clock: Clock,
     hour: u8,
     minute: u8,
     second: u8,
     time: &mut TimeRecord,
 ) -> Result<TimeShape, Stop> {
-    match cursor.look()? {
+    match look_after(cursor, clock, TimeShape::Seconds)? {
         Some(byte) if is_decimal_separator(byte) => {
             cursor.advance();
-            let fraction = parse_fraction(cursor)?;
+            let fraction = parse_clock_fraction(cursor, clock)?;
             write_time(time, hour, minute, second, Some(fraction));
             Ok(TimeShape::Fractions)
         }
@@ -253,27 +439,33 @@ pub fn parse_after_second<'a, T: EncodingType>(
 
 /// Reads the digits of a fraction after its `.` or `,`.
 ///
-/// Returns `NonAsciiCodePoint` at a bad code unit, even if this code unit is directly after the last digit. At least one
-/// digit must follow the `.` or the `,`. Returns `FractionPart` if the input ends there, or if the code unit there is
-/// neither a digit nor bad.
+/// Returns `start` if there is no digit, and `digits` if a bad code unit follows the digits.
 #[inline(always)]
-pub fn parse_fraction<'a, T: EncodingType>(cursor: &mut Cursor<'a, T>) -> Result<Fraction, Stop> {
+pub fn parse_fraction<'a, T: EncodingType>(
+    cursor: &mut Cursor<'a, T>,
+    start: Stop,
+    digits: Stop,
+) -> Result<Fraction, Stop> {
     let mut here = cursor.fork();
-    let read = parse_digits(&mut here);
+    let read = parse_digits(&mut here, start, digits);
     *cursor = here;
     read
 }
 
 /// Reads the digits of a fraction. The function is not inlined, because few texts have a fraction.
 #[inline(never)]
-fn parse_digits<'a, T: EncodingType>(cursor: &mut Cursor<'a, T>) -> Result<Fraction, Stop> {
+fn parse_digits<'a, T: EncodingType>(
+    cursor: &mut Cursor<'a, T>,
+    start: Stop,
+    digits: Stop,
+) -> Result<Fraction, Stop> {
     let mut here = cursor.fork();
-    let read = match here.look() {
+    let read = match here.look(start) {
         Ok(Some(byte)) if byte.is_ascii_digit() => {
             here.advance();
-            parse_more_digits(&mut here, byte)
+            parse_more_digits(&mut here, byte, digits)
         }
-        Ok(_) => Err(Stop::FractionPart),
+        Ok(_) => Err(start),
         Err(stop) => Err(stop),
     };
     *cursor = here;
@@ -281,15 +473,16 @@ fn parse_digits<'a, T: EncodingType>(cursor: &mut Cursor<'a, T>) -> Result<Fract
 }
 
 /// Reads the digits of a fraction after the first one. The first 18 digits give the value. Later digits are only
-/// counted.
+/// counted. Returns `stop` at a bad code unit.
 #[inline(always)]
 fn parse_more_digits<'a, T: EncodingType>(
     cursor: &mut Cursor<'a, T>,
     first: u8,
+    stop: Stop,
 ) -> Result<Fraction, Stop> {
     let mut digits = LeadingDigits::start(first);
     while digits.is_short() {
-        match cursor.look()? {
+        match cursor.look(stop)? {
             Some(byte) if byte.is_ascii_digit() => {
                 cursor.advance();
                 digits = digits.with_digit(byte);
@@ -297,17 +490,18 @@ fn parse_more_digits<'a, T: EncodingType>(
             _ => return Ok(digits.fraction()),
         }
     }
-    count_more_digits(cursor, digits.fraction())
+    count_more_digits(cursor, digits.fraction(), stop)
 }
 
-/// Counts the digits of a fraction after the first 18.
+/// Counts the digits of a fraction after the first 18. Returns `stop` at a bad code unit.
 #[inline(always)]
 fn count_more_digits<'a, T: EncodingType>(
     cursor: &mut Cursor<'a, T>,
     leading: Fraction,
+    stop: Stop,
 ) -> Result<Fraction, Stop> {
     let mut fraction = leading;
-    while let Some(byte) = cursor.look()? {
+    while let Some(byte) = cursor.look(stop)? {
         if !byte.is_ascii_digit() {
             break;
         }

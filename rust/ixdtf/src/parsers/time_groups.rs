@@ -48,21 +48,22 @@ pub struct TimeGroup {
 
 /// Consumes the letter of a time unit, and returns the rank of the unit.
 ///
-/// Returns `AbruptTimeDesignator` at any other code unit, which is not consumed. Returns `TimeDurationPartOrder` if the
-/// rank is less than `least`.
+/// Returns `digits` at any other code unit, which is not consumed. Returns `TimeUnitOrder` if the rank is less than
+/// `least`.
 #[inline(always)]
 fn take_time_unit<'a, T: EncodingType>(
     cursor: &mut Cursor<'a, T>,
     letter: u8,
     least: u8,
+    digits: Stop,
 ) -> Result<u8, Stop> {
     let rank = time_rank(letter);
     if rank < least {
         if rank == 0 {
-            return Err(Stop::AbruptTimeDesignator);
+            return Err(digits);
         }
         cursor.advance_by(1);
-        return Err(Stop::TimeDurationPartOrder);
+        return Err(Stop::TimeUnitOrder);
     }
     cursor.advance_by(1);
     Ok(rank)
@@ -98,9 +99,9 @@ fn parse_fraction_group<'a, T: EncodingType>(
     cursor: &mut Cursor<'a, T>,
     value: u64,
 ) -> Result<TimeGroup, Stop> {
-    let fraction = parse_fraction(cursor)?;
-    match cursor.look()? {
-        None => Err(Stop::AbruptTimeDesignator),
+    let fraction = parse_fraction(cursor, Stop::GroupFractionStart, Stop::GroupFractionDigits)?;
+    match cursor.look(Stop::GroupFractionDigits)? {
+        None => Err(Stop::GroupFractionDigits),
         Some(letter) => Ok(TimeGroup {
             value,
             fraction: Some(fraction),
@@ -123,27 +124,27 @@ pub fn parse_time_groups<'a, T: EncodingType>(
     let mut least = 1;
     let mut digit = first;
     loop {
-        let whole = parse_number(cursor, digit, Stop::AbruptTimeDesignator)?;
+        let whole = parse_number(cursor, digit, Stop::TimeGroupDigits, Stop::TimeGroupRange)?;
         if is_decimal_separator(whole.next) {
             cursor.advance_by(1);
             let group = parse_fraction_group(cursor, whole.value)?;
-            let rank = take_time_unit(cursor, group.letter, least)?;
+            let rank = take_time_unit(cursor, group.letter, least, Stop::GroupFractionDigits)?;
             keep_number(&mut values, rank, group.value);
-            match cursor.look()? {
+            match cursor.look(Stop::AfterFractionGroup)? {
                 None => return Ok(time_record(values, rank, group.fraction)),
-                Some(_after_fraction) => return Err(Stop::InvalidEnd),
+                Some(_after_fraction) => return Err(Stop::AfterFractionGroup),
             }
         }
-        let rank = take_time_unit(cursor, whole.next, least)?;
+        let rank = take_time_unit(cursor, whole.next, least, Stop::TimeGroupDigits)?;
         keep_number(&mut values, rank, whole.value);
         least = rank + profile.least_step();
-        match cursor.look()? {
+        match cursor.look(Stop::AfterTimeGroups)? {
             None => return Ok(time_record(values, rank, None)),
             Some(byte) if byte.is_ascii_digit() => {
                 cursor.advance();
                 digit = byte;
             }
-            Some(_) => return Err(Stop::InvalidEnd),
+            Some(_) => return Err(Stop::AfterTimeGroups),
         }
     }
 }

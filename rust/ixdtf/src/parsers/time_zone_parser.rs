@@ -7,7 +7,7 @@ use crate::parsers::zone::{parse_iana_identifier_text, parse_identifier_text};
 use crate::LocatedError;
 use crate::encoding::{EncodingType, Utf8, Utf16};
 use crate::records::{TimeZoneRecord, UtcOffsetRecord};
-use crate::cursor::Cursor;
+use crate::cursor::{Cursor, error_at};
 use crate::parsers::offsets::parse_offset_text;
 
 /// A parser of texts that are only an offset from UTC, or only a time zone.
@@ -124,7 +124,7 @@ impl<'a, T: EncodingType> TimeZoneParser<'a, T> {
     pub fn parse_identifier(&mut self) -> ParserResult<TimeZoneRecord<'a, T>> {
         let mut here = self.cursor.fork();
         let read = parse_identifier_text(&mut here);
-        self.cursor.settle(here, read)
+        self.cursor.settle(here, false, read)
     }
 
     /// Parses the remaining input as an offset from UTC, such as `+05:30`.
@@ -189,7 +189,7 @@ impl<'a, T: EncodingType> TimeZoneParser<'a, T> {
     pub fn parse_offset(&mut self) -> ParserResult<UtcOffsetRecord> {
         let mut here = self.cursor.fork();
         let read = parse_offset_text(&mut here);
-        self.cursor.settle(here, read)
+        self.cursor.settle(here, false, read)
     }
 
     /// Parses the remaining input as the name of a time zone, such as `Europe/Berlin`.
@@ -237,7 +237,8 @@ impl<'a, T: EncodingType> TimeZoneParser<'a, T> {
                 Ok(name)
             }
             Err(stop) => {
-                Err(stop.error())
+                let error = error_at(&mut here, false, stop, 0);
+                Err(error)
             }
         }
     }
@@ -271,7 +272,7 @@ impl<'a, T: EncodingType> TimeZoneParser<'a, T> {
     pub fn parse_offset_located(&mut self) -> Result<UtcOffsetRecord, LocatedError> {
         let mut here = self.cursor.fork();
         let outcome = parse_offset_text(&mut here);
-        self.cursor.settle(here, outcome)
+        self.cursor.settle(here, false, outcome)
     }
 
     /// Parses the remaining input as the name of a time zone, like
@@ -301,7 +302,7 @@ impl<'a, T: EncodingType> TimeZoneParser<'a, T> {
     pub fn parse_iana_identifier_located(&mut self) -> Result<&'a [T::CodeUnit], LocatedError> {
         let mut here = self.cursor.fork();
         let outcome = parse_iana_identifier_text(&mut here);
-        self.cursor.settle(here, outcome)
+        self.cursor.settle(here, false, outcome)
     }
 
     /// Parses the remaining input as a time zone, like [`parse_identifier`](Self::parse_identifier). An error includes its
@@ -332,6 +333,6 @@ impl<'a, T: EncodingType> TimeZoneParser<'a, T> {
     pub fn parse_identifier_located(&mut self) -> Result<TimeZoneRecord<'a, T>, LocatedError> {
         let mut here = self.cursor.fork();
         let outcome = parse_identifier_text(&mut here);
-        self.cursor.settle(here, outcome)
+        self.cursor.settle(here, false, outcome)
     }
 }

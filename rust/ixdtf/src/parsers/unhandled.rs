@@ -125,7 +125,7 @@ impl<'a, T: EncodingType> IxdtfParser<'a, T> {
         let mut found = IxdtfParseRecord::default();
         match self.read_unhandled::<DateTimes>(&mut found) {
             Ok(()) => Ok(found),
-            Err(why) => return Err(why.stop.error()),
+            Err(why) => return Err(why.code.error()),
         }
     }
 
@@ -183,7 +183,7 @@ impl<'a, T: EncodingType> IxdtfParser<'a, T> {
         let mut found = IxdtfParseRecord::default();
         match self.read_unhandled::<InternetDateTimes>(&mut found) {
             Ok(()) => Ok(found),
-            Err(why) => return Err(why.stop.error()),
+            Err(why) => return Err(why.code.error()),
         }
     }
 
@@ -240,7 +240,7 @@ impl<'a, T: EncodingType> IxdtfParser<'a, T> {
         match self.read_unhandled::<YearMonths>(&mut found) {
             Ok(()) if lacks_date(&mut found) => return Ok(found),
             Ok(()) => Ok(found),
-            Err(why) => return Err(why.stop.error()),
+            Err(why) => return Err(why.code.error()),
         }
     }
 
@@ -304,7 +304,7 @@ impl<'a, T: EncodingType> IxdtfParser<'a, T> {
         match self.read_unhandled::<MonthDays>(&mut found) {
             Ok(()) if lacks_date(&mut found) => return Ok(found),
             Ok(()) => Ok(found),
-            Err(why) => return Err(why.stop.error()),
+            Err(why) => return Err(why.code.error()),
         }
     }
 
@@ -376,7 +376,7 @@ impl<'a, T: EncodingType> IxdtfParser<'a, T> {
         let mut outcome = Ok(IxdtfParseRecord::default());
         if let Ok(found) = &mut outcome {
             if let Err(why) = self.read_unhandled::<Times>(found) {
-                outcome = Err(why.stop.error());
+                outcome = Err(why.code.error());
             }
         }
         outcome
@@ -415,7 +415,7 @@ impl<'a, T: EncodingType> IxdtfParser<'a, T> {
         match self.read_unhandled::<DateTimes>(&mut parsed) {
             Ok(()) => Ok(parsed),
             Err(why) => return Err(LocatedError {
-                error: why.stop.error(),
+                error: why.code.error(),
                 at: why.at,
             }),
         }
@@ -460,7 +460,7 @@ impl<'a, T: EncodingType> IxdtfParser<'a, T> {
         match self.read_unhandled::<InternetDateTimes>(&mut parsed) {
             Ok(()) => Ok(parsed),
             Err(why) => return Err(LocatedError {
-                error: why.stop.error(),
+                error: why.code.error(),
                 at: why.at,
             }),
         }
@@ -497,7 +497,7 @@ impl<'a, T: EncodingType> IxdtfParser<'a, T> {
         match self.read_unhandled::<YearMonths>(&mut parsed) {
             Ok(()) => Ok(parsed),
             Err(why) => return Err(LocatedError {
-                error: why.stop.error(),
+                error: why.code.error(),
                 at: why.at,
             }),
         }
@@ -534,7 +534,7 @@ impl<'a, T: EncodingType> IxdtfParser<'a, T> {
         match self.read_unhandled::<MonthDays>(&mut parsed) {
             Ok(()) => Ok(parsed),
             Err(why) => return Err(LocatedError {
-                error: why.stop.error(),
+                error: why.code.error(),
                 at: why.at,
             }),
         }
@@ -571,7 +571,7 @@ impl<'a, T: EncodingType> IxdtfParser<'a, T> {
         match self.read_unhandled::<Times>(&mut parsed) {
             Ok(()) => Ok(parsed),
             Err(why) => return Err(LocatedError {
-                error: why.stop.error(),
+                error: why.code.error(),
                 at: why.at,
             }),
         }

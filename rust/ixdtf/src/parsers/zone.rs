@@ -11,7 +11,7 @@ use crate::cursor::Cursor;
 use crate::parsers::letters::{Letters, pass_letters};
 use crate::stop::Stop;
 use crate::parsers::offsets::{minute_offset, take_last_offset};
-use crate::parsers::time::{Clock, parse_clock};
+use crate::parsers::time::{Clock, TimeShape, close_after, parse_clock};
 
 // ==== Names ====
 
@@ -37,9 +37,9 @@ impl NameState {
     #[inline(always)]
     pub fn stop(self) -> Stop {
         if self.may_end {
-            Stop::IanaChar
+            Stop::InZoneName
         } else {
-            Stop::IanaCharPostSeparator
+            Stop::AfterZoneSlash
         }
     }
 }
@@ -67,18 +67,26 @@ fn starts_part(next: Option<u8>) -> bool {
 ///
 /// Returns `NonAsciiCodePoint` at a bad code unit.
 #[inline(always)]
-pub fn pass_name<'a, T: EncodingType>(cursor: &mut Cursor<'a, T>) -> Result<PassedName, Stop> {
+pub fn pass_name<'a, T: EncodingType>(
+    cursor: &mut Cursor<'a, T>,
+    in_name: Stop,
+    after_slash: Stop,
+) -> Result<PassedName, Stop> {
     let mut here = cursor.fork();
-    let passed = pass_parts(&mut here);
+    let passed = pass_parts(&mut here, in_name, after_slash);
     *cursor = here;
     passed
 }
 
 /// Does the work of `pass_name`, on the second cursor that `pass_name` makes. The second cursor can stay in registers.
 #[inline(always)]
-fn pass_parts<'a, T: EncodingType>(cursor: &mut Cursor<'a, T>) -> Result<PassedName, Stop> {
+fn pass_parts<'a, T: EncodingType>(
+    cursor: &mut Cursor<'a, T>,
+    in_name: Stop,
+    after_slash: Stop,
+) -> Result<PassedName, Stop> {
     loop {
-        let behind = pass_letters::<T, PartLetters>(cursor)?;
+        let behind = pass_letters::<T, PartLetters>(cursor, in_name)?;
         if !ends_part(behind) {
             return Ok(PassedName {
                 state: NameState { may_end: true },
@@ -86,7 +94,7 @@ fn pass_parts<'a, T: EncodingType>(cursor: &mut Cursor<'a, T>) -> Result<PassedN
             });
         }
         cursor.advance();
-        let next = cursor.look()?;
+        let next = cursor.look(after_slash)?;
         if !starts_part(next) {
             return Ok(PassedName {
                 state: NameState { may_end: false },
@@ -109,9 +117,9 @@ pub fn parse_tz_name<'a, T: EncodingType>(
     cursor: &mut Cursor<'a, T>,
 ) -> Result<ReadName<'a, T>, Stop> {
     let start = cursor.rest();
-    let name = pass_name(cursor)?;
+    let name = pass_name(cursor, Stop::InZoneName, Stop::AfterZoneSlash)?;
     if !name.state.may_end {
-        return Err(Stop::IanaCharPostSeparator);
+        return Err(Stop::AfterZoneSlash);
     }
     let count = start.len().saturating_sub(cursor.rest().len());
     Ok(ReadName {
@@ -128,8 +136,7 @@ fn parse_name_alone<'a, T: EncodingType>(
     let name = parse_tz_name(cursor)?;
     match name.next {
         None => Ok(name.units),
-        Some(byte) if is_annotation_close(byte) => Err(Stop::InvalidEnd),
-        Some(_) => Err(Stop::IanaChar),
+        Some(_) => Err(Stop::InZoneName),
     }
 }
 
@@ -140,9 +147,9 @@ fn parse_name_alone<'a, T: EncodingType>(
 pub fn parse_iana_identifier_text<'a, T: EncodingType>(
     cursor: &mut Cursor<'a, T>,
 ) -> Result<&'a [T::CodeUnit], Stop> {
-    match cursor.look()? {
+    match cursor.look(Stop::ZoneNameStart)? {
         Some(byte) if is_tz_leading_char(byte) => parse_name_alone(cursor),
-        _ => Err(Stop::TzLeadingChar),
+        _ => Err(Stop::ZoneNameStart),
     }
 }
 
@@ -150,23 +157,22 @@ pub fn parse_iana_identifier_text<'a, T: EncodingType>(
 pub fn parse_identifier_text<'a, T: EncodingType>(
     cursor: &mut Cursor<'a, T>,
 ) -> Result<TimeZoneRecord<'a, T>, Stop> {
-    match cursor.look()? {
-        None => Err(Stop::AbruptZone),
+    match cursor.look(Stop::IdentifierStart)? {
         Some(byte) if is_ascii_sign(byte) => {
             cursor.advance();
             if let Some(offset) = take_last_offset(cursor, byte) {
                 return Ok(TimeZoneRecord::Offset(offset));
             }
             let mut time = TimeRecord::default();
-            parse_clock(cursor, Clock::MinuteOffset, &mut time)?;
-            cursor.close()?;
+            let shape = parse_clock(cursor, Clock::MinuteOffset, &mut time)?;
+            close_after(cursor, Clock::MinuteOffset, shape)?;
             Ok(TimeZoneRecord::Offset(minute_offset(byte, time)))
         }
         Some(byte) if is_tz_leading_char(byte) => {
             let name = parse_name_alone(cursor)?;
             Ok(TimeZoneRecord::Name(name))
         }
-        Some(_) => Err(Stop::TzLeadingChar),
+        _ => Err(Stop::IdentifierStart),
     }
 }
 
@@ -175,14 +181,17 @@ pub fn parse_identifier_text<'a, T: EncodingType>(
 /// Expects `]`. Returns `AnnotationClose` at the end of the input, `NonAsciiCodePoint` at a bad code unit, and `other`
 /// at any other code unit.
 #[inline(always)]
-fn close_bracket<'a, T: EncodingType>(cursor: &mut Cursor<'a, T>, other: Stop) -> Result<(), Stop> {
-    match cursor.look()? {
-        None => Err(Stop::AnnotationClose),
+fn close_bracket<'a, T: EncodingType>(
+    cursor: &mut Cursor<'a, T>,
+    shape: TimeShape,
+) -> Result<(), Stop> {
+    let stop = Clock::MinuteOffset.stop_after(shape);
+    match cursor.look(stop)? {
         Some(byte) if is_annotation_close(byte) => {
             cursor.advance();
             Ok(())
         }
-        Some(_) => Err(other),
+        _ => Err(stop),
     }
 }
 
@@ -192,8 +201,8 @@ pub fn parse_offset_in_bracket<'a, T: EncodingType>(
     sign: u8,
 ) -> Result<TimeZoneRecord<'a, T>, Stop> {
     let mut time = TimeRecord::default();
-    parse_clock(cursor, Clock::MinuteOffset, &mut time)?;
-    close_bracket(cursor, Stop::AnnotationClose)?;
+    let shape = parse_clock(cursor, Clock::MinuteOffset, &mut time)?;
+    close_bracket(cursor, shape)?;
     Ok(TimeZoneRecord::Offset(minute_offset(sign, time)))
 }
 
@@ -204,11 +213,10 @@ pub fn parse_name_in_bracket<'a, T: EncodingType>(
 ) -> Result<&'a [T::CodeUnit], Stop> {
     let name = parse_tz_name(cursor)?;
     match name.next {
-        None => Err(Stop::AnnotationClose),
         Some(byte) if is_annotation_close(byte) => {
             cursor.advance();
             Ok(name.units)
         }
-        Some(_) => Err(Stop::IanaChar),
+        _ => Err(Stop::InZoneName),
     }
 }

@@ -1,7 +1,7 @@
 use Rattle.ixdtf_brackets.proofs.brackets.refuse_bracket.Goals as goal
 use Rattle.std.proofs.Common.{◌≡◌, map, Ok, false, refl, sym, ap, ◌∙◌}
 use Rattle.ixdtf_grammar.specs.language.Letters.{equals}
-use Rattle.ixdtf_reading.specs.reading.{Brackets.{refusal, name_fault, sight_at}, Looks.error_of}
+use Rattle.ixdtf_reading.specs.reading.{Brackets.{refusal, name_stop, sight_at}, Looks.error_of}
 use Rattle.ixdtf_brackets.proofs.code.FirstPass.{bracket_failed, bracket_sighted}
 
 -- The look ahead failed: a code unit is bad.
@@ -18,4 +18,4 @@ returns-in-Some-2-clause-stop g c =
     let seen_so : sight_at error_of text ≡ Ok (equals c.in-Some.byte) = bracket_sighted _ _ _ _ c.in-Some.byte c.in-Ok.ensures.letters.2 c.in-Some.is in
     let left : map letter c.fork_at-in-Some-2.result.rest ≡ text = ap (map letter) (c.fork_at-in-Some-2.ensures.there ∙ c.rest-behind_name.ensures) in
     (λ i. (c.stop.ensures i, left i))
-    ∙ sym (ap (λ seen. refusal seen (name_fault c.args.name.may_end) key text) (seen_so ∙ ap Ok other))
+    ∙ sym (ap (λ seen. refusal seen (name_stop c.args.name.may_end) key text) (seen_so ∙ ap Ok other))

@@ -23,4 +23,6 @@ returns-clause-name g c =
     rw (c.saturating_sub-count.ensures, front) (name_ended _ _ _ passed.2 ends)
 
 pub returns-clause-next : goal.returns-clause-next
-returns-clause-next g c = next_shown _ _ _ _ _ c.in_ok-name.ensures.letters.2
+returns-clause-next g c =
+    let ends : c.in_ok-name.name.state.may_end ≡ true = search rules in
+    rw ends at (next_shown _ _ _ _ _ _ c.in_ok-name.ensures.letters.2)

@@ -1,4 +1,5 @@
 use Rattle.ixdtf_durations.proofs.date_groups.parse_dates.Goals as goal
+use Rattle.ixdtf_reading.specs.declared.stop.Stop.TheVariants as stops
 use Rattle.std.proofs.{Common.{◌≡◌, ℕ, [], List, map, drop, Some, None, Ok, true, false, refl, ap, ◌∙◌, arith, rules}, lemmas.Result.err_from_is_err_and}
 use Rattle.ixdtf_grammar.specs.language.Letters.{digit, time_letter}
 use Rattle.ixdtf_reading.specs.reading.Looks.{seen}
@@ -40,9 +41,9 @@ returns-in-None-clause-dates g c =
     (map g.T.EncodingType.letter c.take_date_unit.new.cursor.rest)
     (ends_date _ _ _ c.in_ok-number.number _ c.in_ok-number.ensures.number c.args.profile) c.in_ok-rank.ensures.left
     _ _ c.in_ok-rank.ensures.rank c.least_step.ensures) in
-    let none : seen (map g.T.EncodingType.letter c.take_date_unit.new.cursor.rest) ≡ Ok None =
+    let none : seen stops.AfterDateGroups (map g.T.EncodingType.letter c.take_date_unit.new.cursor.rest) ≡ Ok None =
     cc (c.in_ok-look.ensures.letter, c.in-None.is) in
-    dates_alone _ _ _ read g.T.EncodingType.letter _ refl _ _ c.date_record.ensures none (rw c.in_ok-look.ensures.rest refl)
+    dates_alone _ _ _ read g.T.EncodingType.letter _ refl _ _ c.date_record.ensures _ none (rw c.in_ok-look.ensures.rest refl)
 
 -- One more group begins.
 pub loop-number-smaller : goal.loop-number-smaller
@@ -58,7 +59,7 @@ loop-number-preserved g c =
     _ _ c.in_ok-rank.ensures.rank c.least_step.ensures) in
     let off = one_taken {letter = g.T.EncodingType.letter} c.in_ok-look.ensures.letter c.in-Some.is c.in_ok-look.ensures.rest c.advance.ensures.rest in
     record {
-      far = dates_go_on _ _ _ read _ _ off.found (search rules) off.left;
+      far = dates_go_on _ _ _ read _ _ _ off.found (search rules) off.left;
       first = search rules;
       is_digit = search rules;
       looks = omega (arith, c.in_ok-number.ensures.looks, c.in_ok-rank.ensures.taken, c.in_ok-rank.ensures.looks, c.loop-number.invariant.looks, c.in_ok-look.ensures.looks, c.advance.ensures.looks);
@@ -80,12 +81,12 @@ returns-in-Some-2-clause-dates g c =
     (map g.T.EncodingType.letter c.take_date_unit.new.cursor.rest)
     (ends_date _ _ _ c.in_ok-number.number _ c.in_ok-number.ensures.number c.args.profile) c.in_ok-rank.ensures.left
     _ _ c.in_ok-rank.ensures.rank c.least_step.ensures) in
-    let found : seen (map g.T.EncodingType.letter c.take_date_unit.new.cursor.rest) ≡ Ok (Some c.in-Some-2.byte) =
+    let found : seen stops.AfterDateGroups (map g.T.EncodingType.letter c.take_date_unit.new.cursor.rest) ≡ Ok (Some c.in-Some-2.byte) =
     cc (c.in_ok-look.ensures.letter, c.in-Some-2.is) in
     let is : time_letter c.in-Some-2.byte ≡ true = search rules in
     let left : map g.T.EncodingType.letter c.advance-in-Some-2.new.self.rest ≡ drop 1 (map g.T.EncodingType.letter c.take_date_unit.new.cursor.rest) =
     c.advance-in-Some-2.ensures.letters ∙ ap (λ (t : List ℕ). drop 1 (map g.T.EncodingType.letter t)) c.in_ok-look.ensures.rest in
-    dates_timed _ _ _ read g.T.EncodingType.letter _ refl _ _ c.date_record-in-Some-2.ensures _ found is left
+    dates_timed _ _ _ read g.T.EncodingType.letter _ refl _ _ c.date_record-in-Some-2.ensures _ _ found is left
 
 -- Another code unit follows.
 pub returns-in-Some-3-clause-refused : goal.returns-in-Some-3-clause-refused
@@ -94,8 +95,8 @@ returns-in-Some-3-clause-refused g c =
     (map g.T.EncodingType.letter c.take_date_unit.new.cursor.rest)
     (ends_date _ _ _ c.in_ok-number.number _ c.in_ok-number.ensures.number c.args.profile) c.in_ok-rank.ensures.left
     _ _ c.in_ok-rank.ensures.rank c.least_step.ensures) in
-    let found : seen (map g.T.EncodingType.letter c.take_date_unit.new.cursor.rest) ≡ Ok (Some c.in-Some.byte) =
+    let found : seen stops.AfterDateGroups (map g.T.EncodingType.letter c.take_date_unit.new.cursor.rest) ≡ Ok (Some c.in-Some.byte) =
     cc (c.in_ok-look.ensures.letter, c.in-Some.is) in
     let miss : digit c.in-Some.byte ≡ false = search rules in
     let nor : time_letter c.in-Some.byte ≡ false = search rules in
-    rw c.in_ok-look.ensures.rest (dates_stop _ _ _ read _ found miss nor)
+    rw c.in_ok-look.ensures.rest (dates_stop _ _ _ read _ _ found miss nor)

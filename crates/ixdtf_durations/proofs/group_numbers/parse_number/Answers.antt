@@ -18,7 +18,7 @@ loop-byte-init g c = record {
 pub returns-in_err-byte-clause-number : goal.returns-in_err-byte-clause-number
 returns-in_err-byte-clause-number g c =
     let p = err_from_is_err_and c.from_residual.result c.from_residual.ensures.1 in
-    rw (p.1, p.2, c.in_err-byte.ensures.rest) (λ profile context at. breaks _ _ _ _ c.loop-byte.invariant.far _ c.in_err-byte.ensures.letter profile context)
+    rw (p.1, p.2, c.in_err-byte.ensures.rest) (λ profile context at past. breaks _ _ _ _ c.loop-byte.invariant.far _ c.in_err-byte.ensures.letter profile context at)
 
 -- The code unit is not a digit.
 pub returns-then-not-is_ascii_digit-clause-number : goal.returns-then-not-is_ascii_digit-clause-number
@@ -43,7 +43,7 @@ returns-in_err-value-clause-number g c =
     let off = one_taken {letter = g.T.EncodingType.letter} c.in_ok-byte.ensures.letter c.in-Some.is c.in_ok-byte.ensures.rest c.advance.ensures.rest in
     let is : digit c.in-Some.byte ≡ true = search rules in
     rw (p.1, p.2, c.in_err-value.ensures.0)
-    (λ profile context at. passes _ _ _ _ c.loop-byte.invariant.far _ off.found is _ off.left c.in_err-value.ensures.1 profile context)
+    (λ profile context at past. passes _ _ _ _ c.loop-byte.invariant.far _ _ off.found is _ _ off.left c.in_err-value.ensures.1 profile context past)
 
 pub loop-byte-smaller : goal.loop-byte-smaller
 loop-byte-smaller g c =
@@ -54,7 +54,7 @@ pub loop-byte-preserved : goal.loop-byte-preserved
 loop-byte-preserved g c =
     let off = one_taken {letter = g.T.EncodingType.letter} c.in_ok-byte.ensures.letter c.in-Some.is c.in_ok-byte.ensures.rest c.advance.ensures.rest in
     record {
-      far = goes_on _ _ _ _ c.loop-byte.invariant.far _ off.found (search rules) _ _ off.left c.in_ok-value.ensures.0 c.in_ok-value.ensures.1;
+      far = goes_on _ _ _ _ c.loop-byte.invariant.far _ _ off.found (search rules) _ _ off.left c.in_ok-value.ensures.0 c.in_ok-value.ensures.1;
       small = rw c.in_ok-value.ensures.0 c.in_ok-value.ensures.1;
       looks = omega (arith, c.loop-byte.invariant.looks);
       counted = omega (arith, c.loop-byte.invariant.counted, c.in_ok-byte.ensures.looks, c.advance.ensures.looks);
@@ -62,6 +62,6 @@ loop-byte-preserved g c =
 
 -- The text ends.
 pub returns-clause-number : goal.returns-clause-number
-returns-clause-number g c profile context at =
-    let over : seen (map g.T.EncodingType.letter c.loop-byte.cursor.rest) ≡ Ok None = search rules in
-    ends _ _ _ _ c.loop-byte.invariant.far over profile context ∙ rw (at, c.in_ok-byte.ensures.rest) refl
+returns-clause-number g c profile context at past =
+    let over : seen c.args.digits (map g.T.EncodingType.letter c.loop-byte.cursor.rest) ≡ Ok None = search rules in
+    ends _ _ _ _ c.loop-byte.invariant.far _ over profile context ∙ rw (at, c.in_ok-byte.ensures.rest) refl

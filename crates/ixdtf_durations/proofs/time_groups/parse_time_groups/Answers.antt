@@ -1,11 +1,12 @@
 use Rattle.ixdtf_durations.proofs.time_groups.parse_time_groups.Goals as goal
+use Rattle.ixdtf_reading.specs.declared.stop.Stop.TheVariants as stops
 use Rattle.std.proofs.{Common.{◌≡◌, [], refl, map, None, Some, Ok, true, false, ◌∙◌, arith, rules}, lemmas.Result.err_from_is_err_and}
 use Rattle.ixdtf_grammar.specs.language.{Letters.{digit, decimal_mark}, Durations.least_step}
 use Rattle.ixdtf_reading.specs.reading.Looks.{seen}
 use Rattle.ixdtf_reading.proofs.code.FractionLoop.{one_taken}
 use Rattle.ixdtf_durations.specs.declared.time_groups.TimeGroup.{TimeGroup}
 use Rattle.ixdtf_durations.proofs.code.{DurationGroups.no_times, DurationLetters.{ends_time, at_decimal_mark}, DurationSteps.letters_left}
-use Rattle.ixdtf_durations.proofs.code.DurationLoops.{time_added_on, time_refused_on, times_go_on, times_stop, times_break, times_end_with}
+use Rattle.ixdtf_durations.proofs.code.DurationLoops.{fraction_digits_stop, fraction_stop_behind, time_added_on, time_refused_on, times_go_on, times_stop, times_break, times_end_with}
 
 -- No group has been read.
 pub loop-whole-init : goal.loop-whole-init
@@ -39,7 +40,7 @@ returns-in_err-rank-clause-times g c s dates =
     rw (p.1, p.2) (time_refused_on _ _ _ c.loop-whole.invariant.far c.in_ok-group.group (map g.T.EncodingType.letter c.parse_fraction_group.new.cursor.rest) _
     (λ s dates times. at_decimal_mark _ _ _ _ _ number c.args.profile s dates times _ (letters_left g.T.EncodingType.letter _ _ c.advance_by.ensures.rest) is
     ∙ c.in_ok-group.ensures.group c.args.profile s dates times number.ds number.value)
-    c.in_err-rank.ensures.left _ c.in_err-rank.ensures.rank s dates)
+    c.in_err-rank.ensures.left _ _ (fraction_digits_stop _ c.in_ok-group.ensures.fraction) c.in_err-rank.ensures.rank s dates)
 
 -- The look failed: the next code unit is bad.
 pub returns-in_err-look-clause-times : goal.returns-in_err-look-clause-times
@@ -51,8 +52,8 @@ returns-in_err-look-clause-times g c s dates =
     (map g.T.EncodingType.letter c.take_time_unit.new.cursor.rest)
     (λ s dates times. at_decimal_mark _ _ _ _ _ number c.args.profile s dates times _ (letters_left g.T.EncodingType.letter _ _ c.advance_by.ensures.rest) is
     ∙ c.in_ok-group.ensures.group c.args.profile s dates times number.ds number.value)
-    c.in_ok-rank.ensures.left _ (least_step c.args.profile) c.in_ok-rank.ensures.rank refl in
-    rw (p.1, p.2, c.in_err-look.ensures.rest) (times_break _ _ _ read _ c.in_err-look.ensures.letter s dates)
+    c.in_ok-rank.ensures.left _ _ (least_step c.args.profile) (fraction_digits_stop _ c.in_ok-group.ensures.fraction) c.in_ok-rank.ensures.rank refl in
+    rw (p.1, p.2, c.in_err-look.ensures.rest) (times_break _ _ _ read _ _ (fraction_stop_behind _ c.in_ok-group.ensures.fraction) c.in_err-look.ensures.letter s dates)
 
 -- The text ends.
 pub returns-in-None-clause-times : goal.returns-in-None-clause-times
@@ -63,9 +64,9 @@ returns-in-None-clause-times g c s dates =
     (map g.T.EncodingType.letter c.take_time_unit.new.cursor.rest)
     (λ s dates times. at_decimal_mark _ _ _ _ _ number c.args.profile s dates times _ (letters_left g.T.EncodingType.letter _ _ c.advance_by.ensures.rest) is
     ∙ c.in_ok-group.ensures.group c.args.profile s dates times number.ds number.value)
-    c.in_ok-rank.ensures.left _ (least_step c.args.profile) c.in_ok-rank.ensures.rank refl) in
-    let none : seen (map g.T.EncodingType.letter c.take_time_unit.new.cursor.rest) ≡ Ok None = cc (c.in_ok-look.ensures.letter, c.in-None.is) in
-    rw c.in_ok-look.ensures.rest (times_end_with _ _ _ read _ none c.time_record.ensures s dates)
+    c.in_ok-rank.ensures.left _ _ (least_step c.args.profile) (fraction_digits_stop _ c.in_ok-group.ensures.fraction) c.in_ok-rank.ensures.rank refl) in
+    let none : seen stops.AfterFractionGroup (map g.T.EncodingType.letter c.take_time_unit.new.cursor.rest) ≡ Ok None = cc (c.in_ok-look.ensures.letter, c.in-None.is) in
+    rw c.in_ok-look.ensures.rest (times_end_with _ _ _ read _ _ none c.time_record.ensures s dates)
 
 -- A code unit follows.
 pub returns-in-Some-clause-times : goal.returns-in-Some-clause-times
@@ -76,12 +77,12 @@ returns-in-Some-clause-times g c s dates =
     (map g.T.EncodingType.letter c.take_time_unit.new.cursor.rest)
     (λ s dates times. at_decimal_mark _ _ _ _ _ number c.args.profile s dates times _ (letters_left g.T.EncodingType.letter _ _ c.advance_by.ensures.rest) is
     ∙ c.in_ok-group.ensures.group c.args.profile s dates times number.ds number.value)
-    c.in_ok-rank.ensures.left _ (least_step c.args.profile) c.in_ok-rank.ensures.rank refl in
-    let found : seen (map g.T.EncodingType.letter c.take_time_unit.new.cursor.rest) ≡ Ok (Some c.in-Some._after_fraction) =
+    c.in_ok-rank.ensures.left _ _ (least_step c.args.profile) (fraction_digits_stop _ c.in_ok-group.ensures.fraction) c.in_ok-rank.ensures.rank refl in
+    let found : seen stops.AfterFractionGroup (map g.T.EncodingType.letter c.take_time_unit.new.cursor.rest) ≡ Ok (Some c.in-Some._after_fraction) =
     cc (c.in_ok-look.ensures.letter, c.in-Some.is) in
     let some = c.in_ok-group.ensures.fraction in
     let never : digit c.in-Some._after_fraction ≡ true → c.in_ok-group.group.fraction ≡ None → ⊥ = λ begins none. let bad = rw none at some in absurd cc in
-    rw c.in_ok-look.ensures.rest (times_stop _ _ _ read _ found never s dates)
+    rw c.in_ok-look.ensures.rest (times_stop _ _ _ read _ _ _ (fraction_stop_behind _ c.in_ok-group.ensures.fraction) found never s dates)
 
 -- ---- a group without one
 
@@ -93,7 +94,7 @@ returns-in_err-rank-2-clause-times g c s dates =
     let miss : decimal_mark c.in_ok-whole.whole.next ≡ false = search rules in
     rw (p.1, p.2) (time_refused_on _ _ _ c.loop-whole.invariant.far group (map g.T.EncodingType.letter c.parse_number.new.cursor.rest) _
     (λ s dates times. ends_time _ _ _ _ _ c.in_ok-whole.ensures.number c.args.profile s dates times miss c.in_ok-whole.ensures.small)
-    c.in_err-rank-2.ensures.left _ c.in_err-rank-2.ensures.rank s dates)
+    c.in_err-rank-2.ensures.left _ _ refl c.in_err-rank-2.ensures.rank s dates)
 
 -- The look failed: the next code unit is bad.
 pub returns-in_err-look-2-clause-times : goal.returns-in_err-look-2-clause-times
@@ -104,8 +105,8 @@ returns-in_err-look-2-clause-times g c s dates =
     let read = time_added_on _ _ _ c.loop-whole.invariant.far group (map g.T.EncodingType.letter c.parse_number.new.cursor.rest)
     (map g.T.EncodingType.letter c.take_time_unit-in-loop-whole.new.cursor.rest)
     (λ s dates times. ends_time _ _ _ _ _ c.in_ok-whole.ensures.number c.args.profile s dates times miss c.in_ok-whole.ensures.small)
-    c.in_ok-rank-2.ensures.left _ _ c.in_ok-rank-2.ensures.rank c.least_step.ensures in
-    rw (p.1, p.2, c.in_err-look-2.ensures.rest) (times_break _ _ _ read _ c.in_err-look-2.ensures.letter s dates)
+    c.in_ok-rank-2.ensures.left _ _ _ refl c.in_ok-rank-2.ensures.rank c.least_step.ensures in
+    rw (p.1, p.2, c.in_err-look-2.ensures.rest) (times_break _ _ _ read _ _ refl c.in_err-look-2.ensures.letter s dates)
 
 -- The text ends.
 pub returns-in-None-2-clause-times : goal.returns-in-None-2-clause-times
@@ -115,10 +116,10 @@ returns-in-None-2-clause-times g c s dates =
     let read = rw (← c.keep_number-in-loop-whole.ensures) at (time_added_on _ _ _ c.loop-whole.invariant.far group (map g.T.EncodingType.letter c.parse_number.new.cursor.rest)
     (map g.T.EncodingType.letter c.take_time_unit-in-loop-whole.new.cursor.rest)
     (λ s dates times. ends_time _ _ _ _ _ c.in_ok-whole.ensures.number c.args.profile s dates times miss c.in_ok-whole.ensures.small)
-    c.in_ok-rank-2.ensures.left _ _ c.in_ok-rank-2.ensures.rank c.least_step.ensures) in
-    let none : seen (map g.T.EncodingType.letter c.take_time_unit-in-loop-whole.new.cursor.rest) ≡ Ok None =
+    c.in_ok-rank-2.ensures.left _ _ _ refl c.in_ok-rank-2.ensures.rank c.least_step.ensures) in
+    let none : seen stops.AfterTimeGroups (map g.T.EncodingType.letter c.take_time_unit-in-loop-whole.new.cursor.rest) ≡ Ok None =
     cc (c.in_ok-look-2.ensures.letter, c.in-None-2.is) in
-    rw c.in_ok-look-2.ensures.rest (times_end_with _ _ _ read _ none c.time_record-in-None-2.ensures s dates)
+    rw c.in_ok-look-2.ensures.rest (times_end_with _ _ _ read _ _ none c.time_record-in-None-2.ensures s dates)
 
 -- One more group begins.
 pub loop-whole-smaller : goal.loop-whole-smaller
@@ -133,11 +134,11 @@ loop-whole-preserved g c =
     let read = rw (← c.keep_number-in-loop-whole.ensures) at (time_added_on _ _ _ c.loop-whole.invariant.far group (map g.T.EncodingType.letter c.parse_number.new.cursor.rest)
     (map g.T.EncodingType.letter c.take_time_unit-in-loop-whole.new.cursor.rest)
     (λ s dates times. ends_time _ _ _ _ _ c.in_ok-whole.ensures.number c.args.profile s dates times miss c.in_ok-whole.ensures.small)
-    c.in_ok-rank-2.ensures.left _ _ c.in_ok-rank-2.ensures.rank c.least_step.ensures) in
+    c.in_ok-rank-2.ensures.left _ _ _ refl c.in_ok-rank-2.ensures.rank c.least_step.ensures) in
     let begins : digit c.in-Some-2.byte ≡ true = search rules in
     let off = one_taken {letter = g.T.EncodingType.letter} c.in_ok-look-2.ensures.letter c.in-Some-2.is c.in_ok-look-2.ensures.rest c.advance.ensures.rest in
     record {
-      far = times_go_on _ _ _ read _ _ off.found begins refl off.left;
+      far = times_go_on _ _ _ read _ _ _ off.found begins refl off.left;
       first = search rules;
       is_digit = begins;
       looks = omega (arith, c.in_ok-whole.ensures.looks, c.in_ok-rank-2.ensures.taken, c.in_ok-rank-2.ensures.looks, c.loop-whole.invariant.looks, c.in_ok-look-2.ensures.looks, c.advance.ensures.looks);
@@ -152,8 +153,8 @@ returns-in-Some-2-2-clause-times g c s dates =
     let read = time_added_on _ _ _ c.loop-whole.invariant.far group (map g.T.EncodingType.letter c.parse_number.new.cursor.rest)
     (map g.T.EncodingType.letter c.take_time_unit-in-loop-whole.new.cursor.rest)
     (λ s dates times. ends_time _ _ _ _ _ c.in_ok-whole.ensures.number c.args.profile s dates times miss c.in_ok-whole.ensures.small)
-    c.in_ok-rank-2.ensures.left _ _ c.in_ok-rank-2.ensures.rank c.least_step.ensures in
-    let found : seen (map g.T.EncodingType.letter c.take_time_unit-in-loop-whole.new.cursor.rest) ≡ Ok (Some c.in-Some-2.byte) =
+    c.in_ok-rank-2.ensures.left _ _ _ refl c.in_ok-rank-2.ensures.rank c.least_step.ensures in
+    let found : seen stops.AfterTimeGroups (map g.T.EncodingType.letter c.take_time_unit-in-loop-whole.new.cursor.rest) ≡ Ok (Some c.in-Some-2.byte) =
     cc (c.in_ok-look-2.ensures.letter, c.in-Some-2.is) in
     let other : digit c.in-Some-2.byte ≡ false = search rules in
-    rw c.in_ok-look-2.ensures.rest (times_stop _ _ _ read _ found (λ begins none. absurd cc) s dates)
+    rw c.in_ok-look-2.ensures.rest (times_stop _ _ _ read _ _ _ refl found (λ begins none. absurd cc) s dates)

@@ -9,7 +9,7 @@ use Rattle.ixdtf_reading.proofs.code.PairLoops.{component_last, component_closed
 pub returns-in_err-start_component-clause-value : goal.returns-in_err-start_component-clause-value
 returns-in_err-start_component-clause-value g c =
     let p = err_from_is_err_and c.from_residual.result c.from_residual.ensures.1 in
-    rw (p.1, p.2) (value_unstarted AtStart _ refl refl (λ c. refl) _ _ c.in_err-start_component.ensures.letter)
+    rw (p.1, p.2) (value_unstarted AtStart _ refl (λ c. refl) _ _ c.in_err-start_component.ensures.letter)
 
 pub loop-next-init : goal.loop-next-init
 loop-next-init g c = record {
@@ -29,7 +29,7 @@ returns-in_err-next-clause-value g c =
 pub returns-in-None-clause-value : goal.returns-in-None-clause-value
 returns-in-None-clause-value g c =
     let passed = c.in_ok-next.ensures.letters in
-    component_last g.T.EncodingType.letter g.met.T.EncodingType.faithful _ _ c.loop-next.invariant.far _ _ _ passed.2 passed.1 c.in-None.is
+    rw c.stopped.ensures (component_last g.T.EncodingType.letter g.met.T.EncodingType.faithful _ _ c.loop-next.invariant.far _ _ _ passed.2 passed.1 c.in-None.is)
 
 pub returns-in-Some-clause-value : goal.returns-in-Some-clause-value
 returns-in-Some-clause-value g c =
@@ -46,7 +46,7 @@ returns-in-Some-3-clause-value g c =
     let passed = c.in_ok-next.ensures.letters in
     let shut : closing c.in-Some-3.field-0 ≡ false = search rules in
     let dash : hyphen c.in-Some-3.field-0 ≡ false = search rules in
-    component_refused g.T.EncodingType.letter g.met.T.EncodingType.faithful _ _ c.loop-next.invariant.far _ _ _ passed.2 passed.1 _ c.in-Some-3.is shut dash
+    rw c.stopped-in-Some-3.ensures (component_refused g.T.EncodingType.letter g.met.T.EncodingType.faithful _ _ c.loop-next.invariant.far _ _ _ passed.2 passed.1 _ c.in-Some-3.is shut dash)
 
 -- No component begins after a hyphen.
 pub returns-in_err-start_component-2-clause-value : goal.returns-in_err-start_component-2-clause-value
@@ -57,7 +57,7 @@ returns-in_err-start_component-2-clause-value g c =
     let far = component_joined g.T.EncodingType.letter g.met.T.EncodingType.faithful _ _ c.loop-next.invariant.far _ _ _ passed.2 passed.1 _ _ c.in-Some-2.is dash
     c.advance-in-Some-2.ensures.rest in
     rw (p.1, p.2) (value_fails g.T.EncodingType.letter g.met.T.EncodingType.faithful _ _ AfterHyphen far _
-    (value_unstarted AfterHyphen _ refl refl (λ c. refl) _ _ c.in_err-start_component-2.ensures.letter))
+    (value_unstarted AfterHyphen _ refl (λ c. refl) _ _ c.in_err-start_component-2.ensures.letter))
 
 pub loop-next-preserved : goal.loop-next-preserved
 loop-next-preserved g c =

@@ -1,8 +1,20 @@
 use Rattle.ixdtf_reading.proofs.annotations.parse_critical_pair.Goals as goal
-use Rattle.std.proofs.Common.{sym}
-use Rattle.ixdtf_reading.proofs.code.PairLoops.{begins_key}
+use Rattle.std.proofs.Common.{rules, ◌≡◌, ◌∙◌, true, false, refl}
+use Rattle.ixdtf_grammar.specs.{Handlers.pair_of, language.Letters.key_lead}
+use Rattle.ixdtf_reading.proofs.code.FirstBytes.{reads_as, begins_key, critical_key, critical_other}
 
 pub parse_pair-requires : goal.parse_pair-requires
-parse_pair-requires g c = record {
-  first = rw c.look.ensures.rest (begins_key _ c.in-Some.byte (rw c.in-Some.is at c.in_ok-byte.ensures.letter) (sym c.if-is_a_key_leading_char.ensures));
-}
+parse_pair-requires g c =
+    let leads : key_lead c.byte_at.result ≡ true = search rules in
+    record { first = rw c.byte_at.ensures.rest (begins_key _ (rw (← c.byte_at.ensures.there) leads)) }
+
+pub returns-then-is_a_key_leading_char-clause-pair : goal.returns-then-is_a_key_leading_char-clause-pair
+returns-then-is_a_key_leading_char-clause-pair g c =
+    let leads : key_lead c.byte_at.result ≡ true = search rules in
+    reads_as g.T.EncodingType.letter (pair_of g.T.EncodingType.number) c.args.cursor.now c.byte_at.new.self c.parse_pair.new.cursor _ _ c.parse_pair.result
+    (critical_key _ (rw (← c.byte_at.ensures.there) leads) ∙ rw c.byte_at.ensures.rest refl) c.parse_pair.ensures.pair
+
+pub returns-clause-pair : goal.returns-clause-pair
+returns-clause-pair g c =
+    let out : key_lead c.byte_at.result ≡ false = search rules in
+    rw c.stopped.ensures (critical_other _ (rw (← c.byte_at.ensures.there) out) ∙ rw c.byte_at.ensures.rest refl)

@@ -11,7 +11,7 @@ returns-in_default-clause-date g c =
     let letter = g.T.EncodingType.letter in
     let units = c.args.cursor.now.rest in
     let start = c.args.start in
-    yields_on letter c.advance_by.new.self c.parse_unmarked.new.cursor c.parse_unmarked.result (unmarked_at c.args.profile) _
+    yields_on letter c.advance_by.new.self c.parse_unmarked.new.cursor c.parse_unmarked.result (unmarked_at c.args.first c.args.profile) _
     (rw (c.advance_by.ensures.rest, c.fixed_number.ensures.rest, drop-map letter start units) refl) c.parse_unmarked.ensures.date
 
 pub returns-in-Err-clause-date : goal.returns-in-Err-clause-date
@@ -19,7 +19,7 @@ returns-in-Err-clause-date g c =
     let letter = g.T.EncodingType.letter in
     let units = c.args.cursor.now.rest in
     let start = c.args.start in
-    let stops = month_stops c.args.profile (map letter units) start c.in-Some.month (sym c.in-Some.ensures.there) c.in-Err.ensures.1 in
+    let stops = month_stops c.args.first c.args.profile (map letter units) start c.in-Some.month (sym c.in-Some.ensures.there) c.in-Err.ensures.1 in
     rw (stops, c.in-Err.ensures.0, c.advance_by-in-Err.ensures.rest, c.fixed_number.ensures.rest, drop-map letter (start + 2) units) refl
 
 pub returns-in-Some-fixed_day-clause-date : goal.returns-in-Some-fixed_day-clause-date
@@ -35,8 +35,8 @@ returns-in-Some-fixed_day-clause-date g c =
     let left : map letter c.advance_by-in-Some-fixed_day.new.self.rest ≡ drop (start + 5) text =
     rw (c.advance_by-in-Some-fixed_day.ensures.rest, c.fixed_day.ensures.rest, c.byte_at.ensures.rest, c.fixed_number.ensures.rest, drop-map letter (start + 5) units) refl in
     rw (
-      month_goes_on profile text start month (sym c.in-Some.ensures.there) c.in_default-check_month.ensures.1,
-      hyphened_day_is_read profile text start month c.in-Some-fixed_day.day mark day,
+      month_goes_on c.args.first profile text start month (sym c.in-Some.ensures.there) c.in_default-check_month.ensures.1,
+      hyphened_day_is_read c.args.first profile text start month c.in-Some-fixed_day.day mark day,
       ← left,
     ) (day_tested profile month c.in-Some-fixed_day.day _ c.check_month_day.result c.check_month_day.ensures)
 
@@ -53,8 +53,8 @@ returns-in-Some-fixed_day-2-clause-date g c =
     let left : map letter c.advance_by-in-Some-fixed_day-2.new.self.rest ≡ drop (start + 4) text =
     rw (c.advance_by-in-Some-fixed_day-2.ensures.rest, c.fixed_day-else-is_hyphen.ensures.rest, c.byte_at.ensures.rest, c.fixed_number.ensures.rest, drop-map letter (start + 4) units) refl in
     rw (
-      month_goes_on profile text start month (sym c.in-Some.ensures.there) c.in_default-check_month.ensures.1,
-      basic_day_is_read profile text start month found day,
+      month_goes_on c.args.first profile text start month (sym c.in-Some.ensures.there) c.in_default-check_month.ensures.1,
+      basic_day_is_read c.args.first profile text start month found day,
       ← left,
     ) (day_tested profile month found _ c.check_month_day-in-Some-fixed_day-2.result c.check_month_day-in-Some-fixed_day-2.ensures)
 
@@ -72,4 +72,4 @@ returns-clause-date g c =
     let left : map letter c.advance_by-2.new.self.rest ≡ drop (start + 2) (map letter units) =
     rw (c.advance_by-2.ensures.rest, same, drop-map letter (start + 2) units) refl in
     yields_on letter c.advance_by-2.new.self c.parse_day_of_month.new.cursor c.parse_day_of_month.result (lone_day_at error_of profile month) _
-    (rw left (month_goes_on profile (map letter units) start month (sym c.in-Some.ensures.there) c.in_default-check_month.ensures.1)) c.parse_day_of_month.ensures.date
+    (rw left (month_goes_on c.args.first profile (map letter units) start month (sym c.in-Some.ensures.there) c.in_default-check_month.ensures.1)) c.parse_day_of_month.ensures.date

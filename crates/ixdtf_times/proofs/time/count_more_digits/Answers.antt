@@ -22,7 +22,7 @@ pub loop-byte-preserved : goal.loop-byte-preserved
 loop-byte-preserved g c =
     let off = one_taken {letter = g.T.EncodingType.letter} c.in_ok-byte.ensures.letter c.in-Some.is c.in_ok-byte.ensures.rest c.advance.ensures.rest in
     record {
-      far = λ front is. goes_on _ _ _ _ _ _ _ (c.loop-byte.invariant.far front is) off.found (search rules) off.left
+      far = λ front is. goes_on _ _ _ _ _ _ _ _ (c.loop-byte.invariant.far front is) off.found (search rules) off.left
           (grown_by_count _ _ _ c.loop-byte.invariant.long c.with_more-fraction.ensures);
       long = omega (arith, c.loop-byte.invariant.long, ap (λ f. f.count) c.with_more-fraction.ensures);
       looks = omega (arith, c.loop-byte.invariant.looks);
@@ -39,12 +39,12 @@ returns-clause-fraction g c = λ front is.
     let far = c.loop-byte.invariant.far front is in
     elim c.match-branch-2.branch [
       | in-Some+then-not-is_ascii_digit w ↦
-          let found : seen (map g.T.EncodingType.letter c.loop-byte.cursor.rest) ≡ Ok (Some w.in-Some.byte) =
+          let found : seen c.args.stop (map g.T.EncodingType.letter c.loop-byte.cursor.rest) ≡ Ok (Some w.in-Some.byte) =
           cc (c.in_ok-byte.ensures.letter, w.in-Some.is) in
           let is : digit w.in-Some.byte ≡ false = search rules in
-          rw c.in_ok-byte.ensures.rest (ends_at_other _ _ _ _ _ far found is)
+          rw c.in_ok-byte.ensures.rest (ends_at_other _ _ _ _ _ _ far found is)
       | in_default w ↦
-          let over : seen (map g.T.EncodingType.letter c.loop-byte.cursor.rest) ≡ Ok None =
+          let over : seen c.args.stop (map g.T.EncodingType.letter c.loop-byte.cursor.rest) ≡ Ok None =
           cc (c.in_ok-byte.ensures.letter, w.in_default.is) in
-          rw c.in_ok-byte.ensures.rest (ends_at_end _ _ _ _ far over)
+          rw c.in_ok-byte.ensures.rest (ends_at_end _ _ _ _ _ far over)
     ]

@@ -6,7 +6,7 @@ use Rattle.ixdtf_reading.proofs.code.FractionLoop.{IsSoFar}
 abbrev pub invariant-loop-byte : goal.invariant-loop-byte
 invariant-loop-byte g l = record {
   far : (front : Text) → l.fn.leading ≡ fraction_of front
-      → IsSoFar front (map g.T.EncodingType.letter l.initial.cursor.rest) (map g.T.EncodingType.letter l.cursor.rest) l.fraction;
+      → IsSoFar l.fn.stop front (map g.T.EncodingType.letter l.initial.cursor.rest) (map g.T.EncodingType.letter l.cursor.rest) l.fraction;
   long : 18 ≤ l.fraction.count;
   looks : l.cursor.looks + length l.cursor.rest ≤ l.initial.cursor.looks + length l.initial.cursor.rest;
   counted : l.initial.cursor.looks ≤ l.cursor.looks;

@@ -15,7 +15,7 @@ pub loop-cursor-preserved : goal.loop-cursor-preserved
 loop-cursor-preserved g c =
     let off = one_taken {letter = g.T.EncodingType.letter} c.in_ok-byte.ensures.letter c.in-Some.is c.in_ok-byte.ensures.rest c.advance.ensures.rest in
     record {
-      far = goes_on _ _ _ _ _ _ _ c.loop-cursor.invariant.far off.found (search rules) off.left
+      far = goes_on _ _ _ _ _ _ _ _ c.loop-cursor.invariant.far off.found (search rules) off.left
           (grown_by_digit _ _ _ (omega (arith, leb-true _ 17 (sym c.is_short.ensures ∙ c.loop-cursor-test.true))) c.with_digit-digits.ensures);
       looks = omega (arith, c.loop-cursor.invariant.looks);
       counted = omega (arith, c.loop-cursor.invariant.counted, c.in_ok-byte.ensures.looks, c.advance.ensures.looks);
@@ -31,14 +31,14 @@ returns-in_default-clause-fraction g c =
     let far = c.loop-cursor.invariant.far in
     elim c.in_default.branch [
       | in_default-via-in-Some+else-is_ascii_digit w ↦
-          let found : seen (map g.T.EncodingType.letter c.loop-cursor.cursor.rest) ≡ Ok (Some w.in-Some.byte) =
+          let found : seen c.args.stop (map g.T.EncodingType.letter c.loop-cursor.cursor.rest) ≡ Ok (Some w.in-Some.byte) =
           cc (c.in_ok-byte.ensures.letter, w.in-Some.is) in
           let is : digit w.in-Some.byte ≡ false = search rules in
-          rw (c.fraction.ensures, c.in_ok-byte.ensures.rest) (ends_at_other _ _ _ _ _ far found is)
+          rw (c.fraction.ensures, c.in_ok-byte.ensures.rest) (ends_at_other _ _ _ _ _ _ far found is)
       | in_default-via-in_default w ↦
-          let over : seen (map g.T.EncodingType.letter c.loop-cursor.cursor.rest) ≡ Ok None =
+          let over : seen c.args.stop (map g.T.EncodingType.letter c.loop-cursor.cursor.rest) ≡ Ok None =
           cc (c.in_ok-byte.ensures.letter, w.in_default.is) in
-          rw (c.fraction.ensures, c.in_ok-byte.ensures.rest) (ends_at_end _ _ _ _ far over)
+          rw (c.fraction.ensures, c.in_ok-byte.ensures.rest) (ends_at_end _ _ _ _ _ far over)
     ]
 
 pub returns-clause-fraction : goal.returns-clause-fraction
@@ -47,4 +47,4 @@ returns-clause-fraction g c =
     let front = Plain c.args.first ∷ [] in
     let more = Plain c.args.first ∷ far.ds in
     reads_on g.T.EncodingType.letter (λ fraction. fraction) c.args.cursor.now c.loop-cursor.cursor c.count_more_digits.new.cursor
-    c.count_more_digits.result (more_digits_at front) (more_digits_at more) (hands_on front _ _ _ far) (c.count_more_digits.ensures.fraction more (c.fraction-2.ensures ∙ far.value))
+    c.count_more_digits.result (more_digits_at c.args.stop front) (more_digits_at c.args.stop more) (hands_on front _ _ _ far) (c.count_more_digits.ensures.fraction more (c.fraction-2.ensures ∙ far.value))

@@ -5,7 +5,7 @@ use Rattle.ixdtf_reading.proofs.code.FractionLoop.{IsSoFar}
 
 abbrev pub invariant-loop-cursor : goal.invariant-loop-cursor
 invariant-loop-cursor g l = record {
-  far : IsSoFar (Plain l.first ∷ []) (map g.T.EncodingType.letter l.initial.cursor.rest) (map g.T.EncodingType.letter l.cursor.rest) l.digits;
+  far : IsSoFar l.stop (Plain l.first ∷ []) (map g.T.EncodingType.letter l.initial.cursor.rest) (map g.T.EncodingType.letter l.cursor.rest) l.digits;
   looks : l.cursor.looks + length l.cursor.rest ≤ l.initial.cursor.looks + length l.initial.cursor.rest;
   counted : l.initial.cursor.looks ≤ l.cursor.looks;
 }

@@ -1,5 +1,5 @@
 use Rattle.ixdtf.proofs.parsers.IxdtfParser.parse_rfc3339.Goals as goal
-use Rattle.std.proofs.Common.{Ok, Err, refl, rules, arith}
+use Rattle.std.proofs.Common.{Ok, Err, false, map, refl, rules, arith}
 use Rattle.ixdtf_grammar.specs.{language.{Readers.Reader.{parse_rfc3339 as reader_rfc3339}, Languages.Found.dated}, Views.parsed_of, table.Faults.fault_of}
 use Rattle.ixdtf_reading.specs.reading.{Looks.error_of, Clauses.Settles, DateTimes.rfc_3339_at}
 use Rattle.ixdtf_reading.proofs.code.ReadersWithoutPairs.{exact}
@@ -8,7 +8,7 @@ use Rattle.ixdtf.proofs.code.Placed.{reads_record, returned_with}
 pub returns : goal.returns
 returns g c =
     let found = c.parse_rfc3339_text.new.found in
-    let settled : Settles fault_of (returned_with found c.parse_rfc3339_text.result) (Ok found) = rw c.in-Ok.is refl in
+    let settled : Settles fault_of false (map g.T.EncodingType.letter c.parse_rfc3339_text.new.cursor.rest) (returned_with found c.parse_rfc3339_text.result) (Ok found) = rw c.in-Ok.is refl in
     let read = reads_record g.T.EncodingType.letter g.T.EncodingType.number c.fork-here.result c.parse_rfc3339_text.new.cursor found c.default-found.result
     c.parse_rfc3339_text.result c.default-found.ensures c.parse_rfc3339_text.ensures.kept c.parse_rfc3339_text.ensures.date_time in
     let gives = exact g.T.EncodingType.letter (parsed_of g.T.EncodingType.number) reader_rfc3339 dated (λ x y e. cc) tt (rfc_3339_at error_of) c.fork-here.result
@@ -28,7 +28,7 @@ returns g c =
 pub returns-in-Err : goal.returns-in-Err
 returns-in-Err g c =
     let found = c.parse_rfc3339_text.new.found in
-    let settled : Settles fault_of (returned_with found c.parse_rfc3339_text.result) (Err c.error.result) = rw c.in-Err.is c.error.ensures in
+    let settled : Settles fault_of false (map g.T.EncodingType.letter c.parse_rfc3339_text.new.cursor.rest) (returned_with found c.parse_rfc3339_text.result) (Err c.error_at-error.result) = rw c.in-Err.is c.error_at-error.ensures.fault in
     let read = reads_record g.T.EncodingType.letter g.T.EncodingType.number c.fork-here.result c.parse_rfc3339_text.new.cursor found c.default-found.result
     c.parse_rfc3339_text.result c.default-found.ensures c.parse_rfc3339_text.ensures.kept c.parse_rfc3339_text.ensures.date_time in
     let gives = exact g.T.EncodingType.letter (parsed_of g.T.EncodingType.number) reader_rfc3339 dated (λ x y e. cc) tt (rfc_3339_at error_of) c.fork-here.result

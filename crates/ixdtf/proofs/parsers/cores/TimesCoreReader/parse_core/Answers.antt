@@ -14,7 +14,7 @@ returns-in_err-byte-clause-core g c =
 pub returns-in-Some-clause-core : goal.returns-in-Some-clause-core
 returns-in-Some-clause-core g c =
     let marked =
-    marked_is c.args.profile _ c.in-Some.byte (rw c.in-Some.is at c.in_ok-byte.ensures.letter) (sym c.if-is_time_designator.ensures) _ c.requires.no_date in
+    marked_is c.args.profile _ c.in-Some.byte _ (rw c.in-Some.is at c.in_ok-byte.ensures.letter) (sym c.if-is_time_designator.ensures) _ c.requires.no_date in
     let same = marked ∙ rw (c.advance.ensures.letters, c.look.ensures.rest) refl in
     reads_as _ _ c.advance.new.self c.args.cursor.now _ c.parse_timed.result _ _ same c.parse_timed.ensures.core
 
