@@ -73,7 +73,7 @@ FOR_C = ('#![cfg_attr(not(test), no_std)]\n', '\n#[cfg(not(test))]\nmod abort;\n
 # the layers of the library, and where their modules go in the crate that is made from all of them
 LAYERS = {
     'ixdtf_instants': 'civil days display instant'.split(),
-    'ixdtf_grammar': 'encoding error instants located packed pointed records parsers/profile'.split(),
+    'ixdtf_grammar': 'encoding error instants located packed pointed reason records parsers/profile'.split(),
     'ixdtf_reading': 'cursor classes stop parsers/annotations parsers/letters'.split(),
     'ixdtf_times': 'parsers/date_times parsers/dates parsers/months parsers/offsets parsers/rfc3339 parsers/time'.split(),
     'ixdtf_brackets': 'parsers/brackets parsers/exact_zones parsers/zone'.split(),

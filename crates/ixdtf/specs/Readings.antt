@@ -2,7 +2,8 @@
 -- this module.
 use Rattle.std.specs.Prelude.{◌≡◌, ℕ, Bool, true, false, ◌+◌, map, Result, OnOk, IfErr}
 use Rattle.ixdtf_grammar.specs.{language.{Letters.Letter, Readers.Reader, Languages.Parsed}, table.{Faults.Fault, Outcomes.NoRowFits}, Handlers.{Step, replies_of}}
-use Rattle.ixdtf_grammar.specs.{Laws.InNoOther, Places.{HandledToAt, UnhandledFaultAt, UnhandledOnlyPlace}}
+use Rattle.ixdtf_grammar.specs.{Laws.InNoOther, Places.{HandledToAt, UnhandledFaultAt, UnhandledOnlyPlace, UnhandledReason, UnhandledOnlyReason}}
+use Rattle.ixdtf_grammar.specs.declared.reason.Reason.{Reason}
 use Rattle.ixdtf_grammar.specs.{Views.{UnreadUnder, unread_of, most_looks, LeavesBehind, returned_by}, Promises.most_looks_beside}
 use Rattle.ixdtf_reading.specs.{declared.stop.StopAt.StopAt, reading.{Chains.{Counting, TextReadTo}, Clauses.UnhandledForm, Stops.fault_of_code}}
 
@@ -31,12 +32,14 @@ pub record ReadsUnhandled (letter : ℕ → Letter) (found : Parsed) (reader : R
   pub form : UnhandledForm reader (map letter old.rest) (returned_by fault_of_stop_at (λ _. found) result)
   pub err : IfErr result (λ why. UnhandledFaultAt reader (map letter old.rest) (fault_of_stop_at why) why.at)
   pub place : IfErr result (λ why. UnhandledOnlyPlace reader (map letter old.rest) (fault_of_stop_at why) why.at)
+  pub reason : IfErr result (λ why. UnhandledReason reader (map letter old.rest) why.reason)
+  pub one_reason : IfErr result (λ why. UnhandledOnlyReason reader (map letter old.rest) why.reason)
   pub leaves : LeavesBehind fault_of_stop_at (most_looks old.rest) (unread_of old) result (unread_of new)
   pub profile : new.profile ≡ old.profile
 
 -- The function read with a borrowed handler. The one chain of calls of this handler ends in the state `last`.
 pub record HandlesTextTo {T U F X E : Type 0} (letter : ℕ → Letter) (number : U → ℕ) (step : Step T U F) (handler last : F)
-    (fault : E → Fault) (stands : ℕ → E → Type 0) (view : X → Parsed) (reader : Reader) (old : UnreadUnder)
+    (fault : E → Fault) (stands : Reason → ℕ → E → Type 0) (view : X → Parsed) (reader : Reader) (old : UnreadUnder)
     (result : Result X E) (new : UnreadUnder) : Type 0 where
   -- The result is `Ok` if and only if the text and the replies give the record. It is `Err` only with the error that they give, at its
   -- position.

@@ -280,7 +280,7 @@ where
 
 /// Does the work of [`parse_unanswered`].
 ///
-/// `E` is the type of the error. The error is made from a `Stop`, the error type that the library uses inside.
+/// `E` is the type of the error. The error is made from a `Reason`, the error type that the library uses inside.
 #[inline(always)]
 fn parse_unanswered_as<'a, T: EncodingType, E: FromStop, F>(
     parser: &mut IxdtfParser<'a, T>,

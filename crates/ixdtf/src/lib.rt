@@ -41,5 +41,5 @@ pub mod laws;
 pub mod parsers;
 
 pub use ixdtf_grammar::{
-    Instant, LocatedError, ParseError, ParserResult, PointedText, encoding, records,
+    Instant, LocatedError, ParseError, ParserResult, PointedText, Reason, encoding, records,
 };

@@ -3,7 +3,7 @@ use Rattle.ixdtf_brackets.specs.declared.brackets.Bracket.TheVariants as bracket
 use Rattle.ixdtf_brackets.specs.declared.{brackets.Bracket.{Bracket as CodeBracket}, zone.{NameState.NameState, PassedName.PassedName}}
 use Rattle.ixdtf_grammar.specs.{Views.{Unread, note_of}, Handlers.pair_of, language.{Letters.{Letter, Text, zone_char}, Brackets.skipped}}
 use Rattle.ixdtf_reading.specs.reading.{Brackets.{Bracket, zoned, paired}, Looks.{Read, Placed}, Runs.{Taken, within}, Zones.name_step}
-use Rattle.ixdtf_reading.specs.declared.stop.Stop.{Stop}
+use Rattle.ixdtf_grammar.specs.declared.reason.Reason.{Reason}
 use Rattle.ixdtf_brackets.specs.declared.exact_zones.PartForm.TheVariants as forms
 use Rattle.ixdtf_brackets.specs.declared.exact_zones.PartForm.{PartForm as CodePartForm}
 use Rattle.ixdtf_reading.specs.reading.ExactZones.{PartForm, PartForm.{part_start, one_dot, two_dots, in_part}}
@@ -20,8 +20,8 @@ part_after = within zone_char
 abbrev pub name_after : NameState → ℕ → Option NameState
 name_after state c = option_map (λ may_end. record { may_end = may_end }) (name_step c state.may_end)
 
--- The `Stop` at a bad code unit after a state of a name.
-abbrev pub stop_by : Stop → Stop → NameState → Stop
+-- The `Reason` at a bad code unit after a state of a name.
+abbrev pub stop_by : Reason → Reason → NameState → Reason
 stop_by in_name after_slash state = if state.may_end then in_name else after_slash
 
 -- The state of a first bracket after a code unit other than `=` and `]`.
@@ -29,7 +29,7 @@ abbrev pub bracket_after : Unit {0} → ℕ → Option (Unit {0})
 bracket_after = within skipped
 
 -- A function consumed the code units that the reading function consumes, and returned its state and what follows, or its error.
-abbrev pub Passes : (ℕ → Letter) → Unread → Result PassedName Stop → Unread → (Text → Read Placed (Taken NameState)) → Type 0
+abbrev pub Passes : (ℕ → Letter) → Unread → Result PassedName Reason → Unread → (Text → Read Placed (Taken NameState)) → Type 0
 Passes letter old (Ok passed) new reading = (letters : List ℕ) × (old.rest ≡ letters ++ new.rest)
     × (reading (map letter old.rest) ≡ Ok (record { letters = letters; state = passed.state; next = passed.next }, map letter new.rest))
 Passes letter old (Err stop) new reading = reading (map letter old.rest) ≡ Err (stop, map letter new.rest)

@@ -11,6 +11,7 @@ ghost use Rattle.ixdtf_reading.specs.reading.Looks.{error_of};
 ghost use Rattle.ixdtf_reading.specs.reading.Brackets.{refusal, name_stop, next_is, sight_at, name_or_pair_at, inside_at, bracket_at};
 
 use crate::zone::{NameState, parse_name_in_bracket, parse_offset_in_bracket, pass_name};
+use ixdtf_grammar::Reason;
 use ixdtf_grammar::encoding::EncodingType;
 use ixdtf_grammar::records::{Annotation, TimeZoneAnnotation, TimeZoneRecord};
 use ixdtf_reading::annotations::{KeyLetters, ends_key, parse_annotation_value};
@@ -20,7 +21,6 @@ use ixdtf_reading::classes::{
 };
 use ixdtf_reading::cursor::Cursor;
 use ixdtf_reading::letters::{Letters, pass_letters};
-use ixdtf_reading::stop::Stop;
 
 /// A first bracket: a zone or an annotation.
 #[derive(Drop)]
@@ -33,18 +33,18 @@ pub enum Bracket<'a, T: EncodingType> {
 #[inline(always)]
 pub fn parse_first_bracket<'a, T: EncodingType>(
     cursor: &mut Cursor<'a, T>,
-) -> Result<Bracket<'a, T>, Stop>
+) -> Result<Bracket<'a, T>, Reason>
     ensures bracket { Reads T.letter (bracket_of T.number) cursor.old result cursor.new
         (bracket_at error_of) }
     ensures looks { SpendsOr (2 * length cursor.old.rest + 16) 16 cursor.old result cursor.new }
 {
     let mut critical = false;
-    let mut stop = Stop::FirstBracketStart;
+    let mut stop = Reason::FirstBracketStart;
     let mut lead = cursor.look(stop)?;
     if is_flag(lead) {
         critical = true;
         cursor.advance();
-        stop = Stop::FirstCriticalStart;
+        stop = Reason::FirstCriticalStart;
         lead = cursor.look(stop)?;
     }
     // Call `parse_inside` at one place only. Its code is large: with two calls it was compiled twice and not inlined,
@@ -71,7 +71,7 @@ fn parse_inside<'a, T: EncodingType>(
     cursor: &mut Cursor<'a, T>,
     critical: bool,
     lead: u8,
-) -> Result<Bracket<'a, T>, Stop>
+) -> Result<Bracket<'a, T>, Reason>
     ensures bracket { Reads T.letter (bracket_of T.number) cursor.old result cursor.new
         (inside_at error_of critical lead) }
     ensures looks { SpendsOr (2 * length cursor.old.rest + 14) 14 cursor.old result cursor.new }
@@ -104,13 +104,13 @@ fn ends_bracket(next: Option<u8>) -> bool
 fn parse_name_or_pair<'a, T: EncodingType>(
     cursor: &mut Cursor<'a, T>,
     critical: bool,
-) -> Result<Bracket<'a, T>, Stop>
+) -> Result<Bracket<'a, T>, Reason>
     ensures bracket { Reads T.letter (bracket_of T.number) cursor.old result cursor.new
         (name_or_pair_at error_of critical) }
     ensures looks { SpendsOr (2 * length cursor.old.rest + 3) 3 cursor.old result cursor.new }
 {
     let start = cursor.rest();
-    let next = pass_letters::<T, KeyLetters>(cursor, Stop::FirstBracketScan)?;
+    let next = pass_letters::<T, KeyLetters>(cursor, Reason::FirstBracketScan)?;
     let behind_key = cursor.rest();
     let key = &start[..start.len().saturating_sub(behind_key.len())];
     if ends_key(next) {
@@ -122,7 +122,7 @@ fn parse_name_or_pair<'a, T: EncodingType>(
             value,
         }));
     }
-    let more = pass_name(cursor, Stop::FirstBracketScan, Stop::FirstBracketScan)?;
+    let more = pass_name(cursor, Reason::FirstBracketScan, Reason::FirstBracketScan)?;
     if more.state.may_end && ends_bracket(more.next) {
         let count = start.len().saturating_sub(cursor.rest().len());
         cursor.advance();
@@ -132,7 +132,7 @@ fn parse_name_or_pair<'a, T: EncodingType>(
         }));
     }
     if more.next.is_none() {
-        return Err(Stop::FirstBracketScan);
+        return Err(Reason::FirstBracketScan);
     }
     let refused = refuse_bracket(cursor.fork(), behind_key, more.state);
     *cursor = refused.there;
@@ -154,7 +154,7 @@ impl Letters for BracketLetters {
 /// The error of a first bracket, and a cursor at its position.
 #[derive(Drop)]
 struct Refused<'a, T: EncodingType> {
-    stop: Stop,
+    stop: Reason,
     there: Cursor<'a, T>,
 }
 
@@ -183,15 +183,15 @@ fn refuse_bracket<'a, T: EncodingType>(
 {
     let behind_name = here.rest();
     let mut ahead = here;
-    match pass_letters::<T, BracketLetters>(&mut ahead, Stop::FirstBracketScan) {
+    match pass_letters::<T, BracketLetters>(&mut ahead, Reason::FirstBracketScan) {
         Err(stop) => Refused { stop, there: ahead },
         Ok(next) => match next {
             None => Refused {
-                stop: Stop::FirstBracketScan,
+                stop: Reason::FirstBracketScan,
                 there: ahead,
             },
             Some(byte) if is_annotation_key_value_separator(byte) => Refused {
-                stop: Stop::InKey,
+                stop: Reason::InKey,
                 there: ahead.fork_at(behind_key),
             },
             Some(_) => Refused {

@@ -14,13 +14,13 @@ ghost use Rattle.ixdtf_grammar.specs.Views.{note_of};
 ghost use Rattle.ixdtf_brackets.specs.BracketTypes.{bracket_of, part_form_of, exact_looks};
 
 use crate::brackets::{Bracket, parse_first_bracket};
+use ixdtf_grammar::Reason;
 use ixdtf_grammar::encoding::EncodingType;
 use ixdtf_grammar::records::{TimeZoneAnnotation, TimeZoneRecord};
 use ixdtf_reading::classes::{
     is_annotation_close, is_time_separator, is_tz_char, is_tz_leading_char, is_tz_name_separator,
 };
 use ixdtf_reading::cursor::Cursor;
-use ixdtf_reading::stop::Stop;
 
 /// Which code units of a part of a name were read.
 #[derive(Clone, Copy)]
@@ -68,7 +68,7 @@ fn has_exact_parts<'a, T: EncodingType>(cursor: &mut Cursor<'a, T>) -> bool
 {
     let mut form = PartForm::Start;
     loop {
-        let byte = match cursor.look(Stop::FirstNameForm) {
+        let byte = match cursor.look(Reason::FirstNameForm) {
             Ok(Some(byte)) => byte,
             Ok(None) => return false,
             Err(_) => return false,
@@ -111,12 +111,12 @@ fn is_exact_zone<'a, T: EncodingType>(
 
 /// Returns the error of a zone that does not have the form of RFC 9557, section 4.1.
 #[inline(always)]
-fn zone_stop<'a, T: EncodingType>(zone: &TimeZoneAnnotation<'a, T>) -> Stop
+fn zone_stop<'a, T: EncodingType>(zone: &TimeZoneAnnotation<'a, T>) -> Reason
     ensures { (rest : Text) → error_of (form_row (note_of T.number zone.now).zone rest) ≡ (result, rest) }
 {
     match &zone.tz {
-        TimeZoneRecord::Name(_) => Stop::FirstNameForm,
-        TimeZoneRecord::Offset(_) => Stop::FirstOffsetForm,
+        TimeZoneRecord::Name(_) => Reason::FirstNameForm,
+        TimeZoneRecord::Offset(_) => Reason::FirstOffsetForm,
     }
 }
 
@@ -128,7 +128,7 @@ fn zone_stop<'a, T: EncodingType>(zone: &TimeZoneAnnotation<'a, T>) -> Stop
 pub fn parse_bracket_by<'a, T: EncodingType>(
     cursor: &mut Cursor<'a, T>,
     is_exact: bool,
-) -> Result<Bracket<'a, T>, Stop>
+) -> Result<Bracket<'a, T>, Reason>
     ensures bracket { Reads T.letter (bracket_of T.number) cursor.old result cursor.new
         (bracket_by error_of is_exact) }
     ensures looks { SpendsOr (2 * length cursor.old.rest + 18) (exact_looks is_exact (length cursor.old.rest) + 16) cursor.old result cursor.new }

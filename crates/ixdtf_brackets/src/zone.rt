@@ -10,12 +10,13 @@ ghost use Rattle.ixdtf_reading.specs.reading.Looks.{error_of, next_by, seen};
 ghost use Rattle.ixdtf_reading.specs.reading.Runs.{letters_by};
 ghost use Rattle.ixdtf_reading.specs.reading.Zones.{name_run, name_alone_at, iana_identifier_at, identifier_at};
 ghost use Rattle.ixdtf_brackets.specs.BracketTypes.{Passes, name_after, stop_by};
-ghost use Rattle.ixdtf_reading.specs.reading.Stops.{stop_of};
+ghost use Rattle.ixdtf_reading.specs.reading.Stops.{reason_of};
 ghost use Rattle.ixdtf_reading.specs.reading.Times.{line_after};
 ghost use Rattle.ixdtf_times.specs.TimeTypes.{shape_of};
 ghost use Rattle.ixdtf_grammar.specs.language.Times.{Clock as clocks};
 ghost use Rattle.ixdtf_reading.specs.reading.Brackets.{name_stop, next_is, name_in_bracket_at, offset_in_bracket_at};
 
+use ixdtf_grammar::Reason;
 use ixdtf_grammar::encoding::EncodingType;
 use ixdtf_grammar::records::{TimeRecord, TimeZoneRecord};
 use ixdtf_reading::classes::{
@@ -23,7 +24,6 @@ use ixdtf_reading::classes::{
 };
 use ixdtf_reading::cursor::Cursor;
 use ixdtf_reading::letters::{Letters, pass_letters};
-use ixdtf_reading::stop::Stop;
 use ixdtf_times::offsets::{minute_offset, take_last_offset};
 use ixdtf_times::time::{Clock, TimeShape, close_after, parse_clock};
 
@@ -51,13 +51,13 @@ impl NameState {
     /// Returns the error of a code unit that cannot follow here: `IanaCharPostSeparator` if the name cannot end here, and
     /// otherwise `IanaChar`.
     #[inline(always)]
-    pub fn stop(self) -> Stop
+    pub fn stop(self) -> Reason
         ensures { result ≡ name_stop self.may_end }
     {
         if self.may_end {
-            Stop::InZoneName
+            Reason::InZoneName
         } else {
-            Stop::AfterZoneSlash
+            Reason::AfterZoneSlash
         }
     }
 }
@@ -91,9 +91,9 @@ fn starts_part(next: Option<u8>) -> bool
 #[inline(always)]
 pub fn pass_name<'a, T: EncodingType>(
     cursor: &mut Cursor<'a, T>,
-    in_name: Stop,
-    after_slash: Stop,
-) -> Result<PassedName, Stop>
+    in_name: Reason,
+    after_slash: Reason,
+) -> Result<PassedName, Reason>
     ensures letters { Passes T.letter cursor.old result cursor.new
         (letters_by (stop_by in_name after_slash) name_after (record { may_end = true })) }
     ensures looks { Spends 1 cursor.old cursor.new }
@@ -109,9 +109,9 @@ pub fn pass_name<'a, T: EncodingType>(
 #[inline(always)]
 fn pass_parts<'a, T: EncodingType>(
     cursor: &mut Cursor<'a, T>,
-    in_name: Stop,
-    after_slash: Stop,
-) -> Result<PassedName, Stop>
+    in_name: Reason,
+    after_slash: Reason,
+) -> Result<PassedName, Reason>
     ensures letters { Passes T.letter cursor.old result cursor.new
         (letters_by (stop_by in_name after_slash) name_after (record { may_end = true })) }
     ensures looks { Spends 1 cursor.old cursor.new }
@@ -148,16 +148,16 @@ pub struct ReadName<'a, T: EncodingType> {
 #[inline(always)]
 pub fn parse_tz_name<'a, T: EncodingType>(
     cursor: &mut Cursor<'a, T>,
-) -> Result<ReadName<'a, T>, Stop>
+) -> Result<ReadName<'a, T>, Reason>
     ensures name { Reads T.letter (λ name. map T.number name.units.now) cursor.old result cursor.new
         (name_run error_of true) }
-    ensures next { IfOk result (λ name. seen Stop.InZoneName (map T.letter cursor.new.rest) ≡ Ok name.next) }
+    ensures next { IfOk result (λ name. seen Reason.InZoneName (map T.letter cursor.new.rest) ≡ Ok name.next) }
     ensures looks { Spends 1 cursor.old cursor.new }
 {
     let start = cursor.rest();
-    let name = pass_name(cursor, Stop::InZoneName, Stop::AfterZoneSlash)?;
+    let name = pass_name(cursor, Reason::InZoneName, Reason::AfterZoneSlash)?;
     if !name.state.may_end {
-        return Err(Stop::AfterZoneSlash);
+        return Err(Reason::AfterZoneSlash);
     }
     let count = start.len().saturating_sub(cursor.rest().len());
     Ok(ReadName {
@@ -170,7 +170,7 @@ pub fn parse_tz_name<'a, T: EncodingType>(
 #[inline]
 fn parse_name_alone<'a, T: EncodingType>(
     cursor: &mut Cursor<'a, T>,
-) -> Result<&'a [T::CodeUnit], Stop>
+) -> Result<&'a [T::CodeUnit], Reason>
     ensures name { Reads T.letter (λ units. map T.number units.now) cursor.old result cursor.new
         (name_alone_at error_of) }
     ensures looks { Spends 2 cursor.old cursor.new }
@@ -178,7 +178,7 @@ fn parse_name_alone<'a, T: EncodingType>(
     let name = parse_tz_name(cursor)?;
     match name.next {
         None => Ok(name.units),
-        Some(_) => Err(Stop::InZoneName),
+        Some(_) => Err(Reason::InZoneName),
     }
 }
 
@@ -188,26 +188,26 @@ fn parse_name_alone<'a, T: EncodingType>(
 #[inline]
 pub fn parse_iana_identifier_text<'a, T: EncodingType>(
     cursor: &mut Cursor<'a, T>,
-) -> Result<&'a [T::CodeUnit], Stop>
+) -> Result<&'a [T::CodeUnit], Reason>
     ensures name { Reads T.letter (λ units. map T.number units.now) cursor.old result cursor.new
         (iana_identifier_at error_of) }
     ensures looks { Spends 3 cursor.old cursor.new }
 {
-    match cursor.look(Stop::ZoneNameStart)? {
+    match cursor.look(Reason::ZoneNameStart)? {
         Some(byte) if is_tz_leading_char(byte) => parse_name_alone(cursor),
-        _ => Err(Stop::ZoneNameStart),
+        _ => Err(Reason::ZoneNameStart),
     }
 }
 
 /// Reads a name, or an offset without seconds, and expects the end of the input.
 pub fn parse_identifier_text<'a, T: EncodingType>(
     cursor: &mut Cursor<'a, T>,
-) -> Result<TimeZoneRecord<'a, T>, Stop>
+) -> Result<TimeZoneRecord<'a, T>, Reason>
     ensures zone { Reads T.letter (zone_of T.number) cursor.old result cursor.new
         (identifier_at error_of) }
     ensures looks { Spends 15 cursor.old cursor.new }
 {
-    match cursor.look(Stop::IdentifierStart)? {
+    match cursor.look(Reason::IdentifierStart)? {
         Some(byte) if is_ascii_sign(byte) => {
             cursor.advance();
             if let Some(offset) = take_last_offset(cursor, byte) {
@@ -222,7 +222,7 @@ pub fn parse_identifier_text<'a, T: EncodingType>(
             let name = parse_name_alone(cursor)?;
             Ok(TimeZoneRecord::Name(name))
         }
-        _ => Err(Stop::IdentifierStart),
+        _ => Err(Reason::IdentifierStart),
     }
 }
 
@@ -234,9 +234,9 @@ pub fn parse_identifier_text<'a, T: EncodingType>(
 fn close_bracket<'a, T: EncodingType>(
     cursor: &mut Cursor<'a, T>,
     shape: TimeShape,
-) -> Result<(), Stop>
+) -> Result<(), Reason>
     ensures end { Reads T.letter (λ _. 93) cursor.old result cursor.new
-        (next_by (closing_look (stop_of (line_after clocks.MinuteOffset (shape_of shape))))) }
+        (next_by (closing_look (reason_of (line_after clocks.MinuteOffset (shape_of shape))))) }
     ensures looks { Spends 1 cursor.old cursor.new }
 {
     let stop = Clock::MinuteOffset.stop_after(shape);
@@ -253,7 +253,7 @@ fn close_bracket<'a, T: EncodingType>(
 pub fn parse_offset_in_bracket<'a, T: EncodingType>(
     cursor: &mut Cursor<'a, T>,
     sign: u8,
-) -> Result<TimeZoneRecord<'a, T>, Stop>
+) -> Result<TimeZoneRecord<'a, T>, Reason>
     ensures offset { Reads T.letter (zone_of T.number) cursor.old result cursor.new
         (offset_in_bracket_at error_of sign) }
     ensures looks { Spends 14 cursor.old cursor.new }
@@ -268,7 +268,7 @@ pub fn parse_offset_in_bracket<'a, T: EncodingType>(
 #[inline(always)]
 pub fn parse_name_in_bracket<'a, T: EncodingType>(
     cursor: &mut Cursor<'a, T>,
-) -> Result<&'a [T::CodeUnit], Stop>
+) -> Result<&'a [T::CodeUnit], Reason>
     ensures name { Reads T.letter (λ units. map T.number units.now) cursor.old result cursor.new
         (name_in_bracket_at error_of) }
     ensures looks { Spends 2 cursor.old cursor.new }
@@ -279,6 +279,6 @@ pub fn parse_name_in_bracket<'a, T: EncodingType>(
             cursor.advance();
             Ok(name.units)
         }
-        _ => Err(Stop::InZoneName),
+        _ => Err(Reason::InZoneName),
     }
 }

@@ -46,7 +46,7 @@ module _ {X A : Type 0} (alone : A → Parsed) (view : X → A) (r : Result X Lo
 outcome_is : {X : Type 0} (view : X → Parsed) (r : Result X LocatedError) {outcome : Result Parsed FaultAt}
     → HasOutcome fault_of_located stands_behind view r outcome → outcome ≡ returned_at view r
 outcome_is view (Ok x) has = has
-outcome_is view (Err e) (at, there, is) = is ∙ λ i. Err (record { fault = fault_of_located e; at = sym there i })
+outcome_is view (Err e) (reason, at, there, is) = is ∙ λ i. Err (record { fault = fault_of_located e; at = sym there.1 i })
 
 -- A statement about this outcome is a statement about what the function for C returns and writes.
 module _ {X : Type 0} (view : X → Parsed) (r : Result X LocatedError) {Says : Result Parsed FaultAt → Type 0}

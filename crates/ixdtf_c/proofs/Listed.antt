@@ -3,6 +3,7 @@ use Rattle.std.proofs.Common.{◌≡◌, ◌↔◌, ℕ, ◌+◌, ◌*◌, ◌�
 use Rattle.std.proofs.{Common.{sym, ◌∙◌, ap, subst, inl, inr, arith}, lemmas.List.{append-nil, append_assoc, length-append, length-map}}
 use Rattle.ixdtf_grammar.specs.declared.{profile.Profile.Profile, records.Annotation.Annotation}
 use Rattle.ixdtf_grammar.proofs.theorems.FewPairs.{derived_few, fault_few, gives_few}
+use Rattle.ixdtf_grammar.specs.declared.reason.Reason.{Reason}
 use Rattle.ixdtf.specs.language.{Brackets.Pair, Letters.{Letter, Text}, Readers.{Reader, CoreKind, Reader.bracketed}, Languages.{Parsed, Derives, Derives.as_parsed}}
 use Rattle.ixdtf.specs.{language.Languages.Found.parsed, table.{Faults.Fault, Outcomes.{HasFaultAt, NoRowFits}}}
 use Rattle.ixdtf.specs.{Laws.InNoOther, Places.{GivesFaultAt, HandledToAt}, Handlers.{Reply, first_calendar, calendar_value, with_calendar, RefusedBeside}}
@@ -173,7 +174,7 @@ module _ {T U A F : Type 0} (number : U → ℕ) (view : A → Pair) (step : Ste
 
   -- The contract of a reader with a handler that lists the annotations.
   pub lists : (profile : Profile) (kind : CoreKind) (text : Text) (state last : F)
-      → {X E : Type 0} (named : E → Fault) (stands : ℕ → E → Type 0) (seen : X → Parsed) (result : Result X E)
+      → {X E : Type 0} (named : E → Fault) (stands : Reason → ℕ → E → Type 0) (seen : X → Parsed) (result : Result X E)
       → HandledToAt number step state last (bracketed kind) text named stands seen result
       → OnOk result (NoRowFits (bracketed kind) text) → OnOk result (InNoOther profile (bracketed kind) text)
       → count state ≡ 0 → length text ≤ limit
@@ -218,10 +219,10 @@ module _ {T U A F : Type 0} (number : U → ℕ) (view : A → Pair) (step : Ste
         )) (λ e is. absurd cc) no_row no_other_reader,
       )
       of_outcome (Err e) h no_row no_other_reader =
-          let (at, there, gives) = h.err e refl in
+          let (reason, at, there, gives, because) = h.err e refl in
           let fault_at : FaultAt = record { fault = named e; at = at } in (
             Err fault_at,
-            (at, there, refl),
+            (reason, at, there, refl),
             listing h (Err fault_at) (λ found. (
               (λ is. absurd cc),
               λ given. let is : Err (named e) ≡ Ok found = (h.plain.ok found).1 (rw (none h) given) in absurd cc,

@@ -1,6 +1,6 @@
 -- A chain of calls of a handler that returns each annotation gives the contract of a reader without a handler.
 use Rattle.std.proofs.Common.{◌≡◌, ℕ, Result, Ok, Err, OnOk, refl}
-use Rattle.ixdtf_grammar.specs.declared.profile.Profile.{Profile}
+use Rattle.ixdtf_grammar.specs.declared.{profile.Profile.Profile, reason.Reason.Reason}
 use Rattle.ixdtf.specs.{language.{Letters.Text, Readers.{CoreKind, Reader.bracketed}, Languages.Parsed}, table.Faults.Fault}
 use Rattle.ixdtf.specs.{table.Outcomes.NoRowFits, Laws.InNoOther, Places.{HandledToAt, UnhandledFaultAt}, Handlers.{Step, Handled, HandledTo, handed}}
 use Rattle.ixdtf_reading.proofs.theorems.{Handled.{OwnReplies, replies_own, unhandled_form}, OnePlace.one_unhandled_place}
@@ -12,7 +12,7 @@ module _ {T U F : Type 0} (number : U → ℕ) (step : Step T U F) (handler last
       → Handled number step handler (bracketed kind) text result
   as_handled h = record { calls = h.calls; last = last; chain = h.chain; ok = h.ok; err = h.err; only = h.only }
 
-  pub reads : {X E : Type 0} (named : E → Fault) (stands : ℕ → E → Type 0) (view : X → Parsed) (result : Result X E)
+  pub reads : {X E : Type 0} (named : E → Fault) (stands : Reason → ℕ → E → Type 0) (view : X → Parsed) (result : Result X E)
       → HandledToAt number step handler last (bracketed kind) text named stands view result
       → OnOk result (NoRowFits (bracketed kind) text) → OnOk result (InNoOther profile (bracketed kind) text)
       → (outcome : Result Parsed FaultAt) × HasOutcome named stands view result outcome × ReadsRecord profile (bracketed kind) text outcome
@@ -34,14 +34,14 @@ module _ {T U F : Type 0} (number : U → ℕ) (step : Step T U F) (handler last
       )
   reads named stands view (Err e) h no_row no_other_reader =
       let form = unhandled_form (as_handled h.plain) own in
-      let (at, there, gives) = h.err e refl in
+      let (reason, at, there, gives, because) = h.err e refl in
       let fault_at : FaultAt = record { fault = named e; at = at } in
       let given : UnhandledFaultAt (bracketed kind) text (named e) at = (
         handed number h.plain.calls,
         rw (← (replies_own number step handler (bracketed kind) text (Err (named e)) own h.plain.calls handler last h.plain.chain)) gives,
       ) in (
         Err fault_at,
-        (at, there, refl),
+        (reason, at, there, refl),
         record {
           ok = λ found. (
             (λ is. absurd cc),

@@ -1,6 +1,6 @@
 -- Errors with their positions.
 use Rattle.std.specs.Prelude.{◌≡◌, ℕ, Result, Ok, Err}
-use Rattle.ixdtf_grammar.specs.declared.located.LocatedError.{LocatedError}
+use Rattle.ixdtf_grammar.specs.declared.{located.LocatedError.LocatedError, reason.Reason.Reason}
 use Rattle.ixdtf.specs.table.Faults.{Fault, fault_of_located}
 
 -- An error, and its position: the number of code units before it.
@@ -23,7 +23,7 @@ unplaced (Ok found) = Ok found
 unplaced (Err e) = Err e.fault
 
 -- This is the outcome of what a function returned. Its error has any type for which `named` gives the error of the fault table, and
--- `stands` says which position it has.
-abbrev pub HasOutcome : {X Y E : Type 0} → (E → Fault) → (ℕ → E → Type 0) → (X → Y) → Result X E → Result Y FaultAt → Type 0
+-- `stands` says which reason and which position it has.
+abbrev pub HasOutcome : {X Y E : Type 0} → (E → Fault) → (Reason → ℕ → E → Type 0) → (X → Y) → Result X E → Result Y FaultAt → Type 0
 HasOutcome named stands view (Ok x) outcome = outcome ≡ Ok (view x)
-HasOutcome named stands view (Err e) outcome = (at : ℕ) × stands at e × (outcome ≡ Err (record { fault = named e; at = at }))
+HasOutcome named stands view (Err e) outcome = (reason : Reason) × (at : ℕ) × stands reason at e × (outcome ≡ Err (record { fault = named e; at = at }))

@@ -12,12 +12,12 @@ ghost use Rattle.ixdtf_reading.specs.reading.Durations.State.{in_number};
 ghost use Rattle.ixdtf_durations.specs.reading.DurationClauses.{run_from, AreDates, HasSmallDates, IsDateRecord, rank_seen, date_rank_from, behind_unit};
 
 use crate::group_numbers::{Number, keep_number, parse_number};
+use ixdtf_grammar::Reason;
 use ixdtf_grammar::encoding::EncodingType;
 use ixdtf_grammar::profile::Profile;
 use ixdtf_grammar::records::DateDurationRecord;
 use ixdtf_reading::classes::is_time_designator;
 use ixdtf_reading::cursor::Cursor;
-use ixdtf_reading::stop::Stop;
 use std::marker::Model;
 
 // The greatest number of years, of months and of weeks.
@@ -64,7 +64,7 @@ fn take_date_unit<'a, T: EncodingType>(
     cursor: &mut Cursor<'a, T>,
     number: Number,
     least: u8,
-) -> Result<u8, Stop>
+) -> Result<u8, Reason>
     requires least { 1 ≤ least }
     requires small { IsTrue (nat_le number.value greatest_value) }
     requires more { 1 ≤ length cursor.old.rest }
@@ -79,14 +79,14 @@ fn take_date_unit<'a, T: EncodingType>(
     let rank = date_rank(number.next);
     if rank < least {
         if rank == 0 {
-            return Err(Stop::DateGroupDigits);
+            return Err(Reason::DateGroupDigits);
         }
         cursor.advance_by(1);
-        return Err(Stop::DateUnitOrder);
+        return Err(Reason::DateUnitOrder);
     }
     cursor.advance_by(1);
     if number.value > MOST_OF_LONG_UNITS && rank < 4 {
-        return Err(Stop::DateUnitRange);
+        return Err(Reason::DateUnitRange);
     }
     Ok(rank)
 }
@@ -118,7 +118,7 @@ pub fn parse_dates<'a, T: EncodingType>(
     cursor: &mut Cursor<'a, T>,
     first: u8,
     profile: Profile,
-) -> Result<Dates, Stop>
+) -> Result<Dates, Reason>
     requires digit { IsTrue (digit first) }
     ensures dates { IfOk result
         (λ dates. AreDates profile T.letter first cursor.old.rest dates cursor.new.rest) }
@@ -132,11 +132,16 @@ pub fn parse_dates<'a, T: EncodingType>(
     let mut least = 1;
     let mut digit = first;
     loop {
-        let number = parse_number(cursor, digit, Stop::DateGroupDigits, Stop::DateGroupRange)?;
+        let number = parse_number(
+            cursor,
+            digit,
+            Reason::DateGroupDigits,
+            Reason::DateGroupRange,
+        )?;
         let rank = take_date_unit(cursor, number, least)?;
         keep_number(&mut values, rank, number.value);
         least = rank + profile.least_step();
-        match cursor.look(Stop::AfterDateGroups)? {
+        match cursor.look(Reason::AfterDateGroups)? {
             None => {
                 return Ok(Dates {
                     record: date_record(values),
@@ -154,7 +159,7 @@ pub fn parse_dates<'a, T: EncodingType>(
                     timed: true,
                 });
             }
-            Some(_) => return Err(Stop::AfterDateGroups),
+            Some(_) => return Err(Reason::AfterDateGroups),
         }
     }
 }

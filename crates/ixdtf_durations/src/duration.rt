@@ -22,10 +22,10 @@ use crate::time_groups::parse_time_groups;
 use ixdtf_grammar::encoding::{EncodingType, Utf8, Utf16};
 use ixdtf_grammar::profile::Profile;
 use ixdtf_grammar::records::{DateDurationRecord, DurationParseRecord, Sign};
-use ixdtf_grammar::{LocatedError, ParseError, ParserResult};
+use ixdtf_grammar::{LocatedError, ParseError, ParserResult, Reason};
 use ixdtf_reading::classes::{is_ascii_sign, is_duration_designator, is_time_designator};
 use ixdtf_reading::cursor::Cursor;
-use ixdtf_reading::stop::{FromStop, Stop};
+use ixdtf_reading::stop::FromStop;
 use ixdtf_times::offsets::sign_from;
 use std::marker::Model;
 
@@ -321,13 +321,13 @@ fn parse_times<'a, T: EncodingType>(
     sign: Sign,
     date: Option<DateDurationRecord>,
     profile: Profile,
-) -> Result<DurationParseRecord, Stop>
+) -> Result<DurationParseRecord, Reason>
     ensures duration { (dates : List Group) → date_duration dates ≡ date →
         ReadsOn T.letter profile (between (in_times sign dates []))
         cursor.old result cursor.new (λ d text. Ok (d, text)) }
     ensures looks { Spends 5 cursor.old cursor.new }
 {
-    match cursor.look(Stop::AfterTimeDesignator)? {
+    match cursor.look(Reason::AfterTimeDesignator)? {
         Some(byte) if byte.is_ascii_digit() => {
             cursor.advance();
             match parse_time_groups(cursor, byte, profile) {
@@ -339,7 +339,7 @@ fn parse_times<'a, T: EncodingType>(
                 Err(stop) => Err(stop),
             }
         }
-        _ => Err(Stop::AfterTimeDesignator),
+        _ => Err(Reason::AfterTimeDesignator),
     }
 }
 
@@ -349,29 +349,29 @@ fn parse_times<'a, T: EncodingType>(
 fn parse_designator<'a, T: EncodingType>(
     cursor: &mut Cursor<'a, T>,
     sign: Sign,
-) -> Result<Sign, Stop>
+) -> Result<Sign, Reason>
     ensures sign { (profile : Profile) → ReadsOn T.letter profile (signed sign)
         cursor.old result cursor.new (λ s. run_from profile (between (in_dates s []))) }
     ensures looks { Spends 1 cursor.old cursor.new }
 {
-    match cursor.look(Stop::AfterDurationSign)? {
+    match cursor.look(Reason::AfterDurationSign)? {
         Some(byte) if is_duration_designator(byte) => {
             cursor.advance();
             Ok(sign)
         }
-        _ => Err(Stop::AfterDurationSign),
+        _ => Err(Reason::AfterDurationSign),
     }
 }
 
 /// Reads the beginning of a duration, up to its `P` or `p`. Returns its sign.
 #[inline(always)]
 #[tactic(auto, using(crate::proofs::code::DurationSteps::openings))]
-fn parse_opening<'a, T: EncodingType>(cursor: &mut Cursor<'a, T>) -> Result<Sign, Stop>
+fn parse_opening<'a, T: EncodingType>(cursor: &mut Cursor<'a, T>) -> Result<Sign, Reason>
     ensures sign { (profile : Profile) → ReadsOn T.letter profile started
         cursor.old result cursor.new (λ s. run_from profile (between (in_dates s []))) }
     ensures looks { Spends 2 cursor.old cursor.new }
 {
-    match cursor.look(Stop::DurationStart)? {
+    match cursor.look(Reason::DurationStart)? {
         Some(byte) if is_ascii_sign(byte) => {
             cursor.advance();
             parse_designator(cursor, sign_from(byte))
@@ -380,7 +380,7 @@ fn parse_opening<'a, T: EncodingType>(cursor: &mut Cursor<'a, T>) -> Result<Sign
             cursor.advance();
             Ok(Sign::Positive)
         }
-        _ => Err(Stop::DurationStart),
+        _ => Err(Reason::DurationStart),
     }
 }
 
@@ -391,7 +391,7 @@ fn parse_dated<'a, T: EncodingType>(
     sign: Sign,
     first: u8,
     profile: Profile,
-) -> Result<DurationParseRecord, Stop>
+) -> Result<DurationParseRecord, Reason>
     requires digit { IsTrue (digit first) }
     ensures duration { ReadsOn T.letter profile (in_number (in_dates sign []) (Plain first ∷ []))
         cursor.old result cursor.new (λ d text. Ok (d, text)) }
@@ -414,12 +414,12 @@ fn parse_after_designator<'a, T: EncodingType>(
     cursor: &mut Cursor<'a, T>,
     sign: Sign,
     profile: Profile,
-) -> Result<DurationParseRecord, Stop>
+) -> Result<DurationParseRecord, Reason>
     ensures duration { ReadsOn T.letter profile (between (in_dates sign []))
         cursor.old result cursor.new (λ d text. Ok (d, text)) }
     ensures looks { Spends 6 cursor.old cursor.new }
 {
-    match cursor.look(Stop::AfterDurationDesignator)? {
+    match cursor.look(Reason::AfterDurationDesignator)? {
         Some(byte) if is_time_designator(byte) => {
             cursor.advance();
             parse_times(cursor, sign, None, profile)
@@ -428,6 +428,6 @@ fn parse_after_designator<'a, T: EncodingType>(
             cursor.advance();
             parse_dated(cursor, sign, byte, profile)
         }
-        _ => Err(Stop::AfterDurationDesignator),
+        _ => Err(Reason::AfterDurationDesignator),
     }
 }

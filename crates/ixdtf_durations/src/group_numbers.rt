@@ -6,9 +6,9 @@ ghost use Rattle.ixdtf_grammar.specs.language.Durations.{greatest_value};
 ghost use Rattle.ixdtf_reading.specs.reading.Clauses.{Spends, Checks};
 ghost use Rattle.ixdtf_durations.specs.reading.DurationClauses.{ReadsNumber};
 
+use ixdtf_grammar::Reason;
 use ixdtf_grammar::encoding::EncodingType;
 use ixdtf_reading::cursor::Cursor;
-use ixdtf_reading::stop::Stop;
 use std::marker::Model;
 
 /// A number, and the code unit after it, which is not a digit and has not been consumed.
@@ -21,7 +21,7 @@ pub struct Number {
 /// Returns the number with one more digit, or `past` if it overflows.
 #[inline(always)]
 #[tactic(auto, unfolding(ixdtf_grammar::specs::language::Durations::greatest_value))]
-fn add_digit(value: u64, byte: u8, past: Stop) -> Result<u64, Stop>
+fn add_digit(value: u64, byte: u8, past: Reason) -> Result<u64, Reason>
     requires digit { IsTrue (digit byte) }
     ensures { Checks (λ sum. sum) result (value * 10 + (byte - 48))
         (nat_le (value * 10 + (byte - 48)) greatest_value) past }
@@ -43,9 +43,9 @@ fn add_digit(value: u64, byte: u8, past: Stop) -> Result<u64, Stop>
 pub fn parse_number<'a, T: EncodingType>(
     cursor: &mut Cursor<'a, T>,
     first: u8,
-    digits: Stop,
-    past: Stop,
-) -> Result<Number, Stop>
+    digits: Reason,
+    past: Reason,
+) -> Result<Number, Reason>
     requires digit { IsTrue (digit first) }
     ensures number { ReadsNumber T.letter first digits past cursor.old result cursor.new }
     ensures small { IfOk result (λ number. IsTrue (nat_le number.value greatest_value)) }

@@ -14,12 +14,12 @@ ghost use Rattle.ixdtf_reading.specs.reading.Durations.State.{in_number, at_mark
 ghost use Rattle.ixdtf_durations.specs.reading.DurationClauses.{ReadsOn, IsTimeRecord, rank_seen, time_rank_from, after_time_group, behind_unit, dated};
 
 use crate::group_numbers::{keep_number, parse_number};
+use ixdtf_grammar::Reason;
 use ixdtf_grammar::encoding::EncodingType;
 use ixdtf_grammar::profile::Profile;
 use ixdtf_grammar::records::{Fraction, TimeDurationRecord};
 use ixdtf_reading::classes::is_decimal_separator;
 use ixdtf_reading::cursor::Cursor;
-use ixdtf_reading::stop::Stop;
 use ixdtf_times::time::parse_fraction;
 use std::marker::Model;
 
@@ -72,8 +72,8 @@ fn take_time_unit<'a, T: EncodingType>(
     cursor: &mut Cursor<'a, T>,
     letter: u8,
     least: u8,
-    digits: Stop,
-) -> Result<u8, Stop>
+    digits: Reason,
+) -> Result<u8, Reason>
     requires least { 1 ≤ least }
     requires more { 1 ≤ length cursor.old.rest }
     ensures rank { Yields (λ rank. rank) result (time_rank_from digits least letter) }
@@ -90,7 +90,7 @@ fn take_time_unit<'a, T: EncodingType>(
             return Err(digits);
         }
         cursor.advance_by(1);
-        return Err(Stop::TimeUnitOrder);
+        return Err(Reason::TimeUnitOrder);
     }
     cursor.advance_by(1);
     Ok(rank)
@@ -128,7 +128,7 @@ fn time_record(values: [u64; 4], rank: u8, fraction: Option<Fraction>) -> TimeDu
 fn parse_fraction_group<'a, T: EncodingType>(
     cursor: &mut Cursor<'a, T>,
     value: u64,
-) -> Result<TimeGroup, Stop>
+) -> Result<TimeGroup, Reason>
     ensures group { (profile : Profile) (s : Sign) (dates times : List Group) (ds : Text) →
         value ≡ decimal ds → ReadsOn T.letter profile (at_mark s dates times ds)
         cursor.old result cursor.new (after_time_group profile s dates times) }
@@ -136,9 +136,13 @@ fn parse_fraction_group<'a, T: EncodingType>(
     ensures more { OnOk result (1 ≤ length cursor.new.rest) }
     ensures looks { Spends 3 cursor.old cursor.new }
 {
-    let fraction = parse_fraction(cursor, Stop::GroupFractionStart, Stop::GroupFractionDigits)?;
-    match cursor.look(Stop::GroupFractionDigits)? {
-        None => Err(Stop::GroupFractionDigits),
+    let fraction = parse_fraction(
+        cursor,
+        Reason::GroupFractionStart,
+        Reason::GroupFractionDigits,
+    )?;
+    match cursor.look(Reason::GroupFractionDigits)? {
+        None => Err(Reason::GroupFractionDigits),
         Some(letter) => Ok(TimeGroup {
             value,
             fraction: Some(fraction),
@@ -156,7 +160,7 @@ pub fn parse_time_groups<'a, T: EncodingType>(
     cursor: &mut Cursor<'a, T>,
     first: u8,
     profile: Profile,
-) -> Result<TimeDurationRecord, Stop>
+) -> Result<TimeDurationRecord, Reason>
     requires digit { IsTrue (digit first) }
     ensures times { (s : Sign) (dates : List Group) →
         ReadsOn T.letter profile (in_number (in_times s dates []) (Plain first ∷ []))
@@ -168,27 +172,32 @@ pub fn parse_time_groups<'a, T: EncodingType>(
     let mut least = 1;
     let mut digit = first;
     loop {
-        let whole = parse_number(cursor, digit, Stop::TimeGroupDigits, Stop::TimeGroupRange)?;
+        let whole = parse_number(
+            cursor,
+            digit,
+            Reason::TimeGroupDigits,
+            Reason::TimeGroupRange,
+        )?;
         if is_decimal_separator(whole.next) {
             cursor.advance_by(1);
             let group = parse_fraction_group(cursor, whole.value)?;
-            let rank = take_time_unit(cursor, group.letter, least, Stop::GroupFractionDigits)?;
+            let rank = take_time_unit(cursor, group.letter, least, Reason::GroupFractionDigits)?;
             keep_number(&mut values, rank, group.value);
-            match cursor.look(Stop::AfterFractionGroup)? {
+            match cursor.look(Reason::AfterFractionGroup)? {
                 None => return Ok(time_record(values, rank, group.fraction)),
-                Some(_after_fraction) => return Err(Stop::AfterFractionGroup),
+                Some(_after_fraction) => return Err(Reason::AfterFractionGroup),
             }
         }
-        let rank = take_time_unit(cursor, whole.next, least, Stop::TimeGroupDigits)?;
+        let rank = take_time_unit(cursor, whole.next, least, Reason::TimeGroupDigits)?;
         keep_number(&mut values, rank, whole.value);
         least = rank + profile.least_step();
-        match cursor.look(Stop::AfterTimeGroups)? {
+        match cursor.look(Reason::AfterTimeGroups)? {
             None => return Ok(time_record(values, rank, None)),
             Some(byte) if byte.is_ascii_digit() => {
                 cursor.advance();
                 digit = byte;
             }
-            Some(_) => return Err(Stop::AfterTimeGroups),
+            Some(_) => return Err(Reason::AfterTimeGroups),
         }
     }
 }

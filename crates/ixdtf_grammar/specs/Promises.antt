@@ -2,9 +2,10 @@
 -- left in the parser. The value and the error that the reader returned are each seen through a view.
 use Rattle.std.specs.Prelude.{◌≡◌, ◌↔◌, ℕ, ◌+◌, ◌*◌, List, [], map, Result, Ok, OnOk, IfErr}
 use Rattle.ixdtf_grammar.specs.{declared.located.LocatedError.LocatedError, language.{Letters.Letter, Readers.Reader, Languages.{Parsed, Found, Derives}}}
-use Rattle.ixdtf_grammar.specs.table.{Faults.{Fault, fault_of_located}, Outcomes.{HasFault, HasFaultAt, OnlyPlace, NoRowFits, OnlyFault}}
+use Rattle.ixdtf_grammar.specs.table.{Faults.{Fault, fault_of_located}, Outcomes.{HasFault, HasFaultAt, HasReason, OnlyReason, OnlyPlace, NoRowFits, OnlyFault}}
+use Rattle.ixdtf_grammar.specs.declared.reason.Reason.{Reason}
 use Rattle.ixdtf_grammar.specs.Handlers.{Reply, replies_of, value_units, Step, Handled, UnhandledRecord, UnhandledFault, UnhandledOnlyFault}
-use Rattle.ixdtf_grammar.specs.{Places.{HandledAt, UnhandledFaultAt, UnhandledOnlyPlace}, Laws.InNoOther}
+use Rattle.ixdtf_grammar.specs.{Places.{HandledAt, UnhandledFaultAt, UnhandledOnlyPlace, UnhandledReason, UnhandledOnlyReason}, Laws.InNoOther}
 use Rattle.ixdtf_grammar.specs.Views.{Unread, UnreadUnder, unread_of, most_looks, LeavesBehind, returned_by}
 
 -- This is the clause of a reader without a handler.
@@ -31,6 +32,9 @@ pub record ReadsTextAt {X : Type 0} (letter : ℕ → Letter) (view : X → Pars
   pub err : IfErr result (λ e. UnhandledFaultAt reader (map letter old.rest) (fault_of_located e) e.at)
   -- The text gives no other error, and no error at another position.
   pub place : IfErr result (λ e. UnhandledOnlyPlace reader (map letter old.rest) (fault_of_located e) e.at)
+  -- The error has the reason that the text gives without a handler, and the text gives no other reason.
+  pub reason : IfErr result (λ e. UnhandledReason reader (map letter old.rest) e.reason)
+  pub one_reason : IfErr result (λ e. UnhandledOnlyReason reader (map letter old.rest) e.reason)
   pub no_row : OnOk result (NoRowFits reader (map letter old.rest))
   pub no_other_reader : OnOk result (InNoOther old.profile reader (map letter old.rest))
   pub only : IfErr result (λ e. UnhandledOnlyFault reader (map letter old.rest) (fault_of_located e))
@@ -54,7 +58,7 @@ pub record HandlesText {T U F X E : Type 0} (letter : ℕ → Letter) (number : 
 
 -- This is the clause of a reader with a handler whose error has a position.
 pub record HandlesTextAt {T U F X E : Type 0} (letter : ℕ → Letter) (number : U → ℕ) (step : Step T U F) (handler : F)
-    (fault : E → Fault) (stands : ℕ → E → Type 0) (view : X → Parsed) (reader : Reader) (old : UnreadUnder)
+    (fault : E → Fault) (stands : Reason → ℕ → E → Type 0) (view : X → Parsed) (reader : Reader) (old : UnreadUnder)
     (result : Result X E) (new : UnreadUnder) : Type 0 where
   pub handled : HandledAt number step handler reader (map letter old.rest) fault stands view result
   pub no_row : OnOk result (NoRowFits reader (map letter old.rest))
@@ -86,6 +90,9 @@ pub record ReadsPartAt {X A : Type 0} (letter : ℕ → Letter) (view : X → A)
   pub err : IfErr result (λ e. HasFaultAt reader (map letter old.rest) [] (fault_of_located e) e.at)
   -- No row with another error fits, and no row fits at another position.
   pub place : IfErr result (λ e. OnlyPlace reader (map letter old.rest) (fault_of_located e) e.at)
+  -- The result is `Err` only if a row fits whose line has the reason, and no row fits whose line has another reason.
+  pub reason : IfErr result (λ e. HasReason reader (map letter old.rest) [] e.reason)
+  pub one_reason : IfErr result (λ e. OnlyReason reader (map letter old.rest) e.reason)
   pub no_row : OnOk result (NoRowFits reader (map letter old.rest))
   pub only : IfErr result (λ e. OnlyFault reader (map letter old.rest) [] (fault_of_located e))
   pub leaves : LeavesBehind fault_of_located (most_looks old.rest) old result new

@@ -8,4 +8,5 @@ pub mod Faults
 pub mod LineNames
 pub mod Lines
 pub mod Outcomes
+pub mod Reasons
 pub mod Rows

@@ -32,12 +32,14 @@ mod located;
 pub mod packed;
 mod pointed;
 pub mod profile;
+mod reason;
 pub mod records;
 
 pub use error::ParseError;
 pub use ixdtf_instants::Instant;
 pub use located::LocatedError;
 pub use pointed::PointedText;
+pub use reason::Reason;
 
 /// The result of a reader: the value that it found, or the error.
 pub type ParserResult<T> = Result<T, ParseError>;

@@ -4,6 +4,7 @@ ghost use Rattle.std.specs.Prelude.{◌≡◌};
 
 use crate::error::ParseError;
 use crate::pointed::PointedText;
+use crate::reason::Reason;
 use std::error::Error;
 use std::fmt;
 
@@ -27,6 +28,8 @@ pub struct LocatedError {
     /// The position of the error: the number of code units before it in the input of the reader. If a number is out of range, the
     /// position is after the number: for the day of `2024-02-30`, it is 10.
     pub at: usize,
+    /// The reason: the line of the fault table that fits the text, or the refusal of an annotation.
+    pub reason: Reason,
 }
 
 impl LocatedError {
@@ -67,13 +70,13 @@ impl PartialEq for LocatedError {
 
     ghost laws = { same_located-laws };
 
-    /// Returns whether the errors are equal and the positions are equal.
+    /// Returns whether the errors, the positions and the reasons are equal.
     fn eq(&self, other: &LocatedError) -> bool
         ensures computes { result ≡ same_located self.now other.now }
         ensures equal { IsTrue result
-            ↔ ((self.now.at ≡ other.now.at) × (fault_of self.now.error ≡ fault_of other.now.error)) }
+            ↔ ((self.now.at ≡ other.now.at) × (self.now.reason ≡ other.now.reason) × (fault_of self.now.error ≡ fault_of other.now.error)) }
     {
-        self.at == other.at && self.error == other.error
+        self.at == other.at && self.reason == other.reason && self.error == other.error
     }
 }
 

@@ -6,6 +6,7 @@ pub mod Offsets
 pub mod OneChain
 pub mod OneOutcome
 pub mod OnePlace
+pub mod OneReason
 pub mod OneUnhandledOutcome
 pub mod OnlyOutcome
 pub mod Replies

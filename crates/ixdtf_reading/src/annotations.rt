@@ -16,7 +16,8 @@ use crate::classes::{
 };
 use crate::cursor::Cursor;
 use crate::letters::{Letters, pass_letters};
-use crate::stop::{Stop, stopped};
+use crate::stop::stopped;
+use ixdtf_grammar::Reason;
 use ixdtf_grammar::encoding::EncodingType;
 use ixdtf_grammar::records::Annotation;
 
@@ -40,7 +41,7 @@ impl Letters for KeyLetters {
 #[inline(always)]
 pub fn parse_annotation_key<'a, T: EncodingType>(
     cursor: &mut Cursor<'a, T>,
-) -> Result<&'a [T::CodeUnit], Stop>
+) -> Result<&'a [T::CodeUnit], Reason>
     requires first { BeginsKey (map T.letter cursor.old.rest) }
     ensures key { Reads T.letter (λ units. map T.number units.now) cursor.old result cursor.new
         (key_run error_of) }
@@ -49,14 +50,14 @@ pub fn parse_annotation_key<'a, T: EncodingType>(
 {
     let start = cursor.rest();
     cursor.advance();
-    let next = pass_letters::<T, KeyLetters>(cursor, Stop::InKey)?;
+    let next = pass_letters::<T, KeyLetters>(cursor, Reason::InKey)?;
     // This slice always exists, as the proof shows. The compiler does not know the proof: because of this test, it
     // compiles no code for a panic.
     let Some(key) = start.get(..start.len() - cursor.rest().len()) else {
-        return Err(Stop::InKey);
+        return Err(Reason::InKey);
     };
     if !ends_key(next) {
-        return stopped(Stop::InKey);
+        return stopped(Reason::InKey);
     }
     cursor.advance();
     Ok(key)
@@ -84,7 +85,10 @@ impl Letters for ComponentLetters {
 
 /// Consumes the first code unit of a component. Returns `stop` if there is none, and then consumes nothing.
 #[inline(always)]
-fn start_component<'a, T: EncodingType>(cursor: &mut Cursor<'a, T>, stop: Stop) -> Result<(), Stop>
+fn start_component<'a, T: EncodingType>(
+    cursor: &mut Cursor<'a, T>,
+    stop: Reason,
+) -> Result<(), Reason>
     ensures letter { Reads T.letter (λ _. true) cursor.old result cursor.new
         (mark_by (component_look stop) value_char) }
     ensures rest { OnOk result (cursor.new.rest ≡ drop 1 cursor.old.rest) }
@@ -104,7 +108,7 @@ fn start_component<'a, T: EncodingType>(cursor: &mut Cursor<'a, T>, stop: Stop) 
 #[inline(always)]
 pub fn parse_annotation_value<'a, T: EncodingType>(
     cursor: &mut Cursor<'a, T>,
-) -> Result<&'a [T::CodeUnit], Stop>
+) -> Result<&'a [T::CodeUnit], Reason>
     ensures value { Reads T.letter (λ units. map T.number units.now) cursor.old result cursor.new
         (value_run error_of AtStart) }
     ensures looks { SpendsOr 1 0 cursor.old result cursor.new }
@@ -112,20 +116,20 @@ pub fn parse_annotation_value<'a, T: EncodingType>(
         length value.now + length cursor.new.rest < length cursor.old.rest) }
 {
     let start = cursor.rest();
-    start_component(cursor, Stop::ValueStart)?;
+    start_component(cursor, Reason::ValueStart)?;
     loop {
-        let next = pass_letters::<T, ComponentLetters>(cursor, Stop::InValue)?;
+        let next = pass_letters::<T, ComponentLetters>(cursor, Reason::InValue)?;
         match next {
-            None => return stopped(Stop::InValue),
+            None => return stopped(Reason::InValue),
             Some(byte) if is_annotation_close(byte) => {
                 cursor.advance();
                 let behind = cursor.rest().len() + 1;
                 return Ok(&start[..start.len().saturating_sub(behind)]);
             }
             Some(byte) if is_hyphen(byte) => cursor.advance(),
-            Some(_) => return stopped(Stop::InValue),
+            Some(_) => return stopped(Reason::InValue),
         }
-        start_component(cursor, Stop::AfterValueHyphen)?;
+        start_component(cursor, Reason::AfterValueHyphen)?;
     }
 }
 
@@ -136,7 +140,7 @@ pub fn parse_annotation_value<'a, T: EncodingType>(
 fn parse_pair<'a, T: EncodingType>(
     cursor: &mut Cursor<'a, T>,
     critical: bool,
-) -> Result<Annotation<'a, T>, Stop>
+) -> Result<Annotation<'a, T>, Reason>
     requires first { BeginsKey (map T.letter cursor.old.rest) }
     ensures pair { Reads T.letter (pair_of T.number) cursor.old result cursor.new
         (pair_at error_of critical) }
@@ -157,7 +161,7 @@ fn parse_pair<'a, T: EncodingType>(
 #[inline(always)]
 fn parse_later_pair<'a, T: EncodingType>(
     cursor: &mut Cursor<'a, T>,
-) -> Result<Annotation<'a, T>, Stop>
+) -> Result<Annotation<'a, T>, Reason>
     ensures pair { Reads T.letter (pair_of T.number) cursor.old result cursor.new
         (later_pair_at error_of) }
     ensures looks { SpendsOr 4 2 cursor.old result cursor.new }
@@ -175,7 +179,7 @@ fn parse_later_pair<'a, T: EncodingType>(
         *cursor = here;
         return read;
     }
-    stopped(Stop::KeyStart)
+    stopped(Reason::KeyStart)
 }
 
 /// Reads an annotation after its `[!`. The annotation is not in the first bracket of the text.
@@ -185,7 +189,7 @@ fn parse_later_pair<'a, T: EncodingType>(
 #[inline(never)]
 fn parse_critical_pair<'a, T: EncodingType>(
     cursor: &mut Cursor<'a, T>,
-) -> Result<Annotation<'a, T>, Stop>
+) -> Result<Annotation<'a, T>, Reason>
     ensures pair { Reads T.letter (pair_of T.number) cursor.old result cursor.new
         (critical_pair_at error_of) }
     ensures looks { SpendsOr 3 1 cursor.old result cursor.new }
@@ -195,14 +199,14 @@ fn parse_critical_pair<'a, T: EncodingType>(
     if is_a_key_leading_char(cursor.byte_at(0)) {
         return parse_pair(cursor, true);
     }
-    stopped(Stop::CriticalKeyStart)
+    stopped(Reason::CriticalKeyStart)
 }
 
 /// Reads the next annotation after a complete bracket. Returns `None` at the end of the input.
 #[inline(always)]
 pub fn next_annotation<'a, T: EncodingType>(
     cursor: &mut Cursor<'a, T>,
-) -> Result<Option<Annotation<'a, T>>, Stop>
+) -> Result<Option<Annotation<'a, T>>, Reason>
     ensures pair { Reads T.letter (option_map (pair_of T.number)) cursor.old result cursor.new
         (next_pair_at error_of) }
     ensures looks { Spends 6 cursor.old cursor.new }
@@ -212,13 +216,13 @@ pub fn next_annotation<'a, T: EncodingType>(
     ensures shorter { IfOk result (λ next. IsSome next →
         length cursor.new.rest < length cursor.old.rest) }
 {
-    match cursor.look(Stop::AfterBracket)? {
+    match cursor.look(Reason::AfterBracket)? {
         None => Ok(None),
         Some(byte) if is_annotation_open(byte) => {
             cursor.advance();
             let annotation = parse_later_pair(cursor)?;
             Ok(Some(annotation))
         }
-        Some(_) => Err(Stop::AfterBracket),
+        Some(_) => Err(Reason::AfterBracket),
     }
 }

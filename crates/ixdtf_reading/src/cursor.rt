@@ -10,14 +10,15 @@ ghost use Rattle.std.specs.Prelude.{◌≡◌, ℕ, ◌+◌, ◌-◌, ◌<◌, �
 ghost use Rattle.ixdtf_grammar.specs.language.Letters.{digit};
 ghost use Rattle.ixdtf_grammar.specs.language.Digits.{decimal};
 ghost use Rattle.ixdtf_grammar.specs.Views.{Unread, ascii_at};
-ghost use Rattle.ixdtf_reading.specs.reading.Clauses.{Reads, Settles, Spends, SpendsOr, Yields, YieldsAt, end_look, stopped_by};
+ghost use Rattle.ixdtf_reading.specs.reading.Clauses.{Reads, Settles, StandsAt, Spends, SpendsOr, Yields, YieldsAt, end_look, stopped_by};
 ghost use Rattle.ixdtf_reading.specs.reading.Stops.{IsNext, fault_at};
 ghost use Rattle.ixdtf_reading.specs.reading.FixedPlaces.{letter_place, byte_place, number_place};
 ghost use Rattle.ixdtf_reading.specs.reading.Looks.{seen, next_by, peek_by, digit_look, two_digits_by, two_digits_of};
 
 use crate::classes::two_digit_number;
 use crate::looks::Looks;
-use crate::stop::{FromStop, Next, Stop, StopAt};
+use crate::stop::{FromStop, Next, StopAt, code_of};
+use ixdtf_grammar::Reason;
 use ixdtf_grammar::encoding::EncodingType;
 use std::fmt;
 use std::marker::Model;
@@ -132,19 +133,18 @@ impl<'a, T: EncodingType> Cursor<'a, T> {
 
     /// Ends a function that worked on a second cursor, `here`.
     ///
-    /// If `read` is `Ok`, `self` continues where `here` is. If `read` is a `Stop`, `self` keeps its remaining input,
-    /// and `settle` returns the error of the `Stop`. The position of this error is the number of code units from `self`
+    /// If `read` is `Ok`, `self` continues where `here` is. If `read` is a `Reason`, `self` keeps its remaining input,
+    /// and `settle` returns the error of the `Reason`. The position of this error is the number of code units from `self`
     /// to `here`. `brackets` says whether the reader reads brackets.
     #[inline(always)]
     pub fn settle<R, E: FromStop>(
         &mut self,
         here: Self,
         brackets: bool,
-        read: Result<R, Stop>,
+        read: Result<R, Reason>,
     ) -> Result<R, E>
         ensures settled { Settles E.fault brackets (map T.letter here.entry.rest) read result }
-        ensures place { IfErr result
-            (E.stands (length self.old.rest - length here.entry.rest)) }
+        ensures place { StandsAt E.stands (length self.old.rest - length here.entry.rest) read result }
         ensures ended { OnOk result (self.new.rest ≡ here.entry.rest) }
         ensures unchanged { OnErr result (self.new.rest ≡ self.old.rest) }
         ensures looks { (here.entry.looks ≤ self.new.looks) × (self.new.looks ≤ here.entry.looks + 1) }
@@ -165,14 +165,14 @@ impl<'a, T: EncodingType> Cursor<'a, T> {
         }
     }
 
-    /// Returns what follows, for the error of a `Stop`.
+    /// Returns what follows, for the error of a `Reason`.
     #[inline(always)]
     pub fn next(&mut self) -> Next
         ensures next { IsNext result (map T.letter self.old.rest) }
         ensures rest { self.new.rest ≡ self.old.rest }
         ensures looks { self.new.looks ≡ self.old.looks + 1 }
     {
-        match self.look_at(0, Stop::YearStart) {
+        match self.look_at(0, Reason::YearStart) {
             Ok(None) => Next::End,
             Ok(Some(byte)) => Next::Byte(byte),
             Err(_) => Next::Bad,
@@ -184,7 +184,7 @@ impl<'a, T: EncodingType> Cursor<'a, T> {
     /// Returns `None` if the input is too short, and `stop` for a bad code unit. In the library, only this function calls
     /// `get_ascii`.
     #[inline(always)]
-    pub fn look_at(&mut self, index: usize, stop: Stop) -> Result<Option<u8>, Stop>
+    pub fn look_at(&mut self, index: usize, stop: Reason) -> Result<Option<u8>, Reason>
         ensures letter { Yields (λ found. found) result (stopped_by stop (ascii_at T.letter index self.old.rest)) }
         ensures rest { self.new.rest ≡ self.old.rest }
         ensures looks { self.new.looks ≡ self.old.looks + 1 }
@@ -201,7 +201,7 @@ impl<'a, T: EncodingType> Cursor<'a, T> {
     /// Returns `None` at the end of the input, and `stop` for a bad code unit.
     #[inline(always)]
     #[tactic(auto, using(crate::proofs::code::Units::first_look))]
-    pub fn look(&mut self, stop: Stop) -> Result<Option<u8>, Stop>
+    pub fn look(&mut self, stop: Reason) -> Result<Option<u8>, Reason>
         ensures letter { YieldsAt (λ found. found) result
             (map T.letter self.old.rest) (seen stop (map T.letter self.old.rest)) }
         ensures rest { self.new.rest ≡ self.old.rest }
@@ -226,7 +226,7 @@ impl<'a, T: EncodingType> Cursor<'a, T> {
 
     /// Consumes one digit, and returns it as an ASCII byte. Returns `stop` if there is no digit, and then consumes nothing.
     #[inline(always)]
-    pub fn next_digit(&mut self, stop: Stop) -> Result<u8, Stop>
+    pub fn next_digit(&mut self, stop: Reason) -> Result<u8, Reason>
         ensures digit { Reads T.letter (λ byte. byte) self.old result self.new
             (next_by (digit_look stop)) }
         ensures is_digit { IfOk result (λ byte. IsTrue (digit byte)) }
@@ -246,7 +246,7 @@ impl<'a, T: EncodingType> Cursor<'a, T> {
     /// One test finds the end of the input, and one comparison tests both digits. Returns `first` if the first digit is
     /// missing, and `second` if the second one is missing. The cursor is then at the missing digit.
     #[inline(always)]
-    pub fn two_digits(&mut self, first: Stop, second: Stop) -> Result<u8, Stop>
+    pub fn two_digits(&mut self, first: Reason, second: Reason) -> Result<u8, Reason>
         ensures digits { Reads T.letter two_digits_of self.old result self.new
             (two_digits_by first second) }
         ensures value { IfOk result (λ number. decimal (two_digits_of number) ≡ number) }
@@ -297,7 +297,7 @@ impl<'a, T: EncodingType> Cursor<'a, T> {
         ensures rest { self.new.rest ≡ self.old.rest }
         ensures looks { self.new.looks ≡ self.old.looks + 1 }
     {
-        match self.look_at(index, Stop::YearStart) {
+        match self.look_at(index, Reason::YearStart) {
             Ok(Some(byte)) => byte,
             _ => 0,
         }
@@ -312,7 +312,7 @@ impl<'a, T: EncodingType> Cursor<'a, T> {
         ensures rest { self.new.rest ≡ self.old.rest }
         ensures looks { self.new.looks ≡ self.old.looks + 1 }
     {
-        match self.look_at(index, Stop::YearStart) {
+        match self.look_at(index, Reason::YearStart) {
             Ok(Some(byte)) if byte == letter => Some(byte),
             _ => None,
         }
@@ -372,7 +372,7 @@ impl<'a, T: EncodingType> Cursor<'a, T> {
 
     /// Expects the end of the input. Returns `stop` at any code unit.
     #[inline(always)]
-    pub fn close(&mut self, stop: Stop) -> Result<(), Stop>
+    pub fn close(&mut self, stop: Reason) -> Result<(), Reason>
         ensures end { Reads T.letter (λ _. None) self.old result self.new (peek_by (end_look stop)) }
         ensures rest { self.new.rest ≡ self.old.rest }
         ensures looks { Spends 1 self.old self.new }
@@ -391,20 +391,24 @@ fn are_equal<T: EncodingType>(left: &[T::CodeUnit], right: &[T::CodeUnit]) -> bo
     left == right
 }
 
-/// Makes the error of a `Stop` with position `at`. The cursor `here` is at the position. `brackets` says whether the reader reads
+/// Makes the error of a `Reason` with position `at`. The cursor `here` is at the position. `brackets` says whether the reader reads
 /// brackets.
 #[inline(always)]
 pub fn error_at<'a, T: EncodingType, E: FromStop>(
     here: &mut Cursor<'a, T>,
     brackets: bool,
-    stop: Stop,
+    stop: Reason,
     at: usize,
 ) -> E
     ensures fault { E.fault result ≡ fault_at brackets stop (map T.letter here.old.rest) }
-    ensures place { E.stands at result }
+    ensures place { E.stands stop at result }
     ensures looks { here.new.looks ≡ here.old.looks + 1 }
 {
     let next = here.next();
-    let code = stop.code(brackets, next);
-    E::of_stop(StopAt { stop, code, at })
+    let code = code_of(stop, brackets, next);
+    E::of_stop(StopAt {
+        reason: stop,
+        code,
+        at,
+    })
 }

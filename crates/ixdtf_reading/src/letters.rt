@@ -6,7 +6,7 @@ ghost use Rattle.ixdtf_reading.specs.reading.Clauses.{Spends};
 ghost use Rattle.ixdtf_reading.specs.reading.Runs.{PassesOver, found_in};
 
 use crate::cursor::Cursor;
-use crate::stop::Stop;
+use ixdtf_grammar::Reason;
 use ixdtf_grammar::encoding::EncodingType;
 
 /// A class of code units, such as those of a key.
@@ -25,8 +25,8 @@ pub trait Letters {
 #[inline(always)]
 pub fn pass_letters<'a, T: EncodingType, S: Letters>(
     cursor: &mut Cursor<'a, T>,
-    stop: Stop,
-) -> Result<Option<u8>, Stop>
+    stop: Reason,
+) -> Result<Option<u8>, Reason>
     ensures letters { PassesOver T.letter stop cursor.old result cursor.new S.class }
     ensures looks { Spends 1 cursor.old cursor.new }
     ensures stays { IfOk result (λ next. IsSome next →
@@ -72,7 +72,7 @@ pub fn pass_letters<'a, T: EncodingType, S: Letters>(
 
 /// Returns whether a code unit was read, and is in the class.
 #[inline(always)]
-fn goes_on<S: Letters>(found: Result<Option<u8>, Stop>) -> bool
+fn goes_on<S: Letters>(found: Result<Option<u8>, Reason>) -> bool
     ensures { result ≡ found_in S.class found }
 {
     match found {

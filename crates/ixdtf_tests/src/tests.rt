@@ -410,8 +410,11 @@ impl<'a, T: EncodingType> Parsers<'a, T> {
 
     // Returns whether the reader returns this error, and then its `*_located` variant returns this error at this position.
     fn refuses_at(&mut self, reader: Reader, error: ParseError, at: usize) -> bool {
-        self.refusal(reader) == Some(error)
-            && self.located_refusal(reader) == Some(LocatedError { error, at })
+        let is_refused = self.refusal(reader) == Some(error);
+        match self.located_refusal(reader) {
+            Some(located) => is_refused && located.error == error && located.at == at,
+            None => false,
+        }
     }
 }
 

@@ -4,7 +4,7 @@ use Rattle.std.specs.Prelude.{◌≡◌, ℕ, ℤ, pos, Some, Ok}
 use Rattle.ixdtf_grammar.specs.{language.Letters.{Text, hyphen}, table.LineNames.{LineName.of_date_time, DateTimeLine.{four_digits, after_four_digits}}}
 use Rattle.ixdtf_grammar.specs.table.DateTimeFronts.Field.{month_field, day_field, hour_field, minute_field, second_field}
 use Rattle.ixdtf_reading.specs.reading.Looks.{Read, Placed, ◌>>=◌, error_of, as_number, digit_look, digits_by, look_for, next_by}
-use Rattle.ixdtf_reading.specs.reading.Stops.{stop_of}
+use Rattle.ixdtf_reading.specs.reading.Stops.{reason_of}
 use Rattle.ixdtf_reading.specs.reading.DateTimes.{field_at, marked_field_at, is_month, is_day, at_most}
 
 -- Reads the time after a date and `T`.
@@ -22,8 +22,8 @@ day_through_second year month text = do
 
 unfoldable pub date_time_through_second : Text → Read Placed ℕ
 date_time_through_second text = do
-  year ← as_number (digits_by (digit_look (stop_of (of_date_time four_digits))) 4 text)
-  mark ← next_by (look_for hyphen (stop_of (of_date_time after_four_digits))) year.1
+  year ← as_number (digits_by (digit_look (reason_of (of_date_time four_digits))) 4 text)
+  mark ← next_by (look_for hyphen (reason_of (of_date_time after_four_digits))) year.1
   month ← marked_field_at error_of month_field is_month mark.1
   day_through_second (pos year.0) month.0 month.1
 

@@ -14,11 +14,11 @@ ghost use Rattle.ixdtf_times.specs.TimeTypes.{time_to_second};
 
 use crate::dates::{fixed_date, is_date};
 use crate::time::{WholeTime, fixed_time};
+use ixdtf_grammar::Reason;
 use ixdtf_grammar::encoding::EncodingType;
 use ixdtf_grammar::records::DateRecord;
 use ixdtf_reading::classes::is_date_time_separator;
 use ixdtf_reading::cursor::Cursor;
-use ixdtf_reading::stop::Stop;
 
 /// Consumes a date, a separator and a time in the first nineteen columns.
 ///
@@ -80,7 +80,7 @@ fn fixed_separator<'a, T: EncodingType>(cursor: &mut Cursor<'a, T>, place: usize
     ensures rest { cursor.new.rest ≡ cursor.old.rest }
     ensures looks { cursor.new.looks ≡ cursor.old.looks + 1 }
 {
-    match cursor.look_at(place, Stop::AfterDate) {
+    match cursor.look_at(place, Reason::AfterDate) {
         Ok(Some(byte)) if is_date_time_separator(byte) => Some(byte),
         _ => None,
     }

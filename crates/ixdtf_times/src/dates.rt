@@ -10,18 +10,18 @@ ghost use Rattle.ixdtf_grammar.specs.table.LineNames.DateLine.{extended_year_dig
 ghost use Rattle.ixdtf_reading.specs.reading.Clauses.{Reads, Spends, SpendsInAll, SpendsOr, Checks, YieldsAt, hyphen_look};
 ghost use Rattle.ixdtf_reading.specs.reading.FixedPlaces.{year_place, days_place, basic_days_place, date_place, ranged, date_in_range};
 ghost use Rattle.ixdtf_reading.specs.reading.Looks.{error_of, as_number, digits_by, digit_look, mark_by, mark_at};
-ghost use Rattle.ixdtf_reading.specs.reading.Stops.{stop_of};
+ghost use Rattle.ixdtf_reading.specs.reading.Stops.{reason_of};
 ghost use Rattle.ixdtf_reading.specs.reading.Dates.{date_of, year_at, four_digit_year_at, extended_year_at, date_at, days_at, month_by, day_at, line_after_month};
 
+use ixdtf_grammar::Reason;
 use ixdtf_grammar::encoding::EncodingType;
 use ixdtf_grammar::records::DateRecord;
 use ixdtf_reading::classes::{is_ascii_sign, is_hyphen, two_digit_number};
 use ixdtf_reading::cursor::Cursor;
-use ixdtf_reading::stop::Stop;
 
 /// Reads a date: in ten or eight fixed columns if the text fits them, and otherwise part by part.
 #[inline(always)]
-pub fn parse_date<'a, T: EncodingType>(cursor: &mut Cursor<'a, T>) -> Result<DateRecord, Stop>
+pub fn parse_date<'a, T: EncodingType>(cursor: &mut Cursor<'a, T>) -> Result<DateRecord, Reason>
     ensures date { Reads T.letter (λ date. date) cursor.old result cursor.new
         (date_at error_of) }
     ensures looks { Spends 16 cursor.old cursor.new }
@@ -79,7 +79,7 @@ pub fn fixed_date<'a, T: EncodingType>(cursor: &mut Cursor<'a, T>) -> Option<Dat
 #[inline(always)]
 fn take_fixed_date<'a, T: EncodingType>(
     cursor: &mut Cursor<'a, T>,
-) -> Option<Result<DateRecord, Stop>>
+) -> Option<Result<DateRecord, Reason>>
     ensures read { IfSome result (λ read. Reads T.letter (λ date. date) cursor.old read cursor.new
         (date_at error_of)) }
     ensures rest { result ≡ None → cursor.new.rest ≡ cursor.old.rest }
@@ -111,7 +111,7 @@ fn take_date<'a, T: EncodingType>(
     date: DateRecord,
     month_end: usize,
     day_end: usize,
-) -> Result<DateRecord, Stop>
+) -> Result<DateRecord, Reason>
     requires month { month_end ≤ length cursor.old.rest }
     requires day { day_end ≤ length cursor.old.rest }
     ensures ranged { YieldsAt (λ date. (date, map T.letter cursor.new.rest)) result
@@ -121,7 +121,7 @@ fn take_date<'a, T: EncodingType>(
     ensures shorter { length cursor.new.rest ≤ length cursor.old.rest }
     ensures looks { cursor.new.looks ≡ cursor.old.looks }
 {
-    if let Err(stop) = check_month(date.month, Stop::MonthRange) {
+    if let Err(stop) = check_month(date.month, Reason::MonthRange) {
         cursor.advance_by(month_end);
         return Err(stop);
     }
@@ -190,13 +190,13 @@ fn fixed_basic_days<'a, T: EncodingType>(
 
 /// Reads a date part by part.
 #[inline(always)]
-fn parse_date_parts<'a, T: EncodingType>(cursor: &mut Cursor<'a, T>) -> Result<DateRecord, Stop>
+fn parse_date_parts<'a, T: EncodingType>(cursor: &mut Cursor<'a, T>) -> Result<DateRecord, Reason>
     ensures date { Reads T.letter (λ date. date) cursor.old result cursor.new
         (date_at error_of) }
     ensures looks { Spends 6 cursor.old cursor.new }
 {
     let year = parse_date_year(cursor)?;
-    let (month, hyphened) = parse_month(cursor, Stop::AfterYear)?;
+    let (month, hyphened) = parse_month(cursor, Reason::AfterYear)?;
     parse_day(cursor, year, month, hyphened)
 }
 
@@ -205,12 +205,12 @@ fn parse_date_parts<'a, T: EncodingType>(cursor: &mut Cursor<'a, T>) -> Result<D
 fn parse_days<'a, T: EncodingType>(
     cursor: &mut Cursor<'a, T>,
     year: u16,
-) -> Result<DateRecord, Stop>
+) -> Result<DateRecord, Reason>
     ensures date { Reads T.letter (λ date. date) cursor.old result cursor.new
         (days_at error_of (pos year)) }
     ensures looks { Spends 4 cursor.old cursor.new }
 {
-    let (month, hyphened) = parse_month(cursor, Stop::AfterYear)?;
+    let (month, hyphened) = parse_month(cursor, Reason::AfterYear)?;
     parse_day(cursor, i32::from(year), month, hyphened)
 }
 
@@ -219,13 +219,13 @@ fn parse_days<'a, T: EncodingType>(
 /// Reads a year: four digits, or a sign and six digits.
 #[inline(always)]
 #[tactic(auto, using(ixdtf_reading::proofs::code::DigitClasses::digit_no_sign), unfolding(ixdtf_reading::specs::reading::Dates::year_at, ixdtf_reading::specs::reading::Looks::next_by))]
-pub fn parse_date_year<'a, T: EncodingType>(cursor: &mut Cursor<'a, T>) -> Result<i32, Stop>
+pub fn parse_date_year<'a, T: EncodingType>(cursor: &mut Cursor<'a, T>) -> Result<i32, Reason>
     ensures year { Reads T.letter (λ year. year) cursor.old result cursor.new
         (year_at error_of) }
     ensures looks { SpendsInAll 2 7 cursor.old cursor.new }
 {
-    match cursor.look(Stop::YearStart)? {
-        None => Err(Stop::YearStart),
+    match cursor.look(Reason::YearStart)? {
+        None => Err(Reason::YearStart),
         Some(byte) if byte.is_ascii_digit() => {
             cursor.advance();
             parse_four_digit_year(cursor, byte)
@@ -234,7 +234,7 @@ pub fn parse_date_year<'a, T: EncodingType>(cursor: &mut Cursor<'a, T>) -> Resul
             cursor.advance();
             parse_extended_year(cursor, byte)
         }
-        Some(_) => Err(Stop::YearStart),
+        Some(_) => Err(Reason::YearStart),
     }
 }
 
@@ -243,13 +243,13 @@ pub fn parse_date_year<'a, T: EncodingType>(cursor: &mut Cursor<'a, T>) -> Resul
 fn parse_four_digit_year<'a, T: EncodingType>(
     cursor: &mut Cursor<'a, T>,
     thousands: u8,
-) -> Result<i32, Stop>
+) -> Result<i32, Reason>
     requires digit { IsTrue (digit thousands) }
     ensures year { Reads T.letter (λ year. year) cursor.old result cursor.new
         (four_digit_year_at error_of thousands) }
     ensures looks { SpendsInAll 1 3 cursor.old cursor.new }
 {
-    let below_thousand = parse_three_digits(cursor, Stop::YearDigits)?;
+    let below_thousand = parse_three_digits(cursor, Reason::YearDigits)?;
     Ok((1000 * u32::from(thousands - b'0') + below_thousand) as i32)
 }
 
@@ -258,7 +258,7 @@ fn parse_four_digit_year<'a, T: EncodingType>(
 fn parse_extended_year<'a, T: EncodingType>(
     cursor: &mut Cursor<'a, T>,
     sign: u8,
-) -> Result<i32, Stop>
+) -> Result<i32, Reason>
     ensures year { Reads T.letter (λ year. year) cursor.old result cursor.new
         (extended_year_at error_of sign) }
     ensures looks { SpendsInAll 2 6 cursor.old cursor.new }
@@ -268,7 +268,7 @@ fn parse_extended_year<'a, T: EncodingType>(
         return Ok(value as i32);
     }
     if value == 0 {
-        return Err(Stop::MinusZeroYear);
+        return Err(Reason::MinusZeroYear);
     }
     Ok(-(value as i32))
 }
@@ -276,13 +276,13 @@ fn parse_extended_year<'a, T: EncodingType>(
 /// Reads six digits, two by two, and returns their number.
 #[inline(always)]
 #[tactic(auto, using(crate::proofs::code::YearDigits::six_digits))]
-fn parse_six_digits<'a, T: EncodingType>(cursor: &mut Cursor<'a, T>) -> Result<u32, Stop>
+fn parse_six_digits<'a, T: EncodingType>(cursor: &mut Cursor<'a, T>) -> Result<u32, Reason>
     ensures number { Reads T.letter (λ number. number) cursor.old result cursor.new
-        (λ text. as_number (digits_by (digit_look (stop_of (of_date extended_year_digits))) 6 text)) }
+        (λ text. as_number (digits_by (digit_look (reason_of (of_date extended_year_digits))) 6 text)) }
     ensures small { IfOk result (λ number. number < 1000000) }
     ensures looks { SpendsInAll 2 6 cursor.old cursor.new }
 {
-    let digits = Stop::ExtendedYearDigits;
+    let digits = Reason::ExtendedYearDigits;
     let high = cursor.two_digits(digits, digits)?;
     let middle = cursor.two_digits(digits, digits)?;
     let low = cursor.two_digits(digits, digits)?;
@@ -294,8 +294,8 @@ fn parse_six_digits<'a, T: EncodingType>(cursor: &mut Cursor<'a, T>) -> Result<u
 #[tactic(auto, unfolding(ixdtf_reading::specs::reading::Looks::digits_by))]
 fn parse_three_digits<'a, T: EncodingType>(
     cursor: &mut Cursor<'a, T>,
-    stop: Stop,
-) -> Result<u32, Stop>
+    stop: Reason,
+) -> Result<u32, Reason>
     ensures number { Reads T.letter (λ number. number) cursor.old result cursor.new
         (λ text. as_number (digits_by (digit_look stop) 3 text)) }
     ensures small { IfOk result (λ number. number < 1000) }
@@ -317,8 +317,8 @@ fn parse_three_digits<'a, T: EncodingType>(
 #[inline(always)]
 pub fn take_hyphen<'a, T: EncodingType>(
     cursor: &mut Cursor<'a, T>,
-    stop: Stop,
-) -> Result<bool, Stop>
+    stop: Reason,
+) -> Result<bool, Reason>
     ensures hyphen { Reads T.letter (λ stands. stands) cursor.old result cursor.new
         (mark_by (hyphen_look stop) hyphen) }
     ensures looks { SpendsInAll 1 1 cursor.old cursor.new }
@@ -339,17 +339,17 @@ pub fn take_hyphen<'a, T: EncodingType>(
 #[inline(always)]
 pub fn parse_month<'a, T: EncodingType>(
     cursor: &mut Cursor<'a, T>,
-    after_year: Stop,
-) -> Result<(u8, bool), Stop>
+    after_year: Reason,
+) -> Result<(u8, bool), Reason>
     ensures month { Reads T.letter (λ month. month) cursor.old result cursor.new
         (month_by error_of (hyphen_look after_year)) }
     ensures looks { SpendsOr 3 1 cursor.old result cursor.new }
     ensures few { cursor.new.looks ≤ cursor.old.looks + 3 }
 {
     let hyphened = take_hyphen(cursor, after_year)?;
-    let tens = cursor.next_digit(Stop::MonthDigits)?;
-    let ones = cursor.next_digit(Stop::MonthDigits)?;
-    let month = check_month(two_digit_number(tens, ones), Stop::MonthRange)?;
+    let tens = cursor.next_digit(Reason::MonthDigits)?;
+    let ones = cursor.next_digit(Reason::MonthDigits)?;
+    let month = check_month(two_digit_number(tens, ones), Reason::MonthRange)?;
     Ok((month, hyphened))
 }
 
@@ -360,13 +360,13 @@ fn parse_day<'a, T: EncodingType>(
     year: i32,
     month: u8,
     hyphened: bool,
-) -> Result<DateRecord, Stop>
+) -> Result<DateRecord, Reason>
     ensures date { Reads T.letter (λ date. date) cursor.old result cursor.new
         (day_at error_of year (month, hyphened)) }
     ensures looks { Spends 3 cursor.old cursor.new }
 {
     take_separator(cursor, hyphened)?;
-    let day = cursor.two_digits(Stop::DayDigits, Stop::DayDigits)?;
+    let day = cursor.two_digits(Reason::DayDigits, Reason::DayDigits)?;
     check_date(year, month, day)
 }
 
@@ -376,29 +376,29 @@ fn parse_day<'a, T: EncodingType>(
 fn take_separator<'a, T: EncodingType>(
     cursor: &mut Cursor<'a, T>,
     hyphened: bool,
-) -> Result<(), Stop>
+) -> Result<(), Reason>
     ensures separator { Reads T.letter (λ _. hyphened) cursor.old result cursor.new
         (mark_at error_of (line_after_month hyphened) hyphen) }
     ensures looks { Spends 1 cursor.old cursor.new }
 {
     if hyphened {
-        return match cursor.look(Stop::AfterHyphenedMonth)? {
+        return match cursor.look(Reason::AfterHyphenedMonth)? {
             Some(byte) if is_hyphen(byte) => {
                 cursor.advance();
                 Ok(())
             }
-            _ => Err(Stop::AfterHyphenedMonth),
+            _ => Err(Reason::AfterHyphenedMonth),
         };
     }
-    match cursor.look(Stop::AfterBasicMonth)? {
+    match cursor.look(Reason::AfterBasicMonth)? {
         Some(byte) if byte.is_ascii_digit() => Ok(()),
-        _ => Err(Stop::AfterBasicMonth),
+        _ => Err(Reason::AfterBasicMonth),
     }
 }
 
 /// Returns the month if it is 1 to 12, and otherwise `stop`.
 #[inline(always)]
-pub fn check_month(month: u8, stop: Stop) -> Result<u8, Stop>
+pub fn check_month(month: u8, stop: Reason) -> Result<u8, Reason>
     ensures { Checks (λ month. month) result month (nat_le 1 month && nat_le month 12) stop }
 {
     if month < 1 || month > 12 {
@@ -409,12 +409,12 @@ pub fn check_month(month: u8, stop: Stop) -> Result<u8, Stop>
 
 /// Returns the date if the month of the year has the day, and otherwise `DayRange`. The month is not checked.
 #[inline(always)]
-pub fn check_date(year: i32, month: u8, day: u8) -> Result<DateRecord, Stop>
+pub fn check_date(year: i32, month: u8, day: u8) -> Result<DateRecord, Reason>
     ensures { Checks (λ date. date) result (date_of year month day)
-        (nat_le 1 day && nat_le day (month_length year month)) (stop_of (of_date day_range)) }
+        (nat_le 1 day && nat_le day (month_length year month)) (reason_of (of_date day_range)) }
 {
     if !has_day(year, month, day) {
-        return Err(Stop::DayRange);
+        return Err(Reason::DayRange);
     }
     Ok(DateRecord { year, month, day })
 }

@@ -9,7 +9,7 @@ ghost use Rattle.ixdtf_grammar.specs.table.LineNames.{of_month_day};
 ghost use Rattle.ixdtf_grammar.specs.table.LineNames.MonthDayLine.{month_day_range};
 ghost use Rattle.ixdtf_reading.specs.reading.Clauses.{Reads, Checks, YieldsAt, Spends, SpendsInAll};
 ghost use Rattle.ixdtf_reading.specs.reading.Looks.{error_of};
-ghost use Rattle.ixdtf_reading.specs.reading.Stops.{stop_of};
+ghost use Rattle.ixdtf_reading.specs.reading.Stops.{reason_of};
 ghost use Rattle.ixdtf_reading.specs.reading.Dates.{date_of};
 ghost use Rattle.ixdtf_reading.specs.reading.Months.{year_month_at, marks_at, month_day_at, lone_day_at};
 ghost use Rattle.ixdtf_reading.specs.reading.FixedPlaces.{number_place, month_of_year_place, ranged_month, unmarked_at};
@@ -17,12 +17,12 @@ ghost use Rattle.ixdtf_reading.specs.reading.FixedPlaces.{number_place, month_of
 use crate::dates::{
     check_month, days_in_month, first_day, fixed_year, parse_date_year, parse_month, take_hyphen,
 };
+use ixdtf_grammar::Reason;
 use ixdtf_grammar::encoding::EncodingType;
 use ixdtf_grammar::profile::Profile;
 use ixdtf_grammar::records::DateRecord;
 use ixdtf_reading::classes::is_hyphen;
 use ixdtf_reading::cursor::Cursor;
-use ixdtf_reading::stop::Stop;
 
 // ==== Year-months ====
 
@@ -30,7 +30,7 @@ use ixdtf_reading::stop::Stop;
 #[inline(always)]
 pub fn parse_year_month_date<'a, T: EncodingType>(
     cursor: &mut Cursor<'a, T>,
-) -> Result<DateRecord, Stop>
+) -> Result<DateRecord, Reason>
     ensures date { Reads T.letter (λ date. date) cursor.old result cursor.new
         (year_month_at error_of) }
     ensures looks { Spends 12 cursor.old cursor.new }
@@ -43,11 +43,11 @@ pub fn parse_year_month_date<'a, T: EncodingType>(
 
 /// Returns the first day of a year-month if its month is 1 to 12, and otherwise `InvalidMonthRange`.
 #[inline(always)]
-fn check_year_month(first: DateRecord) -> Result<DateRecord, Stop>
+fn check_year_month(first: DateRecord) -> Result<DateRecord, Reason>
     ensures { (rest : Text) → YieldsAt (λ date. (date, rest)) result rest
         (ranged_month first rest) }
 {
-    check_month(first.month, Stop::MonthRange)?;
+    check_month(first.month, Reason::MonthRange)?;
     Ok(first)
 }
 
@@ -102,13 +102,13 @@ fn fixed_month_of<'a, T: EncodingType>(
 #[inline(always)]
 pub fn parse_year_month_parts<'a, T: EncodingType>(
     cursor: &mut Cursor<'a, T>,
-) -> Result<DateRecord, Stop>
+) -> Result<DateRecord, Reason>
     ensures date { Reads T.letter (λ date. date) cursor.old result cursor.new
         (year_month_at error_of) }
     ensures looks { SpendsInAll 5 10 cursor.old cursor.new }
 {
     let year = parse_date_year(cursor)?;
-    let (month, _) = parse_month(cursor, Stop::AfterYearInYearMonth)?;
+    let (month, _) = parse_month(cursor, Reason::AfterYearInYearMonth)?;
     Ok(DateRecord {
         year,
         month,
@@ -124,7 +124,7 @@ pub fn parse_year_month_parts<'a, T: EncodingType>(
 pub fn parse_month_day_date<'a, T: EncodingType>(
     cursor: &mut Cursor<'a, T>,
     profile: Profile,
-) -> Result<DateRecord, Stop>
+) -> Result<DateRecord, Reason>
     ensures date { Reads T.letter (λ date. date) cursor.old result cursor.new
         (month_day_at error_of profile) }
     ensures looks { Spends 10 cursor.old cursor.new }
@@ -133,10 +133,10 @@ pub fn parse_month_day_date<'a, T: EncodingType>(
         return parse_month_day_parts(cursor, profile);
     }
     if !is_hyphen(cursor.byte_at(0)) {
-        return parse_month_day_at(cursor, profile, 0, Stop::MonthDayStart);
+        return parse_month_day_at(cursor, profile, 0, Reason::MonthDayStart);
     }
     if is_hyphen(cursor.byte_at(1)) {
-        return parse_month_day_at(cursor, profile, 2, Stop::MonthDayMonthDigits);
+        return parse_month_day_at(cursor, profile, 2, Reason::MonthDayMonthDigits);
     }
     parse_month_day_parts(cursor, profile)
 }
@@ -149,8 +149,8 @@ fn parse_month_day_at<'a, T: EncodingType>(
     cursor: &mut Cursor<'a, T>,
     profile: Profile,
     start: usize,
-    first: Stop,
-) -> Result<DateRecord, Stop>
+    first: Reason,
+) -> Result<DateRecord, Reason>
     requires early { start ≤ 2 }
     requires long { start + 2 ≤ length cursor.old.rest }
     ensures date { YieldsAt (λ date. (date, map T.letter cursor.new.rest)) result (map T.letter cursor.new.rest)
@@ -161,7 +161,7 @@ fn parse_month_day_at<'a, T: EncodingType>(
         cursor.advance_by(start);
         return parse_unmarked(cursor, profile, first);
     };
-    if let Err(stop) = check_month(month, Stop::MonthDayMonthRange) {
+    if let Err(stop) = check_month(month, Reason::MonthDayMonthRange) {
         cursor.advance_by(start + 2);
         return Err(stop);
     }
@@ -200,13 +200,13 @@ fn fixed_day<'a, T: EncodingType>(cursor: &mut Cursor<'a, T>, place: usize) -> O
 pub fn parse_month_day_parts<'a, T: EncodingType>(
     cursor: &mut Cursor<'a, T>,
     profile: Profile,
-) -> Result<DateRecord, Stop>
+) -> Result<DateRecord, Reason>
     ensures date { Reads T.letter (λ date. date) cursor.old result cursor.new
         (month_day_at error_of profile) }
     ensures looks { SpendsInAll 7 7 cursor.old cursor.new }
 {
     take_marks(cursor)?;
-    parse_unmarked(cursor, profile, Stop::MonthDayMonthDigits)
+    parse_unmarked(cursor, profile, Reason::MonthDayMonthDigits)
 }
 
 /// Reads a month-day part by part, after the two hyphens that can be before its month.
@@ -214,13 +214,13 @@ pub fn parse_month_day_parts<'a, T: EncodingType>(
 fn parse_unmarked<'a, T: EncodingType>(
     cursor: &mut Cursor<'a, T>,
     profile: Profile,
-    first: Stop,
-) -> Result<DateRecord, Stop>
+    first: Reason,
+) -> Result<DateRecord, Reason>
     ensures date { Reads T.letter (λ date. date) cursor.old result cursor.new (unmarked_at first profile) }
     ensures looks { SpendsInAll 5 5 cursor.old cursor.new }
 {
-    let month = cursor.two_digits(first, Stop::MonthDayMonthDigits)?;
-    check_month(month, Stop::MonthDayMonthRange)?;
+    let month = cursor.two_digits(first, Reason::MonthDayMonthDigits)?;
+    check_month(month, Reason::MonthDayMonthRange)?;
     parse_day_of_month(cursor, profile, month)
 }
 
@@ -230,13 +230,13 @@ fn parse_day_of_month<'a, T: EncodingType>(
     cursor: &mut Cursor<'a, T>,
     profile: Profile,
     month: u8,
-) -> Result<DateRecord, Stop>
+) -> Result<DateRecord, Reason>
     ensures date { Reads T.letter (λ date. date) cursor.old result cursor.new
         (lone_day_at error_of profile month) }
     ensures looks { SpendsInAll 3 3 cursor.old cursor.new }
 {
-    take_hyphen(cursor, Stop::AfterMonthDayMonth)?;
-    let day = cursor.two_digits(Stop::MonthDayDayDigits, Stop::MonthDayDayDigits)?;
+    take_hyphen(cursor, Reason::AfterMonthDayMonth)?;
+    let day = cursor.two_digits(Reason::MonthDayDayDigits, Reason::MonthDayDayDigits)?;
     check_month_day(profile, month, day)
 }
 
@@ -247,32 +247,32 @@ fn parse_day_of_month<'a, T: EncodingType>(
 /// neither a hyphen nor a digit, returns `DateMonth`. If a hyphen is next, and no hyphen follows it, returns
 /// `MonthDayHyphen`.
 #[inline(always)]
-fn take_marks<'a, T: EncodingType>(cursor: &mut Cursor<'a, T>) -> Result<bool, Stop>
+fn take_marks<'a, T: EncodingType>(cursor: &mut Cursor<'a, T>) -> Result<bool, Reason>
     ensures marks { Reads T.letter (λ stand. stand) cursor.old result cursor.new
         (marks_at error_of) }
     ensures looks { SpendsInAll 2 2 cursor.old cursor.new }
 {
-    if !take_hyphen(cursor, Stop::MonthDayStart)? {
+    if !take_hyphen(cursor, Reason::MonthDayStart)? {
         return Ok(false);
     }
-    match cursor.look(Stop::MonthDayHyphen)? {
+    match cursor.look(Reason::MonthDayHyphen)? {
         Some(byte) if is_hyphen(byte) => {
             cursor.advance();
             Ok(true)
         }
-        _ => Err(Stop::MonthDayHyphen),
+        _ => Err(Reason::MonthDayHyphen),
     }
 }
 
 /// Returns the month-day if its month has the day in some year, and otherwise `InvalidMonthDay`. Day 0 is accepted too,
 /// but not under the strict profile.
 #[inline(always)]
-pub fn check_month_day(profile: Profile, month: u8, day: u8) -> Result<DateRecord, Stop>
+pub fn check_month_day(profile: Profile, month: u8, day: u8) -> Result<DateRecord, Reason>
     ensures { Checks (λ date. date) result (date_of (pos 0) month day)
-        (nat_le (least_day profile) day && nat_le day (greatest_day month)) (stop_of (of_month_day (month_day_range profile))) }
+        (nat_le (least_day profile) day && nat_le day (greatest_day month)) (reason_of (of_month_day (month_day_range profile))) }
 {
     if !has_month_day(profile, month, day) {
-        return Err(Stop::MonthDayRange);
+        return Err(Reason::MonthDayRange);
     }
     Ok(DateRecord {
         year: 0,

@@ -19,6 +19,7 @@ ghost use Rattle.ixdtf_reading.specs.reading.DateTimes.{num_offset_at, open_end,
 ghost use Rattle.ixdtf_reading.specs.reading.Zones.{offset_at, offset_alone_at, minute_offset_alone_at};
 
 use crate::time::{Clock, TimeShape, close_after, parse_clock};
+use ixdtf_grammar::Reason;
 use ixdtf_grammar::encoding::EncodingType;
 use ixdtf_grammar::records::{
     FullPrecisionOffset, MinutePrecisionOffset, Sign, TimeRecord, UtcOffsetRecord,
@@ -26,7 +27,6 @@ use ixdtf_grammar::records::{
 };
 use ixdtf_reading::classes::{is_annotation_open, is_ascii_sign, is_hyphen};
 use ixdtf_reading::cursor::Cursor;
-use ixdtf_reading::stop::Stop;
 
 /// What follows a core.
 #[derive(Clone, Copy)]
@@ -236,12 +236,12 @@ pub fn offset_from(sign: u8, shape: TimeShape, time: TimeRecord) -> UtcOffsetRec
 #[inline(always)]
 pub fn parse_offset_text<'a, T: EncodingType>(
     cursor: &mut Cursor<'a, T>,
-) -> Result<UtcOffsetRecord, Stop>
+) -> Result<UtcOffsetRecord, Reason>
     ensures offset { Reads T.letter (λ offset. offset) cursor.old result cursor.new
         (offset_at error_of) }
     ensures looks { Spends 15 cursor.old cursor.new }
 {
-    match cursor.look(Stop::OffsetStart)? {
+    match cursor.look(Reason::OffsetStart)? {
         Some(byte) if is_ascii_sign(byte) => {
             cursor.advance();
             if let Some(offset) = take_last_offset(cursor, byte) {
@@ -252,6 +252,6 @@ pub fn parse_offset_text<'a, T: EncodingType>(
             close_after(cursor, Clock::Offset, shape)?;
             Ok(offset_from(byte, shape, time))
         }
-        _ => Err(Stop::OffsetStart),
+        _ => Err(Reason::OffsetStart),
     }
 }

@@ -20,13 +20,14 @@ ghost use Rattle.ixdtf_reading.specs.reading.Clauses.{Reads, Spends, SpendsOr, K
 ghost use Rattle.ixdtf_reading.specs.reading.Looks.{error_of, as_number, digit_look, digits_by, look_for, next_by, letter_at};
 ghost use Rattle.ixdtf_reading.specs.reading.DateTimes.{field_at, is_month, is_day, numeric_core, secfrac_digits_at, num_offset_at, time_offset_at, secfrac_at, after_whole_second_at};
 ghost use Rattle.ixdtf_reading.specs.reading.DateTimes.{open_end, date_time_by, line_after_offset, rfc_3339_at};
-ghost use Rattle.ixdtf_reading.specs.reading.Stops.{stop_of};
+ghost use Rattle.ixdtf_reading.specs.reading.Stops.{reason_of};
 ghost use Rattle.ixdtf_times.specs.ThroughSecond.{time_through_second, day_through_second, date_time_through_second, NoDateTime};
 
 use crate::date_times::take_fixed_date_time;
 use crate::dates::{check_month, has_day};
 use crate::offsets::{sign_from, take_numeric_offset};
 use crate::time::{WholeTime, next_number, parse_fraction};
+use ixdtf_grammar::Reason;
 use ixdtf_grammar::encoding::EncodingType;
 use ixdtf_grammar::records::{
     DateRecord, Fraction, IxdtfParseRecord, MinutePrecisionOffset, UtcOffsetRecord,
@@ -36,12 +37,11 @@ use ixdtf_reading::classes::{
     is_ascii_sign, is_hyphen, is_time_designator, is_time_separator, is_utc_designator,
 };
 use ixdtf_reading::cursor::Cursor;
-use ixdtf_reading::stop::Stop;
 
 /// Consumes a colon. Returns `NonAsciiCodePoint` at a bad code unit, and `stop` at the end of the input and at any other
 /// code unit.
 #[inline(always)]
-fn take_colon<'a, T: EncodingType>(cursor: &mut Cursor<'a, T>, stop: Stop) -> Result<u8, Stop>
+fn take_colon<'a, T: EncodingType>(cursor: &mut Cursor<'a, T>, stop: Reason) -> Result<u8, Reason>
     ensures colon { Reads T.letter (λ byte. byte) cursor.old result cursor.new
         (next_by (look_for colon stop)) }
     ensures looks { Spends 1 cursor.old cursor.new }
@@ -58,7 +58,10 @@ fn take_colon<'a, T: EncodingType>(cursor: &mut Cursor<'a, T>, stop: Stop) -> Re
 /// Consumes a hyphen of a date. Returns `at_end` at the end of the input, `NonAsciiCodePoint` at a bad code unit, and
 /// `DateSeparator` at any other code unit.
 #[inline(always)]
-fn take_date_hyphen<'a, T: EncodingType>(cursor: &mut Cursor<'a, T>, stop: Stop) -> Result<u8, Stop>
+fn take_date_hyphen<'a, T: EncodingType>(
+    cursor: &mut Cursor<'a, T>,
+    stop: Reason,
+) -> Result<u8, Reason>
     ensures hyphen { Reads T.letter (λ byte. byte) cursor.old result cursor.new
         (next_by (look_for hyphen stop)) }
     ensures looks { Spends 1 cursor.old cursor.new }
@@ -75,17 +78,17 @@ fn take_date_hyphen<'a, T: EncodingType>(cursor: &mut Cursor<'a, T>, stop: Stop)
 /// Consumes `T` or `t`. Returns `NonAsciiCodePoint` at a bad code unit, and `TimeSeparator` at the end of the input and at
 /// any other code unit.
 #[inline(always)]
-fn take_time_letter<'a, T: EncodingType>(cursor: &mut Cursor<'a, T>) -> Result<u8, Stop>
+fn take_time_letter<'a, T: EncodingType>(cursor: &mut Cursor<'a, T>) -> Result<u8, Reason>
     ensures letter { Reads T.letter (λ byte. byte) cursor.old result cursor.new
-        (next_by (look_for time_letter Stop.AfterDayField)) }
+        (next_by (look_for time_letter Reason.AfterDayField)) }
     ensures looks { Spends 1 cursor.old cursor.new }
 {
-    match cursor.look(Stop::AfterDayField)? {
+    match cursor.look(Reason::AfterDayField)? {
         Some(byte) if is_time_designator(byte) => {
             cursor.advance();
             Ok(byte)
         }
-        _ => Err(Stop::AfterDayField),
+        _ => Err(Reason::AfterDayField),
     }
 }
 
@@ -94,15 +97,15 @@ fn take_time_letter<'a, T: EncodingType>(cursor: &mut Cursor<'a, T>) -> Result<u
 /// Returns `AbruptDigit` at the end of the input, `NonAsciiCodePoint` at a bad code unit, and `DateYear` at any other code
 /// unit that is not a digit.
 #[inline(always)]
-fn parse_year<'a, T: EncodingType>(cursor: &mut Cursor<'a, T>) -> Result<u16, Stop>
+fn parse_year<'a, T: EncodingType>(cursor: &mut Cursor<'a, T>) -> Result<u16, Reason>
     ensures number { Reads T.letter (λ number. number) cursor.old result cursor.new
-        (λ text. as_number (digits_by (digit_look (stop_of (of_date_time four_digits))) 4 text)) }
+        (λ text. as_number (digits_by (digit_look (reason_of (of_date_time four_digits))) 4 text)) }
     ensures looks { SpendsOr 1 0 cursor.old result cursor.new }
 {
-    let thousands = cursor.next_digit(Stop::FourDigits)?;
-    let hundreds = cursor.next_digit(Stop::FourDigits)?;
-    let tens = cursor.next_digit(Stop::FourDigits)?;
-    let ones = cursor.next_digit(Stop::FourDigits)?;
+    let thousands = cursor.next_digit(Reason::FourDigits)?;
+    let hundreds = cursor.next_digit(Reason::FourDigits)?;
+    let tens = cursor.next_digit(Reason::FourDigits)?;
+    let ones = cursor.next_digit(Reason::FourDigits)?;
     Ok(
         1000 * u16::from(thousands - b'0')
             + 100 * u16::from(hundreds - b'0')
@@ -113,13 +116,13 @@ fn parse_year<'a, T: EncodingType>(cursor: &mut Cursor<'a, T>) -> Result<u16, St
 
 /// Reads a month, 01 to 12. Any other number is `InvalidMonthRange`.
 #[inline(always)]
-fn parse_month<'a, T: EncodingType>(cursor: &mut Cursor<'a, T>) -> Result<u8, Stop>
+fn parse_month<'a, T: EncodingType>(cursor: &mut Cursor<'a, T>) -> Result<u8, Reason>
     ensures month { Reads T.letter (λ month. month) cursor.old result cursor.new
         (field_at error_of month_field is_month) }
     ensures looks { SpendsOr 2 0 cursor.old result cursor.new }
 {
-    let month = cursor.two_digits(Stop::MonthFieldDigits, Stop::MonthFieldDigits)?;
-    check_month(month, Stop::MonthFieldRange)
+    let month = cursor.two_digits(Reason::MonthFieldDigits, Reason::MonthFieldDigits)?;
+    check_month(month, Reason::MonthFieldRange)
 }
 
 /// Reads a day. If the month of the year does not have the day, returns `InvalidDayRange`.
@@ -128,14 +131,14 @@ fn parse_day<'a, T: EncodingType>(
     cursor: &mut Cursor<'a, T>,
     year: u16,
     month: u8,
-) -> Result<u8, Stop>
+) -> Result<u8, Reason>
     ensures day { Reads T.letter (λ day. day) cursor.old result cursor.new
         (field_at error_of day_field (is_day (pos year) month)) }
     ensures looks { SpendsOr 2 0 cursor.old result cursor.new }
 {
-    let day = cursor.two_digits(Stop::DayFieldDigits, Stop::DayFieldDigits)?;
+    let day = cursor.two_digits(Reason::DayFieldDigits, Reason::DayFieldDigits)?;
     if !has_day(i32::from(year), month, day) {
-        return Err(Stop::DayFieldRange);
+        return Err(Reason::DayFieldRange);
     }
     Ok(day)
 }
@@ -146,7 +149,7 @@ fn parse_time_offset<'a, T: EncodingType>(
     cursor: &mut Cursor<'a, T>,
     lead: u8,
     found: &mut IxdtfParseRecord<'a, T>,
-) -> Result<(), Stop>
+) -> Result<(), Reason>
     ensures offset { (date : DateRecord) (time : TimeRecord) → found.old.date ≡ Some date → found.old.time ≡ Some time →
         Reads T.letter (λ _. core_in found.new) cursor.old result cursor.new
         (time_offset_at error_of open_end date time lead) }
@@ -168,28 +171,28 @@ fn parse_time_offset<'a, T: EncodingType>(
 
 /// Consumes the first code unit of a time offset, after the digits of a fraction, and returns it.
 #[inline(always)]
-fn take_lead<'a, T: EncodingType>(cursor: &mut Cursor<'a, T>) -> Result<u8, Stop>
+fn take_lead<'a, T: EncodingType>(cursor: &mut Cursor<'a, T>) -> Result<u8, Reason>
     ensures lead { Reads T.letter (λ byte. byte) cursor.old result cursor.new
         (letter_at error_of (of_date_time after_secfrac)) }
     ensures looks { Spends 1 cursor.old cursor.new }
 {
-    match cursor.look(Stop::AfterSecfrac)? {
+    match cursor.look(Reason::AfterSecfrac)? {
         Some(byte) if byte.is_ascii_digit() || is_ascii_sign(byte) || is_utc_designator(byte) => {
             cursor.advance();
             Ok(byte)
         }
-        _ => Err(Stop::AfterSecfrac),
+        _ => Err(Reason::AfterSecfrac),
     }
 }
 
 /// Reads the digits of a fraction after its `.`.
 #[inline(always)]
-fn parse_secfrac<'a, T: EncodingType>(cursor: &mut Cursor<'a, T>) -> Result<Fraction, Stop>
+fn parse_secfrac<'a, T: EncodingType>(cursor: &mut Cursor<'a, T>) -> Result<Fraction, Reason>
     ensures fraction { Reads T.letter (λ fraction. fraction) cursor.old result cursor.new
         (secfrac_digits_at error_of) }
     ensures looks { Spends 2 cursor.old cursor.new }
 {
-    parse_fraction(cursor, Stop::AfterPoint, Stop::AfterSecfrac)
+    parse_fraction(cursor, Reason::AfterPoint, Reason::AfterSecfrac)
 }
 
 /// Reads the digits of a fraction after its `.`, and the offset after the fraction. Writes the time and the offset into the
@@ -199,7 +202,7 @@ fn parse_fractional<'a, T: EncodingType>(
     cursor: &mut Cursor<'a, T>,
     whole: WholeTime,
     found: &mut IxdtfParseRecord<'a, T>,
-) -> Result<(), Stop>
+) -> Result<(), Reason>
     ensures rest { (date : DateRecord) → found.old.date ≡ Some date →
         Reads T.letter (λ _. core_in found.new) cursor.old result cursor.new
         (secfrac_at error_of open_end date whole.hour whole.minute whole.second) }
@@ -220,14 +223,14 @@ fn parse_after_seconds<'a, T: EncodingType>(
     date: DateRecord,
     whole: WholeTime,
     found: &mut IxdtfParseRecord<'a, T>,
-) -> Result<(), Stop>
+) -> Result<(), Reason>
     ensures rest { Reads T.letter (λ _. core_in found.new) cursor.old result cursor.new
         (after_whole_second_at error_of open_end date whole.hour whole.minute whole.second) }
     ensures kept { KeepsBrackets found.old found.new }
     ensures looks { Spends 12 cursor.old cursor.new }
 {
     found.date = Some(date);
-    match cursor.look(Stop::AfterSecondField)? {
+    match cursor.look(Reason::AfterSecondField)? {
         Some(byte) if byte == b'.' => {
             cursor.advance();
             parse_fractional(cursor, whole, found)
@@ -237,7 +240,7 @@ fn parse_after_seconds<'a, T: EncodingType>(
             found.time = Some(whole.with_fraction(None));
             parse_time_offset(cursor, byte, found)
         }
-        _ => Err(Stop::AfterSecondField),
+        _ => Err(Reason::AfterSecondField),
     }
 }
 
@@ -266,28 +269,28 @@ fn take_fixed_rfc3339<'a, T: EncodingType>(
 fn parse_offset_by_numbers<'a, T: EncodingType>(
     cursor: &mut Cursor<'a, T>,
     sign: u8,
-) -> Result<MinutePrecisionOffset, Stop>
+) -> Result<MinutePrecisionOffset, Reason>
     ensures offset { (date : DateRecord) (time : TimeRecord) →
         Reads T.letter (λ offset. numeric_core date time offset) cursor.old result cursor.new
         (num_offset_at error_of open_end date time sign) }
     ensures looks { Spends 3 cursor.old cursor.new }
 {
-    let hour_digits = Stop::OffsetHourFieldDigits;
+    let hour_digits = Reason::OffsetHourFieldDigits;
     let offset_hour = next_number(
         cursor,
         23,
         hour_digits,
         hour_digits,
-        Stop::OffsetHourFieldRange,
+        Reason::OffsetHourFieldRange,
     )?;
-    take_colon(cursor, Stop::AfterOffsetHourField)?;
-    let minute_digits = Stop::OffsetMinuteFieldDigits;
+    take_colon(cursor, Reason::AfterOffsetHourField)?;
+    let minute_digits = Reason::OffsetMinuteFieldDigits;
     let offset_minute = next_number(
         cursor,
         59,
         minute_digits,
         minute_digits,
-        Stop::OffsetMinuteFieldRange,
+        Reason::OffsetMinuteFieldRange,
     )?;
     Ok(MinutePrecisionOffset {
         sign: sign_from(sign),
@@ -298,30 +301,30 @@ fn parse_offset_by_numbers<'a, T: EncodingType>(
 
 /// Consumes a time, and returns the second of this time. The `T` or `t` before it has been consumed.
 #[inline(always)]
-fn pass_time<'a, T: EncodingType>(cursor: &mut Cursor<'a, T>) -> Result<u8, Stop>
+fn pass_time<'a, T: EncodingType>(cursor: &mut Cursor<'a, T>) -> Result<u8, Reason>
     ensures time { Reads T.letter (λ second. second) cursor.old result cursor.new
         time_through_second }
     ensures looks { Spends 4 cursor.old cursor.new }
 {
-    let hour_digits = Stop::HourFieldDigits;
-    next_number(cursor, 23, hour_digits, hour_digits, Stop::HourFieldRange)?;
-    take_colon(cursor, Stop::AfterHourField)?;
-    let minute_digits = Stop::MinuteFieldDigits;
+    let hour_digits = Reason::HourFieldDigits;
+    next_number(cursor, 23, hour_digits, hour_digits, Reason::HourFieldRange)?;
+    take_colon(cursor, Reason::AfterHourField)?;
+    let minute_digits = Reason::MinuteFieldDigits;
     next_number(
         cursor,
         59,
         minute_digits,
         minute_digits,
-        Stop::MinuteFieldRange,
+        Reason::MinuteFieldRange,
     )?;
-    take_colon(cursor, Stop::AfterMinuteField)?;
-    let second_digits = Stop::SecondFieldDigits;
+    take_colon(cursor, Reason::AfterMinuteField)?;
+    let second_digits = Reason::SecondFieldDigits;
     next_number(
         cursor,
         60,
         second_digits,
         second_digits,
-        Stop::SecondFieldRange,
+        Reason::SecondFieldRange,
     )
 }
 
@@ -332,7 +335,7 @@ fn pass_day_and_time<'a, T: EncodingType>(
     cursor: &mut Cursor<'a, T>,
     year: u16,
     month: u8,
-) -> Result<u8, Stop>
+) -> Result<u8, Reason>
     ensures day { Reads T.letter (λ second. second) cursor.old result cursor.new
         (day_through_second (pos year) month) }
     ensures looks { Spends 5 cursor.old cursor.new }
@@ -344,22 +347,22 @@ fn pass_day_and_time<'a, T: EncodingType>(
 
 /// Consumes a date, then `T` or `t`, and then a time. They are read number by number. Returns the second of the time.
 #[inline(always)]
-fn pass_date_and_time<'a, T: EncodingType>(cursor: &mut Cursor<'a, T>) -> Result<u8, Stop>
+fn pass_date_and_time<'a, T: EncodingType>(cursor: &mut Cursor<'a, T>) -> Result<u8, Reason>
     ensures date_time { Reads T.letter (λ second. second) cursor.old result cursor.new
         date_time_through_second }
     ensures looks { Spends 7 cursor.old cursor.new }
 {
     let year = parse_year(cursor)?;
-    take_date_hyphen(cursor, Stop::AfterFourDigits)?;
+    take_date_hyphen(cursor, Reason::AfterFourDigits)?;
     let month = parse_month(cursor)?;
-    take_date_hyphen(cursor, Stop::AfterMonthField)?;
+    take_date_hyphen(cursor, Reason::AfterMonthField)?;
     pass_day_and_time(cursor, year, month)
 }
 
 /// Returns the first error of a text that does not begin with a date, then `T` or `t`, and then a time. The text is
 /// read number by number. The function is not inlined, because it is called only for a text with an error.
 #[inline(never)]
-fn first_stop<'a, T: EncodingType>(cursor: &mut Cursor<'a, T>) -> Stop
+fn first_stop<'a, T: EncodingType>(cursor: &mut Cursor<'a, T>) -> Reason
     requires no_date_time { NoDateTime (map T.letter cursor.old.rest) }
     ensures stop { date_time_by error_of open_end (map T.letter cursor.old.rest) ≡
         Err (result, map T.letter cursor.new.rest) }
@@ -367,7 +370,7 @@ fn first_stop<'a, T: EncodingType>(cursor: &mut Cursor<'a, T>) -> Stop
 {
     match pass_date_and_time(cursor) {
         // This does not happen: it is proved that such a text has an error.
-        Ok(_) => Stop::AfterSecondField,
+        Ok(_) => Reason::AfterSecondField,
         Err(stop) => stop,
     }
 }
@@ -377,7 +380,7 @@ fn first_stop<'a, T: EncodingType>(cursor: &mut Cursor<'a, T>) -> Stop
 pub fn parse_internet_date_time<'a, T: EncodingType>(
     cursor: &mut Cursor<'a, T>,
     found: &mut IxdtfParseRecord<'a, T>,
-) -> Result<(), Stop>
+) -> Result<(), Reason>
     ensures date_time { Reads T.letter (λ _. core_in found.new) cursor.old result cursor.new
         (date_time_by error_of open_end) }
     ensures kept { KeepsBrackets found.old found.new }
@@ -400,7 +403,7 @@ pub fn parse_internet_date_time<'a, T: EncodingType>(
 pub fn parse_rfc3339_text<'a, T: EncodingType>(
     cursor: &mut Cursor<'a, T>,
     found: &mut IxdtfParseRecord<'a, T>,
-) -> Result<(), Stop>
+) -> Result<(), Reason>
     ensures date_time { Reads T.letter (λ _. parsed_with (core_in found.new) None) cursor.old result cursor.new
         (rfc_3339_at error_of) }
     ensures kept { KeepsBrackets found.old found.new }
@@ -410,13 +413,13 @@ pub fn parse_rfc3339_text<'a, T: EncodingType>(
     cursor.close(stop_after_offset(found.offset))
 }
 
-/// Returns the `Stop` of the table line after a date-time with this offset.
+/// Returns the `Reason` of the table line after a date-time with this offset.
 #[inline(always)]
-pub fn stop_after_offset(offset: Option<UtcOffsetRecordOrZ>) -> Stop
-    ensures { result ≡ stop_of (line_after_offset offset) }
+pub fn stop_after_offset(offset: Option<UtcOffsetRecordOrZ>) -> Reason
+    ensures { result ≡ reason_of (line_after_offset offset) }
 {
     match offset {
-        Some(UtcOffsetRecordOrZ::Z) => Stop::AfterUtc,
-        Some(UtcOffsetRecordOrZ::Offset(_)) | None => Stop::AfterOffsetMinuteField,
+        Some(UtcOffsetRecordOrZ::Z) => Reason::AfterUtc,
+        Some(UtcOffsetRecordOrZ::Offset(_)) | None => Reason::AfterOffsetMinuteField,
     }
 }

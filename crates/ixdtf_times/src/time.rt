@@ -14,14 +14,14 @@ ghost use Rattle.ixdtf_reading.specs.reading.Clauses.{Reads, Spends, SpendsOr, C
 ghost use Rattle.ixdtf_times.specs.TimeTypes.{clock_of, clock_line_of, shape_of, open_time_of, time_to_second};
 ghost use Rattle.ixdtf_reading.specs.reading.FixedPlaces.{time_place, time_in_range};
 ghost use Rattle.ixdtf_reading.specs.reading.Looks.{error_of, peek_by, seen};
-ghost use Rattle.ixdtf_reading.specs.reading.Stops.{stop_of};
+ghost use Rattle.ixdtf_reading.specs.reading.Stops.{reason_of};
 ghost use Rattle.ixdtf_reading.specs.reading.Times.{time_of, second_start, clock_at, fraction_at, line_after, minute_at, minutes_shape, minute_past, number_at, second_at, second_past, after_second_at};
 
+use ixdtf_grammar::Reason;
 use ixdtf_grammar::encoding::EncodingType;
 use ixdtf_grammar::records::{Fraction, LeadingDigits, TimeRecord};
 use ixdtf_reading::classes::{is_decimal_separator, is_time_separator};
 use ixdtf_reading::cursor::Cursor;
-use ixdtf_reading::stop::Stop;
 
 /// What a function reads: a time, or one of two kinds of offsets. After its sign, an offset is written like a time.
 #[derive(Clone, Copy)]
@@ -59,10 +59,10 @@ impl Clock {
         }
     }
 
-    /// Returns the `Stop` of the table line after a time of this shape.
+    /// Returns the `Reason` of the table line after a time of this shape.
     #[inline(always)]
-    pub fn stop_after(self, shape: TimeShape) -> Stop
-        ensures { result ≡ stop_of (line_after (clock_of self) (shape_of shape)) }
+    pub fn stop_after(self, shape: TimeShape) -> Reason
+        ensures { result ≡ reason_of (line_after (clock_of self) (shape_of shape)) }
     {
         match shape {
             TimeShape::Hours => self.stop(ClockLine::AfterHour),
@@ -73,10 +73,10 @@ impl Clock {
         }
     }
 
-    /// Returns the `Stop` of the table line after a minute. `colons` says whether a colon is before the minute.
+    /// Returns the `Reason` of the table line after a minute. `colons` says whether a colon is before the minute.
     #[inline(always)]
-    fn stop_after_minute(self, colons: bool) -> Stop
-        ensures { result ≡ stop_of (line_after (clock_of self) (minutes_shape colons)) }
+    fn stop_after_minute(self, colons: bool) -> Reason
+        ensures { result ≡ reason_of (line_after (clock_of self) (minutes_shape colons)) }
     {
         if colons {
             self.stop(ClockLine::AfterColonMinute)
@@ -85,14 +85,14 @@ impl Clock {
         }
     }
 
-    /// Returns the `Stop` of a table line of the clock.
+    /// Returns the `Reason` of a table line of the clock.
     #[inline(always)]
-    pub fn stop(self, line: ClockLine) -> Stop
-        ensures { result ≡ stop_of (of_clock (clock_of self) (clock_line_of line)) }
+    pub fn stop(self, line: ClockLine) -> Reason
+        ensures { result ≡ reason_of (of_clock (clock_of self) (clock_line_of line)) }
     {
         match self {
-            Clock::Time => line.time_stop(),
-            Clock::Offset => line.offset_stop(),
+            Clock::Time => line.time_reason(),
+            Clock::Offset => line.offset_reason(),
             Clock::MinuteOffset => line.zone_offset_stop(),
         }
     }
@@ -117,69 +117,69 @@ pub enum ClockLine {
 }
 
 impl ClockLine {
-    /// Returns the `Stop` of the line of times.
+    /// Returns the `Reason` of the line of times.
     #[inline(always)]
-    fn time_stop(self) -> Stop
-        ensures { result ≡ stop_of (of_clock clocks.Time (clock_line_of self)) }
+    fn time_reason(self) -> Reason
+        ensures { result ≡ reason_of (of_clock clocks.Time (clock_line_of self)) }
     {
         match self {
-            ClockLine::HourStart => Stop::HourStart,
-            ClockLine::HourDigit => Stop::HourDigit,
-            ClockLine::HourRange => Stop::HourRange,
-            ClockLine::AfterHour => Stop::AfterHour,
-            ClockLine::MinuteDigits => Stop::MinuteDigits,
-            ClockLine::MinuteRange => Stop::MinuteRange,
-            ClockLine::AfterBasicMinute => Stop::AfterBasicMinute,
-            ClockLine::AfterColonMinute => Stop::AfterColonMinute,
-            ClockLine::SecondDigits => Stop::SecondDigits,
-            ClockLine::SecondRange => Stop::SecondRange,
-            ClockLine::AfterSecond => Stop::AfterSecond,
-            ClockLine::FractionStart => Stop::FractionStart,
-            ClockLine::AfterFraction => Stop::AfterFraction,
+            ClockLine::HourStart => Reason::HourStart,
+            ClockLine::HourDigit => Reason::HourDigit,
+            ClockLine::HourRange => Reason::HourRange,
+            ClockLine::AfterHour => Reason::AfterHour,
+            ClockLine::MinuteDigits => Reason::MinuteDigits,
+            ClockLine::MinuteRange => Reason::MinuteRange,
+            ClockLine::AfterBasicMinute => Reason::AfterBasicMinute,
+            ClockLine::AfterColonMinute => Reason::AfterColonMinute,
+            ClockLine::SecondDigits => Reason::SecondDigits,
+            ClockLine::SecondRange => Reason::SecondRange,
+            ClockLine::AfterSecond => Reason::AfterSecond,
+            ClockLine::FractionStart => Reason::FractionStart,
+            ClockLine::AfterFraction => Reason::AfterFraction,
         }
     }
 
-    /// Returns the `Stop` of the line of offsets.
+    /// Returns the `Reason` of the line of offsets.
     #[inline(always)]
-    fn offset_stop(self) -> Stop
-        ensures { result ≡ stop_of (of_clock clocks.Offset (clock_line_of self)) }
+    fn offset_reason(self) -> Reason
+        ensures { result ≡ reason_of (of_clock clocks.Offset (clock_line_of self)) }
     {
         match self {
-            ClockLine::HourStart => Stop::OffsetHourStart,
-            ClockLine::HourDigit => Stop::OffsetHourDigit,
-            ClockLine::HourRange => Stop::OffsetHourRange,
-            ClockLine::AfterHour => Stop::OffsetAfterHour,
-            ClockLine::MinuteDigits => Stop::OffsetMinuteDigits,
-            ClockLine::MinuteRange => Stop::OffsetMinuteRange,
-            ClockLine::AfterBasicMinute => Stop::OffsetAfterBasicMinute,
-            ClockLine::AfterColonMinute => Stop::OffsetAfterColonMinute,
-            ClockLine::SecondDigits => Stop::OffsetSecondDigits,
-            ClockLine::SecondRange => Stop::OffsetSecondRange,
-            ClockLine::AfterSecond => Stop::OffsetAfterSecond,
-            ClockLine::FractionStart => Stop::OffsetFractionStart,
-            ClockLine::AfterFraction => Stop::OffsetAfterFraction,
+            ClockLine::HourStart => Reason::OffsetHourStart,
+            ClockLine::HourDigit => Reason::OffsetHourDigit,
+            ClockLine::HourRange => Reason::OffsetHourRange,
+            ClockLine::AfterHour => Reason::OffsetAfterHour,
+            ClockLine::MinuteDigits => Reason::OffsetMinuteDigits,
+            ClockLine::MinuteRange => Reason::OffsetMinuteRange,
+            ClockLine::AfterBasicMinute => Reason::OffsetAfterBasicMinute,
+            ClockLine::AfterColonMinute => Reason::OffsetAfterColonMinute,
+            ClockLine::SecondDigits => Reason::OffsetSecondDigits,
+            ClockLine::SecondRange => Reason::OffsetSecondRange,
+            ClockLine::AfterSecond => Reason::OffsetAfterSecond,
+            ClockLine::FractionStart => Reason::OffsetFractionStart,
+            ClockLine::AfterFraction => Reason::OffsetAfterFraction,
         }
     }
 
-    /// Returns the `Stop` of the line of offsets without seconds.
+    /// Returns the `Reason` of the line of offsets without seconds.
     #[inline(always)]
-    fn zone_offset_stop(self) -> Stop
-        ensures { result ≡ stop_of (of_clock clocks.MinuteOffset (clock_line_of self)) }
+    fn zone_offset_stop(self) -> Reason
+        ensures { result ≡ reason_of (of_clock clocks.MinuteOffset (clock_line_of self)) }
     {
         match self {
-            ClockLine::HourStart => Stop::ZoneOffsetHourStart,
-            ClockLine::HourDigit => Stop::ZoneOffsetHourDigit,
-            ClockLine::HourRange => Stop::ZoneOffsetHourRange,
-            ClockLine::AfterHour => Stop::ZoneOffsetAfterHour,
-            ClockLine::MinuteDigits => Stop::ZoneOffsetMinuteDigits,
-            ClockLine::MinuteRange => Stop::ZoneOffsetMinuteRange,
-            ClockLine::AfterBasicMinute => Stop::ZoneOffsetAfterBasicMinute,
-            ClockLine::AfterColonMinute => Stop::ZoneOffsetAfterColonMinute,
-            ClockLine::SecondDigits => Stop::ZoneOffsetSecondDigits,
-            ClockLine::SecondRange => Stop::ZoneOffsetSecondRange,
-            ClockLine::AfterSecond => Stop::ZoneOffsetAfterSecond,
-            ClockLine::FractionStart => Stop::ZoneOffsetFractionStart,
-            ClockLine::AfterFraction => Stop::ZoneOffsetAfterFraction,
+            ClockLine::HourStart => Reason::ZoneOffsetHourStart,
+            ClockLine::HourDigit => Reason::ZoneOffsetHourDigit,
+            ClockLine::HourRange => Reason::ZoneOffsetHourRange,
+            ClockLine::AfterHour => Reason::ZoneOffsetAfterHour,
+            ClockLine::MinuteDigits => Reason::ZoneOffsetMinuteDigits,
+            ClockLine::MinuteRange => Reason::ZoneOffsetMinuteRange,
+            ClockLine::AfterBasicMinute => Reason::ZoneOffsetAfterBasicMinute,
+            ClockLine::AfterColonMinute => Reason::ZoneOffsetAfterColonMinute,
+            ClockLine::SecondDigits => Reason::ZoneOffsetSecondDigits,
+            ClockLine::SecondRange => Reason::ZoneOffsetSecondRange,
+            ClockLine::AfterSecond => Reason::ZoneOffsetAfterSecond,
+            ClockLine::FractionStart => Reason::ZoneOffsetFractionStart,
+            ClockLine::AfterFraction => Reason::ZoneOffsetAfterFraction,
         }
     }
 }
@@ -284,7 +284,7 @@ fn write_time(time: &mut TimeRecord, hour: u8, minute: u8, second: u8, fraction:
 
 /// Returns the number if it is at most `greatest`, and otherwise `stop`.
 #[inline(always)]
-fn check_most(number: u8, greatest: u8, stop: Stop) -> Result<u8, Stop>
+fn check_most(number: u8, greatest: u8, stop: Reason) -> Result<u8, Reason>
     ensures { Checks (λ number. number) result number (nat_le number greatest) stop }
 {
     if number > greatest {
@@ -301,10 +301,10 @@ fn check_most(number: u8, greatest: u8, stop: Stop) -> Result<u8, Stop>
 pub fn next_number<'a, T: EncodingType>(
     cursor: &mut Cursor<'a, T>,
     greatest: u8,
-    first: Stop,
-    second: Stop,
-    past: Stop,
-) -> Result<u8, Stop>
+    first: Reason,
+    second: Reason,
+    past: Reason,
+) -> Result<u8, Reason>
     ensures number { Reads T.letter (λ number. number) cursor.old result cursor.new
         (number_at_most first second greatest past) }
     ensures looks { SpendsOr 2 0 cursor.old result cursor.new }
@@ -323,7 +323,7 @@ pub fn parse_clock<'a, T: EncodingType>(
     cursor: &mut Cursor<'a, T>,
     clock: Clock,
     time: &mut TimeRecord,
-) -> Result<TimeShape, Stop>
+) -> Result<TimeShape, Reason>
     ensures time { Reads T.letter (open_time_of time.new) cursor.old result cursor.new
         (clock_at error_of (clock_of clock)) }
     ensures looks { Spends 5 cursor.old cursor.new }
@@ -336,9 +336,9 @@ pub fn parse_clock<'a, T: EncodingType>(
 pub fn parse_clock_from<'a, T: EncodingType>(
     cursor: &mut Cursor<'a, T>,
     clock: Clock,
-    first: Stop,
+    first: Reason,
     time: &mut TimeRecord,
-) -> Result<TimeShape, Stop>
+) -> Result<TimeShape, Reason>
     ensures time { Reads T.letter (open_time_of time.new) cursor.old result cursor.new
         (clock_by first (clock_of clock)) }
     ensures looks { Spends 5 cursor.old cursor.new }
@@ -369,7 +369,7 @@ fn parse_minute<'a, T: EncodingType>(
     colons: bool,
     hour: u8,
     time: &mut TimeRecord,
-) -> Result<TimeShape, Stop>
+) -> Result<TimeShape, Reason>
     ensures time { Reads T.letter (open_time_of time.new) cursor.old result cursor.new
         (minute_at error_of (clock_of clock) colons hour) }
     ensures looks { Spends 4 cursor.old cursor.new }
@@ -402,9 +402,9 @@ fn look_after<'a, T: EncodingType>(
     cursor: &mut Cursor<'a, T>,
     clock: Clock,
     shape: TimeShape,
-) -> Result<Option<u8>, Stop>
+) -> Result<Option<u8>, Reason>
     ensures letter { YieldsAt (λ found. found) result (map T.letter cursor.old.rest)
-        (seen (stop_of (line_after (clock_of clock) (shape_of shape))) (map T.letter cursor.old.rest)) }
+        (seen (reason_of (line_after (clock_of clock) (shape_of shape))) (map T.letter cursor.old.rest)) }
     ensures rest { cursor.new.rest ≡ cursor.old.rest }
     ensures looks { cursor.new.looks ≡ cursor.old.looks + 1 }
 {
@@ -417,9 +417,9 @@ pub fn close_after<'a, T: EncodingType>(
     cursor: &mut Cursor<'a, T>,
     clock: Clock,
     shape: TimeShape,
-) -> Result<(), Stop>
+) -> Result<(), Reason>
     ensures end { Reads T.letter (λ _. None) cursor.old result cursor.new
-        (peek_by (end_look (stop_of (line_after (clock_of clock) (shape_of shape))))) }
+        (peek_by (end_look (reason_of (line_after (clock_of clock) (shape_of shape))))) }
     ensures rest { cursor.new.rest ≡ cursor.old.rest }
     ensures looks { Spends 1 cursor.old cursor.new }
 {
@@ -432,9 +432,9 @@ fn look_after_minute<'a, T: EncodingType>(
     cursor: &mut Cursor<'a, T>,
     clock: Clock,
     colons: bool,
-) -> Result<Option<u8>, Stop>
+) -> Result<Option<u8>, Reason>
     ensures letter { YieldsAt (λ found. found) result (map T.letter cursor.old.rest)
-        (seen (stop_of (line_after (clock_of clock) (minutes_shape colons))) (map T.letter cursor.old.rest)) }
+        (seen (reason_of (line_after (clock_of clock) (minutes_shape colons))) (map T.letter cursor.old.rest)) }
     ensures rest { cursor.new.rest ≡ cursor.old.rest }
     ensures looks { cursor.new.looks ≡ cursor.old.looks + 1 }
 {
@@ -446,7 +446,7 @@ fn look_after_minute<'a, T: EncodingType>(
 fn parse_clock_fraction<'a, T: EncodingType>(
     cursor: &mut Cursor<'a, T>,
     clock: Clock,
-) -> Result<Fraction, Stop>
+) -> Result<Fraction, Reason>
     ensures fraction { Reads T.letter (λ fraction. fraction) cursor.old result cursor.new
         (fraction_at error_of (clock_of clock)) }
     ensures looks { Spends 2 cursor.old cursor.new }
@@ -461,10 +461,10 @@ fn parse_clock_fraction<'a, T: EncodingType>(
 fn next_hour<'a, T: EncodingType>(
     cursor: &mut Cursor<'a, T>,
     clock: Clock,
-    first: Stop,
-) -> Result<u8, Stop>
+    first: Reason,
+) -> Result<u8, Reason>
     ensures hour { Reads T.letter (λ number. number) cursor.old result cursor.new
-        (number_at_most first (stop_of (of_clock (clock_of clock) hour_digit)) 23 (stop_of (of_clock (clock_of clock) hour_range))) }
+        (number_at_most first (reason_of (of_clock (clock_of clock) hour_digit)) 23 (reason_of (of_clock (clock_of clock) hour_range))) }
     ensures looks { SpendsOr 2 0 cursor.old result cursor.new }
 {
     let second = clock.stop(ClockLine::HourDigit);
@@ -474,7 +474,7 @@ fn next_hour<'a, T: EncodingType>(
 
 /// Consumes the two digits of a minute, and returns their number.
 #[inline(always)]
-fn next_minute<'a, T: EncodingType>(cursor: &mut Cursor<'a, T>, clock: Clock) -> Result<u8, Stop>
+fn next_minute<'a, T: EncodingType>(cursor: &mut Cursor<'a, T>, clock: Clock) -> Result<u8, Reason>
     ensures minute { Reads T.letter (λ number. number) cursor.old result cursor.new
         (number_at error_of (of_clock (clock_of clock) minute_digits) 59 (minute_past (clock_of clock))) }
     ensures looks { SpendsOr 2 0 cursor.old result cursor.new }
@@ -486,7 +486,7 @@ fn next_minute<'a, T: EncodingType>(cursor: &mut Cursor<'a, T>, clock: Clock) ->
 
 /// Consumes the two digits of a second, and returns their number: at most 60 in a time, and 59 in an offset.
 #[inline(always)]
-fn next_second<'a, T: EncodingType>(cursor: &mut Cursor<'a, T>, clock: Clock) -> Result<u8, Stop>
+fn next_second<'a, T: EncodingType>(cursor: &mut Cursor<'a, T>, clock: Clock) -> Result<u8, Reason>
     ensures second { Reads T.letter (λ number. number) cursor.old result cursor.new
         (number_at error_of (of_clock (clock_of clock) second_digits) (greatest_second (clock_of clock)) (second_past (clock_of clock))) }
     ensures looks { SpendsOr 2 0 cursor.old result cursor.new }
@@ -504,7 +504,7 @@ fn parse_second<'a, T: EncodingType>(
     hour: u8,
     minute: u8,
     time: &mut TimeRecord,
-) -> Result<TimeShape, Stop>
+) -> Result<TimeShape, Reason>
     ensures time { Reads T.letter (open_time_of time.new) cursor.old result cursor.new
         (second_at error_of (clock_of clock) hour minute) }
     ensures looks { Spends 3 cursor.old cursor.new }
@@ -522,7 +522,7 @@ pub fn parse_after_second<'a, T: EncodingType>(
     minute: u8,
     second: u8,
     time: &mut TimeRecord,
-) -> Result<TimeShape, Stop>
+) -> Result<TimeShape, Reason>
     ensures time { Reads T.letter (open_time_of time.new) cursor.old result cursor.new
         (after_second_at error_of (clock_of clock) hour minute second) }
     ensures looks { Spends 3 cursor.old cursor.new }
@@ -547,9 +547,9 @@ pub fn parse_after_second<'a, T: EncodingType>(
 #[inline(always)]
 pub fn parse_fraction<'a, T: EncodingType>(
     cursor: &mut Cursor<'a, T>,
-    start: Stop,
-    digits: Stop,
-) -> Result<Fraction, Stop>
+    start: Reason,
+    digits: Reason,
+) -> Result<Fraction, Reason>
     ensures fraction { Reads T.letter (λ fraction. fraction) cursor.old result cursor.new
         (fraction_by start digits) }
     ensures looks { Spends 2 cursor.old cursor.new }
@@ -565,9 +565,9 @@ pub fn parse_fraction<'a, T: EncodingType>(
 #[tactic(auto, unfolding(ixdtf_reading::specs::reading::Clauses::fraction_by, ixdtf_reading::specs::reading::Looks::look_readings))]
 fn parse_digits<'a, T: EncodingType>(
     cursor: &mut Cursor<'a, T>,
-    start: Stop,
-    digits: Stop,
-) -> Result<Fraction, Stop>
+    start: Reason,
+    digits: Reason,
+) -> Result<Fraction, Reason>
     ensures fraction { Reads T.letter (λ fraction. fraction) cursor.old result cursor.new
         (fraction_by start digits) }
     ensures looks { Spends 2 cursor.old cursor.new }
@@ -591,8 +591,8 @@ fn parse_digits<'a, T: EncodingType>(
 fn parse_more_digits<'a, T: EncodingType>(
     cursor: &mut Cursor<'a, T>,
     first: u8,
-    stop: Stop,
-) -> Result<Fraction, Stop>
+    stop: Reason,
+) -> Result<Fraction, Reason>
     requires digit { IsTrue (digit first) }
     ensures fraction { Reads T.letter (λ fraction. fraction) cursor.old result cursor.new
         (more_digits_at stop (Plain first ∷ [])) }
@@ -616,8 +616,8 @@ fn parse_more_digits<'a, T: EncodingType>(
 fn count_more_digits<'a, T: EncodingType>(
     cursor: &mut Cursor<'a, T>,
     leading: Fraction,
-    stop: Stop,
-) -> Result<Fraction, Stop>
+    stop: Reason,
+) -> Result<Fraction, Reason>
     requires long { 18 ≤ leading.count }
     ensures fraction { (front : Text) → leading ≡ fraction_of front →
         Reads T.letter (λ fraction. fraction) cursor.old result cursor.new

@@ -7,7 +7,8 @@
 //! users call work on a second cursor. If such a reader fails, the cursor of the parser is unchanged.
 
 use crate::classes::two_digit_number;
-use crate::stop::{FromStop, Next, Stop, StopAt};
+use crate::stop::{FromStop, Next, StopAt, code_of};
+use crate::Reason;
 use crate::encoding::EncodingType;
 use core::fmt;
 
@@ -82,15 +83,15 @@ impl<'a, T: EncodingType> Cursor<'a, T> {
 
     /// Ends a function that worked on a second cursor, `here`.
     ///
-    /// If `read` is `Ok`, `self` continues where `here` is. If `read` is a `Stop`, `self` keeps its remaining input,
-    /// and `settle` returns the error of the `Stop`. The position of this error is the number of code units from `self`
+    /// If `read` is `Ok`, `self` continues where `here` is. If `read` is a `Reason`, `self` keeps its remaining input,
+    /// and `settle` returns the error of the `Reason`. The position of this error is the number of code units from `self`
     /// to `here`. `brackets` says whether the reader reads brackets.
     #[inline(always)]
     pub fn settle<R, E: FromStop>(
         &mut self,
         here: Self,
         brackets: bool,
-        read: Result<R, Stop>,
+        read: Result<R, Reason>,
     ) -> Result<R, E> {
         match read {
             Ok(found) => {
@@ -106,10 +107,10 @@ impl<'a, T: EncodingType> Cursor<'a, T> {
         }
     }
 
-    /// Returns what follows, for the error of a `Stop`.
+    /// Returns what follows, for the error of a `Reason`.
     #[inline(always)]
     pub fn next(&mut self) -> Next {
-        match self.look_at(0, Stop::YearStart) {
+        match self.look_at(0, Reason::YearStart) {
             Ok(None) => Next::End,
             Ok(Some(byte)) => Next::Byte(byte),
             Err(_) => Next::Bad,
@@ -121,7 +122,7 @@ impl<'a, T: EncodingType> Cursor<'a, T> {
     /// Returns `None` if the input is too short, and `stop` for a bad code unit. In the library, only this function calls
     /// `get_ascii`.
     #[inline(always)]
-    pub fn look_at(&mut self, index: usize, stop: Stop) -> Result<Option<u8>, Stop> {
+    pub fn look_at(&mut self, index: usize, stop: Reason) -> Result<Option<u8>, Reason> {
         match T::get_ascii(self.rest, index) {
             Ok(found) => Ok(found),
             Err(_) => Err(stop),
@@ -132,7 +133,7 @@ impl<'a, T: EncodingType> Cursor<'a, T> {
     ///
     /// Returns `None` at the end of the input, and `stop` for a bad code unit.
     #[inline(always)]
-    pub fn look(&mut self, stop: Stop) -> Result<Option<u8>, Stop> {
+    pub fn look(&mut self, stop: Reason) -> Result<Option<u8>, Reason> {
         self.look_at(0, stop)
     }
 
@@ -146,7 +147,7 @@ impl<'a, T: EncodingType> Cursor<'a, T> {
 
     /// Consumes one digit, and returns it as an ASCII byte. Returns `stop` if there is no digit, and then consumes nothing.
     #[inline(always)]
-    pub fn next_digit(&mut self, stop: Stop) -> Result<u8, Stop> {
+    pub fn next_digit(&mut self, stop: Reason) -> Result<u8, Reason> {
         let byte = self.byte_at(0);
         if byte.is_ascii_digit() {
             self.advance();
@@ -160,7 +161,7 @@ impl<'a, T: EncodingType> Cursor<'a, T> {
     /// One test finds the end of the input, and one comparison tests both digits. Returns `first` if the first digit is
     /// missing, and `second` if the second one is missing. The cursor is then at the missing digit.
     #[inline(always)]
-    pub fn two_digits(&mut self, first: Stop, second: Stop) -> Result<u8, Stop> {
+    pub fn two_digits(&mut self, first: Reason, second: Reason) -> Result<u8, Reason> {
         if self.rest.len() < 2 {
             if !self.byte_at(0).is_ascii_digit() {
                 return Err(first);
@@ -194,7 +195,7 @@ impl<'a, T: EncodingType> Cursor<'a, T> {
     /// characters contains 0.
     #[inline(always)]
     pub fn byte_at(&mut self, index: usize) -> u8 {
-        match self.look_at(index, Stop::YearStart) {
+        match self.look_at(index, Reason::YearStart) {
             Ok(Some(byte)) => byte,
             _ => 0,
         }
@@ -203,7 +204,7 @@ impl<'a, T: EncodingType> Cursor<'a, T> {
     /// Returns `letter` if it is the code unit at `index` of the remaining input, and otherwise `None`.
     #[inline(always)]
     pub fn fixed_letter(&mut self, index: usize, letter: u8) -> Option<u8> {
-        match self.look_at(index, Stop::YearStart) {
+        match self.look_at(index, Reason::YearStart) {
             Ok(Some(byte)) if byte == letter => Some(byte),
             _ => None,
         }
@@ -239,7 +240,7 @@ impl<'a, T: EncodingType> Cursor<'a, T> {
 
     /// Expects the end of the input. Returns `stop` at any code unit.
     #[inline(always)]
-    pub fn close(&mut self, stop: Stop) -> Result<(), Stop> {
+    pub fn close(&mut self, stop: Reason) -> Result<(), Reason> {
         match self.look(stop)? {
             None => Ok(()),
             Some(_) => Err(stop),
@@ -252,16 +253,20 @@ fn are_equal<T: EncodingType>(left: &[T::CodeUnit], right: &[T::CodeUnit]) -> bo
     left == right
 }
 
-/// Makes the error of a `Stop` with position `at`. The cursor `here` is at the position. `brackets` says whether the reader reads
+/// Makes the error of a `Reason` with position `at`. The cursor `here` is at the position. `brackets` says whether the reader reads
 /// brackets.
 #[inline(always)]
 pub fn error_at<'a, T: EncodingType, E: FromStop>(
     here: &mut Cursor<'a, T>,
     brackets: bool,
-    stop: Stop,
+    stop: Reason,
     at: usize,
 ) -> E {
     let next = here.next();
-    let code = stop.code(brackets, next);
-    E::of_stop(StopAt { stop, code, at })
+    let code = code_of(stop, brackets, next);
+    E::of_stop(StopAt {
+        reason: stop,
+        code,
+        at,
+    })
 }

@@ -21,6 +21,7 @@ mod located;
 mod packed;
 pub mod parsers;
 mod pointed;
+mod reason;
 pub mod records;
 mod stop;
 
@@ -28,6 +29,7 @@ pub use error::ParseError;
 pub use instant::Instant;
 pub use located::LocatedError;
 pub use pointed::PointedText;
+pub use reason::Reason;
 
 /// The result of a reader: the value that it found, or the error.
 pub type ParserResult<T> = Result<T, ParseError>;

@@ -4,6 +4,7 @@
 
 use crate::error::ParseError;
 use crate::pointed::PointedText;
+use crate::reason::Reason;
 use core::error::Error;
 use core::fmt;
 
@@ -28,6 +29,8 @@ pub struct LocatedError {
     /// The position of the error: the number of code units before it in the input of the reader. If a number is out of range, the
     /// position is after the number: for the day of `2024-02-30`, it is 10.
     pub at: usize,
+    /// The reason: the line of the fault table that fits the text, or the refusal of an annotation.
+    pub reason: Reason,
 }
 
 impl LocatedError {

@@ -1,156 +1,9 @@
 // Made by tools/to_rust.py of crates/ixdtf_reading/src/stop.rt. Do not edit.
 
-//! `Stop`, the table line at which a function stopped.
+//! The errors of reasons: a reason, and what follows the prefix of its line, have one error.
 
 use Code::*;
-use crate::{LocatedError, ParseError};
-
-/// The reason why a function stopped: the table line at which it stopped, or the refusal of an annotation.
-///
-/// What follows the prefix of the line decides the error ([`Stop::code`]). A `Stop` has a size of one byte.
-#[derive(Clone, Copy)]
-pub enum Stop {
-    // Dates
-    YearStart,
-    YearDigits,
-    ExtendedYearDigits,
-    MinusZeroYear,
-    AfterYear,
-    MonthDigits,
-    MonthRange,
-    AfterHyphenedMonth,
-    AfterBasicMonth,
-    DayDigits,
-    DayRange,
-    AfterDate,
-    // Year-months
-    AfterYearInYearMonth,
-    AfterYearMonth,
-    // Month-days
-    MonthDayStart,
-    MonthDayHyphen,
-    MonthDayMonthDigits,
-    MonthDayMonthRange,
-    AfterMonthDayMonth,
-    MonthDayDayDigits,
-    MonthDayRange,
-    AfterMonthDay,
-    // Times without a date
-    TimeStart,
-    TimeReadsAsMonthDay,
-    TimeReadsAsYearMonth,
-    // Times of day
-    HourStart,
-    HourDigit,
-    HourRange,
-    AfterHour,
-    MinuteDigits,
-    MinuteRange,
-    AfterBasicMinute,
-    AfterColonMinute,
-    SecondDigits,
-    SecondRange,
-    AfterSecond,
-    FractionStart,
-    AfterFraction,
-    // Offsets after a time, and offsets without a time
-    OffsetHourStart,
-    OffsetHourDigit,
-    OffsetHourRange,
-    OffsetAfterHour,
-    OffsetMinuteDigits,
-    OffsetMinuteRange,
-    OffsetAfterBasicMinute,
-    OffsetAfterColonMinute,
-    OffsetSecondDigits,
-    OffsetSecondRange,
-    OffsetAfterSecond,
-    OffsetFractionStart,
-    OffsetAfterFraction,
-    // Offsets that are time zones
-    ZoneOffsetHourStart,
-    ZoneOffsetHourDigit,
-    ZoneOffsetHourRange,
-    ZoneOffsetAfterHour,
-    ZoneOffsetMinuteDigits,
-    ZoneOffsetMinuteRange,
-    ZoneOffsetAfterBasicMinute,
-    ZoneOffsetAfterColonMinute,
-    ZoneOffsetSecondDigits,
-    ZoneOffsetSecondRange,
-    ZoneOffsetAfterSecond,
-    ZoneOffsetFractionStart,
-    ZoneOffsetAfterFraction,
-    // The other lines of offsets
-    OffsetStart,
-    AfterZulu,
-    // Date-times of RFC 3339
-    FourDigits,
-    AfterFourDigits,
-    MonthFieldDigits,
-    DayFieldDigits,
-    HourFieldDigits,
-    MinuteFieldDigits,
-    SecondFieldDigits,
-    OffsetHourFieldDigits,
-    OffsetMinuteFieldDigits,
-    MonthFieldRange,
-    DayFieldRange,
-    HourFieldRange,
-    MinuteFieldRange,
-    SecondFieldRange,
-    OffsetHourFieldRange,
-    OffsetMinuteFieldRange,
-    AfterMonthField,
-    AfterDayField,
-    AfterHourField,
-    AfterMinuteField,
-    AfterSecondField,
-    AfterOffsetHourField,
-    AfterOffsetMinuteField,
-    AfterPoint,
-    AfterSecfrac,
-    AfterUtc,
-    // Names of time zones
-    IdentifierStart,
-    ZoneNameStart,
-    InZoneName,
-    AfterZoneSlash,
-    // Brackets
-    FirstBracketStart,
-    FirstCriticalStart,
-    FirstBracketScan,
-    FirstNameForm,
-    FirstOffsetForm,
-    AfterBracket,
-    // Annotations
-    KeyStart,
-    CriticalKeyStart,
-    InKey,
-    ValueStart,
-    InValue,
-    AfterValueHyphen,
-    // Durations
-    DurationStart,
-    AfterDurationSign,
-    AfterDurationDesignator,
-    AfterDateGroups,
-    AfterTimeDesignator,
-    AfterTimeGroups,
-    AfterFractionGroup,
-    DateGroupDigits,
-    TimeGroupDigits,
-    DateGroupRange,
-    TimeGroupRange,
-    DateUnitOrder,
-    TimeUnitOrder,
-    DateUnitRange,
-    GroupFractionStart,
-    GroupFractionDigits,
-    // Refused annotations. These two have no table line
-    UnrecognizedCritical,
-    CriticalDuplicateCalendar,
-}
+use crate::{LocatedError, ParseError, Reason};
 
 /// What follows the prefix of a table line.
 #[derive(Clone, Copy)]
@@ -167,57 +20,56 @@ pub enum Next {
 /// some of the other code units have another code.
 type Codes = (Code, Code, Code, bool);
 
-impl Stop {
-    /// Returns the code of the error, if `next` follows the prefix of the line. `brackets` says whether the reader reads brackets.
-    #[inline(always)]
-    pub fn code(self, brackets: bool, next: Next) -> Code {
-        let codes = self.codes(brackets);
-        match next {
-            Next::End => codes.0,
-            Next::Bad => codes.1,
-            Next::Byte(byte) => {
-                if codes.3 {
-                    return self.code_at(brackets, byte).unwrap_or(codes.2);
-                }
-                codes.2
+/// Returns the code of the error of a reason, if `next` follows the prefix of its line. `brackets` says whether the reader reads
+/// brackets.
+#[inline(always)]
+pub fn code_of(reason: Reason, brackets: bool, next: Next) -> Code {
+    let codes = codes_of(reason, brackets);
+    match next {
+        Next::End => codes.0,
+        Next::Bad => codes.1,
+        Next::Byte(byte) => {
+            if codes.3 {
+                return code_at(reason, brackets, byte).unwrap_or(codes.2);
             }
-        }
-    }
-
-    /// Returns the codes of the line.
-    ///
-    /// The result is a reference. If the codes were copied, `rustc` would no longer know how many codes there are, and
-    /// `Code::error` would test the index into its table.
-    #[inline(always)]
-    fn codes(self, brackets: bool) -> &'static Codes {
-        if brackets {
-            return &CODES[self as usize];
-        }
-        &LONE_CODES[self as usize]
-    }
-
-    /// If the line has another error at this byte than at most other code units, returns the code of that error.
-    #[cold]
-    #[inline(never)]
-    fn code_at(self, brackets: bool, byte: u8) -> Option<Code> {
-        let mixes = byte == b':' || byte.is_ascii_digit();
-        match self {
-            Stop::AfterBasicMonth if byte == b'-' => Some(Code::DateSeparator),
-            Stop::AfterBasicMinute | Stop::AfterColonMinute if mixes => Some(Code::TimeSeparator),
-            Stop::OffsetAfterBasicMinute | Stop::OffsetAfterColonMinute if mixes => Some(
-                Code::UtcTimeSeparator,
-            ),
-            Stop::ZoneOffsetAfterBasicMinute | Stop::ZoneOffsetAfterColonMinute if mixes => Some(
-                Code::InvalidMinutePrecisionOffset,
-            ),
-            Stop::AfterSecondField if byte == b'.' || byte == b',' => Some(Code::FractionPart),
-            Stop::InZoneName if !brackets && byte == b']' => Some(Code::InvalidEnd),
-            _ => None,
+            codes.2
         }
     }
 }
 
-// The codes of each `Stop`, in the order of the variants, in a reader that reads brackets.
+/// Returns the codes of the line of a reason.
+///
+/// The result is a reference. If the codes were copied, `rustc` would no longer know how many codes there are, and `Code::error`
+/// would test the index into its table.
+#[inline(always)]
+fn codes_of(reason: Reason, brackets: bool) -> &'static Codes {
+    if brackets {
+        return &CODES[reason as usize];
+    }
+    &LONE_CODES[reason as usize]
+}
+
+/// If the line of a reason has another error at this byte than at most other code units, returns the code of that error.
+#[cold]
+#[inline(never)]
+fn code_at(reason: Reason, brackets: bool, byte: u8) -> Option<Code> {
+    let mixes = byte == b':' || byte.is_ascii_digit();
+    match reason {
+        Reason::AfterBasicMonth if byte == b'-' => Some(Code::DateSeparator),
+        Reason::AfterBasicMinute | Reason::AfterColonMinute if mixes => Some(Code::TimeSeparator),
+        Reason::OffsetAfterBasicMinute | Reason::OffsetAfterColonMinute if mixes => Some(
+            Code::UtcTimeSeparator,
+        ),
+        Reason::ZoneOffsetAfterBasicMinute | Reason::ZoneOffsetAfterColonMinute if mixes => Some(
+            Code::InvalidMinutePrecisionOffset,
+        ),
+        Reason::AfterSecondField if byte == b'.' || byte == b',' => Some(Code::FractionPart),
+        Reason::InZoneName if !brackets && byte == b']' => Some(Code::InvalidEnd),
+        _ => None,
+    }
+}
+
+// The codes of each reason, in the order of the variants, in a reader that reads brackets.
 const CODES: &[Codes; 126] = &[
     (AbruptDigit, NonAsciiCodePoint, DateYear, false),
     (AbruptDigit, NonAsciiCodePoint, DateYear, false),
@@ -477,7 +329,7 @@ const CODES: &[Codes; 126] = &[
     ),
 ];
 
-// The codes of each `Stop`, in the order of the variants, in a reader that reads no brackets.
+// The codes of each reason, in the order of the variants, in a reader that reads no brackets.
 const LONE_CODES: &[Codes; 126] = &[
     (AbruptDigit, NonAsciiCodePoint, DateYear, false),
     (AbruptDigit, NonAsciiCodePoint, DateYear, false),
@@ -871,30 +723,28 @@ const ERRORS: &[ParseError; 48] = &[
     ParseError::TimeDurationDesignator,
 ];
 
-const _: () = assert!(size_of::<Stop>() == 1);
-
 /// Returns `Err(stop)`.
 ///
-/// The attribute `cold` tells the compiler that errors are rare. Without it, the compiled code sets the number of the `Stop` before
+/// The attribute `cold` tells the compiler that errors are rare. Without it, the compiled code sets the number of the `Reason` before
 /// it tests a code unit, and so also if there is no error.
 #[cold]
 #[inline(always)]
-pub fn stopped<R>(stop: Stop) -> Result<R, Stop> {
+pub fn stopped<R>(stop: Reason) -> Result<R, Reason> {
     Err(stop)
 }
 
-/// A `Stop`, the code of its error, and its position.
+/// A reason, the code of its error, and its position.
 #[derive(Clone, Copy)]
 pub struct StopAt {
-    /// The `Stop`.
-    pub stop: Stop,
+    /// The reason.
+    pub reason: Reason,
     /// The code of the error.
     pub code: Code,
     /// The position: the number of code units before the error.
     pub at: usize,
 }
 
-/// An error that can be made from a `StopAt`: `ParseError`, or `LocatedError` with the position.
+/// An error that can be made from a `StopAt`: `ParseError`, or `LocatedError` with the position and the reason.
 ///
 /// A function that can return either of the two is generic in the type of its error, with this trait as the bound.
 pub trait FromStop {
@@ -903,18 +753,19 @@ pub trait FromStop {
 }
 
 impl FromStop for LocatedError {
-    /// Makes the error with its position.
+    /// Makes the error with its position and its reason.
     #[inline(always)]
     fn of_stop(why: StopAt) -> LocatedError {
         LocatedError {
             error: why.code.error(),
             at: why.at,
+            reason: why.reason,
         }
     }
 }
 
 impl FromStop for ParseError {
-    /// Makes the error, without its position.
+    /// Makes the error, without its position and its reason.
     #[inline(always)]
     fn of_stop(why: StopAt) -> ParseError {
         why.code.error()

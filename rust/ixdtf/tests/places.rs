@@ -1,8 +1,8 @@
-//! Tests the error and the position of each `*_located` reader, for 8-bit and for 16-bit text, on the texts of `tools/places.tsv`. This list
+//! Tests the error, the position and the reason of each `*_located` reader, for 8-bit and for 16-bit text, on the texts of `tools/places.tsv`. This list
 //! has texts for each row of the fault table. A person counted the positions.
 use ixdtf::encoding::{EncodingType, Utf8, Utf16};
 use ixdtf::parsers::{IsoDurationParser, IxdtfParser, Profile, TimeZoneParser};
-use ixdtf::{LocatedError, ParseError, ParserResult};
+use ixdtf::{LocatedError, ParseError, ParserResult, Reason};
 
 const ROWS: &str = include_str!("places.tsv");
 
@@ -15,12 +15,13 @@ struct Row {
     units: Vec<u16>,
     error: &'static str,
     place: usize,
+    reason: String,
 }
 
 impl Row {
     fn of(line: &'static str) -> Row {
         let cells: Vec<&'static str> = line.split('\t').collect();
-        let [reader, profile, bits, _, _, text, _, error, place, ..] = cells[..] else {
+        let [reader, profile, bits, name, _, text, _, error, place, ..] = cells[..] else {
             panic!("{line}");
         };
         Row {
@@ -31,6 +32,7 @@ impl Row {
             units: units_of(text),
             error,
             place: place.parse().unwrap(),
+            reason: if name == "reply" { error.to_string() } else { reason_of(name) },
         }
     }
 
@@ -47,6 +49,33 @@ impl Row {
             _ => self.error == format!("{error:?}"),
         }
     }
+}
+
+/// The name of the reason of a line of the fault table.
+fn reason_of(line: &str) -> String {
+    let (name, of) = line.split_once(' ').unwrap_or((line, ""));
+    let name = match name {
+        // Two lines have one reason.
+        "first_dots_form" => "first_name_form",
+        "group_value_range" => "group_range",
+        name => name,
+    };
+    let field = of.trim_end_matches("field");
+    match (name, of) {
+        (_, "") => camel(name),
+        (_, "Time") => camel(name),
+        (_, "Offset") => format!("Offset{}", camel(name)),
+        (_, "MinuteOffset") => format!("ZoneOffset{}", camel(name)),
+        ("after_field", _) => format!("After{}Field", camel(field)),
+        ("field_digits" | "field_range", _) => format!("{}{}", camel(field), camel(name)),
+        ("group_digits" | "group_range" | "unit_order", _) => format!("{}{}", camel(of), camel(name)),
+        _ => panic!("{line}"),
+    }
+}
+
+/// A name in `snake_case` as it is in `CamelCase`.
+fn camel(name: &str) -> String {
+    name.split('_').filter(|word| !word.is_empty()).map(|word| word[..1].to_uppercase() + &word[1..]).collect()
 }
 
 /// The rows. The first line is left out, because it has the names of the columns.
@@ -113,6 +142,7 @@ fn check<T: EncodingType>(row: &Row, units: &[T::CodeUnit]) {
     assert!(row.has(found.plain), "{:?}: {}", found.plain, row.line);
     for located in found.located {
         assert!(row.has(located.error) && located.at == row.place, "{located:?}: {}", row.line);
+        assert_eq!(format!("{:?}", located.reason), row.reason, "{}", row.line);
         assert_eq!(ParseError::from(located), found.plain, "{}", row.line);
     }
 }
@@ -156,7 +186,7 @@ fn a_refused_reply_stands_behind_its_pair() {
         })
     };
     assert!(refused(0).is_ok() && refused(2).is_ok() && refused(4).is_ok());
-    assert_eq!(refused(3).err(), Some(LocatedError { error: ParseError::UnrecognizedCritical, at: 33 }));
+    assert_eq!(refused(3).err(), Some(LocatedError { error: ParseError::UnrecognizedCritical, at: 33, reason: Reason::UnrecognizedCritical }));
 }
 
 #[test]

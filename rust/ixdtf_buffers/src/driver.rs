@@ -35,12 +35,13 @@ pub struct Driven {
 /// A newline ends a line. If bytes follow the last newline, they are the last line. A source without a newline is one line,
 /// unless it is empty.
 ///
-/// Before each read, all results of the lines before it are written to the sink. When the source has ended, the other results
-/// are written, and then the sink is flushed. If a read ends the run, the sink is not flushed, and bytes after the last newline
-/// are not passed to the task.
+/// Before each read, the function writes the results of all lines so far to the sink. At the end of the source, it writes the
+/// results of the last lines, and then it flushes the sink. If a read fails, the sink is not flushed, and bytes after the last
+/// newline are not passed to the task.
 ///
 /// A read asks for at most `LIMIT` bytes. Before each read, the function adds `LIMIT` to the total number of bytes that were read
-/// so far. If the sum is greater than `u64::MAX`, the run ends without this read, and [`Driven::end`] is `Err(RunError::Read)`.
+/// so far. If the sum is greater than `u64::MAX`, the function does not read, and ends as if a read had failed: [`Driven::end`] is
+/// `Err(RunError::Read)`.
 pub fn drive<S: Source, K: Sink, T: LineTask<LIMIT>, const LIMIT: usize>(
     source: &mut S,
     sink: &mut K,

@@ -1,4 +1,5 @@
 -- The invariant of the loop over the annotations, and what follows at each of its ends.
+use Rattle.ixdtf_grammar.specs.declared.reason.Reason.{Reason}
 use Rattle.std.proofs.Common.{◌≡◌, ℕ, List, [], ◌∷◌, ◌++◌, Option, None, Result, Ok, Err, refl, sym, ◌∙◌, ap, inl, inr, append_assoc, option_map}
 use Rattle.std.proofs.{lemmas.List.{map-append, append-nil}, SliceLists.chained_more}
 use Rattle.std.specs.Option.{option_or}
@@ -6,7 +7,7 @@ use Rattle.ixdtf_grammar.specs.{declared.records.Annotation.Annotation, language
 use Rattle.ixdtf_grammar.specs.language.{Readers.{Reader, CoreKind, has_exact_zones, Reader.bracketed}, Languages.{Parsed, parsed_with, IsBracketed, Derives.as_parsed}}
 use Rattle.ixdtf_grammar.specs.{table.{Faults.Fault, Rows.{Row, Fits}}, Handlers.{first_calendar, RefusedBeside, NoneRefused, LastRefused, calendar_value}}
 use Rattle.ixdtf_grammar.specs.Handlers.{with_calendar, pair_of, Calls, handed, replies_of, Step, IsChain}
-use Rattle.ixdtf_reading.specs.{declared.stop.Stop.Stop, reading.Stops.Refuses}
+use Rattle.ixdtf_reading.specs.{reading.Stops.Refuses}
 use Rattle.ixdtf_reading.specs.reading.{Looks.{Placed, error_of}, Brackets.{Bracket, zone_in, pairs_in}}
 use Rattle.ixdtf_reading.specs.reading.Chains.{FitsAfterBrackets, PairsUpTo, PairsRead, TextGives, TextRead}
 use Rattle.ixdtf_reading.proofs.{to_reading.ExactBracket.IsBracketBy, to_grammar.Wholes.{after_brackets, tail_of, bracket_stands}, theorems.Replies.first_calendar-more}
@@ -86,7 +87,7 @@ module _ {T U F : Type 0} (number : U → ℕ) (step : Step T U F) (handler : F)
       kept = is ∙ sym (first_calendar-more [] (reply_of reply)) ∙ ap first_calendar (sym one_reply);
     }
 
-    pub read_first_refused : (stop : Stop) → (fault : Fault) × Refuses stop fault × RefusedBeside None (reply_of reply) fault
+    pub read_first_refused : (stop : Reason) → (fault : Fault) × Refuses stop fault × RefusedBeside None (reply_of reply) fault
         → PairsRead number step handler next first text (Err (stop, text))
     read_first_refused stop (fault, refuses, refused) =
         let last : LastRefused (replies_of number one_call) fault = record {
@@ -140,7 +141,7 @@ module _ {T U F : Type 0} (number : U → ℕ) (step : Step T U F) (handler : F)
     }
 
     -- The reply is refused.
-    pub read_refused : (stop : Stop) → (fault : Fault) × Refuses stop fault × RefusedBeside calendar (reply_of reply) fault
+    pub read_refused : (stop : Reason) → (fault : Fault) × Refuses stop fault × RefusedBeside calendar (reply_of reply) fault
         → PairsRead number step handler next first text (Err (stop, after))
     read_refused stop (fault, refuses, refused) =
         let last : LastRefused (replies_of number more_calls) fault = record {

@@ -1,10 +1,11 @@
 -- What was read of a complete text, stated for the record into which it was written.
+use Rattle.ixdtf_grammar.specs.declared.reason.Reason.{Reason}
 use Rattle.std.proofs.Common.{◌≡◌, ℕ, Bool, true, false, List, map, Option, None, Result, Ok, Err, sym, ap, ◌∙◌}
 use Rattle.ixdtf_grammar.specs.{declared.records.IxdtfParseRecord.IxdtfParseRecord, language.{Letters.{Letter, Text}, Cores.Core, Brackets.Pair}}
 use Rattle.ixdtf_grammar.specs.{language.Languages.{Parsed, parsed_with}, Handlers.{Step, with_calendar, calendar_value}}
 use Rattle.ixdtf_grammar.specs.Views.{Unread, IsEmptyRecord, parsed_of}
 use Rattle.ixdtf_reading.specs.reading.{Looks.{Placed, error_of}, Brackets.{Bracket, zone_in, pairs_in}, ExactZones.bracket_by, Chains.{PairsRead, TextReadAfter}}
-use Rattle.ixdtf_reading.specs.{declared.stop.Stop.Stop, reading.{Clauses.{Reads, KeepsBrackets, core_in}, DateTimes.rfc_3339_at}}
+use Rattle.ixdtf_reading.specs.{reading.{Clauses.{Reads, KeepsBrackets, core_in}, DateTimes.rfc_3339_at}}
 use Rattle.ixdtf.proofs.code.Tail.{core_alone, first_read}
 
 -- The record of a text without brackets.
@@ -18,7 +19,7 @@ returned_with found (Ok x) = Ok found
 returned_with found (Err e) = Err e
 
 -- So a date-time of RFC 3339 is read. No bracket follows it.
-pub reads_record : {T U : Type 0} (letter : ℕ → Letter) (number : U → ℕ) (old new : Unread) (found empty : IxdtfParseRecord T U) (result : Result (Unit {0}) Stop)
+pub reads_record : {T U : Type 0} (letter : ℕ → Letter) (number : U → ℕ) (old new : Unread) (found empty : IxdtfParseRecord T U) (result : Result (Unit {0}) Reason)
     → IsEmptyRecord empty → KeepsBrackets empty found
     → Reads letter (λ _. parsed_with (core_in found) None) old result new (rfc_3339_at error_of)
     → Reads letter (parsed_of number) old (returned_with found result) new (rfc_3339_at error_of)

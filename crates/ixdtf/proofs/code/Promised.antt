@@ -6,8 +6,9 @@ use Rattle.ixdtf_grammar.specs.{Promises.{ReadsText, ReadsTextAt, HandlesText, H
 use Rattle.ixdtf_grammar.specs.Views.{Unread, UnreadUnder, most_looks, LeavesBehind}
 use Rattle.ixdtf_reading.specs.{declared.stop.StopAt.StopAt, reading.{Chains.{Counting, TextRead}, Looks.{Read, Placed}}}
 use Rattle.ixdtf_reading.proofs.{code.Located.Located, theorems.Handled.{OwnReplies, handled, handled_of, gives_result, handled_accepted, unhandled_form}}
-use Rattle.ixdtf_reading.proofs.theorems.HandledAt.{handled_at_ok, handled_at_err, handled_to_at_ok, handled_to_at_err, unhandled_at}
-use Rattle.ixdtf_reading.proofs.theorems.OnePlace.{one_unhandled_place}
+use Rattle.ixdtf_reading.proofs.theorems.HandledAt.{handled_at_ok, handled_at_err, handled_to_at_ok, handled_to_at_err, unhandled_at, unhandled_reason}
+use Rattle.ixdtf_reading.proofs.theorems.{OnePlace.one_unhandled_place, OneReason.one_unhandled_reason}
+use Rattle.ixdtf_grammar.specs.declared.reason.Reason.{Reason}
 use Rattle.ixdtf.proofs.code.Counted.{cost_of, own_costs_nothing, text_of}
 use Rattle.ixdtf.specs.Readings.{ReadsInto, ReadsUnhandled, HandlesTextTo, fault_of_stop_at}
 
@@ -48,6 +49,8 @@ unhandled letter number step handler last found kind old new (Ok x) own read =
       form = unhandled_form (handled number step handler (bracketed kind) (map letter old.rest) _ last (text_of number step read.replied)) own;
       err = tt;
       place = tt;
+      reason = tt;
+      one_reason = tt;
       leaves = leaves_ok fault_of_stop_at (omega (arith, nothing)) x read.leaves;
       profile = read.profile;
     }
@@ -56,10 +59,13 @@ unhandled letter number step handler last found kind old new (Err why) own read 
     let (left, lengths, counted, code) = read.replied in
     let alone = text_of number step counted in
     let stands = unhandled_at number step handler last (bracketed kind) text own why (left, lengths, alone, code) in
+    let because = unhandled_reason number step handler last (bracketed kind) text own why (left, lengths, alone, code) in
     let nothing = own_costs_nothing number step own counted.calls _ _ counted.chain in record {
       form = rw code (unhandled_form (handled number step handler (bracketed kind) text _ last alone) own);
       err = stands;
       place = one_unhandled_place kind text (fault_of_stop_at why) why.at stands;
+      reason = because;
+      one_reason = one_unhandled_reason kind text why.reason because;
       leaves = leaves_err fault_of_stop_at (omega (arith, nothing)) why why refl read.leaves;
       profile = read.profile;
     }
@@ -89,12 +95,14 @@ module _ {X : Type 0} (letter : ℕ → Letter) (view : X → Parsed) (reader : 
     profile = read.profile;
   }
 
-  pub reads_err_at : (found : Parsed) (e : LocatedError) (why : StopAt) → fault_of_located e ≡ fault_of_stop_at why → e.at ≡ why.at
+  pub reads_err_at : (found : Parsed) (e : LocatedError) (why : StopAt) → fault_of_located e ≡ fault_of_stop_at why → e.at ≡ why.at → e.reason ≡ why.reason
       → ReadsUnhandled letter found reader old (stopped why) new → ReadsTextAt letter view reader old (Err e) new
-  reads_err_at found e why same stands read = let plain = reads_err fault_of_located found e why same read in record {
+  reads_err_at found e why same stands told read = let plain = reads_err fault_of_located found e why same read in record {
     ok = plain.ok;
     err = rw (same, stands) read.err;
     place = rw (same, stands) read.place;
+    reason = rw told read.reason;
+    one_reason = rw told read.one_reason;
     no_row = tt;
     no_other_reader = tt;
     only = plain.only;
@@ -128,7 +136,7 @@ module _ {T U F X E : Type 0} (letter : ℕ → Letter) (number : U → ℕ) (st
   handles_err found e why same read =
       let text = map letter old.rest in
       let alone = text_of number step read.replied.2 in
-      let gives = gives_result reader text _ _ (Err (why.stop, read.replied.0)) alone.gives in record {
+      let gives = gives_result reader text _ _ (Err (why.reason, read.replied.0)) alone.gives in record {
         handled = handled_of number step handler reader text (Err (fault e)) alone.calls last alone.chain (rw (same, read.replied.3) gives);
         no_row = tt;
         no_other_reader = tt;
@@ -137,7 +145,7 @@ module _ {T U F X E : Type 0} (letter : ℕ → Letter) (number : U → ℕ) (st
       }
 
   -- The contract also states the position of an error, and then the state in which the handler is left.
-  module _ (stands : ℕ → E → Type 0) where
+  module _ (stands : Reason → ℕ → E → Type 0) where
     pub handles_ok_at : (found : X) → ReadsInto letter number step handler last (view found) reader old ended new
         → HandlesTextAt letter number step handler fault stands view reader old (Ok found) new
     unfolding handled_to_at_ok handles_ok
@@ -149,7 +157,7 @@ module _ {T U F X E : Type 0} (letter : ℕ → Letter) (number : U → ℕ) (st
       profile = plain.profile;
     }
 
-    pub handles_err_at : (found : Parsed) (e : E) (why : StopAt) → fault e ≡ fault_of_stop_at why → stands why.at e
+    pub handles_err_at : (found : Parsed) (e : E) (why : StopAt) → fault e ≡ fault_of_stop_at why → stands why.reason why.at e
         → ReadsInto letter number step handler last found reader old (stopped why) new
         → HandlesTextAt letter number step handler fault stands view reader old (Err e) new
     unfolding handled_to_at_err
@@ -171,7 +179,7 @@ module _ {T U F X E : Type 0} (letter : ℕ → Letter) (number : U → ℕ) (st
         let to = handled_to_at_ok number step handler last reader (map letter old.rest) fault stands view found (text_of number step read.replied) in
         record { handled = to; no_row = plain.no_row; no_other_reader = plain.no_other_reader; leaves = plain.leaves; profile = plain.profile }
 
-    pub handles_err_to : (found : Parsed) (e : E) (why : StopAt) → fault e ≡ fault_of_stop_at why → stands why.at e
+    pub handles_err_to : (found : Parsed) (e : E) (why : StopAt) → fault e ≡ fault_of_stop_at why → stands why.reason why.at e
         → ReadsInto letter number step handler last found reader old (stopped why) new
         → HandlesTextTo letter number step handler last fault stands view reader old (Err e) new
     unfolding handled_to_at_err
@@ -188,4 +196,13 @@ pub part_at : {U A : Type 0} {letter : ℕ → Letter} {view : U → A} {reader 
     {old new left : Unread} {reads : _} {met : A → Text → Type 0} {gives : _} {result : Result U LocatedError}
     → Located letter view reader found same none reading old new reads met gives result → LeavesBehind fault_of_located (most_looks old.rest) old result left
     → ReadsPartAt letter view found reader old result left
-part_at gives leaves = let plain = gives.plain in record { ok = plain.ok; err = gives.err; place = gives.place; no_row = plain.no_row; only = plain.only; leaves = leaves }
+part_at gives leaves = let plain = gives.plain in record {
+  ok = plain.ok;
+  err = gives.err;
+  place = gives.place;
+  reason = gives.reason;
+  one_reason = gives.one_reason;
+  no_row = plain.no_row;
+  only = plain.only;
+  leaves = leaves;
+}

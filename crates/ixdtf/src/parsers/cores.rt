@@ -11,11 +11,12 @@ ghost use Rattle.ixdtf.specs.Readings.{core_looks};
 ghost use Rattle.ixdtf_grammar.specs.language.Readers.CoreKind.{date_time};
 ghost use Rattle.ixdtf_grammar.specs.table.LineNames.{LineName};
 ghost use Rattle.ixdtf_reading.specs.reading.Clauses.{Reads, Spends, SpendsOr, YieldsAt, clock_by, core_in, KeepsBrackets, timed_core_at};
-ghost use Rattle.ixdtf_reading.specs.reading.Stops.{stop_of};
+ghost use Rattle.ixdtf_reading.specs.reading.Stops.{reason_of};
 ghost use Rattle.ixdtf_times.specs.TimeTypes.{open_time_of, opens_bracket, shape_of};
 ghost use Rattle.ixdtf_reading.specs.reading.Looks.{error_of};
 ghost use Rattle.ixdtf_reading.specs.reading.Cores.{ClosedCore, core_end_at, offset_core_at, after_time_at, whole_time_core_at, unfronted, core_at};
 
+use ixdtf_grammar::Reason;
 use ixdtf_grammar::encoding::EncodingType;
 use ixdtf_grammar::profile::Profile;
 use ixdtf_grammar::records::{DateRecord, IxdtfParseRecord, TimeRecord, UtcOffsetRecordOrZ};
@@ -24,7 +25,6 @@ use ixdtf_reading::classes::{
     is_time_separator, is_utc_designator,
 };
 use ixdtf_reading::cursor::Cursor;
-use ixdtf_reading::stop::Stop;
 use ixdtf_times::date_times::take_fixed_date_time;
 use ixdtf_times::dates::parse_date;
 use ixdtf_times::months::{
@@ -48,7 +48,7 @@ pub trait CoreReader {
         cursor: &mut Cursor<'a, T>,
         profile: Profile,
         found: &mut IxdtfParseRecord<'a, T>,
-    ) -> Result<AfterCore, Stop>
+    ) -> Result<AfterCore, Reason>
         requires no_date { found.old.date ≡ None }
         requires no_time { found.old.time ≡ None }
         requires no_offset { found.old.offset ≡ None }
@@ -75,7 +75,7 @@ impl CoreReader for DateTimes {
         cursor: &mut Cursor<'a, T>,
         _profile: Profile,
         found: &mut IxdtfParseRecord<'a, T>,
-    ) -> Result<AfterCore, Stop> {
+    ) -> Result<AfterCore, Reason> {
         parse_date_time(cursor, found)
     }
 
@@ -99,7 +99,7 @@ impl CoreReader for InternetDateTimes {
         cursor: &mut Cursor<'a, T>,
         _profile: Profile,
         found: &mut IxdtfParseRecord<'a, T>,
-    ) -> Result<AfterCore, Stop> {
+    ) -> Result<AfterCore, Reason> {
         parse_internet_date_time(cursor, found)?;
         close_core(cursor, stop_after_offset(found.offset))
     }
@@ -123,10 +123,10 @@ impl CoreReader for YearMonths {
         cursor: &mut Cursor<'a, T>,
         _profile: Profile,
         found: &mut IxdtfParseRecord<'a, T>,
-    ) -> Result<AfterCore, Stop> {
+    ) -> Result<AfterCore, Reason> {
         let date = parse_year_month_date(cursor)?;
         found.date = Some(date);
-        close_core(cursor, Stop::AfterYearMonth)
+        close_core(cursor, Reason::AfterYearMonth)
     }
 
     #[inline(always)]
@@ -148,10 +148,10 @@ impl CoreReader for MonthDays {
         cursor: &mut Cursor<'a, T>,
         profile: Profile,
         found: &mut IxdtfParseRecord<'a, T>,
-    ) -> Result<AfterCore, Stop> {
+    ) -> Result<AfterCore, Reason> {
         let date = parse_month_day_date(cursor, profile)?;
         found.date = Some(date);
-        close_core(cursor, Stop::AfterMonthDay)
+        close_core(cursor, Reason::AfterMonthDay)
     }
 
     #[inline(always)]
@@ -173,15 +173,15 @@ impl CoreReader for Times {
         cursor: &mut Cursor<'a, T>,
         profile: Profile,
         found: &mut IxdtfParseRecord<'a, T>,
-    ) -> Result<AfterCore, Stop> {
+    ) -> Result<AfterCore, Reason> {
         let start = cursor.rest();
-        match cursor.look(Stop::TimeStart)? {
+        match cursor.look(Reason::TimeStart)? {
             Some(byte) if is_time_designator(byte) => {
                 cursor.advance();
-                parse_timed(cursor, Stop::HourStart, found)
+                parse_timed(cursor, Reason::HourStart, found)
             }
             _ => {
-                let after = parse_timed(cursor, Stop::TimeStart, found)?;
+                let after = parse_timed(cursor, Reason::TimeStart, found)?;
                 check_front(cursor, start, profile)?;
                 Ok(after)
             }
@@ -201,7 +201,7 @@ impl CoreReader for Times {
 fn parse_date_time<'a, T: EncodingType>(
     cursor: &mut Cursor<'a, T>,
     found: &mut IxdtfParseRecord<'a, T>,
-) -> Result<AfterCore, Stop>
+) -> Result<AfterCore, Reason>
     requires no_time { found.old.time ≡ None }
     requires no_offset { found.old.offset ≡ None }
     ensures core { Reads T.letter (λ after. (core_in found.new, opens_bracket after)) cursor.old result cursor.new
@@ -228,7 +228,7 @@ fn parse_after_fixed<'a, T: EncodingType>(
     date: DateRecord,
     whole: WholeTime,
     found: &mut IxdtfParseRecord<'a, T>,
-) -> Result<AfterCore, Stop>
+) -> Result<AfterCore, Reason>
     requires no_offset { found.old.offset ≡ None }
     ensures core { Reads T.letter (λ after. (core_in found.new, opens_bracket after)) cursor.old result cursor.new
         (whole_time_core_at error_of date whole.hour whole.minute whole.second) }
@@ -254,7 +254,7 @@ fn parse_after_fixed<'a, T: EncodingType>(
 fn parse_date_by_parts<'a, T: EncodingType>(
     cursor: &mut Cursor<'a, T>,
     found: &mut IxdtfParseRecord<'a, T>,
-) -> Result<AfterCore, Stop>
+) -> Result<AfterCore, Reason>
     requires no_time { found.old.time ≡ None }
     requires no_offset { found.old.offset ≡ None }
     ensures core { Reads T.letter (λ after. (core_in found.new, opens_bracket after)) cursor.old result cursor.new
@@ -264,12 +264,12 @@ fn parse_date_by_parts<'a, T: EncodingType>(
 {
     let date = parse_date(cursor)?;
     found.date = Some(date);
-    match cursor.look(Stop::AfterDate)? {
+    match cursor.look(Reason::AfterDate)? {
         Some(byte) if is_date_time_separator(byte) => {
             cursor.advance();
-            parse_timed(cursor, Stop::HourStart, found)
+            parse_timed(cursor, Reason::HourStart, found)
         }
-        _ => close_core(cursor, Stop::AfterDate),
+        _ => close_core(cursor, Reason::AfterDate),
     }
 }
 
@@ -281,9 +281,9 @@ fn parse_date_by_parts<'a, T: EncodingType>(
 #[tactic(auto, unfolding(ixdtf_reading::specs::reading::Clauses::timed_core_at))]
 fn parse_timed<'a, T: EncodingType>(
     cursor: &mut Cursor<'a, T>,
-    first: Stop,
+    first: Reason,
     found: &mut IxdtfParseRecord<'a, T>,
-) -> Result<AfterCore, Stop>
+) -> Result<AfterCore, Reason>
     requires no_time { found.old.time ≡ None }
     requires no_offset { found.old.offset ≡ None }
     ensures core { Reads T.letter (λ after. (core_in found.new, opens_bracket after)) cursor.old result cursor.new
@@ -303,9 +303,9 @@ fn parse_timed<'a, T: EncodingType>(
 #[inline(always)]
 fn parse_time_of_day<'a, T: EncodingType>(
     cursor: &mut Cursor<'a, T>,
-    first: Stop,
+    first: Reason,
     time: &mut TimeRecord,
-) -> Result<TimeShape, Stop>
+) -> Result<TimeShape, Reason>
     ensures time { Reads T.letter (open_time_of time.new) cursor.old result cursor.new
         (clock_by first of_day) }
     ensures looks { Spends 5 cursor.old cursor.new }
@@ -326,7 +326,7 @@ fn check_front<'a, T: EncodingType>(
     cursor: &mut Cursor<'a, T>,
     start: &'a [T::CodeUnit],
     profile: Profile,
-) -> Result<(), Stop>
+) -> Result<(), Reason>
     ensures front { (core : ClosedCore) (rest : Text) →
         YieldsAt (λ _. (core, rest)) result (map T.letter cursor.new.rest)
         (unfronted error_of profile (map T.letter (map T.number start.now)) (Ok (core, rest))) }
@@ -340,12 +340,12 @@ fn check_front<'a, T: EncodingType>(
     }
     if parse_month_day_parts(&mut front, profile).is_ok() {
         *cursor = front;
-        return Err(Stop::TimeReadsAsMonthDay);
+        return Err(Reason::TimeReadsAsMonthDay);
     }
     let mut again = front.fork_at(start);
     if parse_year_month_parts(&mut again).is_ok() {
         *cursor = again;
-        return Err(Stop::TimeReadsAsYearMonth);
+        return Err(Reason::TimeReadsAsYearMonth);
     }
     // The accesses from `start` on count too.
     cursor.keep_looks(again);
@@ -360,7 +360,7 @@ fn parse_after_time<'a, T: EncodingType>(
     shape: TimeShape,
     time: TimeRecord,
     found: &mut IxdtfParseRecord<'a, T>,
-) -> Result<AfterCore, Stop>
+) -> Result<AfterCore, Reason>
     requires no_offset { found.old.offset ≡ None }
     ensures core { Reads T.letter (λ after. (core_in found.new, opens_bracket after)) cursor.old result cursor.new
         (after_time_at error_of found.old.date (shape_of shape, time)) }
@@ -377,7 +377,7 @@ fn parse_after_time<'a, T: EncodingType>(
         Some(byte) if is_utc_designator(byte) => {
             cursor.advance();
             found.offset = Some(UtcOffsetRecordOrZ::Z);
-            close_core(cursor, Stop::AfterZulu)
+            close_core(cursor, Reason::AfterZulu)
         }
         _ => close_core(cursor, stop),
     }
@@ -392,7 +392,7 @@ fn parse_signed<'a, T: EncodingType>(
     cursor: &mut Cursor<'a, T>,
     sign: u8,
     found: &mut IxdtfParseRecord<'a, T>,
-) -> Result<AfterCore, Stop>
+) -> Result<AfterCore, Reason>
     ensures core { (time : TimeRecord) → found.old.time ≡ Some time →
         Reads T.letter (λ after. (core_in found.new, opens_bracket after)) cursor.old result cursor.new
         (offset_core_at error_of found.old.date time sign) }
@@ -416,7 +416,7 @@ fn parse_offset_part_by_part<'a, T: EncodingType>(
     cursor: &mut Cursor<'a, T>,
     sign: u8,
     found: &mut IxdtfParseRecord<'a, T>,
-) -> Result<AfterCore, Stop>
+) -> Result<AfterCore, Reason>
     ensures core { (time : TimeRecord) → found.old.time ≡ Some time →
         Reads T.letter (λ after. (core_in found.new, opens_bracket after)) cursor.old result cursor.new
         (offset_core_at error_of found.old.date time sign) }
@@ -436,9 +436,9 @@ fn parse_offset_part_by_part<'a, T: EncodingType>(
 #[tactic(auto, unfolding(ixdtf_reading::specs::reading::Cores::core_end_at, ixdtf_reading::specs::reading::Looks::peek_by))]
 fn close_core<'a, T: EncodingType>(
     cursor: &mut Cursor<'a, T>,
-    stop: Stop,
-) -> Result<AfterCore, Stop>
-    ensures core { (name : LineName) (core : Core) → stop ≡ stop_of name →
+    stop: Reason,
+) -> Result<AfterCore, Reason>
+    ensures core { (name : LineName) (core : Core) → stop ≡ reason_of name →
         Reads T.letter (λ after. (core, opens_bracket after)) cursor.old result cursor.new
         (core_end_at error_of name core) }
     ensures looks { Spends 1 cursor.old cursor.new }

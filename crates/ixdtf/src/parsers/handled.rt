@@ -19,7 +19,7 @@ use crate::parsers::{
 use crate::{LocatedError, ParseError, ParserResult};
 use ixdtf_grammar::encoding::EncodingType;
 use ixdtf_grammar::records::{Annotation, IxdtfParseRecord};
-use ixdtf_reading::stop::{Next, error_of_stop};
+use ixdtf_reading::stop::{Next, code_of, error_of_stop};
 
 impl<'a, T: EncodingType> IxdtfParser<'a, T> {
     /// Parses the remaining input like [`parse`](Self::parse), and lets a handler decide about each annotation.
@@ -417,7 +417,7 @@ impl<'a, T: EncodingType> IxdtfParser<'a, T> {
     /// Reads a text with a core of the kind that `C` reads, like
     /// [`parse_with_annotation_handler`](Self::parse_with_annotation_handler).
     ///
-    /// `E` is the type of the error. The error is made from a `Stop`, the error type that the library uses inside.
+    /// `E` is the type of the error. The error is made from a `Reason`, the error type that the library uses inside.
     #[inline(always)]
     pub(crate) fn read_as<E: FromStop, C: CoreReader, F>(
         &mut self,
@@ -441,7 +441,7 @@ impl<'a, T: EncodingType> IxdtfParser<'a, T> {
     /// [`parse_with_annotation_handler`](Self::parse_with_annotation_handler).
     ///
     /// The handler is left in the state after its last call, so the caller can use it. `E` is the type of the error. The
-    /// error is made from a `Stop`, the error type that the library uses inside.
+    /// error is made from a `Reason`, the error type that the library uses inside.
     ///
     /// This function is only for crates of this repository, and not a part of the public interface.
     ///
@@ -496,7 +496,7 @@ impl<'a, T: EncodingType> IxdtfParser<'a, T> {
     {
         if let Err(stop) = keep_first_calendar::<T>(&mut self.cursor, calendar, reply) {
             // The error of a refusal does not depend on what follows.
-            return Err(stop.code(true, Next::End).error());
+            return Err(code_of(stop, true, Next::End).error());
         }
         Ok(())
     }

@@ -10,11 +10,11 @@ ghost use Rattle.ixdtf_grammar.specs.Handlers.{RefusedBeside, first_calendar, pa
 ghost use Rattle.ixdtf_reading.specs.reading.Stops.{Refuses};
 ghost use Rattle.ixdtf_reading.specs.reading.Chains.{PairsRead, Counting, reply_units, first_pairs};
 
+use ixdtf_grammar::Reason;
 use ixdtf_grammar::encoding::EncodingType;
 use ixdtf_grammar::records::Annotation;
 use ixdtf_reading::annotations::next_annotation;
 use ixdtf_reading::cursor::Cursor;
-use ixdtf_reading::stop::Stop;
 
 /// Calls the handler with an annotation. This is the only function that calls it.
 #[inline(always)]
@@ -41,7 +41,7 @@ pub(crate) fn keep_first_calendar<'a, T: EncodingType>(
     cursor: &mut Cursor<'a, T>,
     calendar: &mut Option<Annotation<'a, T>>,
     reply: Option<Annotation<'a, T>>,
-) -> Result<(), Stop>
+) -> Result<(), Reason>
     ensures accepted { IfOk result (λ _. (fault : Fault) →
         ¬ (RefusedBeside (option_map (pair_of T.number) calendar.old)
         (option_map (pair_of T.number) reply.entry) fault)) }
@@ -62,7 +62,7 @@ pub(crate) fn keep_first_calendar<'a, T: EncodingType>(
     };
     if !cursor.is_calendar_key(found.key) {
         if found.critical {
-            return Err(Stop::UnrecognizedCritical);
+            return Err(Reason::UnrecognizedCritical);
         }
         return Ok(());
     }
@@ -75,7 +75,7 @@ pub(crate) fn keep_first_calendar<'a, T: EncodingType>(
             if !cursor.has_same_units(first.value, found.value)
                 && (first.critical || found.critical)
             {
-                return Err(Stop::CriticalDuplicateCalendar);
+                return Err(Reason::CriticalDuplicateCalendar);
             }
             Ok(())
         }
@@ -90,7 +90,7 @@ pub fn parse_annotations<'a, T: EncodingType, F>(
     cursor: &mut Cursor<'a, T>,
     first: Option<Annotation<'a, T>>,
     handler: &mut F,
-) -> Result<Option<Annotation<'a, T>>, Stop>
+) -> Result<Option<Annotation<'a, T>>, Reason>
 where
     F: FnMut(Annotation<'a, T>) -> Option<Annotation<'a, T>>,
     requires callable { F.IsAlwaysCallable handler.old }

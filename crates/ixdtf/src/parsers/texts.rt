@@ -16,11 +16,12 @@ use crate::parsers::cores::CoreReader;
 use crate::parsers::replies::parse_annotations;
 use ixdtf_brackets::brackets::Bracket;
 use ixdtf_brackets::exact_zones::parse_bracket_by;
+use ixdtf_grammar::Reason;
 use ixdtf_grammar::encoding::EncodingType;
 use ixdtf_grammar::profile::Profile;
 use ixdtf_grammar::records::{Annotation, IxdtfParseRecord};
 use ixdtf_reading::cursor::Cursor;
-use ixdtf_reading::stop::{Stop, StopAt};
+use ixdtf_reading::stop::{StopAt, code_of};
 
 impl<'a, T: EncodingType> IxdtfParser<'a, T> {
     /// Reads all of the remaining input into an empty record. After an error, the remaining input is unchanged.
@@ -56,8 +57,8 @@ impl<'a, T: EncodingType> IxdtfParser<'a, T> {
                 let next = here.next();
                 self.cursor.keep_looks(here);
                 Err(StopAt {
-                    stop,
-                    code: stop.code(true, next),
+                    reason: stop,
+                    code: code_of(stop, true, next),
                     at,
                 })
             }
@@ -72,7 +73,7 @@ fn parse_text<'a, T: EncodingType, C: CoreReader, F>(
     profile: Profile,
     handler: &mut F,
     found: &mut IxdtfParseRecord<'a, T>,
-) -> Result<(), Stop>
+) -> Result<(), Reason>
 where
     F: FnMut(Annotation<'a, T>) -> Option<Annotation<'a, T>>,
     requires empty { IsEmptyRecord found.old }
@@ -103,7 +104,7 @@ fn parse_brackets<'a, T: EncodingType, F>(
     is_exact: bool,
     found: &mut IxdtfParseRecord<'a, T>,
     handler: &mut F,
-) -> Result<(), Stop>
+) -> Result<(), Reason>
 where
     F: FnMut(Annotation<'a, T>) -> Option<Annotation<'a, T>>,
     requires callable { F.IsAlwaysCallable handler.old }

@@ -437,6 +437,7 @@ impl<'a, T: EncodingType> IxdtfParser<'a, T> {
             Err(why) => return Err(LocatedError {
                 error: why.code.error(),
                 at: why.at,
+                reason: why.reason,
             }),
         }
     }
@@ -484,6 +485,7 @@ impl<'a, T: EncodingType> IxdtfParser<'a, T> {
             Err(why) => return Err(LocatedError {
                 error: why.code.error(),
                 at: why.at,
+                reason: why.reason,
             }),
         }
     }
@@ -523,6 +525,7 @@ impl<'a, T: EncodingType> IxdtfParser<'a, T> {
             Err(why) => return Err(LocatedError {
                 error: why.code.error(),
                 at: why.at,
+                reason: why.reason,
             }),
         }
     }
@@ -562,6 +565,7 @@ impl<'a, T: EncodingType> IxdtfParser<'a, T> {
             Err(why) => return Err(LocatedError {
                 error: why.code.error(),
                 at: why.at,
+                reason: why.reason,
             }),
         }
     }
@@ -601,6 +605,7 @@ impl<'a, T: EncodingType> IxdtfParser<'a, T> {
             Err(why) => return Err(LocatedError {
                 error: why.code.error(),
                 at: why.at,
+                reason: why.reason,
             }),
         }
     }

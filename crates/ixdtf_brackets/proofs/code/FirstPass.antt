@@ -1,4 +1,5 @@
 -- One pass over a first bracket that can begin with a key: first the code units of a key, and then those of a name.
+use Rattle.ixdtf_grammar.specs.declared.reason.Reason.{Reason}
 use Rattle.std.proofs.Common.{◌≡◌, ℕ, ◌&&◌, Bool, true, false, IsTrue, List, [], ◌∷◌, ◌++◌, drop, Option, Some, None, Result, Ok, Err}
 use Rattle.std.proofs.{Common.{refl, sym, ap, subst, ◌∙◌, arith, if◌then◌else◌}, lemmas.Bool.{and_parts, Decides.nat_tests}}
 use Rattle.ixdtf_reading.specs.reading.Looks.{Placed, Read, ◌>>=◌, seen, next_by, error_of}
@@ -13,19 +14,19 @@ use Rattle.ixdtf_brackets.specs.{declared.zone.NameState.NameState, BracketTypes
 use Rattle.ixdtf_brackets.proofs.code.NameLoop.{name_start, zone_stops, name_ended, name_refused, some_next}
 use Rattle.ixdtf_grammar.specs.language.{Letters.{Text, equals, closing, key_char, zone_char, Letter.{Plain, Bad}}, ZoneNames.Zone.Name}
 use Rattle.ixdtf_grammar.specs.{language.Brackets.skipped, table.LineNames.{LineName.of_bracket, BracketLine.first_bracket_scan}}
-use Rattle.ixdtf_reading.specs.{declared.stop.Stop.Stop, reading.{Looks.look_at, Stops.stop_of}}
+use Rattle.ixdtf_reading.specs.{reading.{Looks.look_at, Stops.reason_of}}
 
 abbrev sight : Text → Result Bool Placed
 sight text = sight_at error_of text
 
--- The `Stop` while it is not known whether the bracket is a zone or an annotation.
-abbrev pub scan_stop : Stop
-scan_stop = stop_of (of_bracket first_bracket_scan)
+-- The `Reason` while it is not known whether the bracket is a zone or an annotation.
+abbrev pub scan_stop : Reason
+scan_stop = reason_of (of_bracket first_bracket_scan)
 
-abbrev key_scan : Unit {0} → Stop
+abbrev key_scan : Unit {0} → Reason
 key_scan = always scan_stop
 
-abbrev name_scan : NameState → Stop
+abbrev name_scan : NameState → Reason
 name_scan = stop_by scan_stop scan_stop
 
 name_scans : (state : NameState) → name_scan state ≡ scan_stop
@@ -35,8 +36,8 @@ name_scans state = go state.may_end refl
     go true p = rw p refl
     go false p = rw p refl
 
--- What a look finds does not depend on the `Stop`.
-seen_alike : (stop other : Stop) (text : Text) (next : Option ℕ) → seen stop text ≡ Ok next → seen other text ≡ Ok next
+-- What a look finds does not depend on the `Reason`.
+seen_alike : (stop other : Reason) (text : Text) (next : Option ℕ) → seen stop text ≡ Ok next → seen other text ≡ Ok next
 unfolding look_at
 seen_alike stop other [] next e = e
 seen_alike stop other (Bad ∷ rest) next e = absurd cc
@@ -48,7 +49,7 @@ no_steps : (letters : List ℕ) (read : Result Bool Placed) → steps (λ c read
 no_steps [] read = refl
 no_steps (c ∷ letters) read = no_steps letters read
 
-module _ {S : Type 0} (stop : S → Stop) (same : (state : S) → stop state ≡ scan_stop) (after : S → ℕ → Option S) where
+module _ {S : Type 0} (stop : S → Reason) (same : (state : S) → stop state ≡ scan_stop) (after : S → ℕ → Option S) where
   module _ (over : (state next : S) (c : ℕ) → after state c ≡ Some next → IsTrue (skipped c)) where
     sight_over : (state next : S) (c : ℕ) (rest : Text) → after state c ≡ Some next → sight (Plain c ∷ rest) ≡ sight rest
     sight_over state next c rest e = over_letter error_of c rest (over state next c e)
@@ -66,18 +67,18 @@ module _ {S : Type 0} (stop : S → Stop) (same : (state : S) → stop state ≡
         ∙ no_steps taken.letters (sight rest)
 
 -- The result of looking ahead, by the next code unit.
-sight_at_end : (stop : Stop) (text : Text) → seen stop text ≡ Ok None → sight text ≡ Err (scan_stop, text)
+sight_at_end : (stop : Reason) (text : Text) → seen stop text ≡ Ok None → sight text ≡ Err (scan_stop, text)
 unfolding sight_at
 sight_at_end stop text e = rw (nothing_is stop text e) refl
 
-sight_at_equals : (stop : Stop) (text : Text) (c : ℕ) → seen stop text ≡ Ok (Some c) → equals c ≡ true → sight text ≡ Ok true
+sight_at_equals : (stop : Reason) (text : Text) (c : ℕ) → seen stop text ≡ Ok (Some c) → equals c ≡ true → sight text ≡ Ok true
 unfolding sight_at
 sight_at_equals stop text c e is = rw (first_is stop text c e, is) refl
 
 no_equals : (c : ℕ) → closing c ≡ true → equals c ≡ false
 no_equals c is = grind (arith, nat_tests)
 
-sight_at_closing : (stop : Stop) (text : Text) (c : ℕ) → seen stop text ≡ Ok (Some c) → closing c ≡ true → sight text ≡ Ok false
+sight_at_closing : (stop : Reason) (text : Text) (c : ℕ) → seen stop text ≡ Ok (Some c) → closing c ≡ true → sight text ≡ Ok false
 unfolding sight_at
 sight_at_closing stop text c e is = rw (first_is stop text c e, no_equals c is, is) refl
 
@@ -86,7 +87,7 @@ sight_at_closing stop text c e is = rw (first_is stop text c e, no_equals c is, 
 bracket_over : (state next : Unit {0}) (c : ℕ) → bracket_after state c ≡ Some next → IsTrue (skipped c)
 bracket_over state next c e = test_held _ state next e
 
-abbrev bracket_scan : Unit {0} → Stop
+abbrev bracket_scan : Unit {0} → Reason
 bracket_scan = always scan_stop
 
 pub bracket_failed : (letters : Unit {0}) (text : Text) (fault : Placed) → letters_by (always scan_stop) bracket_after letters text ≡ Err fault

@@ -1,9 +1,10 @@
 -- The code units of the name of a zone, consumed one by one.
+use Rattle.ixdtf_grammar.specs.declared.reason.Reason.{Reason}
 use Rattle.std.proofs.Common.{◌≡◌, ℕ, ◌&&◌, Bool, true, false, List, ◌∷◌, ◌++◌, map, drop, Option, Some, None, option_map, IsSome, Ok, Err, refl, ap}
 use Rattle.std.proofs.{Common.{◌∙◌, if◌then◌else◌}, Math.Bool.and-false}
 use Rattle.ixdtf_brackets.specs.{declared.zone.NameState.NameState, BracketTypes.{part_after, name_after, stop_by}}
 use Rattle.ixdtf_grammar.specs.language.Letters.{Letter, Text, Class, zone_char, slash, Letter.{Plain, Bad}}
-use Rattle.ixdtf_reading.specs.{declared.stop.Stop.Stop, reading.Brackets.{next_is, name_stop}}
+use Rattle.ixdtf_reading.specs.{reading.Brackets.{next_is, name_stop}}
 use Rattle.ixdtf_reading.specs.reading.{Looks.{Placed, Read, seen, error_of}, Zones.{with_letter, name_stops, name_run}, Runs.{Taken, always, letters_by}}
 use Rattle.ixdtf_reading.proofs.code.{FirstLetter.{first_is, nothing_is}, LetterLoops.{test_held, test_failed, run_failed, run_passed, Stays, IsSoFar}}
 use Rattle.ixdtf_reading.proofs.code.LetterLoops.{goes_on, ceases, fails, goes_over, fails_over, next_shown, next_stays}
@@ -30,8 +31,8 @@ name_over letters next c rest e = go _ refl _ refl e
     go false p true q e = let same : false ≡ next.may_end = cc in rw (p, q, ← same) refl
     go false p false q e = absurd cc
 
--- The `Stop`s of a name, if it is known that the bracket is a zone.
-abbrev pub zone_stops : NameState → Stop
+-- The `Reason`s of a name, if it is known that the bracket is a zone.
+abbrev pub zone_stops : NameState → Reason
 zone_stops = stop_by (name_stop true) (name_stop false)
 
 name_bad : (letters : NameState) (rest : Text) → reading letters (Bad ∷ rest) ≡ Err (zone_stops letters, Bad ∷ rest)
@@ -43,7 +44,7 @@ name_bad letters rest = go letters.may_end refl
     go false p = rw p refl
 
 -- If the next code unit cannot continue the name, the name ends here, or it is an error that it ends here.
-name_halts : (stop : Stop) (letters : NameState) (rest : Text) (next : Option ℕ) → seen stop rest ≡ Ok next → Stays zone_stops name_after letters next
+name_halts : (stop : Reason) (letters : NameState) (rest : Text) (next : Option ℕ) → seen stop rest ≡ Ok next → Stays zone_stops name_after letters next
     → reading letters rest ≡ name_stops (name_stop false, rest) letters.may_end rest
 unfolding name_run
 name_halts stop letters rest None e stays = rw (nothing_is stop rest e) refl
@@ -82,13 +83,13 @@ part_stays : (letters : Unit {0}) (c : ℕ) → part_after letters c ≡ None �
 part_stays letters c e = test_failed (zone_char c) letters e
 
 -- After a part, if no slash follows, the name does not continue.
-pub part_last : (stop : Unit {0} → Stop) (name_stop : NameState → Stop) (letters : Unit {0}) (next : Option ℕ) → Stays stop part_after letters next
+pub part_last : (stop : Unit {0} → Reason) (name_stop : NameState → Reason) (letters : Unit {0}) (next : Option ℕ) → Stays stop part_after letters next
     → next_is slash next ≡ false → Stays name_stop name_after name_start next
 part_last stop name_stop letters None stays other = tt
 part_last stop name_stop letters (Some c) stays other = rw (part_stays letters c stays, other) refl
 
 -- After a slash, if no part follows, the name does not continue.
-pub slash_last : (stop : NameState → Stop) (next : Option ℕ) → next_is zone_char next ≡ false → Stays stop name_after name_slash next
+pub slash_last : (stop : NameState → Reason) (next : Option ℕ) → next_is zone_char next ≡ false → Stays stop name_after name_slash next
 slash_last stop None other = tt
 slash_last stop (Some c) other = rw (other, and-false (slash c)) refl
 
@@ -109,9 +110,9 @@ pub is_some : (class : Class) (next : Option ℕ) → next_is class next ≡ tru
 is_some class None e = absurd cc
 is_some class (Some c) e = refl
 
-module _ (in_name after_slash : Stop) {letter : ℕ → Letter} (faithful : (unit n : ℕ) → letter unit ≡ Plain n → n ≡ unit) (whole : List ℕ) where
-  -- The `Stop`s of the whole name.
-  abbrev stops : NameState → Stop
+module _ (in_name after_slash : Reason) {letter : ℕ → Letter} (faithful : (unit n : ℕ) → letter unit ≡ Plain n → n ≡ unit) (whole : List ℕ) where
+  -- The `Reason`s of the whole name.
+  abbrev stops : NameState → Reason
   stops = stop_by in_name after_slash
 
   abbrev Far : List ℕ → NameState → Type 0

@@ -11,7 +11,7 @@ use ixdtf::records::{
     IxdtfParseRecord, MinutePrecisionOffset, Sign, TimeDurationRecord, TimeRecord,
     TimeZoneAnnotation, TimeZoneRecord, UtcOffsetRecord, UtcOffsetRecordOrZ,
 };
-use ixdtf::{LocatedError, ParseError, ParserResult, PointedText};
+use ixdtf::{LocatedError, ParseError, ParserResult, PointedText, Reason};
 use std::error::Error;
 use std::fmt::{Debug, Display};
 use std::hash::Hash;
@@ -284,19 +284,18 @@ fn has_every_further_located_reader_with_a_handler(rt: HostRuntime) {
     check(&rt, "handlers", reads_located_parts_with_a_handler());
 }
 
-// Names the position of an error, and the error.
+// Names the position of an error, the error and its reason.
 #[test]
 fn has_an_error_with_its_place(rt: HostRuntime) {
-    let LocatedError { error, at } = LocatedError {
+    let located = LocatedError {
         error: ParseError::InvalidEnd,
         at: 10,
+        reason: Reason::AfterDate,
     };
-    check(
-        &rt,
-        "its parts",
-        error == ParseError::InvalidEnd && at == 10,
-    );
-    let plain = ParseError::from(LocatedError { error, at });
+    let LocatedError { error, at, reason } = located;
+    let is_same = error == ParseError::InvalidEnd && at == 10;
+    check(&rt, "its parts", is_same && reason == Reason::AfterDate);
+    let plain = ParseError::from(located);
     check(&rt, "its error", plain == error);
 }
 

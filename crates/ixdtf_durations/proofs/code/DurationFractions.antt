@@ -1,5 +1,5 @@
 -- The fraction of a group, and the code unit after it.
-use Rattle.ixdtf_reading.specs.declared.stop.Stop.TheVariants as stops
+use Rattle.ixdtf_grammar.specs.declared.reason.Reason.TheVariants as reasons
 use Rattle.std.proofs.Common.{◌≡◌, ℕ, Bool, true, false, [], ◌∷◌, ◌++◌, List, drop, Option, Some, None, Result, Ok, Err, refl, sym, ap, ◌∙◌, append_assoc, append-nil}
 use Rattle.ixdtf_grammar.specs.declared.{profile.Profile.Profile, records.{Sign.Sign, DurationParseRecord.DurationParseRecord}}
 use Rattle.ixdtf_grammar.specs.language.{Letters.{Text, digit, Letter.{Plain, Bad}}, Digits.decimal, Fractions.{FractionParts, fraction_of}}
@@ -14,7 +14,7 @@ ok_is : {A : Type 0} (x y : A × Text) → ◌≡◌ {A = Read Placed A} (Ok x) 
 ok_is x y e = cc
 
 abbrev digits_of : Text → Read Placed Text
-digits_of text = digit_run (before stops.GroupFractionDigits) text
+digits_of text = digit_run (before reasons.GroupFractionDigits) text
 
 module _ (profile : Profile) (s : Sign) (dates times : List Group) (ds : Text) where
   -- Reads on after more digits of a fraction. `fs` has the digits before them.
@@ -42,11 +42,11 @@ module _ (profile : Profile) (s : Sign) (dates times : List Group) (ds : Text) w
 
 -- The fraction of a group.
 abbrev pub group_fraction : Text → Read Placed FractionParts
-group_fraction text = fraction_by stops.GroupFractionStart stops.GroupFractionDigits text
+group_fraction text = fraction_by reasons.GroupFractionStart reasons.GroupFractionDigits text
 
 -- The code unit after the digits of a fraction.
 abbrev seen_behind : Text → Result (Option ℕ) Placed
-seen_behind text = seen stops.GroupFractionDigits text
+seen_behind text = seen reasons.GroupFractionDigits text
 
 -- The next code unit is not a digit.
 abbrev NoDigitNext : Text → Type 0
@@ -109,8 +109,8 @@ fraction_over (Plain c ∷ text) fraction rest at = go (digit c) refl
 pub fraction_fails : (text : Text) (fault : Placed) → group_fraction text ≡ Err fault
     → (profile : Profile) (s : Sign) (dates times : List Group) (ds : Text) → run_from profile (at_mark s dates times ds) text ≡ Err fault
 unfolding fraction_by next_by look_at run step
-fraction_fails [] fault at profile s dates times ds = let same : (stops.GroupFractionStart, []) ≡ fault = cc in rw same refl
-fraction_fails (Bad ∷ text) fault at profile s dates times ds = let same : (stops.GroupFractionStart, Bad ∷ text) ≡ fault = cc in rw same refl
+fraction_fails [] fault at profile s dates times ds = let same : (reasons.GroupFractionStart, []) ≡ fault = cc in rw same refl
+fraction_fails (Bad ∷ text) fault at profile s dates times ds = let same : (reasons.GroupFractionStart, Bad ∷ text) ≡ fault = cc in rw same refl
 fraction_fails (Plain c ∷ text) fault at profile s dates times ds = go (digit c) refl
   where
     digits_fail : (read : Read Placed Text) → with_first c read ≡ Err fault → after_digits profile s dates times ds (Plain c ∷ []) read ≡ Err fault
@@ -119,7 +119,7 @@ fraction_fails (Plain c ∷ text) fault at profile s dates times ds = go (digit 
 
     go : (b : Bool) → digit c ≡ b → run_from profile (at_mark s dates times ds) (Plain c ∷ text) ≡ Err fault
     go true is = rw (is, over_digits profile s dates times ds _ text) (digits_fail (digits_of text) (rw is at at))
-    go false is = let same : (stops.GroupFractionStart, Plain c ∷ text) ≡ fault = cc (rw is at at) in rw (is, same) refl
+    go false is = let same : (reasons.GroupFractionStart, Plain c ∷ text) ≡ fault = cc (rw is at at) in rw (is, same) refl
 
 -- ---- the code unit after a fraction
 
@@ -129,7 +129,7 @@ module _ (text : Text) (fraction : FractionParts) (rest : Text) (over : IsFracti
   abbrev from_mark : Read Placed DurationParseRecord
   from_mark = run_from profile (at_mark s dates times ds) text
 
-  pub no_letter : seen_behind rest ≡ Ok None → from_mark ≡ Err (stops.GroupFractionDigits, rest)
+  pub no_letter : seen_behind rest ≡ Ok None → from_mark ≡ Err (reasons.GroupFractionDigits, rest)
   unfolding run
   no_letter none = over.leads profile s dates times ds ∙ rw (nothing_is _ rest none) refl
 

@@ -1,11 +1,11 @@
 -- The groups of a duration, as the loops over them store them: their numbers, and the least rank that may follow.
-use Rattle.ixdtf_reading.specs.declared.stop.Stop.TheVariants as stops
+use Rattle.ixdtf_grammar.specs.declared.reason.Reason.TheVariants as reasons
 use Rattle.std.proofs.Common.{◌≡◌, ℕ, ◌+◌, ◌≤◌, Bool, true, false, [], ◌∷◌, List, None, Result, Ok, Err, refl, sym, arith, nat_le, ◌&&◌, slice_set}
 use Rattle.std.proofs.{Common.if◌then◌else◌, lemmas.Bool.Decides.nat_tests}
 use Rattle.ixdtf_grammar.specs.{declared.profile.Profile.Profile, language.Letters.{year_letter, month_letter, week_letter, hour_letter, minute_letter}}
 use Rattle.ixdtf_grammar.specs.language.Durations.{Half, Group, unit_index, unit_of, designator, greatest, least_step, in_order, number_of, Half.{date, time}}
 use Rattle.ixdtf_grammar.specs.language.Durations.DurationUnit.{years, months, weeks, days, hours, minutes, seconds}
-use Rattle.ixdtf_reading.specs.declared.stop.Stop.{Stop}
+use Rattle.ixdtf_grammar.specs.declared.reason.Reason.{Reason}
 use Rattle.ixdtf_durations.specs.{declared.{group_numbers.Number.Number, time_groups.TimeGroup.TimeGroup}, reading.DurationClauses.{rank, date_numbers, time_numbers}}
 use Rattle.ixdtf_durations.specs.reading.DurationClauses.{date_group_of, time_group_of, date_rank_from, time_rank_from, digits_stop, date_read, time_read}
 use Rattle.ixdtf_durations.proofs.code.DurationRanks.{below, date_unit_index, time_unit_index}
@@ -60,28 +60,28 @@ times_absorb : (least p q step : ℕ) → least ≤ p → (nat_le (p + 3 + step)
 times_absorb least p q step h = grind (arith, nat_tests)
 
 -- What follows if three tests succeed. The next lemmas are for two tests, and for tests that fail.
-three_hold : (a b c : Bool) (found r : ℕ) (x y z : Stop) → (if a then (if b then (if c then Ok found else Err z) else Err y) else Err x) ≡ Ok r
+three_hold : (a b c : Bool) (found r : ℕ) (x y z : Reason) → (if a then (if b then (if c then Ok found else Err z) else Err y) else Err x) ≡ Ok r
     → (a ≡ true) × (b ≡ true) × (c ≡ true) × (found ≡ r)
 three_hold true true true found r x y z is = (refl, refl, refl, cc)
 three_hold true true false found r x y z is = absurd cc
 three_hold true false c found r x y z is = absurd cc
 three_hold false b c found r x y z is = absurd cc
 
-three_fail : (a b c : Bool) (found : ℕ) (x y z e : Stop) → (if a then (if b then (if c then Ok found else Err z) else Err y) else Err x) ≡ Err e
-    → ◌≡◌ {A = Result (Unit {0}) Stop} (if a then (if b then (if c then Ok tt else Err z) else Err y) else Err x) (Err e)
+three_fail : (a b c : Bool) (found : ℕ) (x y z e : Reason) → (if a then (if b then (if c then Ok found else Err z) else Err y) else Err x) ≡ Err e
+    → ◌≡◌ {A = Result (Unit {0}) Reason} (if a then (if b then (if c then Ok tt else Err z) else Err y) else Err x) (Err e)
 three_fail true true true found x y z e is = absurd cc
 three_fail true true false found x y z e is = let same : z ≡ e = cc in rw same refl
 three_fail true false c found x y z e is = let same : y ≡ e = cc in rw same refl
 three_fail false b c found x y z e is = let same : x ≡ e = cc in rw same refl
 
-two_hold : (a b : Bool) (found r : ℕ) (x y : Stop) → (if a then (if b then Ok found else Err y) else Err x) ≡ Ok r
+two_hold : (a b : Bool) (found r : ℕ) (x y : Reason) → (if a then (if b then Ok found else Err y) else Err x) ≡ Ok r
     → (a ≡ true) × (b ≡ true) × (found ≡ r)
 two_hold true true found r x y is = (refl, refl, cc)
 two_hold true false found r x y is = absurd cc
 two_hold false b found r x y is = absurd cc
 
-two_fail : (a b : Bool) (found : ℕ) (x y e : Stop) → (if a then (if b then Ok found else Err y) else Err x) ≡ Err e
-    → ◌≡◌ {A = Result (Unit {0}) Stop} (if a then (if b then Ok tt else Err y) else Err x) (Err e)
+two_fail : (a b : Bool) (found : ℕ) (x y e : Reason) → (if a then (if b then Ok found else Err y) else Err x) ≡ Err e
+    → ◌≡◌ {A = Result (Unit {0}) Reason} (if a then (if b then Ok tt else Err y) else Err x) (Err e)
 two_fail true true found x y e is = absurd cc
 two_fail true false found x y e is = let same : y ≡ e = cc in rw same refl
 two_fail false b found x y e is = let same : x ≡ e = cc in rw same refl
@@ -112,7 +112,7 @@ module _ (profile : Profile) (values : List ℕ) (least : ℕ) (dates : List Gro
       → (date_read profile dates n ≡ Ok tt) × HasDates profile (slice_set values r n.value) (r + least_step profile) (date_group_of n ∷ dates)
   date_added r is =
       let p = three_hold (designator date n.next) (nat_le least (rank (unit_of date n.next))) (nat_le n.value (greatest (unit_of date n.next)))
-      (rank (unit_of date n.next)) r stops.DateGroupDigits stops.DateUnitOrder stops.DateUnitRange is in
+      (rank (unit_of date n.next)) r reasons.DateGroupDigits reasons.DateUnitOrder reasons.DateUnitRange is in
       let high : least ≤ unit_index (unit_of date n.next) + 1 = rw (date_unit_index n.next) (below _ _ p.1) in (
         rw (p.0, has.follows n.next, p.1, p.2) refl,
         record {
@@ -123,10 +123,10 @@ module _ (profile : Profile) (values : List ℕ) (least : ℕ) (dates : List Gro
       )
 
   -- The group may not follow.
-  pub date_refused : (e : Stop) → date_rank_from least n ≡ Err e → date_read profile dates n ≡ Err e
+  pub date_refused : (e : Reason) → date_rank_from least n ≡ Err e → date_read profile dates n ≡ Err e
   date_refused e is = rw (has.follows n.next) (three_fail (designator date n.next) (nat_le least (rank (unit_of date n.next)))
       (nat_le n.value (greatest (unit_of date n.next))) (rank (unit_of date n.next))
-      stops.DateGroupDigits stops.DateUnitOrder stops.DateUnitRange e is)
+      reasons.DateGroupDigits reasons.DateUnitOrder reasons.DateUnitRange e is)
 
 module _ (profile : Profile) (values : List ℕ) (least : ℕ) (times : List Group) (has : HasTimes profile values least times) (g : TimeGroup) where
   times_with : slice_set (time_numbers times) (rank (unit_of time g.letter)) g.value ≡ time_numbers (time_group_of g ∷ times)
@@ -144,7 +144,7 @@ module _ (profile : Profile) (values : List ℕ) (least : ℕ) (times : List Gro
       × HasTimes profile (slice_set values r g.value) (r + least_step profile) (time_group_of g ∷ times)
   time_added r is =
       let p = two_hold (designator time g.letter) (nat_le least (rank (unit_of time g.letter)))
-      (rank (unit_of time g.letter)) r (digits_stop g.fraction) stops.TimeUnitOrder is in
+      (rank (unit_of time g.letter)) r (digits_stop g.fraction) reasons.TimeUnitOrder is in
       let high : least ≤ rank (unit_of time g.letter) = below _ _ p.1 in (
         rw (p.0, has.follows g.letter, p.1) refl,
         sym p.2,
@@ -155,6 +155,6 @@ module _ (profile : Profile) (values : List ℕ) (least : ℕ) (times : List Gro
       )
 
   -- The group may not follow.
-  pub time_refused : (e : Stop) → time_rank_from (digits_stop g.fraction) least g.letter ≡ Err e → time_read profile times g ≡ Err e
+  pub time_refused : (e : Reason) → time_rank_from (digits_stop g.fraction) least g.letter ≡ Err e → time_read profile times g ≡ Err e
   time_refused e is = rw (has.follows g.letter) (two_fail (designator time g.letter) (nat_le least (rank (unit_of time g.letter)))
-      (rank (unit_of time g.letter)) (digits_stop g.fraction) stops.TimeUnitOrder e is)
+      (rank (unit_of time g.letter)) (digits_stop g.fraction) reasons.TimeUnitOrder e is)

@@ -8,7 +8,7 @@ use Rattle.ixdtf_grammar.specs.{language.Durations.DurationUnit.{hours, minutes,
 use Rattle.ixdtf_grammar.specs.table.DurationFronts.Context.{in_dates, in_times}
 use Rattle.ixdtf_reading.specs.reading.Looks.{Placed, Read, ◌>>=◌, error_of}
 use Rattle.ixdtf_reading.specs.reading.Durations.{State, add_group, end_group, step, run, integer_group, State.{between, in_number, at_mark, ended}}
-use Rattle.ixdtf_reading.specs.declared.stop.Stop.{Stop}
+use Rattle.ixdtf_grammar.specs.declared.reason.Reason.{Reason}
 use Rattle.ixdtf_durations.specs.{declared.group_numbers.Number.Number, reading.DurationClauses.{run_from, run_where, IsNumber}}
 use Rattle.ixdtf_durations.specs.reading.DurationClauses.{behind_unit, date_group_of, date_read, after_time_group, date_group_fits, time_group_fits}
 
@@ -20,14 +20,14 @@ mark_no_designator c is = grind (arith, nat_tests)
 -- ---- groups
 
 -- Reading continues if both tests succeed.
-both_tests : (profile : Profile) (a b : Bool) (x y : Stop) (state : State) (text : Text)
+both_tests : (profile : Profile) (a b : Bool) (x y : Reason) (state : State) (text : Text)
     → (((if a then (if b then Ok state else Err (x, text)) else Err (y, text)) >>= λ next. run_from profile next text))
     ≡ run_where profile (if a then (if b then Ok tt else Err x) else Err y) state text
 both_tests profile true true x y state text = refl
 both_tests profile true false x y state text = refl
 both_tests profile false b x y state text = refl
 
-one_test : (profile : Profile) (a : Bool) (y : Stop) (state : State) (text : Text)
+one_test : (profile : Profile) (a : Bool) (y : Reason) (state : State) (text : Text)
     → (((if a then Ok state else Err (y, text)) >>= λ next. run_from profile next text)) ≡ run_where profile (if a then Ok tt else Err y) state text
 one_test profile true y state text = refl
 one_test profile false y state text = refl

@@ -1,5 +1,6 @@
 -- The groups of a duration, read one by one.
-use Rattle.ixdtf_reading.specs.declared.stop.Stop.TheVariants as stops
+use Rattle.ixdtf_grammar.specs.declared.reason.Reason.{Reason}
+use Rattle.ixdtf_grammar.specs.declared.reason.Reason.TheVariants as reasons
 use Rattle.std.proofs.Common.{◌≡◌, ℕ, Bool, true, false, [], ◌∷◌, List, ◌+◌, slice_set, drop, map, Option, Some, None, IsSome, Ok, Err, refl, ◌∙◌}
 use Rattle.ixdtf_grammar.specs.declared.{profile.Profile.Profile, records.{Sign.Sign, DurationParseRecord.DurationParseRecord}}
 use Rattle.ixdtf_grammar.specs.declared.records.{TimeDurationRecord.TimeDurationRecord, DateDurationRecord.DateDurationRecord}
@@ -11,7 +12,7 @@ use Rattle.ixdtf_durations.specs.reading.DurationClauses.{after_time_group, HasS
 use Rattle.ixdtf_durations.proofs.code.{DurationRanks.below, DurationGroups.{HasDates, HasTimes, date_added, date_refused, time_added, time_refused}}
 use Rattle.ixdtf_durations.proofs.code.DurationSteps.{fails, at_digit, dates_end, dates_at_mark, dates_at_other, times_end, fraction_end, more_times_at_other}
 use Rattle.ixdtf_durations.proofs.code.DurationSteps.{fraction_at_other}
-use Rattle.ixdtf_reading.specs.{declared.stop.Stop.Stop, reading.{Looks.{Placed, Read, seen}, Durations.State.{between, in_number}}}
+use Rattle.ixdtf_reading.specs.{reading.{Looks.{Placed, Read, seen}, Durations.State.{between, in_number}}}
 
 -- ---- dates
 
@@ -46,14 +47,14 @@ module _ (profile : Profile) (first : ℕ) (whole : Text) where
       leads = λ s. far.leads s ∙ read s far.dates ∙ rw (added.0, moved) refl;
     }
 
-    pub date_refused_on : (stop : Stop) → date_rank_from least n ≡ Err stop → (s : Sign) → first_dates s ≡ Err (stop, next)
+    pub date_refused_on : (stop : Reason) → date_rank_from least n ≡ Err stop → (s : Sign) → first_dates s ≡ Err (stop, next)
     date_refused_on stop is s = far.leads s ∙ read s far.dates ∙ rw (date_refused profile values least far.dates far.has n stop is, moved) refl
 
   module _ {rest : Text} {values : List ℕ} {least : ℕ} (far : DatesRead rest values least) where
     pub dates_small : HasSmallDates values
     dates_small = rw far.has.numbers (below _ _ far.has.small.0, below _ _ far.has.small.1, below _ _ far.has.small.2)
 
-    pub dates_go_on : (stop : Stop) (next : Text) (c : ℕ) → seen stop rest ≡ Ok (Some c) → digit c ≡ true → next ≡ drop 1 rest
+    pub dates_go_on : (stop : Reason) (next : Text) (c : ℕ) → seen stop rest ≡ Ok (Some c) → digit c ≡ true → next ≡ drop 1 rest
         → DatesSoFar next values least c
     dates_go_on stop next c found is moved = record {
       dates = far.last ∷ far.earlier;
@@ -61,11 +62,11 @@ module _ (profile : Profile) (first : ℕ) (whole : Text) where
       leads = λ s. far.leads s ∙ at_digit profile rest stop c found _ is ∙ rw moved refl;
     }
 
-    pub dates_stop : (stop : Stop) (c : ℕ) → seen stop rest ≡ Ok (Some c) → digit c ≡ false → time_letter c ≡ false
-        → (s : Sign) → first_dates s ≡ Err (stops.AfterDateGroups, rest)
+    pub dates_stop : (stop : Reason) (c : ℕ) → seen stop rest ≡ Ok (Some c) → digit c ≡ false → time_letter c ≡ false
+        → (s : Sign) → first_dates s ≡ Err (reasons.AfterDateGroups, rest)
     dates_stop stop c found miss nor s = far.leads s ∙ dates_at_other profile rest stop c found s _ miss nor
 
-    pub dates_break : (fault : Placed) → seen stops.AfterDateGroups rest ≡ Err fault → (s : Sign) → first_dates s ≡ Err fault
+    pub dates_break : (fault : Placed) → seen reasons.AfterDateGroups rest ≡ Err fault → (s : Sign) → first_dates s ≡ Err fault
     dates_break fault bad s = far.leads s ∙ fails _ _ rest fault bad
 
     module _ (letter : ℕ → Letter) (old : List ℕ) (is_whole : whole ≡ map letter old) (new : List ℕ) (found : DateDurationRecord)
@@ -73,7 +74,7 @@ module _ (profile : Profile) (first : ℕ) (whole : Text) where
       record_is : date_duration (far.last ∷ far.earlier) ≡ Some found
       record_is = is far.last far.earlier far.has.numbers
 
-      pub dates_timed : (stop : Stop) (c : ℕ) → seen stop rest ≡ Ok (Some c) → time_letter c ≡ true → map letter new ≡ drop 1 rest
+      pub dates_timed : (stop : Reason) (c : ℕ) → seen stop rest ≡ Ok (Some c) → time_letter c ≡ true → map letter new ≡ drop 1 rest
           → AreDates profile letter first old (record { «record» = found; timed = true }) new
       dates_timed stop c looked mark moved = record {
         groups = far.last ∷ far.earlier;
@@ -82,7 +83,7 @@ module _ (profile : Profile) (first : ℕ) (whole : Text) where
         untimed = λ never. absurd cc;
       }
 
-      pub dates_alone : (stop : Stop) → seen stop rest ≡ Ok None → map letter new ≡ rest
+      pub dates_alone : (stop : Reason) → seen stop rest ≡ Ok None → map letter new ≡ rest
           → AreDates profile letter first old (record { «record» = found; timed = false }) new
       dates_alone stop none stayed = record {
         groups = far.last ∷ far.earlier;
@@ -93,17 +94,17 @@ module _ (profile : Profile) (first : ℕ) (whole : Text) where
 
 -- ---- times
 
--- The `Stop` after a time group.
-abbrev pub stop_behind : Option FractionParts → Stop
-stop_behind None = stops.AfterTimeGroups
-stop_behind (Some fraction) = stops.AfterFractionGroup
+-- The `Reason` after a time group.
+abbrev pub stop_behind : Option FractionParts → Reason
+stop_behind None = reasons.AfterTimeGroups
+stop_behind (Some fraction) = reasons.AfterFractionGroup
 
--- The two `Stop`s of a group with a fraction.
-pub fraction_digits_stop : (fraction : Option FractionParts) → IsSome fraction → digits_stop fraction ≡ stops.GroupFractionDigits
+-- The two `Reason`s of a group with a fraction.
+pub fraction_digits_stop : (fraction : Option FractionParts) → IsSome fraction → digits_stop fraction ≡ reasons.GroupFractionDigits
 fraction_digits_stop None some = absurd cc
 fraction_digits_stop (Some fraction) some = refl
 
-pub fraction_stop_behind : (fraction : Option FractionParts) → IsSome fraction → stop_behind fraction ≡ stops.AfterFractionGroup
+pub fraction_stop_behind : (fraction : Option FractionParts) → IsSome fraction → stop_behind fraction ≡ reasons.AfterFractionGroup
 fraction_stop_behind None some = absurd cc
 fraction_stop_behind (Some fraction) some = refl
 
@@ -130,7 +131,7 @@ module _ (profile : Profile) (first : ℕ) (whole : Text) where
       (read : (s : Sign) (dates times : List Group) → run_from profile (in_number (in_times s dates times) (Plain c ∷ [])) rest
       ≡ after_time_group profile s dates times g mid)
       (moved : next ≡ behind_unit time g.letter mid) where
-    pub time_added_on : (digits : Stop) (r step : ℕ) → digits_stop g.fraction ≡ digits → time_rank_from digits least g.letter ≡ Ok r → step ≡ least_step profile
+    pub time_added_on : (digits : Reason) (r step : ℕ) → digits_stop g.fraction ≡ digits → time_rank_from digits least g.letter ≡ Ok r → step ≡ least_step profile
         → TimesRead next (slice_set values r g.value) (r + step) g r
     time_added_on digits r step at is stepped = let added = time_added profile values least far.times far.has g r (rw at is) in record {
       earlier = far.times;
@@ -139,13 +140,13 @@ module _ (profile : Profile) (first : ℕ) (whole : Text) where
       leads = λ s dates. far.leads s dates ∙ read s dates far.times ∙ rw (added.0, moved) refl;
     }
 
-    pub time_refused_on : (digits stop : Stop) → digits_stop g.fraction ≡ digits → time_rank_from digits least g.letter ≡ Err stop
+    pub time_refused_on : (digits stop : Reason) → digits_stop g.fraction ≡ digits → time_rank_from digits least g.letter ≡ Err stop
         → (s : Sign) (dates : List Group) → first_times s dates ≡ Err (stop, next)
     time_refused_on digits stop at is s dates =
         far.leads s dates ∙ read s dates far.times ∙ rw (time_refused profile values least far.times far.has g stop (rw at is), moved) refl
 
   module _ {rest : Text} {values : List ℕ} {least : ℕ} {g : TimeGroup} {r : ℕ} (far : TimesRead rest values least g r) where
-    pub times_go_on : (stop : Stop) (next : Text) (c : ℕ) → seen stop rest ≡ Ok (Some c) → digit c ≡ true → g.fraction ≡ None → next ≡ drop 1 rest
+    pub times_go_on : (stop : Reason) (next : Text) (c : ℕ) → seen stop rest ≡ Ok (Some c) → digit c ≡ true → g.fraction ≡ None → next ≡ drop 1 rest
         → TimesSoFar next values least c
     times_go_on stop next c found is none moved = record {
       times = time_group_of g ∷ far.earlier;
@@ -159,7 +160,7 @@ module _ (profile : Profile) (first : ℕ) (whole : Text) where
         go s dates None without = at_digit profile rest stop c found (in_times s dates (time_group_of g ∷ far.earlier)) is
         go s dates (Some fraction) without = absurd cc
 
-    pub times_stop : (looked : Stop) (stop : Stop) (c : ℕ) → stop_behind g.fraction ≡ stop → seen looked rest ≡ Ok (Some c)
+    pub times_stop : (looked : Reason) (stop : Reason) (c : ℕ) → stop_behind g.fraction ≡ stop → seen looked rest ≡ Ok (Some c)
         → (digit c ≡ true → g.fraction ≡ None → ⊥) → (s : Sign) (dates : List Group) → first_times s dates ≡ Err (stop, rest)
     times_stop looked stop c at found never s dates = far.leads s dates ∙ go g.fraction refl (digit c) refl ∙ rw at refl
       where
@@ -169,7 +170,7 @@ module _ (profile : Profile) (first : ℕ) (whole : Text) where
         go None none false is = more_times_at_other profile rest looked c found s dates (time_group_of g) far.earlier is
         go (Some fraction) some b is = fraction_at_other profile rest looked c found s dates far.earlier (time_group_of g)
 
-    pub times_break : (stop : Stop) (fault : Placed) → stop_behind g.fraction ≡ stop → seen stop rest ≡ Err fault
+    pub times_break : (stop : Reason) (fault : Placed) → stop_behind g.fraction ≡ stop → seen stop rest ≡ Err fault
         → (s : Sign) (dates : List Group) → first_times s dates ≡ Err fault
     times_break stop fault at bad s dates = far.leads s dates ∙ go g.fraction (rw at bad)
       where
@@ -178,7 +179,7 @@ module _ (profile : Profile) (first : ℕ) (whole : Text) where
         go None fails_here = fails _ _ rest fault fails_here
         go (Some fraction) fails_here = fails _ _ rest fault fails_here
 
-    pub times_end_with : (stop : Stop) (found : TimeDurationRecord) → seen stop rest ≡ Ok None → IsTimeRecord values r g.fraction found
+    pub times_end_with : (stop : Reason) (found : TimeDurationRecord) → seen stop rest ≡ Ok None → IsTimeRecord values r g.fraction found
         → (s : Sign) (dates : List Group) → first_times s dates ≡ Ok (dated s (date_duration dates) (Some found), rest)
     times_end_with stop found none is s dates =
         far.leads s dates ∙ go g.fraction ∙ rw (is g.letter (time_group_of g ∷ far.earlier) far.ranked far.has.numbers) refl

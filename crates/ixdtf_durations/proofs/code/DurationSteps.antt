@@ -1,5 +1,6 @@
 -- Reading a duration from a state on, by the next code unit.
-use Rattle.ixdtf_reading.specs.declared.stop.Stop.TheVariants as stops
+use Rattle.ixdtf_grammar.specs.declared.reason.Reason.{Reason}
+use Rattle.ixdtf_grammar.specs.declared.reason.Reason.TheVariants as reasons
 use Rattle.std.proofs.Common.{◌≡◌, ℕ, ◌≤◌, true, false, List, [], ◌∷◌, drop, length, map, Option, Some, None, Result, Ok, Err, refl, ap, ◌∙◌, arith, nat_le}
 use Rattle.std.proofs.lemmas.Bool.Decides.{nat_tests}
 use Rattle.ixdtf_grammar.specs.declared.{profile.Profile.Profile, records.{Sign.{Sign, TheVariants.Positive}, DurationParseRecord.DurationParseRecord}}
@@ -7,15 +8,15 @@ use Rattle.ixdtf_grammar.specs.{Views.Unread, language.Letters.{Letter, Text, di
 use Rattle.ixdtf_grammar.specs.language.{Digits.decimal, Offsets.sign_of, Durations.{Group, greatest_value, duration_of}}
 use Rattle.ixdtf_grammar.specs.table.DurationFronts.{Context}
 use Rattle.ixdtf_grammar.specs.table.DurationFronts.Context.{in_dates, in_times}
-use Rattle.ixdtf_reading.specs.{declared.stop.Stop.Stop, reading.{Looks.{Placed, Read, error_of, look_at, seen}, Stops.duration_stop, Clauses.Reads}}
+use Rattle.ixdtf_reading.specs.{reading.{Looks.{Placed, Read, error_of, look_at, seen}, Stops.duration_reason, Clauses.Reads}}
 use Rattle.ixdtf_reading.specs.reading.Durations.{State, line_of_state, state_look, step, run, duration_at}
 use Rattle.ixdtf_reading.specs.reading.Durations.State.{started, signed, between, in_number, ended}
 use Rattle.ixdtf_reading.proofs.code.FirstLetter.{first_is, nothing_is}
 use Rattle.ixdtf_durations.specs.reading.DurationClauses.{run_from, ReadsOn}
 
--- The `Stop` of the next code unit in each state.
-abbrev pub state_stop : State → Stop
-state_stop s = duration_stop (line_of_state s)
+-- The `Reason` of the next code unit in each state.
+abbrev pub state_stop : State → Reason
+state_stop s = duration_reason (line_of_state s)
 
 at_bad_is : (profile : Profile) (s : State) (text : Text) → (state_look error_of profile s).at_bad text ≡ (state_stop s, text)
 at_bad_is profile (between (in_dates s [])) text = refl
@@ -30,20 +31,20 @@ fails profile s text fault e = absurd cc
 
 module _ (profile : Profile) (text : Text) where
   -- The text ends.
-  module _ (stop : Stop) (none : seen stop text ≡ Ok None) where
-    pub start_at_end : run_from profile started text ≡ Err (stops.DurationStart, text)
+  module _ (stop : Reason) (none : seen stop text ≡ Ok None) where
+    pub start_at_end : run_from profile started text ≡ Err (reasons.DurationStart, text)
     unfolding run
     start_at_end = rw (nothing_is stop text none) refl
 
-    pub signed_at_end : (s : Sign) → run_from profile (signed s) text ≡ Err (stops.AfterDurationSign, text)
+    pub signed_at_end : (s : Sign) → run_from profile (signed s) text ≡ Err (reasons.AfterDurationSign, text)
     unfolding run
     signed_at_end s = rw (nothing_is stop text none) refl
 
-    pub opened_at_end : (s : Sign) → run_from profile (between (in_dates s [])) text ≡ Err (stops.AfterDurationDesignator, text)
+    pub opened_at_end : (s : Sign) → run_from profile (between (in_dates s [])) text ≡ Err (reasons.AfterDurationDesignator, text)
     unfolding run
     opened_at_end s = rw (nothing_is stop text none) refl
 
-    pub times_at_end : (s : Sign) (dates : _) → run_from profile (between (in_times s dates [])) text ≡ Err (stops.AfterTimeDesignator, text)
+    pub times_at_end : (s : Sign) (dates : _) → run_from profile (between (in_times s dates [])) text ≡ Err (reasons.AfterTimeDesignator, text)
     unfolding run
     times_at_end s dates = rw (nothing_is stop text none) refl
 
@@ -61,7 +62,7 @@ module _ (profile : Profile) (text : Text) where
     fraction_end s dates times g = rw (nothing_is stop text none) refl
 
   -- The next code unit is `c`.
-  module _ (stop : Stop) (c : ℕ) (first : seen stop text ≡ Ok (Some c)) where
+  module _ (stop : Reason) (c : ℕ) (first : seen stop text ≡ Ok (Some c)) where
     pub start_at_sign : sign c ≡ true → run_from profile started text ≡ run_from profile (signed (sign_of c)) (drop 1 text)
     unfolding run step
     start_at_sign is = rw (first_is stop text c first, is) refl
@@ -71,7 +72,7 @@ module _ (profile : Profile) (text : Text) where
     unfolding run step
     start_at_designator miss is = rw (first_is stop text c first, miss, is) refl
 
-    pub start_at_other : sign c ≡ false → duration_designator c ≡ false → run_from profile started text ≡ Err (stops.DurationStart, text)
+    pub start_at_other : sign c ≡ false → duration_designator c ≡ false → run_from profile started text ≡ Err (reasons.DurationStart, text)
     unfolding run
     start_at_other miss nor = rw (first_is stop text c first, miss, nor) refl
 
@@ -80,7 +81,7 @@ module _ (profile : Profile) (text : Text) where
     unfolding run step
     signed_at_designator s is = rw (first_is stop text c first, is) refl
 
-    pub signed_at_other : (s : Sign) → duration_designator c ≡ false → run_from profile (signed s) text ≡ Err (stops.AfterDurationSign, text)
+    pub signed_at_other : (s : Sign) → duration_designator c ≡ false → run_from profile (signed s) text ≡ Err (reasons.AfterDurationSign, text)
     unfolding run
     signed_at_other s miss = rw (first_is stop text c first, miss) refl
 
@@ -100,16 +101,16 @@ module _ (profile : Profile) (text : Text) where
     dates_at_other s [] miss nor = rw (first_is stop text c first, miss, nor) refl
     dates_at_other s (g ∷ dates) miss nor = rw (first_is stop text c first, miss, nor) refl
 
-    pub times_at_other : (s : Sign) (dates : _) → digit c ≡ false → run_from profile (between (in_times s dates [])) text ≡ Err (stops.AfterTimeDesignator, text)
+    pub times_at_other : (s : Sign) (dates : _) → digit c ≡ false → run_from profile (between (in_times s dates [])) text ≡ Err (reasons.AfterTimeDesignator, text)
     unfolding run
     times_at_other s dates miss = rw (first_is stop text c first, miss) refl
 
     pub more_times_at_other : (s : Sign) (dates : _) (g : Group) (times : _) → digit c ≡ false
-        → run_from profile (between (in_times s dates (g ∷ times))) text ≡ Err (stops.AfterTimeGroups, text)
+        → run_from profile (between (in_times s dates (g ∷ times))) text ≡ Err (reasons.AfterTimeGroups, text)
     unfolding run
     more_times_at_other s dates g times miss = rw (first_is stop text c first, miss) refl
 
-    pub fraction_at_other : (s : Sign) (dates times : _) (g : Group) → run_from profile (ended s dates times g) text ≡ Err (stops.AfterFractionGroup, text)
+    pub fraction_at_other : (s : Sign) (dates times : _) (g : Group) → run_from profile (ended s dates times g) text ≡ Err (reasons.AfterFractionGroup, text)
     unfolding run
     fraction_at_other s dates times g = rw (first_is stop text c first) refl
 
@@ -127,12 +128,12 @@ module _ (profile : Profile) (text : Text) where
     at_digit (in_times s dates (g ∷ times)) is = rw (first_is stop text c first, is, one_digit is) refl
 
 -- A group begins, and its first digit was consumed.
-pub to_digit : (stop : Stop) (profile : Profile) (text next : Text) (c : ℕ) → seen stop text ≡ Ok (Some c) → digit c ≡ true → next ≡ drop 1 text
+pub to_digit : (stop : Reason) (profile : Profile) (text next : Text) (c : ℕ) → seen stop text ≡ Ok (Some c) → digit c ≡ true → next ≡ drop 1 text
     → (context : Context) → run_from profile (between context) text ≡ run_from profile (in_number context (Plain c ∷ [])) next
 to_digit stop profile text next c first is moved context = at_digit profile text stop c first context is ∙ rw moved refl
 
 -- A `T` or `t` follows `P` or the date groups, and was consumed.
-pub to_mark : (stop : Stop) (profile : Profile) (text next : Text) (c : ℕ) → seen stop text ≡ Ok (Some c) → time_letter c ≡ true → next ≡ drop 1 text
+pub to_mark : (stop : Reason) (profile : Profile) (text next : Text) (c : ℕ) → seen stop text ≡ Ok (Some c) → time_letter c ≡ true → next ≡ drop 1 text
     → (s : Sign) (dates : List Group) → run_from profile (between (in_dates s dates)) text ≡ run_from profile (between (in_times s dates [])) next
 to_mark stop profile text next c first is moved s dates = dates_at_mark profile text stop c first s dates is ∙ rw moved refl
 
@@ -142,13 +143,13 @@ letters_left letter [] new is = ap (map letter) is
 letters_left letter (u ∷ us) new is = ap (map letter) is
 
 -- A look found that the next code unit is `c`, which is not consumed.
-pub record LetterStays (stop : Stop) (letter : ℕ → Letter) (rest looked : List ℕ) (c : ℕ) : Type 0 where
+pub record LetterStays (stop : Reason) (letter : ℕ → Letter) (rest looked : List ℕ) (c : ℕ) : Type 0 where
   pub found : seen stop (map letter rest) ≡ Ok (Some c)
   pub here : map letter looked ≡ Plain c ∷ drop 1 (map letter looked)
   pub left : map letter looked ≡ map letter rest
   pub more : 1 ≤ length looked
 
-pub letter_stays : {stop : Stop} {letter : ℕ → Letter} {rest looked : List ℕ} {saw : Option ℕ} {c : ℕ}
+pub letter_stays : {stop : Reason} {letter : ℕ → Letter} {rest looked : List ℕ} {saw : Option ℕ} {c : ℕ}
     → seen stop (map letter rest) ≡ Ok saw → saw ≡ Some c → looked ≡ rest → LetterStays stop letter rest looked c
 unfolding look_at
 letter_stays {stop} {letter} {rest} {looked} {saw} {c} sees is stays =
@@ -160,7 +161,7 @@ letter_stays {stop} {letter} {rest} {looked} {saw} {c} sees is stays =
     some_unit (u ∷ us) found = omega arith
 
 -- What a function reads from the state `here` is what it reads from `from`, if reading goes from `from` to `here`.
-pub reads_on_earlier : {X : Type 0} (letter : ℕ → Letter) (profile : Profile) (from here : State) (old mid new : Unread) (result : Result X Stop)
+pub reads_on_earlier : {X : Type 0} (letter : ℕ → Letter) (profile : Profile) (from here : State) (old mid new : Unread) (result : Result X Reason)
     (next : X → Text → Read Placed DurationParseRecord)
     → run_from profile from (map letter old.rest) ≡ run_from profile here (map letter mid.rest) → ReadsOn letter profile here mid result new next
     → ReadsOn letter profile from old result new next
@@ -168,7 +169,7 @@ reads_on_earlier letter profile from here old mid new (Ok x) next e is = e ∙ i
 reads_on_earlier letter profile from here old mid new (Err stop) next e is = e ∙ is
 
 -- A duration is read from its beginning, if reading goes from there to the state from which a function reads on.
-pub reads_whole : (letter : ℕ → Letter) (profile : Profile) (here : State) (old mid left : Unread) (read : Result DurationParseRecord Stop)
+pub reads_whole : (letter : ℕ → Letter) (profile : Profile) (here : State) (old mid left : Unread) (read : Result DurationParseRecord Reason)
     → run_from profile started (map letter old.rest) ≡ run_from profile here (map letter mid.rest)
     → ReadsOn letter profile here mid read left (λ duration text. Ok (duration, text))
     → Reads letter (λ duration. duration) old read left (duration_at error_of profile)

@@ -1,5 +1,6 @@
 -- The statements that the clauses of private functions for durations use, and the meaning of their types.
 -- No public clause uses these statements.
+use Rattle.ixdtf_grammar.specs.declared.reason.Reason.{Reason}
 use Rattle.std.specs.Prelude.{◌≡◌, ◌≤◌, ℕ, IsFalse, IsTrue, List, [], ◌∷◌, map, Option, Some, None, Result, Ok, Err, nat_le, drop}
 use Rattle.std.specs.Prelude.{false, slice_index_or, if◌then◌else◌, ◌-◌, length, OnOk, IfErr}
 use Rattle.ixdtf_grammar.specs.declared.{profile.Profile.Profile, records.{Sign.Sign, DurationParseRecord.DurationParseRecord}}
@@ -9,7 +10,7 @@ use Rattle.ixdtf_grammar.specs.language.Durations.{Group, designator, unit_of, g
 use Rattle.ixdtf_grammar.specs.language.Durations.{Half.{date, time}, DurationUnit.{years, months, weeks, days, hours, minutes, seconds}}
 use Rattle.ixdtf_grammar.specs.{table.{DurationFronts.{Context, half_of, Context.{in_dates, in_times}}, Faults.Fault}, Views.Unread}
 use Rattle.ixdtf_grammar.specs.table.LineNames.DurationLine.{group_digits, group_value_range, unit_order, date_unit_range, group_fraction_digits}
-use Rattle.ixdtf_reading.specs.{declared.stop.Stop.Stop, reading.{Looks.{Read, Placed, error_of}, Stops.duration_stop, Clauses.Settles}}
+use Rattle.ixdtf_reading.specs.{reading.{Looks.{Read, Placed, error_of}, Stops.duration_reason, Clauses.{Settles, StandsAt}}}
 use Rattle.ixdtf_reading.specs.reading.Durations.{State, run, State.{between, in_number, ended}}
 use Rattle.ixdtf_durations.specs.declared.{group_numbers.Number.Number, date_groups.Dates.Dates, time_groups.TimeGroup.TimeGroup}
 
@@ -17,20 +18,20 @@ use Rattle.ixdtf_durations.specs.declared.{group_numbers.Number.Number, date_gro
 abbrev pub run_from : Profile → State → Text → Read Placed DurationParseRecord
 run_from profile state text = run error_of profile state text
 
--- To read from a state on is to continue as `next` says with the value of the function, or to end at its `Stop`.
-abbrev pub ReadsOn : {X : Type 0} → (ℕ → Letter) → Profile → State → Unread → Result X Stop → Unread → (X → Text → Read Placed DurationParseRecord) → Type 0
+-- To read from a state on is to continue as `next` says with the value of the function, or to end at its `Reason`.
+abbrev pub ReadsOn : {X : Type 0} → (ℕ → Letter) → Profile → State → Unread → Result X Reason → Unread → (X → Text → Read Placed DurationParseRecord) → Type 0
 ReadsOn letter profile from old (Ok x) new next = run_from profile from (map letter old.rest) ≡ next x (map letter new.rest)
 ReadsOn letter profile from old (Err e) new next = run_from profile from (map letter old.rest) ≡ Err (e, map letter new.rest)
 
 -- The result of a function that read from a state on up to the end of the text, and then settled a cursor at `start`. `read` is
--- the value or the `Stop`, and `left` is the cursor after it.
-pub record SettlesFrom {E : Type 0} (letter : ℕ → Letter) (profile : Profile) (from : State) (named : E → Fault) (stands : ℕ → E → Type 0)
+-- the value or the `Reason`, and `left` is the cursor after it.
+pub record SettlesFrom {E : Type 0} (letter : ℕ → Letter) (profile : Profile) (from : State) (named : E → Fault) (stands : Reason → ℕ → E → Type 0)
     (start : List ℕ) (old : Unread) (result : Result DurationParseRecord E) (new : List ℕ) : Type 0 where
-  pub read : Result DurationParseRecord Stop
+  pub read : Result DurationParseRecord Reason
   pub left : Unread
   pub reads : ReadsOn letter profile from old read left (λ duration text. Ok (duration, text))
   pub settled : Settles named false (map letter left.rest) read result
-  pub place : IfErr result (stands (length start - length left.rest))
+  pub place : StandsAt stands (length start - length left.rest) read result
   pub ended : OnOk result (new ≡ left.rest)
 
 -- ---- numbers
@@ -46,10 +47,10 @@ pub record IsNumber (letter : ℕ → Letter) (first : ℕ) (old : List ℕ) (nu
 
 -- The result of reading a number after its first digit. It stops at `digits` if no code unit, or a bad one, follows the digits, and at
 -- `past` if the number is too great.
-abbrev pub ReadsNumber : (ℕ → Letter) → ℕ → Stop → Stop → Unread → Result Number Stop → Unread → Type 0
+abbrev pub ReadsNumber : (ℕ → Letter) → ℕ → Reason → Reason → Unread → Result Number Reason → Unread → Type 0
 ReadsNumber letter first digits past old (Ok number) new = IsNumber letter first old.rest number new.rest
 ReadsNumber letter first digits past old (Err e) new =
-    (profile : Profile) (context : Context) → duration_stop (group_digits (half_of context)) ≡ digits → duration_stop (group_value_range (half_of context)) ≡ past
+    (profile : Profile) (context : Context) → duration_reason (group_digits (half_of context)) ≡ digits → duration_reason (group_value_range (half_of context)) ≡ past
     → run_from profile (in_number context (Plain first ∷ [])) (map letter old.rest) ≡ Err (e, map letter new.rest)
 
 -- ---- groups
@@ -80,30 +81,30 @@ rank_seen half c = if designator half c then rank (unit_of half c) else 0
 abbrev pub behind_unit : Half → ℕ → Text → Text
 behind_unit half c text = if designator half c then drop 1 text else text
 
--- The rank of a group, if it is at least `least` and the number is in the range of its unit. Otherwise the `Stop`.
-abbrev pub date_rank_from : ℕ → Number → Result ℕ Stop
+-- The rank of a group, if it is at least `least` and the number is in the range of its unit. Otherwise the `Reason`.
+abbrev pub date_rank_from : ℕ → Number → Result ℕ Reason
 date_rank_from least n =
     let unit = unit_of date n.next in
-    if designator date n.next then (if nat_le least (rank unit) then (if nat_le n.value (greatest unit) then Ok (rank unit) else Err (duration_stop date_unit_range))
-    else Err (duration_stop (unit_order date))) else Err (duration_stop (group_digits date))
+    if designator date n.next then (if nat_le least (rank unit) then (if nat_le n.value (greatest unit) then Ok (rank unit) else Err (duration_reason date_unit_range))
+    else Err (duration_reason (unit_order date))) else Err (duration_reason (group_digits date))
 
--- As above. `digits` is the `Stop` at a code unit that names no unit.
-abbrev pub time_rank_from : Stop → ℕ → ℕ → Result ℕ Stop
+-- As above. `digits` is the `Reason` at a code unit that names no unit.
+abbrev pub time_rank_from : Reason → ℕ → ℕ → Result ℕ Reason
 time_rank_from digits least c =
     let unit = unit_of time c in
-    if designator time c then (if nat_le least (rank unit) then Ok (rank unit) else Err (duration_stop (unit_order time))) else Err digits
+    if designator time c then (if nat_le least (rank unit) then Ok (rank unit) else Err (duration_reason (unit_order time))) else Err digits
 
--- Whether a group may follow these groups, with its unit and its number. If it may not, the result is the `Stop`.
-abbrev pub date_group_fits : Profile → List Group → Group → Result (Unit {0}) Stop
+-- Whether a group may follow these groups, with its unit and its number. If it may not, the result is the `Reason`.
+abbrev pub date_group_fits : Profile → List Group → Group → Result (Unit {0}) Reason
 date_group_fits profile dates g =
-    if in_order profile dates g.unit then (if nat_le g.value (greatest g.unit) then Ok tt else Err (duration_stop date_unit_range))
-    else Err (duration_stop (unit_order date))
+    if in_order profile dates g.unit then (if nat_le g.value (greatest g.unit) then Ok tt else Err (duration_reason date_unit_range))
+    else Err (duration_reason (unit_order date))
 
-abbrev pub time_group_fits : Profile → List Group → Group → Result (Unit {0}) Stop
-time_group_fits profile times g = if in_order profile times g.unit then Ok tt else Err (duration_stop (unit_order time))
+abbrev pub time_group_fits : Profile → List Group → Group → Result (Unit {0}) Reason
+time_group_fits profile times g = if in_order profile times g.unit then Ok tt else Err (duration_reason (unit_order time))
 
--- If the test succeeded, reads from a state on. Otherwise the result is the `Stop` of the test.
-abbrev pub run_where : Profile → Result (Unit {0}) Stop → State → Text → Read Placed DurationParseRecord
+-- If the test succeeded, reads from a state on. Otherwise the result is the `Reason` of the test.
+abbrev pub run_where : Profile → Result (Unit {0}) Reason → State → Text → Read Placed DurationParseRecord
 run_where profile (Ok x) state text = run_from profile state text
 run_where profile (Err e) state text = Err (e, text)
 
@@ -112,16 +113,16 @@ abbrev pub after_group : Option FractionParts → Sign → List Group → List G
 after_group None s dates times g = between (in_times s dates (g ∷ times))
 after_group (Some fraction) s dates times g = ended s dates times g
 
--- The `Stop` at a code unit after the digits of a time group, or after those of its fraction, that names no unit.
-abbrev pub digits_stop : Option FractionParts → Stop
-digits_stop None = duration_stop (group_digits time)
-digits_stop (Some fraction) = duration_stop group_fraction_digits
+-- The `Reason` at a code unit after the digits of a time group, or after those of its fraction, that names no unit.
+abbrev pub digits_stop : Option FractionParts → Reason
+digits_stop None = duration_reason (group_digits time)
+digits_stop (Some fraction) = duration_reason group_fraction_digits
 
--- Whether the code unit after a number makes it a group that may follow these groups. If not, the result is the `Stop`.
-abbrev pub date_read : Profile → List Group → Number → Result (Unit {0}) Stop
-date_read profile dates n = if designator date n.next then date_group_fits profile dates (date_group_of n) else Err (duration_stop (group_digits date))
+-- Whether the code unit after a number makes it a group that may follow these groups. If not, the result is the `Reason`.
+abbrev pub date_read : Profile → List Group → Number → Result (Unit {0}) Reason
+date_read profile dates n = if designator date n.next then date_group_fits profile dates (date_group_of n) else Err (duration_reason (group_digits date))
 
-abbrev pub time_read : Profile → List Group → TimeGroup → Result (Unit {0}) Stop
+abbrev pub time_read : Profile → List Group → TimeGroup → Result (Unit {0}) Reason
 time_read profile times g = if designator time g.letter then time_group_fits profile times (time_group_of g) else Err (digits_stop g.fraction)
 
 -- Reads on from the code unit after a number, if it names a time unit and the group may follow the groups before it.

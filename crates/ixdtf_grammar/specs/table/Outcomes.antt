@@ -1,7 +1,8 @@
 -- The outcomes of a text: a value that the grammar derives, or a row that fits.
 use Rattle.std.specs.Prelude.{◌≡◌, ℕ, ◌+◌, List, ◌++◌, length}
 use Rattle.ixdtf_grammar.specs.{language.{Letters.Text, Brackets.Pair, Readers.Reader, Languages.{Found, Derives}}, table.Faults.Fault}
-use Rattle.ixdtf_grammar.specs.table.Rows.{Row, Fits, left_at}
+use Rattle.ixdtf_grammar.specs.declared.reason.Reason.{Reason}
+use Rattle.ixdtf_grammar.specs.table.{Reasons.reason_of, Rows.{Row, Fits, left_at}}
 
 -- A row with the error fits, with these complete annotations before it.
 abbrev pub HasFault : Reader → Text → List Pair → Fault → Type 0
@@ -15,6 +16,14 @@ HasFaultAt reader text pairs fault at =
 -- No row with another error fits the text, and no row fits at another position.
 abbrev pub OnlyPlace : Reader → Text → Fault → ℕ → Type 0
 OnlyPlace reader text fault at = (other : Fault) (pairs : List Pair) (there : ℕ) → HasFaultAt reader text pairs other there → (other ≡ fault) × (there ≡ at)
+
+-- A row fits whose line has the reason, with these complete annotations before it.
+abbrev pub HasReason : Reader → Text → List Pair → Reason → Type 0
+HasReason reader text pairs reason = (row : Row) × Fits reader row pairs text × (reason_of row.name ≡ reason)
+
+-- No row fits whose line has another reason.
+abbrev pub OnlyReason : Reader → Text → Reason → Type 0
+OnlyReason reader text reason = (other : Reason) (pairs : List Pair) → HasReason reader text pairs other → other ≡ reason
 
 -- No row fits the text.
 abbrev pub NoRowFits : Reader → Text → Type 0

@@ -1,23 +1,24 @@
 -- The first code unit of a text as a byte, which is 0 if there is none, and what the reading functions do by it.
+use Rattle.ixdtf_grammar.specs.declared.reason.Reason.{Reason}
 use Rattle.std.proofs.Common.{◌≡◌, ◌∙◌, ◌+◌, ℕ, true, false, List, [], ◌∷◌, length, map, drop, Result, Ok, Err, refl, ap, arith}
 use Rattle.std.proofs.lemmas.Bool.Decides.{nat_tests}
 use Rattle.ixdtf_grammar.specs.language.Letters.{Letter, Text, Class, value_char, key_lead, exclamation, Letter.{Plain, Bad}}
 use Rattle.ixdtf_grammar.specs.table.LineNames.{LineName.of_pair, PairLine.{key_start, critical_key_start}}
-use Rattle.ixdtf_reading.specs.{declared.stop.Stop.Stop, reading.Stops.stop_of}
+use Rattle.ixdtf_reading.specs.{reading.Stops.reason_of}
 use Rattle.ixdtf_grammar.specs.Views.{Unread}
 use Rattle.ixdtf_reading.specs.reading.{Looks.{Read, Placed, look_at, look_for, next_by, mark_by, error_of}, FixedPlaces.byte_place, Clauses.Reads}
 use Rattle.ixdtf_reading.specs.reading.Pairs.{BeginsKey, component_look, pair_at, critical_pair_at, later_pair_at}
 
 -- What a function returned for the text in the middle, it returned for the text before, if one reading function continues as the other.
 module _ {X Y : Type 0} (letter : ℕ → Letter) (view : X → Y) (old middle new : Unread) (reading next : Text → Read Placed Y) where
-  pub reads_as : (result : Result X Stop) → reading (map letter old.rest) ≡ next (map letter middle.rest) → Reads letter view middle result new next
+  pub reads_as : (result : Result X Reason) → reading (map letter old.rest) ≡ next (map letter middle.rest) → Reads letter view middle result new next
       → Reads letter view old result new reading
   reads_as (Ok x) same read = same ∙ read
   reads_as (Err stop) same read = same ∙ read
 
 -- A class that does not contain 0.
 module _ (class : Class) (zero_out : class 0 ≡ false) where
-  module _ (stop : Stop) where
+  module _ (stop : Reason) where
     pub taken : (text : Text) → class (byte_place 0 text) ≡ true → next_by (look_for class stop) text ≡ Ok (byte_place 0 text, drop 1 text)
     unfolding next_by look_at
     taken [] is = absurd cc
@@ -38,11 +39,11 @@ module _ (class : Class) (zero_out : class 0 ≡ false) where
 
 -- ---- components of values
 
-pub component_taken : (stop : Stop) (text : Text) → value_char (byte_place 0 text) ≡ true → mark_by (component_look stop) value_char text ≡ Ok (true, drop 1 text)
+pub component_taken : (stop : Reason) (text : Text) → value_char (byte_place 0 text) ≡ true → mark_by (component_look stop) value_char text ≡ Ok (true, drop 1 text)
 unfolding mark_by
 component_taken stop text is = rw (taken value_char refl stop text is, is) refl
 
-pub component_refused : (stop : Stop) (text : Text) → value_char (byte_place 0 text) ≡ false → mark_by (component_look stop) value_char text ≡ Err (stop, text)
+pub component_refused : (stop : Reason) (text : Text) → value_char (byte_place 0 text) ≡ false → mark_by (component_look stop) value_char text ≡ Err (stop, text)
 unfolding mark_by
 component_refused stop text out = rw (refused value_char refl stop text out) refl
 
@@ -70,7 +71,7 @@ later_flag (Bad ∷ rest) out flag = absurd cc
 later_flag (Plain c ∷ rest) out flag = rw (out, flag) (rw flag refl)
 
 pub later_other : (text : Text) → key_lead (byte_place 0 text) ≡ false → exclamation (byte_place 0 text) ≡ false
-    → later_pair_at error_of text ≡ Err (stop_of (of_pair key_start), text)
+    → later_pair_at error_of text ≡ Err (reason_of (of_pair key_start), text)
 unfolding later_pair_at next_by look_at
 later_other [] out flag = refl
 later_other (Bad ∷ rest) out flag = refl
@@ -82,7 +83,7 @@ critical_key [] leads = absurd cc
 critical_key (Bad ∷ rest) leads = absurd cc
 critical_key (Plain c ∷ rest) leads = rw leads refl
 
-pub critical_other : (text : Text) → key_lead (byte_place 0 text) ≡ false → critical_pair_at error_of text ≡ Err (stop_of (of_pair critical_key_start), text)
+pub critical_other : (text : Text) → key_lead (byte_place 0 text) ≡ false → critical_pair_at error_of text ≡ Err (reason_of (of_pair critical_key_start), text)
 unfolding critical_pair_at next_by look_at
 critical_other [] out = refl
 critical_other (Bad ∷ rest) out = refl

@@ -4,7 +4,7 @@ use Rattle.ixdtf_grammar.specs.declared.records.{DateRecord.DateRecord, TimeReco
 use Rattle.ixdtf_grammar.specs.language.{Letters.{Text, hyphen, time_letter, Letter.Plain}, Digits.decimal, FixedPlaces.{FixedDate, FixedDateTime}}
 use Rattle.ixdtf_grammar.specs.{language.DateTimes.IsFullDate, table.{DateTimeFronts.ThroughSecond, LineNames.{LineName.of_date_time, DateTimeLine.{four_digits, after_four_digits}}}}
 use Rattle.ixdtf_reading.specs.reading.Looks.{Read, Placed, ◌>>=◌, error_of, next_by, digits_by, digit_look, look_for, as_number}
-use Rattle.ixdtf_reading.specs.reading.{FixedPlaces.byte_place, Stops.stop_of, DateTimes.{Finish, after_whole_second_at, full_month_at, date_time_by}}
+use Rattle.ixdtf_reading.specs.reading.{FixedPlaces.byte_place, Stops.reason_of, DateTimes.{Finish, after_whole_second_at, full_month_at, date_time_by}}
 use Rattle.ixdtf_reading.proofs.to_reading.DateTimes.{over_through_second}
 
 full_date : (text : Text) (date : DateRecord) → FixedDate text date → IsFullDate text date
@@ -56,13 +56,13 @@ fixed_date_time finish text date time rest letter f =
 
 -- A date-time is read as the number of its year, and then the rest.
 pub year_then : {A : Type 0} (finish : Finish Placed A) (text : Text) → date_time_by error_of finish text
-    ≡ (as_number (digits_by (digit_look (stop_of (of_date_time four_digits))) 4 text) >>= λ year. next_by (look_for hyphen (stop_of (of_date_time after_four_digits))) year.1
+    ≡ (as_number (digits_by (digit_look (reason_of (of_date_time four_digits))) 4 text) >>= λ year. next_by (look_for hyphen (reason_of (of_date_time after_four_digits))) year.1
     >>= λ mark. full_month_at error_of finish (pos year.0) mark.1)
 unfolding date_time_by
-year_then {A} finish text = go (digits_by (digit_look (stop_of (of_date_time four_digits))) 4 text)
+year_then {A} finish text = go (digits_by (digit_look (reason_of (of_date_time four_digits))) 4 text)
   where
-    go : (r : Read Placed Text) → (r >>= λ years. next_by (look_for hyphen (stop_of (of_date_time after_four_digits))) years.1
+    go : (r : Read Placed Text) → (r >>= λ years. next_by (look_for hyphen (reason_of (of_date_time after_four_digits))) years.1
         >>= λ mark. full_month_at error_of finish (pos (decimal years.0)) mark.1)
-        ≡ (as_number r >>= λ year. next_by (look_for hyphen (stop_of (of_date_time after_four_digits))) year.1 >>= λ mark. full_month_at error_of finish (pos year.0) mark.1)
+        ≡ (as_number r >>= λ year. next_by (look_for hyphen (reason_of (of_date_time after_four_digits))) year.1 >>= λ mark. full_month_at error_of finish (pos year.0) mark.1)
     go (Ok x) = refl
     go (Err e) = refl

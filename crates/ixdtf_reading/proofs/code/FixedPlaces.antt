@@ -1,4 +1,5 @@
 -- A date and a time in fixed columns. What is found there is what the grammar derives, and what the reading functions return.
+use Rattle.ixdtf_grammar.specs.declared.reason.Reason.{Reason}
 use Rattle.std.proofs.Common.{subst, ◌≡◌, ℕ, zero, suc, ◌+◌, ◌-◌, ◌*◌, ◌<◌, ◌≤◌, Bool, true, false, IsTrue, List, [], ◌∷◌, ◌++◌, map, drop, length, Option}
 use Rattle.std.proofs.Common.{Some, None, Result, Ok, Err, refl, sym, ap, ◌∙◌, ◌&&◌, if◌then◌else◌, ℤ, pos, arith, append_assoc, inl, inr, nat_eq, eqb-true}
 use Rattle.std.proofs.lemmas.{Bool.{and_parts, and_from, le-leb, both_ways, Decides.nat_tests}, List.length-drop}
@@ -8,7 +9,7 @@ use Rattle.ixdtf_grammar.specs.language.{Digits.{decimal, TwoDigits}, Shapes.dig
 use Rattle.ixdtf_grammar.specs.{language.FixedPlaces.{FixedDateTime, FixedDate, FixedTime}, table.{Faults.Fault, LineNames.{of_date, DateLine.after_year}}}
 use Rattle.ixdtf_grammar.specs.Views.{Unread, ascii_at}
 use Rattle.ixdtf_grammar.proofs.parts.Texts.{colon_seconds_text}
-use Rattle.ixdtf_reading.specs.{declared.stop.Stop.Stop, reading.{Clauses.{Reads, YieldsAt}, Dates.{date_of, day_in_range, day_at, days_at, date_at}}}
+use Rattle.ixdtf_reading.specs.{reading.{Clauses.{Reads, YieldsAt}, Dates.{date_of, day_in_range, day_at, days_at, date_at}}}
 use Rattle.ixdtf_reading.specs.reading.{Times.time_of, Looks.{Read, Placed, error_of}, FixedPlaces.{ranged, ◌>>?◌, first_in, letter_place, first_byte}}
 use Rattle.ixdtf_reading.specs.reading.FixedPlaces.{byte_place, byte_of_look, number_place, year_place, days_place, basic_days_place, date_place, time_place}
 use Rattle.ixdtf_reading.specs.reading.FixedPlaces.{date_in_range, time_in_range, date_time_place}
@@ -402,14 +403,14 @@ too_short text short = none (date_time_place text) refl
     none (Some x) e = let long = long_enough text x e in absurd (omega arith)
 
 -- The result of testing the numbers is the result of the reading function.
-pub reads_tested : {X Y : Type 0} (letter : ℕ → Letter) (view : X → Y) (old new : Unread) (result : Result X Stop) (reading : Text → Read Placed Y) (tested : Read Placed Y)
+pub reads_tested : {X Y : Type 0} (letter : ℕ → Letter) (view : X → Y) (old new : Unread) (result : Result X Reason) (reading : Text → Read Placed Y) (tested : Read Placed Y)
     → reading (map letter old.rest) ≡ tested → YieldsAt (λ x. (view x, map letter new.rest)) result (map letter new.rest) tested
     → Reads letter view old result new reading
 reads_tested letter view old new (Ok x) reading tested read is = read ∙ is
 reads_tested letter view old new (Err stop) reading tested read is = read ∙ is
 
 -- If reading goes on with `further` at `here`, the result of `further` is the result of the reading function.
-pub reads_on : {X Y : Type 0} (letter : ℕ → Letter) (view : X → Y) (old here new : Unread) (result : Result X Stop) (reading further : Text → Read Placed Y)
+pub reads_on : {X Y : Type 0} (letter : ℕ → Letter) (view : X → Y) (old here new : Unread) (result : Result X Reason) (reading further : Text → Read Placed Y)
     → reading (map letter old.rest) ≡ further (map letter here.rest) → Reads letter view here result new further → Reads letter view old result new reading
 reads_on letter view old here new (Ok x) reading further same is = same ∙ is
 reads_on letter view old here new (Err stop) reading further same is = same ∙ is

@@ -1,9 +1,10 @@
 -- Code units that a loop consumes one by one.
+use Rattle.ixdtf_grammar.specs.declared.reason.Reason.{Reason}
 use Rattle.std.proofs.Common.{◌≡◌, ℕ, ◌+◌, ◌-◌, Bool, true, false, if◌then◌else◌, List, [], ◌∷◌, ◌++◌, length, map, drop, take, Option, Some, None, Ok, Err, refl}
 use Rattle.std.specs.List.{slice_range}
 use Rattle.std.proofs.{Common.{sym, ap, subst, ◌∙◌, arith, append_assoc, Result}, lemmas.List.{take-map, length-map, length-append, take_all, take-append-le}}
 use Rattle.ixdtf_grammar.specs.language.Letters.{Letter, Text, Letter.{Plain, Bad}}
-use Rattle.ixdtf_reading.specs.{declared.stop.Stop.Stop, reading.{Looks.{Placed, Read, look_at, seen}, Zones.with_letter, Runs.{Taken, one_more, nothing_taken, on_letter, letters_by}}}
+use Rattle.ixdtf_reading.specs.{reading.{Looks.{Placed, Read, look_at, seen}, Zones.with_letter, Runs.{Taken, one_more, nothing_taken, on_letter, letters_by}}}
 use Rattle.ixdtf_reading.proofs.{code.FirstLetter.{nothing_is, first_is as letter_first}, parts.Steps.{steps, steps_both, steps_err, with_letters}}
 
 -- The test is true if the result has a value. The next lemma says that it is false if there is none.
@@ -14,7 +15,7 @@ pub test_failed : {A : Type 0} (b : Bool) (x : A) → (if b then Some x else Non
 test_failed b x e = grind (arith, e)
 
 -- A look found the code unit `c`.
-pub first_is : (stop : Stop) (letter : ℕ → Letter) → ((unit n : ℕ) → letter unit ≡ Plain n → n ≡ unit) → (units : List ℕ) (c : ℕ)
+pub first_is : (stop : Reason) (letter : ℕ → Letter) → ((unit n : ℕ) → letter unit ≡ Plain n → n ≡ unit) → (units : List ℕ) (c : ℕ)
     → seen stop (map letter units) ≡ Ok (Some c) → (more : List ℕ) × (units ≡ c ∷ more) × (map letter units ≡ Plain c ∷ map letter more)
 unfolding look_at
 first_is stop letter faithful [] c e = absurd cc
@@ -48,7 +49,7 @@ module _ {S B : Type 0} {step : ℕ → Result B Placed → Result B Placed} {re
   }
 
   -- One code unit continues the run.
-  pub one_far : (stop : Stop) → ((unit n : ℕ) → letter unit ≡ Plain n → n ≡ unit) → (left : List ℕ) (next : S) (c : ℕ) → seen stop (map letter rest) ≡ Ok (Some c)
+  pub one_far : (stop : Reason) → ((unit n : ℕ) → letter unit ≡ Plain n → n ≡ unit) → (left : List ℕ) (next : S) (c : ℕ) → seen stop (map letter rest) ≡ Ok (Some c)
       → ((more : Text) → reading state (Plain c ∷ more) ≡ step c (reading next more)) → left ≡ drop 1 rest → IsFar step reading letter start whole left next
   one_far stop faithful left next c e goes_on moved =
       let here = first_is stop letter faithful rest c e in
@@ -61,7 +62,7 @@ module _ {S B : Type 0} {step : ℕ → Result B Placed → Result B Placed} {re
   far_fails failed fault e = far.read ∙ ap (steps step far.taken) e ∙ steps_err step failed far.taken fault
 
 -- A reading function that consumes each code unit that continues the run.
-module _ {S B : Type 0} (stop : S → Stop) (after : S → ℕ → Option S) (step : ℕ → Result B Placed → Result B Placed) (reading : S → Text → Result B Placed)
+module _ {S B : Type 0} (stop : S → Reason) (after : S → ℕ → Option S) (step : ℕ → Result B Placed → Result B Placed) (reading : S → Text → Result B Placed)
     (over : (state next : S) (c : ℕ) (rest : Text) → after state c ≡ Some next → reading state (Plain c ∷ rest) ≡ step c (reading next rest))
     (at_bad : (state : S) (rest : Text) → reading state (Bad ∷ rest) ≡ Err (stop state, Bad ∷ rest))
     (failed : (c : ℕ) (e : Placed) → step c (Err e) ≡ Err e) where
@@ -94,7 +95,7 @@ module _ {S B : Type 0} (stop : S → Stop) (after : S → ℕ → Option S) (st
   walk_passed state text rest taken e = let w : Walked state text (Ok (taken, rest)) = subst (Walked state text) e (walked state text) in w
 
 -- A reading function that returns code units.
-module _ {S : Type 0} (stop : S → Stop) (after : S → ℕ → Option S) (reading : S → Text → Read Placed (List ℕ))
+module _ {S : Type 0} (stop : S → Reason) (after : S → ℕ → Option S) (reading : S → Text → Read Placed (List ℕ))
     (over : (state next : S) (c : ℕ) (rest : Text) → after state c ≡ Some next → reading state (Plain c ∷ rest) ≡ with_letter c (reading next rest))
     (at_bad : (state : S) (rest : Text) → reading state (Bad ∷ rest) ≡ Err (stop state, Bad ∷ rest)) where
   pub run_failed : (state : S) (text : Text) (fault : Placed) → letters_by stop after state text ≡ Err fault → reading state text ≡ Err fault
@@ -111,7 +112,7 @@ steps_taken : {S : Type 0} (letters : List ℕ) (state : S) (next : Option ℕ) 
 steps_taken [] state next rest = refl
 steps_taken (c ∷ letters) state next rest = ap (one_more c) (steps_taken letters state next rest)
 
-module _ {S : Type 0} (stop : S → Stop) (after : S → ℕ → Option S) where
+module _ {S : Type 0} (stop : S → Reason) (after : S → ℕ → Option S) where
   run_more : (state next : S) (c : ℕ) (rest : Text) → after state c ≡ Some next → letters_by stop after state (Plain c ∷ rest) ≡ one_more c (letters_by stop after next rest)
   unfolding letters_by
   run_more state next c rest is = rw is refl
@@ -158,7 +159,7 @@ module _ {S : Type 0} (stop : S → Stop) (after : S → ℕ → Option S) where
   pub next_stays : (state : S) (text rest : Text) (taken : Taken S) → letters_by stop after state text ≡ Ok (taken, rest) → Stays taken.state taken.next
   next_stays state text rest taken e = let h : Shown (Ok (taken, rest)) = subst (λ read. Shown read) e (shown state text) in h.1
 
-  run_ceases : (some_stop : Stop) (state : S) (text : Text) (next : Option ℕ) → seen some_stop text ≡ Ok next → Stays state next
+  run_ceases : (some_stop : Reason) (state : S) (text : Text) (next : Option ℕ) → seen some_stop text ≡ Ok next → Stays state next
       → letters_by stop after state text ≡ Ok (nothing_taken state next, text)
   unfolding letters_by
   run_ceases some_stop state text None e is = rw (nothing_is some_stop text e) refl
@@ -173,19 +174,19 @@ module _ {S : Type 0} (stop : S → Stop) (after : S → ℕ → Option S) where
   module _ (letter : ℕ → Letter) (faithful : (unit n : ℕ) → letter unit ≡ Plain n → n ≡ unit) (start : S) (whole rest : List ℕ) (state : S)
       (far : IsSoFar letter start whole rest state) where
     -- The code unit continues the run.
-    pub goes_on : (some_stop : Stop) (left : List ℕ) (next : S) (c : ℕ) → seen some_stop (map letter rest) ≡ Ok (Some c) → after state c ≡ Some next
+    pub goes_on : (some_stop : Reason) (left : List ℕ) (next : S) (c : ℕ) → seen some_stop (map letter rest) ≡ Ok (Some c) → after state c ≡ Some next
         → left ≡ drop 1 rest → IsSoFar letter start whole left next
     goes_on some_stop left next c e is moved = one_far far some_stop faithful left next c e (λ more. run_more state next c more is) moved
 
     -- The run ends here.
-    pub ceases : (some_stop : Stop) (next : Option ℕ) → seen some_stop (map letter rest) ≡ Ok next → Stays state next
+    pub ceases : (some_stop : Reason) (next : Option ℕ) → seen some_stop (map letter rest) ≡ Ok next → Stays state next
         → letters_by stop after start (map letter whole) ≡ Ok (record { letters = far.taken; state = state; next = next }, map letter rest)
     ceases some_stop next e is = far.read ∙ ap (steps one_more far.taken) (run_ceases some_stop state (map letter rest) next e is) ∙ steps_taken far.taken state next (map letter rest)
 
     pub fails : (fault : Placed) → seen (stop state) (map letter rest) ≡ Err fault → letters_by stop after start (map letter whole) ≡ Err fault
     fails fault e = far_fails far (λ c e. refl) fault (run_fails state (map letter rest) fault e)
 
--- ---- runs with other `Stop`s
+-- ---- runs with other `Reason`s
 
 -- If the first run ends, so does the second one.
 abbrev Alike : {S : Type 0} → Read Placed (Taken S) → Read Placed (Taken S) → Type 0
@@ -201,7 +202,7 @@ alike_on : {S : Type 0} (c : ℕ) (next : Option S) (read other : S → Read Pla
 alike_on c None read other here same all = same
 alike_on c (Some n) read other here same all = alike_more c (read n) (other n) (all n)
 
-alike : {S : Type 0} (stop other : S → Stop) (after : S → ℕ → Option S) (state : S) (text : Text) → Alike (letters_by stop after state text) (letters_by other after state text)
+alike : {S : Type 0} (stop other : S → Reason) (after : S → ℕ → Option S) (state : S) (text : Text) → Alike (letters_by stop after state text) (letters_by other after state text)
 unfolding letters_by
 alike stop other after state [] = refl
 alike stop other after state (Bad ∷ rest) = tt
@@ -209,8 +210,8 @@ alike stop other after state (Plain c ∷ rest) =
     alike_on c (after state c) (λ n. letters_by stop after n rest) (λ n. letters_by other after n rest) (Ok (nothing_taken state (Some c), Plain c ∷ rest)) refl
     (λ n. alike stop other after n rest)
 
--- A run that ends does so with other `Stop`s too.
-pub ends_alike : {S : Type 0} (stop other : S → Stop) (after : S → ℕ → Option S) (state : S) (text : Text) (x : Taken S × Text)
+-- A run that ends does so with other `Reason`s too.
+pub ends_alike : {S : Type 0} (stop other : S → Reason) (after : S → ℕ → Option S) (state : S) (text : Text) (x : Taken S × Text)
     → letters_by stop after state text ≡ Ok x → letters_by other after state text ≡ Ok x
 ends_alike stop other after state text x e = let same : Alike (Ok x) (letters_by other after state text) =
     subst (λ read. Alike read (letters_by other after state text)) e (alike stop other after state text) in same
@@ -240,7 +241,7 @@ behind_last number after rest left all split stays = omega (arith, stays, length
 -- ---- code units of one kind within another
 
 -- Code units of one class that do not change the state of another run.
-module _ {S U : Type 0} (stop : S → Stop) (after : S → ℕ → Option S) (wide_stop : U → Stop) (wider : U → ℕ → Option U) (here : U)
+module _ {S U : Type 0} (stop : S → Reason) (after : S → ℕ → Option S) (wide_stop : U → Reason) (wider : U → ℕ → Option U) (here : U)
     (same_stop : (state : S) → wide_stop here ≡ stop state)
     (within : (state next : S) (c : ℕ) → after state c ≡ Some next → wider here c ≡ Some here) where
   abbrev wide : S → Text → Read Placed (Taken U)

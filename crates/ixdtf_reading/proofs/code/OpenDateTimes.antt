@@ -9,7 +9,7 @@ use Rattle.ixdtf_reading.specs.reading.{Clauses.end_look, Cores.{core_end_at, in
 use Rattle.ixdtf_reading.specs.reading.{Looks.{Read, Placed, ◌>>=◌, error_of, peek_by, letter_at, digits_at}, DateTimes.{Finish, open_end, num_offset, numeric_core, utc_core}}
 use Rattle.ixdtf_reading.specs.reading.DateTimes.{offset_minute_at, num_offset_at, secfrac_digits_at, time_offset_at, secfrac_at, after_whole_second_at, whole_second_at}
 use Rattle.ixdtf_reading.specs.reading.DateTimes.{whole_minute_at, full_time_at, full_day_at, full_month_at, date_time_by, line_after_offset}
-use Rattle.ixdtf_reading.specs.reading.Stops.{stop_of}
+use Rattle.ixdtf_reading.specs.reading.Stops.{reason_of}
 
 module _ {A : Type 0} (finish : Finish Placed A) (last : Core → Text → Read Placed A)
     (utc : (date : DateRecord) (time : TimeRecord) (text : Text) → finish (of_date_time after_utc) (utc_core date time) text ≡ last (utc_core date time) text)
@@ -90,10 +90,10 @@ module _ {A : Type 0} (finish : Finish Placed A) (last : Core → Text → Read 
 
 -- A date-time of RFC 3339, and the end of the text.
 pub rfc_3339_open : (text : Text) → rfc_3339_at error_of text
-    ≡ (date_time_by error_of open_end text >>= λ core. peek_by (end_look (stop_of (line_after_offset core.0.offset))) core.1 >>= λ next. Ok (parsed_with core.0 None, next.1))
+    ≡ (date_time_by error_of open_end text >>= λ core. peek_by (end_look (reason_of (line_after_offset core.0.offset))) core.1 >>= λ next. Ok (parsed_with core.0 None, next.1))
 unfolding date_time_ends
 rfc_3339_open text = date_time_open (date_time_ends error_of)
-    (λ core rest. peek_by (end_look (stop_of (line_after_offset core.offset))) rest >>= λ next. Ok (parsed_with core None, next.1))
+    (λ core rest. peek_by (end_look (reason_of (line_after_offset core.offset))) rest >>= λ next. Ok (parsed_with core None, next.1))
     (λ date time rest. refl) (λ date time offset rest. refl) text
 
 -- A date-time of RFC 3339, and the end of the text or `[`.

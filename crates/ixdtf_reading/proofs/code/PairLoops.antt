@@ -1,9 +1,10 @@
 -- The code units of a key and of a value, consumed one by one.
+use Rattle.ixdtf_grammar.specs.declared.reason.Reason.{Reason}
 use Rattle.std.proofs.Common.{◌≡◌, ℕ, true, false, List, [], ◌∷◌, ◌++◌, map, drop, Option, Some, None, Ok, Err, refl, sym, ap, subst, ◌∙◌}
 use Rattle.std.proofs.{Common.{arith}, lemmas.Bool.Decides.nat_tests}
 use Rattle.ixdtf_reading.specs.reading.Pairs.{ValueState, AtStart, Inside, BeginsKey}
 use Rattle.ixdtf_reading.specs.reading.Pairs.{AfterHyphen, GoesOn, Ends, Stops, key_run, component_look, value_run, value_mark, value_step, value_line}
-use Rattle.ixdtf_reading.specs.{declared.stop.Stop.Stop, reading.Stops.stop_of}
+use Rattle.ixdtf_reading.specs.{reading.Stops.reason_of}
 use Rattle.ixdtf_reading.specs.reading.{Looks.{Placed, look_at, seen, next_by, mark_by, error_of}, Zones.with_letter}
 use Rattle.ixdtf_reading.specs.reading.Brackets.{next_is}
 use Rattle.ixdtf_reading.specs.reading.Runs.{Taken, always, letters_by, key_after, component_after}
@@ -14,9 +15,9 @@ use Rattle.ixdtf_grammar.specs.{language.Letters.{Letter, Text, equals, hyphen, 
 
 -- ---- keys
 
--- The `Stop` in a key.
-abbrev pub key_stop : Stop
-key_stop = stop_of (of_pair in_key)
+-- The `Reason` in a key.
+abbrev pub key_stop : Reason
+key_stop = reason_of (of_pair in_key)
 
 key_over : (state next : Unit {0}) (c : ℕ) (rest : Text) → key_after state c ≡ Some next
     → key_run error_of (Plain c ∷ rest) ≡ with_letter c (key_run error_of rest)
@@ -88,9 +89,9 @@ key_behind letter faithful (u ∷ more) left begins moved = go (letter u) refl b
 
 -- ---- values
 
--- The `Stop` of a value in this state.
-abbrev pub value_stop : ValueState → Stop
-value_stop state = stop_of (of_pair (value_line state))
+-- The `Reason` of a value in this state.
+abbrev pub value_stop : ValueState → Reason
+value_stop state = reason_of (of_pair (value_line state))
 
 value_on : (state next : ValueState) (c : ℕ) (rest : Text) → value_step state c ≡ GoesOn next
     → value_run error_of state (Plain c ∷ rest) ≡ with_letter c (value_run error_of next rest)
@@ -113,7 +114,7 @@ no_hyphen : (c : ℕ) → closing c ≡ true → hyphen c ≡ false
 no_hyphen c is = grind (arith, nat_tests)
 
 -- No component begins.
-pub value_unstarted : (state : ValueState) (stop : Stop) → value_stop state ≡ stop → ((c : ℕ) → value_mark state c ≡ Stops)
+pub value_unstarted : (state : ValueState) (stop : Reason) → value_stop state ≡ stop → ((c : ℕ) → value_mark state c ≡ Stops)
     → (text : Text) (placed : Placed) → mark_by (component_look stop) value_char text ≡ Err placed → value_run error_of state text ≡ Err placed
 unfolding mark_by next_by look_at value_run
 value_unstarted state stop is marks [] placed e = let same : (stop, []) ≡ placed = cc in ap (λ f. Err (f, [])) is ∙ ap Err same
@@ -124,7 +125,7 @@ value_unstarted state stop is marks (Plain c ∷ rest) placed e =
     value_stops state c rest (rw out (marks c)) ∙ ap (λ f. Err (f, Plain c ∷ rest)) is ∙ ap Err same
 
 -- The first code unit of a component.
-started : (stop : Stop) (text left : Text) → mark_by (component_look stop) value_char text ≡ Ok (true, left)
+started : (stop : Reason) (text left : Text) → mark_by (component_look stop) value_char text ≡ Ok (true, left)
     → (c : ℕ) × (seen stop text ≡ Ok (Some c)) × (value_char c ≡ true)
 unfolding mark_by next_by look_at
 started stop (Plain c ∷ rest) left e = let is : value_char c ≡ true = grind (arith, e) in (c, refl, is)
@@ -155,7 +156,7 @@ module _ (letter : ℕ → Letter) (faithful : (unit n : ℕ) → letter unit �
     value_fails fault e = far_fails far (λ c e. refl) fault e
 
     -- A component begins.
-    pub value_starts : (stop : Stop) (left : List ℕ) → mark_by (component_look stop) value_char (map letter rest) ≡ Ok (true, map letter left)
+    pub value_starts : (stop : Reason) (left : List ℕ) → mark_by (component_look stop) value_char (map letter rest) ≡ Ok (true, map letter left)
         → left ≡ drop 1 rest → Far left Inside
     value_starts stop left e moved =
         let (c, found, is) = started stop (map letter rest) (map letter left) e in

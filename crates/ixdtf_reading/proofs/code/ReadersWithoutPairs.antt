@@ -1,11 +1,12 @@
 -- The clauses of a reader that reads no annotations. They follow from its reading function.
+use Rattle.ixdtf_grammar.specs.declared.reason.Reason.{Reason}
 use Rattle.std.proofs.Common.{refl, ◌≡◌, ℕ, List, [], map, Result, Ok, Err, sym, ap, ◌∙◌, IfErr, OnOk, IsFalse}
 use Rattle.ixdtf_grammar.specs.{declared.profile.Profile.Profile, language.{Letters.{Letter, Text}, Brackets.Pair, Readers.{Reader, has_brackets}}}
 use Rattle.ixdtf_grammar.specs.language.Readers.Reader.{bracketed, parse_rfc3339, parse_offset, parse_identifier, parse_iana_identifier, parse_duration}
 use Rattle.ixdtf_grammar.specs.{language.Languages.{Found, Derives}, table.{Faults.{Fault, never_comes}, Rows.{Row, Fits}}}
 use Rattle.ixdtf_grammar.specs.{table.Outcomes.{HasFault, NoRowFits, OnlyFault}, Views.{Unread, returned_by}, Laws.InNoOther}
 use Rattle.ixdtf_grammar.proofs.theorems.NoRow.{fault_comes}
-use Rattle.ixdtf_reading.specs.{declared.stop.Stop.Stop, reading.{Clauses.{Reads, Settles}, Looks.{Read, Placed, error_of}, Stops.fault_at}}
+use Rattle.ixdtf_reading.specs.{reading.{Clauses.{Reads, Settles}, Looks.{Read, Placed, error_of}, Stops.fault_at}}
 use Rattle.ixdtf_reading.proofs.theorems.StopFaults.{fault_of_row}
 use Rattle.ixdtf_reading.specs.reading.Wholes.{finding, read_at}
 use Rattle.ixdtf_reading.proofs.{to_grammar.Wholes.{OnWhole, whole_read}, to_reading.Wholes.takes, theorems.OnlyOutcome.{Accepted, accepted, only_fault}}
@@ -66,7 +67,7 @@ module _ {A : Type 0} (reader : Reader) (found : A → Found) (same : (x y : A) 
   accepted_where_read x rest is = accepted reader text (found x, [], (returned_here (Ok (x, rest)) is).1)
 
   -- If reading returned a fault, the grammar derives nothing.
-  err_where_refused : (fault : Fault) (stop : Stop) (left : Text) → reading ≡ Err (stop, left) → (y : A)
+  err_where_refused : (fault : Fault) (stop : Reason) (left : Text) → reading ≡ Err (stop, left) → (y : A)
       → (Err fault ≡ done y → Derives reader text (found y) []) × (Derives reader text (found y) [] → Err fault ≡ done y)
   err_where_refused fault stop left is y = (
     λ e. absurd (failed_is y fault e),
@@ -74,7 +75,7 @@ module _ {A : Type 0} (reader : Reader) (found : A → Found) (same : (x y : A) 
   )
 
   -- A fault is the error of a row that fits.
-  err_where_fits : (stop : Stop) (left : Text) → reading ≡ Err (stop, left) → ReadsNoPairs reader → HasFault reader text [] (fault_at (has_brackets reader) stop left)
+  err_where_fits : (stop : Reason) (left : Text) → reading ≡ Err (stop, left) → ReadsNoPairs reader → HasFault reader text [] (fault_at (has_brackets reader) stop left)
   err_where_fits stop left is none =
       let row = returned_here _ is in
       let fits = no_pairs reader row.1 row.0 text none row.3 in
@@ -95,7 +96,7 @@ module _ {U A : Type 0} (letter : ℕ → Letter) (view : U → A) (reader : Rea
     pub only : IfErr result (λ e. OnlyFault reader (map letter old.rest) [] (named e))
     pub empty : (left : List ℕ) → OnOk result (left ≡ new.rest) → OnOk result (left ≡ [])
 
-  pub exact : {E : Type 0} (named : E → Fault) (read : Result U Stop) (result : Result U E) → Reads letter view old read new reading
+  pub exact : {E : Type 0} (named : E → Fault) (read : Result U Reason) (result : Result U E) → Reads letter view old read new reading
       → Settles named (has_brackets reader) (map letter new.rest) read result → Exact named result
   exact named (Ok x) (Ok y) h s = let read = accepted_where_read reader found same _ _ reads (view x) _ h in record {
     ok = rw s (ok_where_derived reader found same (map letter old.rest) _ reads (view x) (map letter new.rest) h);

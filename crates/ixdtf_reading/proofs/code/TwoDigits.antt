@@ -1,15 +1,16 @@
 -- Two digits, read by looks at the first two indices, and their number.
+use Rattle.ixdtf_grammar.specs.declared.reason.Reason.{Reason}
 use Rattle.std.proofs.Common.{◌≡◌, ◌∙◌, ℕ, ◌+◌, ◌-◌, ◌*◌, ◌/◌, ◌%◌, ◌≤◌, ◌<◌, true, IsTrue, IsFalse, List, [], ◌∷◌, length, map, drop, Option, Some, None, Result, Ok, Err, refl, arith}
 use Rattle.std.proofs.lemmas.Bool.Decides.{nat_tests}
 use Rattle.std.proofs.lemmas.Nat.{div-mul-add, mod-mul-add}
 use Rattle.std.proofs.Math.Nat.{div-one, mod-eq_of_lt}
 use Rattle.ixdtf_grammar.proofs.PaddedDigits.{decimal-whole}
 use Rattle.ixdtf_grammar.specs.language.Digits.{decimal}
-use Rattle.ixdtf_reading.specs.{declared.stop.Stop.Stop, reading.Looks.{Placed, Read, ◌>>=◌, look_at, next_by, digits_by, digit_look, two_digits_by, two_digits_of}}
+use Rattle.ixdtf_reading.specs.{reading.Looks.{Placed, Read, ◌>>=◌, look_at, next_by, digits_by, digit_look, two_digits_by, two_digits_of}}
 use Rattle.ixdtf_reading.specs.reading.FixedPlaces.{byte_place, first_byte, tens_value, ones_value}
 use Rattle.ixdtf_grammar.specs.language.Letters.{Text, digit, Letter.{Plain, Bad}}
 
-module _ (first second : Stop) where
+module _ (first second : Reason) where
   abbrev two : Text → Read Placed Text
   two text = two_digits_by first second text
 

@@ -1,7 +1,8 @@
 -- A text, and the code units of its source.
+use Rattle.ixdtf_grammar.specs.declared.reason.Reason.{Reason}
 use Rattle.std.proofs.{Common.{◌≡◌, ℕ, ◌+◌, List, [], ◌∷◌, map, length, drop, Option, Some, None, Result, Ok, Err, refl, ap, arith}, lemmas.Option.slice_get-map}
 use Rattle.ixdtf_grammar.specs.{language.Letters.{Letter, Text, Letter.{Plain, Bad}}, Views.{ascii_at, looked}}
-use Rattle.ixdtf_reading.specs.{declared.stop.Stop.Stop, reading.{Looks.{look_at, seen, Placed}, Clauses.stopped_by}}
+use Rattle.ixdtf_reading.specs.{reading.{Looks.{look_at, seen, Placed}, Clauses.stopped_by}}
 
 -- The rules that give a text from the code units of its source.
 pub ruleset texts = (slice_get-map)
@@ -11,19 +12,19 @@ pub no_units : {A B : Type 0} (f : A → B) (xs : List A) → map f xs ≡ [] �
 no_units f [] e = refl
 no_units f (x ∷ xs) e = absurd cc
 
--- A `Stop` at the beginning of this text.
-abbrev pub placed : {A : Type 0} → Text → Result A Stop → Result A Placed
+-- A `Reason` at the beginning of this text.
+abbrev pub placed : {A : Type 0} → Text → Result A Reason → Result A Placed
 placed left (Ok found) = Ok found
 placed left (Err e) = Err (e, left)
 
 -- A look at index 0 of a source is a look at the first code unit.
-pub first_look : (stop : Stop) (letter : ℕ → Letter) (units : List ℕ) → seen stop (map letter units) ≡ placed (map letter units) (stopped_by stop (ascii_at letter 0 units))
+pub first_look : (stop : Reason) (letter : ℕ → Letter) (units : List ℕ) → seen stop (map letter units) ≡ placed (map letter units) (stopped_by stop (ascii_at letter 0 units))
 unfolding look_at
 first_look stop letter [] = refl
 first_look stop letter (unit ∷ units) = grind arith
 
 -- If a look finds a code unit, the source has one, and a step consumes it.
-pub stepped : (stop : Stop) (letter : ℕ → Letter) (units : List ℕ) (c : ℕ) → seen stop (map letter units) ≡ Ok (Some c)
+pub stepped : (stop : Reason) (letter : ℕ → Letter) (units : List ℕ) (c : ℕ) → seen stop (map letter units) ≡ Ok (Some c)
     → length (drop 1 units) + 1 ≡ length units
 unfolding look_at
 stepped stop letter [] c e = absurd cc
@@ -32,7 +33,7 @@ stepped stop letter (unit ∷ units) c e = omega arith
 -- ---- what follows
 
 -- The source has no code unit.
-pub none_next : (stop : Stop) (letter : ℕ → Letter) (units : List ℕ) → stopped_by stop (ascii_at letter 0 units) ≡ Ok None → map letter units ≡ []
+pub none_next : (stop : Reason) (letter : ℕ → Letter) (units : List ℕ) → stopped_by stop (ascii_at letter 0 units) ≡ Ok None → map letter units ≡ []
 none_next stop letter [] e = refl
 none_next stop letter (unit ∷ units) e = go (letter unit) e
   where
@@ -41,7 +42,7 @@ none_next stop letter (unit ∷ units) e = go (letter unit) e
     go (Plain c) e = absurd cc
 
 -- The first code unit is `c`.
-pub byte_next : (stop : Stop) (letter : ℕ → Letter) (units : List ℕ) (c : ℕ) → stopped_by stop (ascii_at letter 0 units) ≡ Ok (Some c)
+pub byte_next : (stop : Reason) (letter : ℕ → Letter) (units : List ℕ) (c : ℕ) → stopped_by stop (ascii_at letter 0 units) ≡ Ok (Some c)
     → (rest : Text) × (map letter units ≡ Plain c ∷ rest)
 byte_next stop letter [] c e = absurd cc
 byte_next stop letter (unit ∷ units) c e = go (letter unit) e
@@ -51,7 +52,7 @@ byte_next stop letter (unit ∷ units) c e = go (letter unit) e
     go (Plain n) e = (map letter units, let same : n ≡ c = cc in ap (λ m. Plain m ∷ map letter units) same)
 
 -- The first code unit is bad.
-pub bad_next : (stop other : Stop) (letter : ℕ → Letter) (units : List ℕ) → stopped_by stop (ascii_at letter 0 units) ≡ Err other
+pub bad_next : (stop other : Reason) (letter : ℕ → Letter) (units : List ℕ) → stopped_by stop (ascii_at letter 0 units) ≡ Err other
     → (rest : Text) × (map letter units ≡ Bad ∷ rest)
 bad_next stop other letter [] e = absurd cc
 bad_next stop other letter (unit ∷ units) e = go (letter unit) e

@@ -119,7 +119,7 @@ module _ {T U F : Type 0} (number : U → ℕ) (step : Step T U F) (handler : F)
 
 -- ---- with and without the position
 
--- The result, with the fault of a `Stop`. The first argument says whether the reader reads brackets.
+-- The result, with the fault of a `Reason`. The first argument says whether the reader reads brackets.
 abbrev pub unplaced : {A : Type 0} → Bool → Result A Placed → Result A Fault
 unplaced brackets (Ok x) = Ok x
 unplaced brackets (Err placed) = Err (fault_at brackets placed.0 placed.1)

@@ -1,4 +1,5 @@
--- The fault of a row is that of its `Stop`, by what follows the prefix of its line.
+-- The fault of a row is that of its `Reason`, by what follows the prefix of its line.
+use Rattle.ixdtf_grammar.specs.declared.reason.Reason.{Reason}
 use Rattle.std.proofs.Common.{◌≡◌, ℕ, Bool, List, [], ◌∷◌, refl, sym, ap, ◌∙◌, inl, inr}
 use Rattle.ixdtf_grammar.specs.{declared.profile.Profile.{Profile, TheVariants.Crate}, language.{Letters.{Text, Letter.{Plain, Bad}}, Times.{Clock, Clock.{Time, Offset, MinuteOffset}}, Durations.{Half as halves}}}
 use Rattle.ixdtf_grammar.specs.language.{Brackets.Pair, Readers.{Reader, has_brackets}}
@@ -16,7 +17,7 @@ use Rattle.ixdtf_grammar.specs.table.LineNames.ZoneLine.{identifier_start, zone_
 use Rattle.ixdtf_grammar.specs.table.LineNames.BracketLine.{first_bracket_start, first_critical_start, first_bracket_scan, first_dots_form, first_name_form, first_offset_form, after_bracket}
 use Rattle.ixdtf_grammar.specs.table.LineNames.PairLine.{key_start, critical_key_start, in_key, value_start, in_value, after_value_hyphen}
 use Rattle.ixdtf_grammar.specs.table.LineNames.DurationLine.{duration_start, after_duration_sign, after_duration_designator, after_date_groups, after_time_designator, after_time_groups, after_fraction_group, group_digits, group_value_range, unit_order, date_unit_range, group_fraction_start, group_fraction_digits}
-use Rattle.ixdtf_reading.specs.{declared.stop.Stop.Stop, reading.Stops.{stop_of, end_fault, line_fault, fault_at, Refuses}}
+use Rattle.ixdtf_reading.specs.{reading.Stops.{reason_of, end_fault, line_fault, fault_at, Refuses}}
 
 -- If a row of the line fits at a text, its fault is that of the line at this text.
 stops_fault : (l : Line) (place : Place) (e : Fault) (rest : Text) → Stops l place e rest → line_fault l (left_at place) ≡ e
@@ -58,7 +59,7 @@ same_stops (whole front d) (line other_front g t o) same place e rest h = absurd
 same_stops (whole front d) (scanned other_front f) same place e rest h = absurd same
 
 row_fault : (brackets : Bool) (name : LineName) (place : Place) (e : Fault) (rest : Text) → Stops (line_of brackets name) place e rest
-    → fault_at brackets (stop_of name) (left_at place) ≡ e
+    → fault_at brackets (reason_of name) (left_at place) ≡ e
 row_fault brackets (of_core (dates year_start)) place e rest h = stops_fault (line_of brackets (of_core (dates year_start))) place e rest h
 row_fault brackets (of_core (dates year_digits)) place e rest h = stops_fault (line_of brackets (of_core (dates year_digits))) place e rest h
 row_fault brackets (of_core (dates extended_year_digits)) place e rest h = stops_fault (line_of brackets (of_core (dates extended_year_digits))) place e rest h
@@ -205,12 +206,12 @@ row_fault brackets (of_duration profile group_fraction_start) place e rest h =
 row_fault brackets (of_duration profile group_fraction_digits) place e rest h =
     stops_fault (line_of brackets (of_duration Crate group_fraction_digits)) place e rest (same_stops (line_of brackets (of_duration profile group_fraction_digits)) (line_of brackets (of_duration Crate group_fraction_digits)) (refl, refl, refl) place e rest h)
 
--- The fault of a row that fits a text is that of its `Stop` at its position.
+-- The fault of a row that fits a text is that of its `Reason` at its position.
 pub fault_of_row : (reader : Reader) (row : Row) (pairs : List Pair) (text : Text) → Fits reader row pairs text
-    → fault_at (has_brackets reader) (stop_of row.name) (left_at row.place) ≡ row.error
+    → fault_at (has_brackets reader) (reason_of row.name) (left_at row.place) ≡ row.error
 fault_of_row reader row pairs text fits = row_fault (has_brackets reader) row.name row.place row.error fits.4.1 fits.4.4
 
 -- The fault of a refused annotation.
-pub fault_of_refusal : (brackets : Bool) (stop : Stop) (fault : Fault) (text : Text) → Refuses stop fault → fault_at brackets stop text ≡ fault
+pub fault_of_refusal : (brackets : Bool) (stop : Reason) (fault : Fault) (text : Text) → Refuses stop fault → fault_at brackets stop text ≡ fault
 fault_of_refusal brackets stop fault text (inl p) = ap (λ s. fault_at brackets s text) p.0 ∙ sym p.1
 fault_of_refusal brackets stop fault text (inr p) = ap (λ s. fault_at brackets s text) p.0 ∙ sym p.1

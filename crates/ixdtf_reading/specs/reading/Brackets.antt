@@ -1,4 +1,5 @@
 -- The reading functions of a first bracket.
+use Rattle.ixdtf_grammar.specs.declared.reason.Reason.{Reason}
 use Rattle.std.specs.Prelude.{ℕ, Bool, true, false, List, [], ◌∷◌, drop, Result, Ok, Err, if◌then◌else◌, Option, Some, None}
 use Rattle.ixdtf_grammar.specs.language.{Times.{Clock as clocks}, Letters.{Text, Class, sign, equals, closing, exclamation, key_lead, Letter.{Plain, Bad}}}
 use Rattle.ixdtf_grammar.specs.language.{Offsets.minutes_of, ZoneNames.{Zone, Zone.Offset}, Brackets.{ZoneNote, Pair}}
@@ -6,7 +7,7 @@ use Rattle.ixdtf_grammar.specs.table.{Faults.Fault.NonAsciiCodePoint, LineNames.
 use Rattle.ixdtf_grammar.specs.table.{LineNames.BracketLine.{first_bracket_start, first_critical_start, first_bracket_scan}, Lines.abrupt_bracket, Rows.Row}
 use Rattle.ixdtf_grammar.specs.table.Rows.Place.{end, bad}
 use Rattle.ixdtf_reading.specs.reading.{Looks.{Read, Placed, ◌>>=◌, row_of, letter_at, next_by}, Times.clock_at, Pairs.pair_at}
-use Rattle.ixdtf_reading.specs.{declared.stop.Stop.Stop, reading.{Stops.stop_of, Zones.{follow_look, name_line, name_run, name_look, as_zone, zone_readings}}}
+use Rattle.ixdtf_reading.specs.{reading.{Stops.reason_of, Zones.{follow_look, name_line, name_run, name_look, as_zone, zone_readings}}}
 
 -- Whether an `=` comes before any `]`.
 unfoldable pub sight_at : {E : Type 0} → (Row → E) → Text → Result Bool E
@@ -14,16 +15,16 @@ sight_at fault [] = Err (fault (row_of (of_bracket first_bracket_scan) (end []) 
 sight_at fault (Bad ∷ rest) = Err (fault (row_of (of_bracket first_bracket_scan) (bad (Bad ∷ rest)) NonAsciiCodePoint))
 sight_at fault (Plain c ∷ rest) = if equals c then Ok true else (if closing c then Ok false else sight_at fault rest)
 
--- The `Stop` of a bracket and the text at its position. If an `=` comes before any `]`, the bracket is an annotation. Then the
+-- The `Reason` of a bracket and the text at its position. If an `=` comes before any `]`, the bracket is an annotation. Then the
 -- position is after the code units of its key. If a `]` comes first, it is a zone. Then the position is after those of its name.
-abbrev pub refusal : Result Bool Placed → Stop → Text → Text → Placed
-refusal (Ok true) name behind_key behind_name = (stop_of (of_pair in_key), behind_key)
+abbrev pub refusal : Result Bool Placed → Reason → Text → Text → Placed
+refusal (Ok true) name behind_key behind_name = (reason_of (of_pair in_key), behind_key)
 refusal (Ok false) name behind_key behind_name = (name, behind_name)
 refusal (Err e) name behind_key behind_name = e
 
--- The `Stop` after the code units of a name. The argument says whether the name can end there.
-abbrev pub name_stop : Bool → Stop
-name_stop may_end = stop_of (name_line may_end)
+-- The `Reason` after the code units of a name. The argument says whether the name can end there.
+abbrev pub name_stop : Bool → Reason
+name_stop may_end = reason_of (name_line may_end)
 
 -- Whether there is a next code unit, and it is of the class.
 abbrev pub next_is : Class → Option ℕ → Bool

@@ -1,5 +1,6 @@
 -- What the code returns for the annotations after complete brackets, and for a complete text, if it made these calls of the
 -- handler. No public clause refers to this.
+use Rattle.ixdtf_grammar.specs.declared.reason.Reason.{Reason}
 use Rattle.std.specs.Prelude.{◌≡◌, ◌⊎◌, true, ℕ, ◌+◌, ◌-◌, ◌*◌, length, Bool, List, ◌++◌, Option, Result, Ok, Err, [], Some, None, ◌∷◌}
 use Rattle.ixdtf_grammar.specs.{declared.records.Annotation.Annotation}
 use Rattle.ixdtf_grammar.specs.language.{Letters.Text, Shapes.some, Brackets.{Pair, ArePairs, Opens}, Cores.Core, Languages.{Parsed, Derives, Found.parsed}}
@@ -10,7 +11,7 @@ use Rattle.ixdtf_grammar.specs.table.LineNames.PairLine.{key_start, critical_key
 use Rattle.ixdtf_grammar.specs.table.Rows.{Row, Fits, FitsHere}
 use Rattle.ixdtf_grammar.specs.Handlers.{Reply, first_calendar, GivesRecord, NoneRefused, LastRefused, Calls, handed, replies_of, Step, IsChain}
 use Rattle.ixdtf_grammar.specs.table.Faults.{Fault}
-use Rattle.ixdtf_reading.specs.{declared.stop.{Stop.Stop, StopAt.StopAt}, reading.{Looks.{Placed, error_of}, Cores.core_at, Stops.{Refuses, fault_at, fault_of_code}}}
+use Rattle.ixdtf_reading.specs.{declared.stop.StopAt.StopAt, reading.{Looks.{Placed, error_of}, Cores.core_at, Stops.{Refuses, fault_at, fault_of_code}}}
 
 -- The text between complete brackets and the prefix of a table line of annotations.
 abbrev pub BeforePair : PairLine → Text → Type 0
@@ -46,19 +47,19 @@ FitsAfterBrackets row text = (before rest : Text) × (text ≡ before ++ rest) �
 abbrev pub PairsUpTo : Text → List Pair → Text → Type 0
 PairsUpTo text pairs rest = (front : Text) × (text ≡ front ++ rest) × ArePairs front pairs
 
--- The `Stop` is that of a refused annotation: the last reply is refused with its error.
-abbrev pub LastStops : List Reply → Stop → Type 0
+-- The `Reason` is that of a refused annotation: the last reply is refused with its error.
+abbrev pub LastStops : List Reply → Reason → Type 0
 LastStops replies stop = (fault : Fault) × LastRefused replies fault × Refuses stop fault
 
 -- The result for the text after the first annotations. `more` has the annotations of this text, and `replies` the replies to all
--- annotations. Either the last reply is refused at the beginning of `rest`, or the `Stop` is that of a row, at its position.
+-- annotations. Either the last reply is refused at the beginning of `rest`, or the `Reason` is that of a row, at its position.
 abbrev pub PairsGive : Text → List Pair → List Reply → Result (Option Pair) Placed → Type 0
 PairsGive text more replies (Ok calendar) = ArePairs text more × NoneRefused replies × (calendar ≡ first_calendar replies)
 PairsGive text more replies (Err placed) = (rest : Text) × PairsUpTo text more rest
     × ((LastStops replies placed.0 × (rest ≡ placed.1)) ⊎ (((row : Row) × FitsAfterBrackets row rest × (error_of row ≡ placed)) × NoneRefused replies))
 
 -- The result for a text, by the replies to its annotations. Either the last reply is refused after a prefix that the grammar
--- derives, or the `Stop` is that of a row, at its position.
+-- derives, or the `Reason` is that of a row, at its position.
 abbrev pub TextGives : Reader → Text → List Pair → List Reply → Result Parsed Placed → Type 0
 TextGives reader text pairs replies (Ok found) = GivesRecord reader text pairs replies found
 TextGives reader text pairs replies (Err placed) =
@@ -102,9 +103,9 @@ module _ {T U F : Type 0} (number : U → ℕ) (step : Step T U F) (handler last
   TextReadAfter exact core has_bracket rest result =
       (kind : CoreKind) (text : Text) → has_exact_zones kind ≡ exact → core_at error_of kind text ≡ Ok ((core, has_bracket), rest) → TextRead (bracketed kind) text result
 
-  -- The statement for the result for a complete text. The position `at` of a `Stop` is the number of code units before it, and its
+  -- The statement for the result for a complete text. The position `at` of a `Reason` is the number of code units before it, and its
   -- code is that of the error.
   abbrev pub TextReadTo : {X : Type 0} → (X → Parsed) → Reader → Text → Result X StopAt → Type 0
   TextReadTo view reader text (Ok x) = TextRead reader text (Ok (view x))
-  TextReadTo view reader text (Err why) = (left : Text) × (why.at + length left ≡ length text) × TextRead reader text (Err (why.stop, left))
-      × (fault_of_code why.code ≡ fault_at (has_brackets reader) why.stop left)
+  TextReadTo view reader text (Err why) = (left : Text) × (why.at + length left ≡ length text) × TextRead reader text (Err (why.reason, left))
+      × (fault_of_code why.code ≡ fault_at (has_brackets reader) why.reason left)

@@ -4,9 +4,9 @@ use Rattle.ixdtf_grammar.specs.declared.{profile.Profile.Profile, records.DateRe
 use Rattle.ixdtf_grammar.specs.{declared.records.TimeRecord.TimeRecord, language.Letters.{Text, Class, digit, hyphen, colon, date_time_separator}}
 use Rattle.ixdtf_grammar.specs.language.{Letters.Letter.{Plain, Bad}, Digits.{digit_value, decimal}, Dates.month_length}
 use Rattle.ixdtf_grammar.specs.table.LineNames.{of_date, of_month_day, DateLine.month_range, MonthDayLine.month_day_month_digits}
-use Rattle.ixdtf_reading.specs.declared.stop.Stop.{Stop}
+use Rattle.ixdtf_grammar.specs.declared.reason.Reason.{Reason}
 use Rattle.ixdtf_reading.specs.reading.{Looks.{Read, Placed, ◌>>=◌, error_of, two_digits_by}, Dates.{date_of, day_in_range}}
-use Rattle.ixdtf_reading.specs.reading.{Months.{lone_month_in_range, lone_day_at}, Stops.stop_of, Times.time_of}
+use Rattle.ixdtf_reading.specs.reading.{Months.{lone_month_in_range, lone_day_at}, Stops.reason_of, Times.time_of}
 
 -- Continues with the value that was found. Without a value, the result is `None`.
 infixl 10 ◌>>?◌
@@ -81,7 +81,7 @@ time_place text =
 -- The date and the text after it, if its month and its day are in their ranges. `after_month` is the text after the month.
 abbrev pub ranged : DateRecord → Text → Text → Read Placed DateRecord
 ranged date after_month rest =
-    if nat_le 1 date.month && nat_le date.month 12 then day_in_range error_of date rest else Err (stop_of (of_date month_range), after_month)
+    if nat_le 1 date.month && nat_le date.month 12 then day_in_range error_of date rest else Err (reason_of (of_date month_range), after_month)
 
 -- Whether the month is 1 to 12, and has the day.
 abbrev pub date_in_range : DateRecord → Bool
@@ -113,16 +113,16 @@ month_of_year_place year place text = number_place place text >>? λ month. Some
 
 -- The year-month and the text after it, if its month is 1 to 12.
 abbrev pub ranged_month : DateRecord → Text → Read Placed DateRecord
-ranged_month date rest = if nat_le 1 date.month && nat_le date.month 12 then Ok (date, rest) else Err (stop_of (of_date month_range), rest)
+ranged_month date rest = if nat_le 1 date.month && nat_le date.month 12 then Ok (date, rest) else Err (reason_of (of_date month_range), rest)
 
 -- Whether the text begins with two hyphens.
 abbrev pub marks_place : Text → Bool
 marks_place text = hyphen (byte_place 0 text) && hyphen (byte_place 1 text)
 
 -- Reads a month-day, without the two hyphens that can be before its month. It stops at `first` if the first digit is missing.
-abbrev pub unmarked_at : Stop → Profile → Text → Read Placed DateRecord
+abbrev pub unmarked_at : Reason → Profile → Text → Read Placed DateRecord
 unmarked_at first profile text = do
-  ds ← two_digits_by first (stop_of (of_month_day month_day_month_digits)) text
+  ds ← two_digits_by first (reason_of (of_month_day month_day_month_digits)) text
   month ← lone_month_in_range error_of ds
   lone_day_at error_of profile month.0 month.1
 

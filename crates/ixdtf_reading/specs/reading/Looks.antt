@@ -1,11 +1,12 @@
 -- The parts of all reading functions. A reading function is a function on texts that has the form of the code. No public clause
 -- refers to it. It returns a value and the text after it, or a fault. The argument `fault` makes the fault from a table row:
 -- it returns the row itself, or the error of the row.
+use Rattle.ixdtf_grammar.specs.declared.reason.Reason.{Reason}
 use Rattle.std.specs.Prelude.{ℕ, Bool, true, zero, suc, [], ◌∷◌, drop, Option, Some, None, Result, Ok, Err, nat_le, if◌then◌else◌}
 use Rattle.ixdtf_grammar.specs.{language.{Letters.{Text, Class, digit, none, any, Letter.{Plain, Bad}}, Digits.{decimal, padded_digits}}, table.Faults.Fault}
 use Rattle.ixdtf_grammar.specs.table.{Faults.Fault.NonAsciiCodePoint, LineNames.LineName, Lines.{Line, Ending, line_of}}
 use Rattle.ixdtf_grammar.specs.table.{Lines.{Line.{line, scanned, whole}, Ending.{ok, error}}, Rows.{Row, Place, left_at, Place.{end, other, bad, anywhere}}}
-use Rattle.ixdtf_reading.specs.{declared.stop.Stop.Stop, reading.Stops.stop_of}
+use Rattle.ixdtf_reading.specs.{reading.Stops.reason_of}
 
 -- The result of a reading function: a value and the text after it, or a fault.
 abbrev pub Read : Type 0 → Type 0 → Type 0
@@ -19,26 +20,26 @@ abbrev pub ◌>>=◌ : {E A B : Type 0} → Result A E → (A → Result B E) �
 abbrev pub row_of : LineName → Place → Fault → Row
 row_of name place fault = record { name = name; place = place; error = fault }
 
--- A `Stop`, and the rest of the text from its position on.
+-- A `Reason`, and the rest of the text from its position on.
 abbrev pub Placed : Type 0
-Placed = Stop × Text
+Placed = Reason × Text
 
--- A `Stop` at the beginning of a text. With `always_before`, it does not depend on the code unit. With `end_before`, the text may end.
-abbrev pub before : Stop → Text → Placed
+-- A `Reason` at the beginning of a text. With `always_before`, it does not depend on the code unit. With `end_before`, the text may end.
+abbrev pub before : Reason → Text → Placed
 before stop text = (stop, text)
 
-abbrev pub always_before : Stop → ℕ → Text → Placed
+abbrev pub always_before : Reason → ℕ → Text → Placed
 always_before stop c text = (stop, text)
 
-abbrev pub end_before : Stop → Text → Option Placed
+abbrev pub end_before : Reason → Text → Option Placed
 end_before stop text = Some (stop, text)
 
 abbrev pub may_end : Text → Option Placed
 may_end text = None
 
--- The `Stop` of a row, and the rest of the text from its position on.
+-- The `Reason` of a row, and the rest of the text from its position on.
 abbrev pub error_of : Row → Placed
-error_of row = (stop_of row.name, left_at row.place)
+error_of row = (reason_of row.name, left_at row.place)
 
 -- One look at the next code unit. `goes_on` has the code units that it accepts. The other fields are the faults at the end of the
 -- text, at any other code unit and at `Bad`.
@@ -77,7 +78,7 @@ abbrev pub look_at_line : {E : Type 0} → (Row → E) → LineName → Look E
 look_at_line fault name = look_of fault name (line_of true name)
 
 -- The look for a code unit of the class. It stops at the end of the text and at any other code unit.
-abbrev pub look_for : Class → Stop → Look Placed
+abbrev pub look_for : Class → Reason → Look Placed
 look_for class stop = record {
   goes_on = class;
   at_end = end_before stop;
@@ -86,7 +87,7 @@ look_for class stop = record {
 }
 
 -- As above, but the text may end.
-abbrev pub look_or_end : Class → Stop → Look Placed
+abbrev pub look_or_end : Class → Reason → Look Placed
 look_or_end class stop = record {
   goes_on = class;
   at_end = may_end;
@@ -94,7 +95,7 @@ look_or_end class stop = record {
   at_bad = before stop;
 }
 
-abbrev pub digit_look : Stop → Look Placed
+abbrev pub digit_look : Reason → Look Placed
 digit_look stop = look_for digit stop
 
 -- The next code unit, or `None` at the end of the text. If the next code unit is `Bad`, the fault is `at_bad`.
@@ -104,7 +105,7 @@ look_at at_bad (Bad ∷ rest) = Err at_bad
 look_at at_bad (Plain c ∷ rest) = Ok (Some c)
 
 -- The next code unit. At `Bad`, it stops.
-abbrev pub seen : Stop → Text → Result (Option ℕ) Placed
+abbrev pub seen : Reason → Text → Result (Option ℕ) Placed
 seen stop text = look_at (stop, text) text
 
 abbrev pub missing : {E A : Type 0} → Option E → E → Result A E
@@ -134,7 +135,7 @@ abbrev pub digits_at : {E : Type 0} → (Row → E) → LineName → ℕ → Tex
 digits_at fault name n text = digits_by (look_at_line fault name) n text
 
 -- Consumes two digits. It stops at `first` if the first one is missing, and at `second` if the second one is missing.
-unfoldable pub two_digits_by : Stop → Stop → Text → Read Placed Text
+unfoldable pub two_digits_by : Reason → Reason → Text → Read Placed Text
 two_digits_by first second text =
     next_by (digit_look first) text >>= λ next. digits_by (digit_look second) 1 next.1 >>= λ more. Ok (Plain next.0 ∷ more.0, more.1)
 

@@ -1,4 +1,5 @@
 -- The reading functions of annotations. In the definitions, an annotation is a `Pair` of a key and a value.
+use Rattle.ixdtf_grammar.specs.declared.reason.Reason.{Reason}
 use Rattle.std.specs.Prelude.{ℕ, zero, suc, Bool, true, false, List, [], ◌∷◌, ◌++◌, Option, Some, None, Ok, Err, if◌then◌else◌, IsTrue}
 use Rattle.ixdtf_grammar.specs.language.{Letters.{Text, hyphen, equals, closing, exclamation, key_lead, key_char, value_char, Letter.{Plain, Bad}}, Brackets.Pair}
 use Rattle.ixdtf_grammar.specs.table.Faults.{Fault, Fault.{NonAsciiCodePoint, AnnotationKeyValueSeparator, AnnotationKeyChar, AnnotationValueChar}}
@@ -7,7 +8,7 @@ use Rattle.ixdtf_grammar.specs.table.LineNames.BracketLine.{after_bracket}
 use Rattle.ixdtf_grammar.specs.table.{LineNames.PairLine.{key_start, critical_key_start, in_key, value_start, in_value, after_value_hyphen}, Rows.Row}
 use Rattle.ixdtf_grammar.specs.table.Rows.Place.{end, other, bad}
 use Rattle.ixdtf_reading.specs.reading.Looks.{Read, Look, Placed, look_for, ◌>>=◌, row_of, look_at_line, letter_at, peek_by, look_readings}
-use Rattle.ixdtf_reading.specs.{declared.stop.Stop.Stop, reading.Zones.with_letter}
+use Rattle.ixdtf_reading.specs.{reading.Zones.with_letter}
 
 -- Reads the code units of a key and the `=` after them.
 unfoldable pub key_run : {E : Type 0} → (Row → E) → Text → Read E (List ℕ)
@@ -36,7 +37,7 @@ pub data ValueStep : Type 0 where
   Stops : ValueStep
 
 -- The look for the first code unit of a component.
-abbrev pub component_look : Stop → Look Placed
+abbrev pub component_look : Reason → Look Placed
 component_look stop = look_for value_char stop
 
 -- The table line of a value in this state.

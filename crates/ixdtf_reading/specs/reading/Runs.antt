@@ -1,6 +1,6 @@
 -- Runs: code units that are consumed one by one, with a state.
 use Rattle.std.specs.Prelude.{◌≡◌, ℕ, Bool, false, List, [], ◌∷◌, ◌++◌, map, Option, Some, None, Result, Ok, Err, if◌then◌else◌}
-use Rattle.ixdtf_reading.specs.declared.stop.Stop.{Stop}
+use Rattle.ixdtf_grammar.specs.declared.reason.Reason.{Reason}
 use Rattle.ixdtf_reading.specs.reading.Looks.{Read, Placed}
 use Rattle.ixdtf_grammar.specs.language.Letters.{Letter, Text, Class, key_char, value_char, Letter.{Plain, Bad}}
 use Rattle.ixdtf_grammar.specs.Views.{Unread}
@@ -24,15 +24,15 @@ abbrev pub on_letter : {S A : Type 0} → Option S → (S → A) → A → A
 on_letter None go stay = stay
 on_letter (Some next) go stay = go next
 
--- Consumes code units as long as `after` gives a next state. `stop` gives the `Stop` at a bad code unit after a state.
-unfoldable pub letters_by : {S : Type 0} → (S → Stop) → (S → ℕ → Option S) → S → Text → Read Placed (Taken S)
+-- Consumes code units as long as `after` gives a next state. `stop` gives the `Reason` at a bad code unit after a state.
+unfoldable pub letters_by : {S : Type 0} → (S → Reason) → (S → ℕ → Option S) → S → Text → Read Placed (Taken S)
 letters_by stop after state [] = Ok (nothing_taken state None, [])
 letters_by stop after state (Bad ∷ rest) = Err (stop state, Bad ∷ rest)
 letters_by stop after state (Plain c ∷ rest) =
     on_letter (after state c) (λ next. one_more c (letters_by stop after next rest)) (Ok (nothing_taken state (Some c), Plain c ∷ rest))
 
--- The `Stop` is the same after each state.
-abbrev pub always : {S : Type 0} → Stop → S → Stop
+-- The `Reason` is the same after each state.
+abbrev pub always : {S : Type 0} → Reason → S → Reason
 always stop state = stop
 
 -- The state after one code unit of a class. A run of one class has only one state.
@@ -47,13 +47,13 @@ abbrev pub component_after : Unit {0} → ℕ → Option (Unit {0})
 component_after = within value_char
 
 -- Whether a look found a code unit of the class.
-abbrev pub found_in : Class → Result (Option ℕ) Stop → Bool
+abbrev pub found_in : Class → Result (Option ℕ) Reason → Bool
 found_in class (Ok (Some c)) = class c
 found_in class (Ok None) = false
 found_in class (Err stop) = false
 
 -- A function consumed the run of code units of the class, and returned what follows the run, or the error of the run.
-abbrev pub PassesOver : (ℕ → Letter) → Stop → Unread → Result (Option ℕ) Stop → Unread → Class → Type 0
+abbrev pub PassesOver : (ℕ → Letter) → Reason → Unread → Result (Option ℕ) Reason → Unread → Class → Type 0
 PassesOver letter stop old (Ok next) new class = (letters : List ℕ) × (old.rest ≡ letters ++ new.rest)
     × (letters_by (always stop) (within class) tt (map letter old.rest) ≡ Ok (record { letters = letters; state = tt; next = next }, map letter new.rest))
 PassesOver letter stop old (Err e) new class = letters_by (always stop) (within class) tt (map letter old.rest) ≡ Err (e, map letter new.rest)

@@ -5,8 +5,8 @@ ghost use Rattle.std.specs.String.{string_bytes};
 ghost use Rattle.ixdtf.specs.LocatedTexts.{pointed_text};
 
 use super::{AT_DIGIT, check, check_displayed};
-use ixdtf::LocatedError;
 use ixdtf::ParseError::{self, InvalidEnd, InvalidMonthRange};
+use ixdtf::{LocatedError, Reason};
 use std::alloc::{AllocError, Global};
 use std::process::Abort;
 use std::test::Fail;
@@ -14,11 +14,13 @@ use std::test::Fail;
 const AT_FIVE: LocatedError = LocatedError {
     error: InvalidMonthRange,
     at: 5,
+    reason: Reason::MonthRange,
 };
 
 const AT_THE_END: LocatedError = LocatedError {
     error: AT_DIGIT,
     at: 1234,
+    reason: Reason::DayDigits,
 };
 
 #[test]
@@ -30,19 +32,27 @@ fn displays_the_error_and_its_place(rt: HostRuntime) -> Result<(), Fail> {
 }
 
 #[test]
-fn is_equal_by_error_and_place(rt: HostRuntime) {
+fn is_equal_by_error_place_and_reason(rt: HostRuntime) {
     let copy: Result<LocatedError, _> = AT_FIVE.clone();
     check(&rt, "a clone", copy == Ok(AT_FIVE));
     let place = LocatedError {
         error: InvalidMonthRange,
         at: 6,
+        reason: Reason::MonthRange,
     };
     check(&rt, "another place", AT_FIVE != place);
     let error = LocatedError {
         error: InvalidEnd,
         at: 5,
+        reason: Reason::MonthRange,
     };
     check(&rt, "another error", AT_FIVE != error);
+    let reason = LocatedError {
+        error: InvalidMonthRange,
+        at: 5,
+        reason: Reason::MonthDayMonthRange,
+    };
+    check(&rt, "another reason", AT_FIVE != reason);
 }
 
 #[test]
@@ -58,6 +68,7 @@ fn pointed(alloc: Global, text: &str, at: usize) -> Result<String, AllocError>
     let error = LocatedError {
         error: InvalidEnd,
         at,
+        reason: Reason::AfterDate,
     };
     let lines = error.in_text(text);
     format!(in alloc; "{lines}")

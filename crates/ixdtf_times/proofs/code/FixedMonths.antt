@@ -1,12 +1,13 @@
 -- A year-month or a month-day in fixed columns. The reading functions return what is found in these columns.
+use Rattle.ixdtf_grammar.specs.declared.reason.Reason.{Reason}
 use Rattle.std.proofs.Common.{◌≡◌, ℕ, suc, ◌+◌, Bool, true, false, IsTrue, [], ◌∷◌, drop, map, Some, Ok, refl, sym, ap, ◌∙◌, pos}
 use Rattle.std.proofs.{Common.{◌≤◌, arith, ◌++◌, append_assoc, inl, inr, length}, lemmas.Bool.{and_parts, cases_Bool}}
 use Rattle.std.specs.Prelude.{Result, Err, nat_le, ◌&&◌, IsFalse}
 use Rattle.ixdtf_grammar.specs.{declared.{profile.Profile.Profile, records.DateRecord.DateRecord}, language.Letters.{Letter, Text, digit, hyphen}, Views.Unread}
 use Rattle.ixdtf_grammar.specs.{language.Letters.Letter.{Plain, Bad}, language.Months.{greatest_day, least_day}, table.LineNames.{of_year_month, of_month_day, YearMonthLine.after_year_in_year_month}}
 use Rattle.ixdtf_grammar.specs.table.LineNames.MonthDayLine.{month_day_start, month_day_month_digits, month_day_month_range, month_day_range}
-use Rattle.ixdtf_reading.specs.reading.Stops.{stop_of}
-use Rattle.ixdtf_reading.specs.{declared.stop.Stop.Stop, reading.{Clauses.{Checks, Reads, YieldsAt}, Dates.{date_of, month_at}}}
+use Rattle.ixdtf_reading.specs.reading.Stops.{reason_of}
+use Rattle.ixdtf_reading.specs.{reading.{Clauses.{Checks, Reads, YieldsAt}, Dates.{date_of, month_at}}}
 use Rattle.ixdtf_reading.specs.reading.Looks.{Read, Placed, error_of, look_at, next_by, mark_by, digits_by, two_digits_by, ◌>>=◌}
 use Rattle.ixdtf_reading.specs.reading.{Months.{year_month_at, marks_at, month_day_at, lone_month_in_range, lone_day_in_range, lone_day_at}}
 use Rattle.ixdtf_reading.specs.reading.FixedPlaces.{byte_place, number_place, year_place, month_of_year_place, ranged_month}
@@ -62,11 +63,11 @@ basic_month_is_read text year date years months = month_is_read false text year 
 -- ---- month-days
 
 -- Two digits that were found are read.
-two_go : (first second : Stop) {place : ℕ} {text : Text} {n : ℕ} (number : Number place text n) (rest : Text) → two_digits_by first second (two number ++ rest) ≡ Ok (two number, rest)
+two_go : (first second : Reason) {place : ℕ} {text : Text} {n : ℕ} (number : Number place text n) (rest : Text) → two_digits_by first second (two number ++ rest) ≡ Ok (two number, rest)
 unfolding two_digits_by digits_by next_by look_at
 two_go first second number rest = rw (number.is_a, number.is_b) refl
 
-module _ (first : Stop) (profile : Profile) (text : Text) (start month : ℕ) where
+module _ (first : Reason) (profile : Profile) (text : Text) (start month : ℕ) where
   abbrev behind : Text
   behind = drop (start + 2) text
 
@@ -78,16 +79,16 @@ module _ (first : Stop) (profile : Profile) (text : Text) (start month : ℕ) wh
       let m = number_at_place start text month months in
       let second : suc (suc start) ≡ start + 2 = omega arith in
       ap (unmarked_at first profile) (over_two m (ap (λ p. drop p text) second))
-      ∙ rw (two_go first (stop_of (of_month_day month_day_month_digits)) m behind, ← m.value, is) refl
+      ∙ rw (two_go first (reason_of (of_month_day month_day_month_digits)) m behind, ← m.value, is) refl
 
   pub month_stops : number_place start text ≡ Some month → IsFalse (nat_le 1 month && nat_le month 12)
-      → unmarked_at first profile (drop start text) ≡ Err (stop_of (of_month_day month_day_month_range), behind)
+      → unmarked_at first profile (drop start text) ≡ Err (reason_of (of_month_day month_day_month_range), behind)
   unfolding lone_month_in_range
   month_stops months is_none =
       let m = number_at_place start text month months in
       let second : suc (suc start) ≡ start + 2 = omega arith in
       ap (unmarked_at first profile) (over_two m (ap (λ p. drop p text) second))
-      ∙ rw (two_go first (stop_of (of_month_day month_day_month_digits)) m behind, ← m.value, is_none) refl
+      ∙ rw (two_go first (reason_of (of_month_day month_day_month_digits)) m behind, ← m.value, is_none) refl
 
   -- If a day is found, with or without a hyphen before it, its range decides the result.
   day_is_read : (b : Bool) (place day : ℕ) → behind ≡ hyphens_of b ++ drop place text → number_place place text ≡ Some day
@@ -112,22 +113,22 @@ module _ (first : Stop) (profile : Profile) (text : Text) (start month : ℕ) wh
       rw last at (day_is_read false (start + 2) day refl days)
 
 -- The result of a function that tested the day is the result of the reading function.
-pub day_tested : (profile : Profile) (month day : ℕ) (rest : Text) (result : Result DateRecord Stop)
-    → Checks (λ date. date) result (date_of (pos 0) month day) (nat_le (least_day profile) day && nat_le day (greatest_day month)) (stop_of (of_month_day (month_day_range profile)))
+pub day_tested : (profile : Profile) (month day : ℕ) (rest : Text) (result : Result DateRecord Reason)
+    → Checks (λ date. date) result (date_of (pos 0) month day) (nat_le (least_day profile) day && nat_le day (greatest_day month)) (reason_of (of_month_day (month_day_range profile)))
     → YieldsAt (λ date. (date, rest)) result rest (lone_day_in_range error_of profile month day rest)
 unfolding lone_day_in_range
 day_tested profile month day rest (Ok date) is = rw (is.1, is.0) refl
 day_tested profile month day rest (Err stop) is = rw (is.1, is.0) refl
 
 -- If the wanted result is that of the reading function, a function that yields it reads as this function does.
-pub yields_on : (letter : ℕ → Letter) (here new : Unread) (result : Result DateRecord Stop) (reading : Text → Read Placed DateRecord) (wanted : Read Placed DateRecord)
+pub yields_on : (letter : ℕ → Letter) (here new : Unread) (result : Result DateRecord Reason) (reading : Text → Read Placed DateRecord) (wanted : Read Placed DateRecord)
     → wanted ≡ reading (map letter here.rest) → Reads letter (λ date. date) here result new reading
     → YieldsAt (λ date. (date, map letter new.rest)) result (map letter new.rest) wanted
 yields_on letter here new (Ok date) reading wanted same is = same ∙ is
 yields_on letter here new (Err stop) reading wanted same is = same ∙ is
 
 -- Two hyphens at the beginning are consumed.
-pub marked_is_read : (profile : Profile) (text : Text) → IsTrue (marks_place text) → month_day_at error_of profile text ≡ unmarked_at (stop_of (of_month_day month_day_month_digits)) profile (drop 2 text)
+pub marked_is_read : (profile : Profile) (text : Text) → IsTrue (marks_place text) → month_day_at error_of profile text ≡ unmarked_at (reason_of (of_month_day month_day_month_digits)) profile (drop 2 text)
 unfolding month_day_at marks_at mark_by two_digits_by digits_by next_by look_at
 marked_is_read profile text marks =
     let both = and_parts _ _ marks in
@@ -137,7 +138,7 @@ marked_is_read profile text marks =
 
 -- A text that does not begin with a hyphen has no hyphens before its month.
 pub unmarked_is_read : (profile : Profile) (text : Text) → IsFalse (hyphen (byte_place 0 text)) → 1 ≤ length text
-    → month_day_at error_of profile text ≡ unmarked_at (stop_of (of_month_day month_day_start)) profile text
+    → month_day_at error_of profile text ≡ unmarked_at (reason_of (of_month_day month_day_start)) profile text
 unfolding month_day_at marks_at mark_by two_digits_by digits_by next_by look_at
 unmarked_is_read profile [] is some = absurd (omega arith)
 unmarked_is_read profile (Bad ∷ rest) is some = refl

@@ -7,7 +7,7 @@ use Rattle.ixdtf_grammar.specs.declared.records.{DateRecord.DateRecord, TimeReco
 use Rattle.ixdtf_grammar.specs.language.{Letters.{Text, digit, hyphen, time_letter, date_time_separator, Letter.{Plain, Bad}}, Shapes.digits}
 use Rattle.ixdtf_grammar.specs.language.{Digits.decimal, FixedPlaces.{FixedDateTime}}
 use Rattle.ixdtf_grammar.specs.table.LineNames.LineName.{of_date_time}
-use Rattle.ixdtf_reading.specs.reading.Stops.{stop_of}
+use Rattle.ixdtf_reading.specs.reading.Stops.{reason_of}
 use Rattle.ixdtf_grammar.specs.table.DateTimeFronts.{Field, Field.{month_field, day_field, hour_field, minute_field, second_field}}
 use Rattle.ixdtf_grammar.specs.table.LineNames.DateTimeLine.{four_digits, after_four_digits, field_digits, after_field}
 use Rattle.ixdtf_grammar.proofs.parts.Texts.{colon_seconds_text}
@@ -44,8 +44,8 @@ module _ {A : Type 0} (finish : Finish Placed A) (e : Placed) where
   -- If the beginning has an error, it is the error of the date-time.
   pub date_time_errs : (text : Text) → date_time_through_second text ≡ Err e → date_time_by error_of finish text ≡ Err e
   unfolding date_time_through_second full_month_at
-  date_time_errs text is = year_then finish text ∙ part_errs (as_number (digits_by (digit_look (stop_of (of_date_time four_digits))) 4 text)) _ _ e
-      (λ year. part_errs (next_by (look_for hyphen (stop_of (of_date_time after_four_digits))) year.1) _ _ e
+  date_time_errs text is = year_then finish text ∙ part_errs (as_number (digits_by (digit_look (reason_of (of_date_time four_digits))) 4 text)) _ _ e
+      (λ year. part_errs (next_by (look_for hyphen (reason_of (of_date_time after_four_digits))) year.1) _ _ e
       (λ mark. part_errs (marked_field_at error_of month_field is_month mark.1) _ _ e
       (λ month. day_errs (pos year.0) month.0 month.1))) is
 
@@ -86,15 +86,15 @@ digits_ok l asks (suc n) text x e =
       (next.0, ds.0, sym (ap (λ y. y.0) is), sym (asks next.0) ∙ goes, some),
     )
 
-year_ok : (text : Text) (x : ℕ × Text) → as_number (digits_by (digit_look (stop_of (of_date_time four_digits))) 4 text) ≡ Ok x
+year_ok : (text : Text) (x : ℕ × Text) → as_number (digits_by (digit_look (reason_of (of_date_time four_digits))) 4 text) ≡ Ok x
     → (ds : Text) × (text ≡ ds ++ x.1) × digits 4 ds × (x.0 ≡ decimal ds)
-year_ok text x e = go (digits_by (digit_look (stop_of (of_date_time four_digits))) 4 text) refl e
+year_ok text x e = go (digits_by (digit_look (reason_of (of_date_time four_digits))) 4 text) refl e
   where
-    go : (r : Read Placed Text) → digits_by (digit_look (stop_of (of_date_time four_digits))) 4 text ≡ r → as_number r ≡ Ok x
+    go : (r : Read Placed Text) → digits_by (digit_look (reason_of (of_date_time four_digits))) 4 text ≡ r → as_number r ≡ Ok x
         → (ds : Text) × (text ≡ ds ++ x.1) × digits 4 ds × (x.0 ≡ decimal ds)
     go (Ok y) is e =
         let it : (decimal y.0, y.1) ≡ x = cc in
-        let found = digits_ok (digit_look (stop_of (of_date_time four_digits))) (λ c. refl) 4 text y is in
+        let found = digits_ok (digit_look (reason_of (of_date_time four_digits))) (λ c. refl) 4 text y is in
         (y.0, found.0 ∙ ap (λ z. y.0 ++ z.1) it, found.1, sym (ap (λ z. z.0) it))
     go (Err d) is e = absurd cc
 
@@ -178,14 +178,14 @@ module _ (ys ms ds hs ns ss rest : Text) (c : ℕ) where
 pub through_second_is_fixed : (text : Text) (second : ℕ) (rest : Text) → date_time_through_second text ≡ Ok (second, rest) → BeginsFixed text rest
 unfolding date_time_through_second day_through_second time_through_second
 through_second_is_fixed text second rest e =
-    then_ok (as_number (digits_by (digit_look (stop_of (of_date_time four_digits))) 4 text)) _ (second, rest) e λ year e0 more0.
-    then_ok (next_by (look_for hyphen (stop_of (of_date_time after_four_digits))) year.1) _ (second, rest) more0 λ mark e1 more1.
+    then_ok (as_number (digits_by (digit_look (reason_of (of_date_time four_digits))) 4 text)) _ (second, rest) e λ year e0 more0.
+    then_ok (next_by (look_for hyphen (reason_of (of_date_time after_four_digits))) year.1) _ (second, rest) more0 λ mark e1 more1.
     then_ok (marked_field_at error_of month_field is_month mark.1) _ (second, rest) more1 λ month e2 more2.
     then_ok (marked_field_at error_of day_field (is_day (pos year.0) month.0) month.1) _ (second, rest) more2 λ day e3 more3.
     then_ok (marked_field_at error_of hour_field (at_most 23) day.1) _ (second, rest) more3 λ hour e4 more4.
     then_ok (marked_field_at error_of minute_field (at_most 59) hour.1) _ (second, rest) more4 λ minute e5 last.
     let y = year_ok text year e0 in
-    let k = letter_ok (look_for hyphen (stop_of (of_date_time after_four_digits))) year.1 mark e1 in
+    let k = letter_ok (look_for hyphen (reason_of (of_date_time after_four_digits))) year.1 mark e1 in
     let m = marked_ok month_field is_month mark.1 month e2 in
     let d = marked_ok day_field (is_day (pos year.0) month.0) month.1 day e3 in
     let h = marked_ok hour_field (at_most 23) day.1 hour e4 in

@@ -9,13 +9,13 @@ use super::check;
 use ixdtf::ParseError::{
     self, AbruptEnd, IanaCharPostSeparator, InvalidDayRange, InvalidMonthRange,
 };
+use ixdtf::ParserResult;
 use ixdtf::encoding::{Utf8, Utf16};
 use ixdtf::parsers::{IsoDurationParser, IxdtfParser, TimeZoneParser};
 use ixdtf::records::{
     Annotation, DateRecord, IxdtfParseRecord, Sign, TimeDurationRecord, TimeZoneRecord,
     UtcOffsetRecordOrZ,
 };
-use ixdtf::{LocatedError, ParserResult};
 use crate::runtime::{AllocError, Global, String};
 use crate::runtime::Fail;
 
@@ -410,7 +410,7 @@ fn fault_of_name(text: &str) -> Option<(usize, ParseError)> {
     let mut parser = TimeZoneParser::from_str(text);
     match parser.parse_iana_identifier_located() {
         Ok(_name) => None,
-        Err(LocatedError { error, at }) => Some((at, error)),
+        Err(located) => Some((located.at, located.error)),
     }
 }
 

@@ -8,7 +8,8 @@ use crate::classes::{
 };
 use crate::cursor::Cursor;
 use crate::parsers::letters::{Letters, pass_letters};
-use crate::stop::{Stop, stopped};
+use crate::stop::stopped;
+use crate::Reason;
 use crate::encoding::EncodingType;
 use crate::records::Annotation;
 
@@ -30,17 +31,17 @@ impl Letters for KeyLetters {
 #[inline(always)]
 pub fn parse_annotation_key<'a, T: EncodingType>(
     cursor: &mut Cursor<'a, T>,
-) -> Result<&'a [T::CodeUnit], Stop> {
+) -> Result<&'a [T::CodeUnit], Reason> {
     let start = cursor.rest();
     cursor.advance();
-    let next = pass_letters::<T, KeyLetters>(cursor, Stop::InKey)?;
+    let next = pass_letters::<T, KeyLetters>(cursor, Reason::InKey)?;
     // This slice always exists, as the proof shows. The compiler does not know the proof: because of this test, it
     // compiles no code for a panic.
     let Some(key) = start.get(..start.len() - cursor.rest().len()) else {
-        return Err(Stop::InKey);
+        return Err(Reason::InKey);
     };
     if !ends_key(next) {
-        return stopped(Stop::InKey);
+        return stopped(Reason::InKey);
     }
     cursor.advance();
     Ok(key)
@@ -64,7 +65,10 @@ impl Letters for ComponentLetters {
 
 /// Consumes the first code unit of a component. Returns `stop` if there is none, and then consumes nothing.
 #[inline(always)]
-fn start_component<'a, T: EncodingType>(cursor: &mut Cursor<'a, T>, stop: Stop) -> Result<(), Stop> {
+fn start_component<'a, T: EncodingType>(
+    cursor: &mut Cursor<'a, T>,
+    stop: Reason,
+) -> Result<(), Reason> {
     if is_annotation_value_component(cursor.byte_at(0)) {
         cursor.advance();
         return Ok(());
@@ -78,22 +82,22 @@ fn start_component<'a, T: EncodingType>(cursor: &mut Cursor<'a, T>, stop: Stop) 
 #[inline(always)]
 pub fn parse_annotation_value<'a, T: EncodingType>(
     cursor: &mut Cursor<'a, T>,
-) -> Result<&'a [T::CodeUnit], Stop> {
+) -> Result<&'a [T::CodeUnit], Reason> {
     let start = cursor.rest();
-    start_component(cursor, Stop::ValueStart)?;
+    start_component(cursor, Reason::ValueStart)?;
     loop {
-        let next = pass_letters::<T, ComponentLetters>(cursor, Stop::InValue)?;
+        let next = pass_letters::<T, ComponentLetters>(cursor, Reason::InValue)?;
         match next {
-            None => return stopped(Stop::InValue),
+            None => return stopped(Reason::InValue),
             Some(byte) if is_annotation_close(byte) => {
                 cursor.advance();
                 let behind = cursor.rest().len() + 1;
                 return Ok(&start[..start.len().saturating_sub(behind)]);
             }
             Some(byte) if is_hyphen(byte) => cursor.advance(),
-            Some(_) => return stopped(Stop::InValue),
+            Some(_) => return stopped(Reason::InValue),
         }
-        start_component(cursor, Stop::AfterValueHyphen)?;
+        start_component(cursor, Reason::AfterValueHyphen)?;
     }
 }
 
@@ -104,7 +108,7 @@ pub fn parse_annotation_value<'a, T: EncodingType>(
 fn parse_pair<'a, T: EncodingType>(
     cursor: &mut Cursor<'a, T>,
     critical: bool,
-) -> Result<Annotation<'a, T>, Stop> {
+) -> Result<Annotation<'a, T>, Reason> {
     let key = parse_annotation_key(cursor)?;
     let value = parse_annotation_value(cursor)?;
     Ok(Annotation {
@@ -118,7 +122,7 @@ fn parse_pair<'a, T: EncodingType>(
 #[inline(always)]
 fn parse_later_pair<'a, T: EncodingType>(
     cursor: &mut Cursor<'a, T>,
-) -> Result<Annotation<'a, T>, Stop> {
+) -> Result<Annotation<'a, T>, Reason> {
     let lead = cursor.byte_at(0);
     if is_a_key_leading_char(lead) {
         return parse_pair(cursor, false);
@@ -130,7 +134,7 @@ fn parse_later_pair<'a, T: EncodingType>(
         *cursor = here;
         return read;
     }
-    stopped(Stop::KeyStart)
+    stopped(Reason::KeyStart)
 }
 
 /// Reads an annotation after its `[!`. The annotation is not in the first bracket of the text.
@@ -140,25 +144,25 @@ fn parse_later_pair<'a, T: EncodingType>(
 #[inline(never)]
 fn parse_critical_pair<'a, T: EncodingType>(
     cursor: &mut Cursor<'a, T>,
-) -> Result<Annotation<'a, T>, Stop> {
+) -> Result<Annotation<'a, T>, Reason> {
     if is_a_key_leading_char(cursor.byte_at(0)) {
         return parse_pair(cursor, true);
     }
-    stopped(Stop::CriticalKeyStart)
+    stopped(Reason::CriticalKeyStart)
 }
 
 /// Reads the next annotation after a complete bracket. Returns `None` at the end of the input.
 #[inline(always)]
 pub fn next_annotation<'a, T: EncodingType>(
     cursor: &mut Cursor<'a, T>,
-) -> Result<Option<Annotation<'a, T>>, Stop> {
-    match cursor.look(Stop::AfterBracket)? {
+) -> Result<Option<Annotation<'a, T>>, Reason> {
+    match cursor.look(Reason::AfterBracket)? {
         None => Ok(None),
         Some(byte) if is_annotation_open(byte) => {
             cursor.advance();
             let annotation = parse_later_pair(cursor)?;
             Ok(Some(annotation))
         }
-        Some(_) => Err(Stop::AfterBracket),
+        Some(_) => Err(Reason::AfterBracket),
     }
 }

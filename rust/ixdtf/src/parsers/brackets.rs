@@ -3,6 +3,7 @@
 //! Functions that read the first bracket, which can be a zone or an annotation.
 
 use crate::parsers::zone::{NameState, parse_name_in_bracket, parse_offset_in_bracket, pass_name};
+use crate::Reason;
 use crate::encoding::EncodingType;
 use crate::records::{Annotation, TimeZoneAnnotation, TimeZoneRecord};
 use crate::parsers::annotations::{KeyLetters, ends_key, parse_annotation_value};
@@ -12,7 +13,6 @@ use crate::classes::{
 };
 use crate::cursor::Cursor;
 use crate::parsers::letters::{Letters, pass_letters};
-use crate::stop::Stop;
 
 /// A first bracket: a zone or an annotation.
 pub enum Bracket<'a, T: EncodingType> {
@@ -24,14 +24,14 @@ pub enum Bracket<'a, T: EncodingType> {
 #[inline(always)]
 pub fn parse_first_bracket<'a, T: EncodingType>(
     cursor: &mut Cursor<'a, T>,
-) -> Result<Bracket<'a, T>, Stop> {
+) -> Result<Bracket<'a, T>, Reason> {
     let mut critical = false;
-    let mut stop = Stop::FirstBracketStart;
+    let mut stop = Reason::FirstBracketStart;
     let mut lead = cursor.look(stop)?;
     if is_flag(lead) {
         critical = true;
         cursor.advance();
-        stop = Stop::FirstCriticalStart;
+        stop = Reason::FirstCriticalStart;
         lead = cursor.look(stop)?;
     }
     // Call `parse_inside` at one place only. Its code is large: with two calls it was compiled twice and not inlined,
@@ -56,7 +56,7 @@ fn parse_inside<'a, T: EncodingType>(
     cursor: &mut Cursor<'a, T>,
     critical: bool,
     lead: u8,
-) -> Result<Bracket<'a, T>, Stop> {
+) -> Result<Bracket<'a, T>, Reason> {
     if is_a_key_leading_char(lead) {
         return parse_name_or_pair(cursor, critical);
     }
@@ -83,9 +83,9 @@ fn ends_bracket(next: Option<u8>) -> bool {
 fn parse_name_or_pair<'a, T: EncodingType>(
     cursor: &mut Cursor<'a, T>,
     critical: bool,
-) -> Result<Bracket<'a, T>, Stop> {
+) -> Result<Bracket<'a, T>, Reason> {
     let start = cursor.rest();
-    let next = pass_letters::<T, KeyLetters>(cursor, Stop::FirstBracketScan)?;
+    let next = pass_letters::<T, KeyLetters>(cursor, Reason::FirstBracketScan)?;
     let behind_key = cursor.rest();
     let key = &start[..start.len().saturating_sub(behind_key.len())];
     if ends_key(next) {
@@ -97,7 +97,7 @@ fn parse_name_or_pair<'a, T: EncodingType>(
             value,
         }));
     }
-    let more = pass_name(cursor, Stop::FirstBracketScan, Stop::FirstBracketScan)?;
+    let more = pass_name(cursor, Reason::FirstBracketScan, Reason::FirstBracketScan)?;
     if more.state.may_end && ends_bracket(more.next) {
         let count = start.len().saturating_sub(cursor.rest().len());
         cursor.advance();
@@ -107,7 +107,7 @@ fn parse_name_or_pair<'a, T: EncodingType>(
         }));
     }
     if more.next.is_none() {
-        return Err(Stop::FirstBracketScan);
+        return Err(Reason::FirstBracketScan);
     }
     let refused = refuse_bracket(cursor.fork(), behind_key, more.state);
     *cursor = refused.there;
@@ -126,7 +126,7 @@ impl Letters for BracketLetters {
 
 /// The error of a first bracket, and a cursor at its position.
 struct Refused<'a, T: EncodingType> {
-    stop: Stop,
+    stop: Reason,
     there: Cursor<'a, T>,
 }
 
@@ -149,15 +149,15 @@ fn refuse_bracket<'a, T: EncodingType>(
 ) -> Refused<'a, T> {
     let behind_name = here.rest();
     let mut ahead = here;
-    match pass_letters::<T, BracketLetters>(&mut ahead, Stop::FirstBracketScan) {
+    match pass_letters::<T, BracketLetters>(&mut ahead, Reason::FirstBracketScan) {
         Err(stop) => Refused { stop, there: ahead },
         Ok(next) => match next {
             None => Refused {
-                stop: Stop::FirstBracketScan,
+                stop: Reason::FirstBracketScan,
                 there: ahead,
             },
             Some(byte) if is_annotation_key_value_separator(byte) => Refused {
-                stop: Stop::InKey,
+                stop: Reason::InKey,
                 there: ahead.fork_at(behind_key),
             },
             Some(_) => Refused {

@@ -2,6 +2,7 @@
 
 //! Functions that read a core into a record. A core is the part of a text before its first `[`.
 
+use crate::Reason;
 use crate::encoding::EncodingType;
 use crate::parsers::profile::Profile;
 use crate::records::{DateRecord, IxdtfParseRecord, TimeRecord, UtcOffsetRecordOrZ};
@@ -10,7 +11,6 @@ use crate::classes::{
     is_time_separator, is_utc_designator,
 };
 use crate::cursor::Cursor;
-use crate::stop::Stop;
 use crate::parsers::date_times::take_fixed_date_time;
 use crate::parsers::dates::parse_date;
 use crate::parsers::months::{
@@ -31,7 +31,7 @@ pub trait CoreReader {
         cursor: &mut Cursor<'a, T>,
         profile: Profile,
         found: &mut IxdtfParseRecord<'a, T>,
-    ) -> Result<AfterCore, Stop>;
+    ) -> Result<AfterCore, Reason>;
 
     /// Returns whether a zone after the core must have the form of RFC 9557, section 4.1.
     fn has_exact_zones() -> bool;
@@ -46,7 +46,7 @@ impl CoreReader for DateTimes {
         cursor: &mut Cursor<'a, T>,
         _profile: Profile,
         found: &mut IxdtfParseRecord<'a, T>,
-    ) -> Result<AfterCore, Stop> {
+    ) -> Result<AfterCore, Reason> {
         parse_date_time(cursor, found)
     }
 
@@ -65,7 +65,7 @@ impl CoreReader for InternetDateTimes {
         cursor: &mut Cursor<'a, T>,
         _profile: Profile,
         found: &mut IxdtfParseRecord<'a, T>,
-    ) -> Result<AfterCore, Stop> {
+    ) -> Result<AfterCore, Reason> {
         parse_internet_date_time(cursor, found)?;
         close_core(cursor, stop_after_offset(found.offset))
     }
@@ -85,10 +85,10 @@ impl CoreReader for YearMonths {
         cursor: &mut Cursor<'a, T>,
         _profile: Profile,
         found: &mut IxdtfParseRecord<'a, T>,
-    ) -> Result<AfterCore, Stop> {
+    ) -> Result<AfterCore, Reason> {
         let date = parse_year_month_date(cursor)?;
         found.date = Some(date);
-        close_core(cursor, Stop::AfterYearMonth)
+        close_core(cursor, Reason::AfterYearMonth)
     }
 
     #[inline(always)]
@@ -106,10 +106,10 @@ impl CoreReader for MonthDays {
         cursor: &mut Cursor<'a, T>,
         profile: Profile,
         found: &mut IxdtfParseRecord<'a, T>,
-    ) -> Result<AfterCore, Stop> {
+    ) -> Result<AfterCore, Reason> {
         let date = parse_month_day_date(cursor, profile)?;
         found.date = Some(date);
-        close_core(cursor, Stop::AfterMonthDay)
+        close_core(cursor, Reason::AfterMonthDay)
     }
 
     #[inline(always)]
@@ -127,15 +127,15 @@ impl CoreReader for Times {
         cursor: &mut Cursor<'a, T>,
         profile: Profile,
         found: &mut IxdtfParseRecord<'a, T>,
-    ) -> Result<AfterCore, Stop> {
+    ) -> Result<AfterCore, Reason> {
         let start = cursor.rest();
-        match cursor.look(Stop::TimeStart)? {
+        match cursor.look(Reason::TimeStart)? {
             Some(byte) if is_time_designator(byte) => {
                 cursor.advance();
-                parse_timed(cursor, Stop::HourStart, found)
+                parse_timed(cursor, Reason::HourStart, found)
             }
             _ => {
-                let after = parse_timed(cursor, Stop::TimeStart, found)?;
+                let after = parse_timed(cursor, Reason::TimeStart, found)?;
                 check_front(cursor, start, profile)?;
                 Ok(after)
             }
@@ -155,7 +155,7 @@ impl CoreReader for Times {
 fn parse_date_time<'a, T: EncodingType>(
     cursor: &mut Cursor<'a, T>,
     found: &mut IxdtfParseRecord<'a, T>,
-) -> Result<AfterCore, Stop> {
+) -> Result<AfterCore, Reason> {
     match take_fixed_date_time(cursor) {
         Some((date, whole)) => parse_after_fixed(cursor, date, whole, found),
         None => parse_date_by_parts(cursor, found),
@@ -174,7 +174,7 @@ fn parse_after_fixed<'a, T: EncodingType>(
     date: DateRecord,
     whole: WholeTime,
     found: &mut IxdtfParseRecord<'a, T>,
-) -> Result<AfterCore, Stop> {
+) -> Result<AfterCore, Reason> {
     found.date = Some(date);
     let mut time = TimeRecord::default();
     let shape = parse_after_second(
@@ -193,15 +193,15 @@ fn parse_after_fixed<'a, T: EncodingType>(
 fn parse_date_by_parts<'a, T: EncodingType>(
     cursor: &mut Cursor<'a, T>,
     found: &mut IxdtfParseRecord<'a, T>,
-) -> Result<AfterCore, Stop> {
+) -> Result<AfterCore, Reason> {
     let date = parse_date(cursor)?;
     found.date = Some(date);
-    match cursor.look(Stop::AfterDate)? {
+    match cursor.look(Reason::AfterDate)? {
         Some(byte) if is_date_time_separator(byte) => {
             cursor.advance();
-            parse_timed(cursor, Stop::HourStart, found)
+            parse_timed(cursor, Reason::HourStart, found)
         }
-        _ => close_core(cursor, Stop::AfterDate),
+        _ => close_core(cursor, Reason::AfterDate),
     }
 }
 
@@ -212,9 +212,9 @@ fn parse_date_by_parts<'a, T: EncodingType>(
 #[inline(always)]
 fn parse_timed<'a, T: EncodingType>(
     cursor: &mut Cursor<'a, T>,
-    first: Stop,
+    first: Reason,
     found: &mut IxdtfParseRecord<'a, T>,
-) -> Result<AfterCore, Stop> {
+) -> Result<AfterCore, Reason> {
     let mut time = TimeRecord::default();
     let shape = parse_time_of_day(cursor, first, &mut time)?;
     parse_after_time(cursor, shape, time, found)
@@ -227,9 +227,9 @@ fn parse_timed<'a, T: EncodingType>(
 #[inline(always)]
 fn parse_time_of_day<'a, T: EncodingType>(
     cursor: &mut Cursor<'a, T>,
-    first: Stop,
+    first: Reason,
     time: &mut TimeRecord,
-) -> Result<TimeShape, Stop> {
+) -> Result<TimeShape, Reason> {
     let mut here = cursor.fork();
     let read = parse_clock_from(&mut here, Clock::Time, first, time);
     *cursor = here;
@@ -246,19 +246,19 @@ fn check_front<'a, T: EncodingType>(
     cursor: &mut Cursor<'a, T>,
     start: &'a [T::CodeUnit],
     profile: Profile,
-) -> Result<(), Stop> {
+) -> Result<(), Reason> {
     let mut front = cursor.fork_at(start);
     if is_time_separator(front.byte_at(2)) {
         return Ok(());
     }
     if parse_month_day_parts(&mut front, profile).is_ok() {
         *cursor = front;
-        return Err(Stop::TimeReadsAsMonthDay);
+        return Err(Reason::TimeReadsAsMonthDay);
     }
     let mut again = front.fork_at(start);
     if parse_year_month_parts(&mut again).is_ok() {
         *cursor = again;
-        return Err(Stop::TimeReadsAsYearMonth);
+        return Err(Reason::TimeReadsAsYearMonth);
     }
     Ok(())
 }
@@ -270,7 +270,7 @@ fn parse_after_time<'a, T: EncodingType>(
     shape: TimeShape,
     time: TimeRecord,
     found: &mut IxdtfParseRecord<'a, T>,
-) -> Result<AfterCore, Stop> {
+) -> Result<AfterCore, Reason> {
     found.time = Some(time);
     let stop = Clock::Time.stop_after(shape);
     match cursor.look(stop)? {
@@ -281,7 +281,7 @@ fn parse_after_time<'a, T: EncodingType>(
         Some(byte) if is_utc_designator(byte) => {
             cursor.advance();
             found.offset = Some(UtcOffsetRecordOrZ::Z);
-            close_core(cursor, Stop::AfterZulu)
+            close_core(cursor, Reason::AfterZulu)
         }
         _ => close_core(cursor, stop),
     }
@@ -296,7 +296,7 @@ fn parse_signed<'a, T: EncodingType>(
     cursor: &mut Cursor<'a, T>,
     sign: u8,
     found: &mut IxdtfParseRecord<'a, T>,
-) -> Result<AfterCore, Stop> {
+) -> Result<AfterCore, Reason> {
     if let Some(after) = take_fixed_offset(cursor, sign, &mut found.offset) {
         return Ok(after);
     }
@@ -313,7 +313,7 @@ fn parse_offset_part_by_part<'a, T: EncodingType>(
     cursor: &mut Cursor<'a, T>,
     sign: u8,
     found: &mut IxdtfParseRecord<'a, T>,
-) -> Result<AfterCore, Stop> {
+) -> Result<AfterCore, Reason> {
     let mut time = TimeRecord::default();
     let shape = parse_clock(cursor, Clock::Offset, &mut time)?;
     let offset = offset_from(sign, shape, time);
@@ -326,8 +326,8 @@ fn parse_offset_part_by_part<'a, T: EncodingType>(
 #[inline(always)]
 fn close_core<'a, T: EncodingType>(
     cursor: &mut Cursor<'a, T>,
-    stop: Stop,
-) -> Result<AfterCore, Stop> {
+    stop: Reason,
+) -> Result<AfterCore, Reason> {
     match cursor.look(stop)? {
         None => Ok(AfterCore::End),
         Some(byte) if is_annotation_open(byte) => {

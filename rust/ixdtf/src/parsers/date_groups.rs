@@ -3,12 +3,12 @@
 //! The date part of a duration: groups of years, months, weeks and days.
 
 use crate::parsers::group_numbers::{Number, keep_number, parse_number};
+use crate::Reason;
 use crate::encoding::EncodingType;
 use crate::parsers::profile::Profile;
 use crate::records::DateDurationRecord;
 use crate::classes::is_time_designator;
 use crate::cursor::Cursor;
-use crate::stop::Stop;
 
 // The greatest number of years, of months and of weeks.
 const MOST_OF_LONG_UNITS: u64 = 0xffff_ffff;
@@ -49,18 +49,18 @@ fn take_date_unit<'a, T: EncodingType>(
     cursor: &mut Cursor<'a, T>,
     number: Number,
     least: u8,
-) -> Result<u8, Stop> {
+) -> Result<u8, Reason> {
     let rank = date_rank(number.next);
     if rank < least {
         if rank == 0 {
-            return Err(Stop::DateGroupDigits);
+            return Err(Reason::DateGroupDigits);
         }
         cursor.advance_by(1);
-        return Err(Stop::DateUnitOrder);
+        return Err(Reason::DateUnitOrder);
     }
     cursor.advance_by(1);
     if number.value > MOST_OF_LONG_UNITS && rank < 4 {
-        return Err(Stop::DateUnitRange);
+        return Err(Reason::DateUnitRange);
     }
     Ok(rank)
 }
@@ -89,16 +89,21 @@ pub fn parse_dates<'a, T: EncodingType>(
     cursor: &mut Cursor<'a, T>,
     first: u8,
     profile: Profile,
-) -> Result<Dates, Stop> {
+) -> Result<Dates, Reason> {
     let mut values = [0; 5];
     let mut least = 1;
     let mut digit = first;
     loop {
-        let number = parse_number(cursor, digit, Stop::DateGroupDigits, Stop::DateGroupRange)?;
+        let number = parse_number(
+            cursor,
+            digit,
+            Reason::DateGroupDigits,
+            Reason::DateGroupRange,
+        )?;
         let rank = take_date_unit(cursor, number, least)?;
         keep_number(&mut values, rank, number.value);
         least = rank + profile.least_step();
-        match cursor.look(Stop::AfterDateGroups)? {
+        match cursor.look(Reason::AfterDateGroups)? {
             None => {
                 return Ok(Dates {
                     record: date_record(values),
@@ -116,7 +121,7 @@ pub fn parse_dates<'a, T: EncodingType>(
                     timed: true,
                 });
             }
-            Some(_) => return Err(Stop::AfterDateGroups),
+            Some(_) => return Err(Reason::AfterDateGroups),
         }
     }
 }

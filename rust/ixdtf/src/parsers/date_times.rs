@@ -5,11 +5,11 @@
 
 use crate::parsers::dates::{fixed_date, is_date};
 use crate::parsers::time::{WholeTime, fixed_time};
+use crate::Reason;
 use crate::encoding::EncodingType;
 use crate::records::DateRecord;
 use crate::classes::is_date_time_separator;
 use crate::cursor::Cursor;
-use crate::stop::Stop;
 
 /// Consumes a date, a separator and a time in the first nineteen columns.
 ///
@@ -45,7 +45,7 @@ fn fixed_date_time<'a, T: EncodingType>(
 /// Returns the code unit at index `place`, if it can separate a date from a time, and otherwise `None`.
 #[inline(always)]
 fn fixed_separator<'a, T: EncodingType>(cursor: &mut Cursor<'a, T>, place: usize) -> Option<u8> {
-    match cursor.look_at(place, Stop::AfterDate) {
+    match cursor.look_at(place, Reason::AfterDate) {
         Ok(Some(byte)) if is_date_time_separator(byte) => Some(byte),
         _ => None,
     }

@@ -2,15 +2,15 @@
 
 //! Functions that read dates.
 
+use crate::Reason;
 use crate::encoding::EncodingType;
 use crate::records::DateRecord;
 use crate::classes::{is_ascii_sign, is_hyphen, two_digit_number};
 use crate::cursor::Cursor;
-use crate::stop::Stop;
 
 /// Reads a date: in ten or eight fixed columns if the text fits them, and otherwise part by part.
 #[inline(always)]
-pub fn parse_date<'a, T: EncodingType>(cursor: &mut Cursor<'a, T>) -> Result<DateRecord, Stop> {
+pub fn parse_date<'a, T: EncodingType>(cursor: &mut Cursor<'a, T>) -> Result<DateRecord, Reason> {
     match take_fixed_date(cursor) {
         Some(read) => read,
         None => parse_date_parts(cursor),
@@ -54,7 +54,7 @@ pub fn fixed_date<'a, T: EncodingType>(cursor: &mut Cursor<'a, T>) -> Option<Dat
 #[inline(always)]
 fn take_fixed_date<'a, T: EncodingType>(
     cursor: &mut Cursor<'a, T>,
-) -> Option<Result<DateRecord, Stop>> {
+) -> Option<Result<DateRecord, Reason>> {
     if cursor.remaining() < 8 {
         return None;
     }
@@ -80,8 +80,8 @@ fn take_date<'a, T: EncodingType>(
     date: DateRecord,
     month_end: usize,
     day_end: usize,
-) -> Result<DateRecord, Stop> {
-    if let Err(stop) = check_month(date.month, Stop::MonthRange) {
+) -> Result<DateRecord, Reason> {
+    if let Err(stop) = check_month(date.month, Reason::MonthRange) {
         cursor.advance_by(month_end);
         return Err(stop);
     }
@@ -134,9 +134,9 @@ fn fixed_basic_days<'a, T: EncodingType>(
 
 /// Reads a date part by part.
 #[inline(always)]
-fn parse_date_parts<'a, T: EncodingType>(cursor: &mut Cursor<'a, T>) -> Result<DateRecord, Stop> {
+fn parse_date_parts<'a, T: EncodingType>(cursor: &mut Cursor<'a, T>) -> Result<DateRecord, Reason> {
     let year = parse_date_year(cursor)?;
-    let (month, hyphened) = parse_month(cursor, Stop::AfterYear)?;
+    let (month, hyphened) = parse_month(cursor, Reason::AfterYear)?;
     parse_day(cursor, year, month, hyphened)
 }
 
@@ -145,8 +145,8 @@ fn parse_date_parts<'a, T: EncodingType>(cursor: &mut Cursor<'a, T>) -> Result<D
 fn parse_days<'a, T: EncodingType>(
     cursor: &mut Cursor<'a, T>,
     year: u16,
-) -> Result<DateRecord, Stop> {
-    let (month, hyphened) = parse_month(cursor, Stop::AfterYear)?;
+) -> Result<DateRecord, Reason> {
+    let (month, hyphened) = parse_month(cursor, Reason::AfterYear)?;
     parse_day(cursor, i32::from(year), month, hyphened)
 }
 
@@ -154,9 +154,9 @@ fn parse_days<'a, T: EncodingType>(
 
 /// Reads a year: four digits, or a sign and six digits.
 #[inline(always)]
-pub fn parse_date_year<'a, T: EncodingType>(cursor: &mut Cursor<'a, T>) -> Result<i32, Stop> {
-    match cursor.look(Stop::YearStart)? {
-        None => Err(Stop::YearStart),
+pub fn parse_date_year<'a, T: EncodingType>(cursor: &mut Cursor<'a, T>) -> Result<i32, Reason> {
+    match cursor.look(Reason::YearStart)? {
+        None => Err(Reason::YearStart),
         Some(byte) if byte.is_ascii_digit() => {
             cursor.advance();
             parse_four_digit_year(cursor, byte)
@@ -165,7 +165,7 @@ pub fn parse_date_year<'a, T: EncodingType>(cursor: &mut Cursor<'a, T>) -> Resul
             cursor.advance();
             parse_extended_year(cursor, byte)
         }
-        Some(_) => Err(Stop::YearStart),
+        Some(_) => Err(Reason::YearStart),
     }
 }
 
@@ -174,8 +174,8 @@ pub fn parse_date_year<'a, T: EncodingType>(cursor: &mut Cursor<'a, T>) -> Resul
 fn parse_four_digit_year<'a, T: EncodingType>(
     cursor: &mut Cursor<'a, T>,
     thousands: u8,
-) -> Result<i32, Stop> {
-    let below_thousand = parse_three_digits(cursor, Stop::YearDigits)?;
+) -> Result<i32, Reason> {
+    let below_thousand = parse_three_digits(cursor, Reason::YearDigits)?;
     Ok((1000 * u32::from(thousands - b'0') + below_thousand) as i32)
 }
 
@@ -184,21 +184,21 @@ fn parse_four_digit_year<'a, T: EncodingType>(
 fn parse_extended_year<'a, T: EncodingType>(
     cursor: &mut Cursor<'a, T>,
     sign: u8,
-) -> Result<i32, Stop> {
+) -> Result<i32, Reason> {
     let value = parse_six_digits(cursor)?;
     if !is_hyphen(sign) {
         return Ok(value as i32);
     }
     if value == 0 {
-        return Err(Stop::MinusZeroYear);
+        return Err(Reason::MinusZeroYear);
     }
     Ok(-(value as i32))
 }
 
 /// Reads six digits, two by two, and returns their number.
 #[inline(always)]
-fn parse_six_digits<'a, T: EncodingType>(cursor: &mut Cursor<'a, T>) -> Result<u32, Stop> {
-    let digits = Stop::ExtendedYearDigits;
+fn parse_six_digits<'a, T: EncodingType>(cursor: &mut Cursor<'a, T>) -> Result<u32, Reason> {
+    let digits = Reason::ExtendedYearDigits;
     let high = cursor.two_digits(digits, digits)?;
     let middle = cursor.two_digits(digits, digits)?;
     let low = cursor.two_digits(digits, digits)?;
@@ -209,8 +209,8 @@ fn parse_six_digits<'a, T: EncodingType>(cursor: &mut Cursor<'a, T>) -> Result<u
 #[inline(always)]
 fn parse_three_digits<'a, T: EncodingType>(
     cursor: &mut Cursor<'a, T>,
-    stop: Stop,
-) -> Result<u32, Stop> {
+    stop: Reason,
+) -> Result<u32, Reason> {
     let hundreds = cursor.next_digit(stop)?;
     let tens = cursor.next_digit(stop)?;
     let ones = cursor.next_digit(stop)?;
@@ -225,8 +225,8 @@ fn parse_three_digits<'a, T: EncodingType>(
 #[inline(always)]
 pub fn take_hyphen<'a, T: EncodingType>(
     cursor: &mut Cursor<'a, T>,
-    stop: Stop,
-) -> Result<bool, Stop> {
+    stop: Reason,
+) -> Result<bool, Reason> {
     match cursor.look(stop)? {
         None => Err(stop),
         Some(byte) if is_hyphen(byte) => {
@@ -243,12 +243,12 @@ pub fn take_hyphen<'a, T: EncodingType>(
 #[inline(always)]
 pub fn parse_month<'a, T: EncodingType>(
     cursor: &mut Cursor<'a, T>,
-    after_year: Stop,
-) -> Result<(u8, bool), Stop> {
+    after_year: Reason,
+) -> Result<(u8, bool), Reason> {
     let hyphened = take_hyphen(cursor, after_year)?;
-    let tens = cursor.next_digit(Stop::MonthDigits)?;
-    let ones = cursor.next_digit(Stop::MonthDigits)?;
-    let month = check_month(two_digit_number(tens, ones), Stop::MonthRange)?;
+    let tens = cursor.next_digit(Reason::MonthDigits)?;
+    let ones = cursor.next_digit(Reason::MonthDigits)?;
+    let month = check_month(two_digit_number(tens, ones), Reason::MonthRange)?;
     Ok((month, hyphened))
 }
 
@@ -259,9 +259,9 @@ fn parse_day<'a, T: EncodingType>(
     year: i32,
     month: u8,
     hyphened: bool,
-) -> Result<DateRecord, Stop> {
+) -> Result<DateRecord, Reason> {
     take_separator(cursor, hyphened)?;
-    let day = cursor.two_digits(Stop::DayDigits, Stop::DayDigits)?;
+    let day = cursor.two_digits(Reason::DayDigits, Reason::DayDigits)?;
     check_date(year, month, day)
 }
 
@@ -271,25 +271,25 @@ fn parse_day<'a, T: EncodingType>(
 fn take_separator<'a, T: EncodingType>(
     cursor: &mut Cursor<'a, T>,
     hyphened: bool,
-) -> Result<(), Stop> {
+) -> Result<(), Reason> {
     if hyphened {
-        return match cursor.look(Stop::AfterHyphenedMonth)? {
+        return match cursor.look(Reason::AfterHyphenedMonth)? {
             Some(byte) if is_hyphen(byte) => {
                 cursor.advance();
                 Ok(())
             }
-            _ => Err(Stop::AfterHyphenedMonth),
+            _ => Err(Reason::AfterHyphenedMonth),
         };
     }
-    match cursor.look(Stop::AfterBasicMonth)? {
+    match cursor.look(Reason::AfterBasicMonth)? {
         Some(byte) if byte.is_ascii_digit() => Ok(()),
-        _ => Err(Stop::AfterBasicMonth),
+        _ => Err(Reason::AfterBasicMonth),
     }
 }
 
 /// Returns the month if it is 1 to 12, and otherwise `stop`.
 #[inline(always)]
-pub fn check_month(month: u8, stop: Stop) -> Result<u8, Stop> {
+pub fn check_month(month: u8, stop: Reason) -> Result<u8, Reason> {
     if month < 1 || month > 12 {
         return Err(stop);
     }
@@ -298,9 +298,9 @@ pub fn check_month(month: u8, stop: Stop) -> Result<u8, Stop> {
 
 /// Returns the date if the month of the year has the day, and otherwise `DayRange`. The month is not checked.
 #[inline(always)]
-pub fn check_date(year: i32, month: u8, day: u8) -> Result<DateRecord, Stop> {
+pub fn check_date(year: i32, month: u8, day: u8) -> Result<DateRecord, Reason> {
     if !has_day(year, month, day) {
-        return Err(Stop::DayRange);
+        return Err(Reason::DayRange);
     }
     Ok(DateRecord { year, month, day })
 }

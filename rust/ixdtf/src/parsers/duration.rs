@@ -7,10 +7,10 @@ use crate::parsers::time_groups::parse_time_groups;
 use crate::encoding::{EncodingType, Utf8, Utf16};
 use crate::parsers::profile::Profile;
 use crate::records::{DateDurationRecord, DurationParseRecord, Sign};
-use crate::{LocatedError, ParseError, ParserResult};
+use crate::{LocatedError, ParseError, ParserResult, Reason};
 use crate::classes::{is_ascii_sign, is_duration_designator, is_time_designator};
 use crate::cursor::Cursor;
-use crate::stop::{FromStop, Stop};
+use crate::stop::FromStop;
 use crate::parsers::offsets::sign_from;
 
 /// A parser of durations, such as `P1Y2M3DT4H`.
@@ -267,8 +267,8 @@ fn parse_times<'a, T: EncodingType>(
     sign: Sign,
     date: Option<DateDurationRecord>,
     profile: Profile,
-) -> Result<DurationParseRecord, Stop> {
-    match cursor.look(Stop::AfterTimeDesignator)? {
+) -> Result<DurationParseRecord, Reason> {
+    match cursor.look(Reason::AfterTimeDesignator)? {
         Some(byte) if byte.is_ascii_digit() => {
             cursor.advance();
             match parse_time_groups(cursor, byte, profile) {
@@ -280,7 +280,7 @@ fn parse_times<'a, T: EncodingType>(
                 Err(stop) => Err(stop),
             }
         }
-        _ => Err(Stop::AfterTimeDesignator),
+        _ => Err(Reason::AfterTimeDesignator),
     }
 }
 
@@ -289,20 +289,20 @@ fn parse_times<'a, T: EncodingType>(
 fn parse_designator<'a, T: EncodingType>(
     cursor: &mut Cursor<'a, T>,
     sign: Sign,
-) -> Result<Sign, Stop> {
-    match cursor.look(Stop::AfterDurationSign)? {
+) -> Result<Sign, Reason> {
+    match cursor.look(Reason::AfterDurationSign)? {
         Some(byte) if is_duration_designator(byte) => {
             cursor.advance();
             Ok(sign)
         }
-        _ => Err(Stop::AfterDurationSign),
+        _ => Err(Reason::AfterDurationSign),
     }
 }
 
 /// Reads the beginning of a duration, up to its `P` or `p`. Returns its sign.
 #[inline(always)]
-fn parse_opening<'a, T: EncodingType>(cursor: &mut Cursor<'a, T>) -> Result<Sign, Stop> {
-    match cursor.look(Stop::DurationStart)? {
+fn parse_opening<'a, T: EncodingType>(cursor: &mut Cursor<'a, T>) -> Result<Sign, Reason> {
+    match cursor.look(Reason::DurationStart)? {
         Some(byte) if is_ascii_sign(byte) => {
             cursor.advance();
             parse_designator(cursor, sign_from(byte))
@@ -311,7 +311,7 @@ fn parse_opening<'a, T: EncodingType>(cursor: &mut Cursor<'a, T>) -> Result<Sign
             cursor.advance();
             Ok(Sign::Positive)
         }
-        _ => Err(Stop::DurationStart),
+        _ => Err(Reason::DurationStart),
     }
 }
 
@@ -322,7 +322,7 @@ fn parse_dated<'a, T: EncodingType>(
     sign: Sign,
     first: u8,
     profile: Profile,
-) -> Result<DurationParseRecord, Stop> {
+) -> Result<DurationParseRecord, Reason> {
     let dates = parse_dates(cursor, first, profile)?;
     if dates.timed {
         return parse_times(cursor, sign, Some(dates.record), profile);
@@ -340,8 +340,8 @@ fn parse_after_designator<'a, T: EncodingType>(
     cursor: &mut Cursor<'a, T>,
     sign: Sign,
     profile: Profile,
-) -> Result<DurationParseRecord, Stop> {
-    match cursor.look(Stop::AfterDurationDesignator)? {
+) -> Result<DurationParseRecord, Reason> {
+    match cursor.look(Reason::AfterDurationDesignator)? {
         Some(byte) if is_time_designator(byte) => {
             cursor.advance();
             parse_times(cursor, sign, None, profile)
@@ -350,6 +350,6 @@ fn parse_after_designator<'a, T: EncodingType>(
             cursor.advance();
             parse_dated(cursor, sign, byte, profile)
         }
-        _ => Err(Stop::AfterDurationDesignator),
+        _ => Err(Reason::AfterDurationDesignator),
     }
 }

@@ -5,13 +5,13 @@
 //! A reader that does not use this test also accepts other zones, for example names with a part `.` or `..`.
 
 use crate::parsers::brackets::{Bracket, parse_first_bracket};
+use crate::Reason;
 use crate::encoding::EncodingType;
 use crate::records::{TimeZoneAnnotation, TimeZoneRecord};
 use crate::classes::{
     is_annotation_close, is_time_separator, is_tz_char, is_tz_leading_char, is_tz_name_separator,
 };
 use crate::cursor::Cursor;
-use crate::stop::Stop;
 
 /// Which code units of a part of a name were read.
 #[derive(Clone, Copy)]
@@ -52,7 +52,7 @@ impl PartForm {
 fn has_exact_parts<'a, T: EncodingType>(cursor: &mut Cursor<'a, T>) -> bool {
     let mut form = PartForm::Start;
     loop {
-        let byte = match cursor.look(Stop::FirstNameForm) {
+        let byte = match cursor.look(Reason::FirstNameForm) {
             Ok(Some(byte)) => byte,
             Ok(None) => return false,
             Err(_) => return false,
@@ -88,10 +88,10 @@ fn is_exact_zone<'a, T: EncodingType>(
 
 /// Returns the error of a zone that does not have the form of RFC 9557, section 4.1.
 #[inline(always)]
-fn zone_stop<'a, T: EncodingType>(zone: &TimeZoneAnnotation<'a, T>) -> Stop {
+fn zone_stop<'a, T: EncodingType>(zone: &TimeZoneAnnotation<'a, T>) -> Reason {
     match &zone.tz {
-        TimeZoneRecord::Name(_) => Stop::FirstNameForm,
-        TimeZoneRecord::Offset(_) => Stop::FirstOffsetForm,
+        TimeZoneRecord::Name(_) => Reason::FirstNameForm,
+        TimeZoneRecord::Offset(_) => Reason::FirstOffsetForm,
     }
 }
 
@@ -103,7 +103,7 @@ fn zone_stop<'a, T: EncodingType>(zone: &TimeZoneAnnotation<'a, T>) -> Stop {
 pub fn parse_bracket_by<'a, T: EncodingType>(
     cursor: &mut Cursor<'a, T>,
     is_exact: bool,
-) -> Result<Bracket<'a, T>, Stop> {
+) -> Result<Bracket<'a, T>, Reason> {
     let start = cursor.rest();
     let bracket = parse_first_bracket(cursor)?;
     if is_exact {

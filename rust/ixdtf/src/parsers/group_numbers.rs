@@ -2,9 +2,9 @@
 
 //! Functions that read the number of a group, and store it.
 
+use crate::Reason;
 use crate::encoding::EncodingType;
 use crate::cursor::Cursor;
-use crate::stop::Stop;
 
 /// A number, and the code unit after it, which is not a digit and has not been consumed.
 #[derive(Clone, Copy)]
@@ -15,7 +15,7 @@ pub struct Number {
 
 /// Returns the number with one more digit, or `past` if it overflows.
 #[inline(always)]
-fn add_digit(value: u64, byte: u8, past: Stop) -> Result<u64, Stop> {
+fn add_digit(value: u64, byte: u8, past: Reason) -> Result<u64, Reason> {
     match value.checked_mul(10) {
         None => Err(past),
         Some(tens) => match tens.checked_add(u64::from(byte - b'0')) {
@@ -33,9 +33,9 @@ fn add_digit(value: u64, byte: u8, past: Stop) -> Result<u64, Stop> {
 pub fn parse_number<'a, T: EncodingType>(
     cursor: &mut Cursor<'a, T>,
     first: u8,
-    digits: Stop,
-    past: Stop,
-) -> Result<Number, Stop> {
+    digits: Reason,
+    past: Reason,
+) -> Result<Number, Reason> {
     let mut value = u64::from(first - b'0');
     while let Some(byte) = cursor.look(digits)? {
         if !byte.is_ascii_digit() {

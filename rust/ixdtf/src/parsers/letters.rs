@@ -3,7 +3,7 @@
 //! The function that consumes code units of one class.
 
 use crate::cursor::Cursor;
-use crate::stop::Stop;
+use crate::Reason;
 use crate::encoding::EncodingType;
 
 /// A class of code units, such as those of a key.
@@ -18,8 +18,8 @@ pub trait Letters {
 #[inline(always)]
 pub fn pass_letters<'a, T: EncodingType, S: Letters>(
     cursor: &mut Cursor<'a, T>,
-    stop: Stop,
-) -> Result<Option<u8>, Stop> {
+    stop: Reason,
+) -> Result<Option<u8>, Reason> {
     let mut here = cursor.fork();
     // Each round has up to four accesses. They need only one test of the length, and the compiled code moves the cursor
     // once.
@@ -59,7 +59,7 @@ pub fn pass_letters<'a, T: EncodingType, S: Letters>(
 
 /// Returns whether a code unit was read, and is in the class.
 #[inline(always)]
-fn goes_on<S: Letters>(found: Result<Option<u8>, Stop>) -> bool {
+fn goes_on<S: Letters>(found: Result<Option<u8>, Reason>) -> bool {
     match found {
         Ok(Some(byte)) => S::has(byte),
         Ok(None) | Err(_) => false,

@@ -5,12 +5,12 @@
 use crate::parsers::dates::{
     check_month, days_in_month, first_day, fixed_year, parse_date_year, parse_month, take_hyphen,
 };
+use crate::Reason;
 use crate::encoding::EncodingType;
 use crate::parsers::profile::Profile;
 use crate::records::DateRecord;
 use crate::classes::is_hyphen;
 use crate::cursor::Cursor;
-use crate::stop::Stop;
 
 // ==== Year-months ====
 
@@ -18,7 +18,7 @@ use crate::stop::Stop;
 #[inline(always)]
 pub fn parse_year_month_date<'a, T: EncodingType>(
     cursor: &mut Cursor<'a, T>,
-) -> Result<DateRecord, Stop> {
+) -> Result<DateRecord, Reason> {
     match take_fixed_year_month(cursor) {
         Some(first) => check_year_month(first),
         None => parse_year_month_parts(cursor),
@@ -27,8 +27,8 @@ pub fn parse_year_month_date<'a, T: EncodingType>(
 
 /// Returns the first day of a year-month if its month is 1 to 12, and otherwise `InvalidMonthRange`.
 #[inline(always)]
-fn check_year_month(first: DateRecord) -> Result<DateRecord, Stop> {
-    check_month(first.month, Stop::MonthRange)?;
+fn check_year_month(first: DateRecord) -> Result<DateRecord, Reason> {
+    check_month(first.month, Reason::MonthRange)?;
     Ok(first)
 }
 
@@ -70,9 +70,9 @@ fn fixed_month_of<'a, T: EncodingType>(
 #[inline(always)]
 pub fn parse_year_month_parts<'a, T: EncodingType>(
     cursor: &mut Cursor<'a, T>,
-) -> Result<DateRecord, Stop> {
+) -> Result<DateRecord, Reason> {
     let year = parse_date_year(cursor)?;
-    let (month, _) = parse_month(cursor, Stop::AfterYearInYearMonth)?;
+    let (month, _) = parse_month(cursor, Reason::AfterYearInYearMonth)?;
     Ok(DateRecord {
         year,
         month,
@@ -88,15 +88,15 @@ pub fn parse_year_month_parts<'a, T: EncodingType>(
 pub fn parse_month_day_date<'a, T: EncodingType>(
     cursor: &mut Cursor<'a, T>,
     profile: Profile,
-) -> Result<DateRecord, Stop> {
+) -> Result<DateRecord, Reason> {
     if cursor.remaining() < 4 {
         return parse_month_day_parts(cursor, profile);
     }
     if !is_hyphen(cursor.byte_at(0)) {
-        return parse_month_day_at(cursor, profile, 0, Stop::MonthDayStart);
+        return parse_month_day_at(cursor, profile, 0, Reason::MonthDayStart);
     }
     if is_hyphen(cursor.byte_at(1)) {
-        return parse_month_day_at(cursor, profile, 2, Stop::MonthDayMonthDigits);
+        return parse_month_day_at(cursor, profile, 2, Reason::MonthDayMonthDigits);
     }
     parse_month_day_parts(cursor, profile)
 }
@@ -109,13 +109,13 @@ fn parse_month_day_at<'a, T: EncodingType>(
     cursor: &mut Cursor<'a, T>,
     profile: Profile,
     start: usize,
-    first: Stop,
-) -> Result<DateRecord, Stop> {
+    first: Reason,
+) -> Result<DateRecord, Reason> {
     let Some(month) = cursor.fixed_number(start) else {
         cursor.advance_by(start);
         return parse_unmarked(cursor, profile, first);
     };
-    if let Err(stop) = check_month(month, Stop::MonthDayMonthRange) {
+    if let Err(stop) = check_month(month, Reason::MonthDayMonthRange) {
         cursor.advance_by(start + 2);
         return Err(stop);
     }
@@ -147,9 +147,9 @@ fn fixed_day<'a, T: EncodingType>(cursor: &mut Cursor<'a, T>, place: usize) -> O
 pub fn parse_month_day_parts<'a, T: EncodingType>(
     cursor: &mut Cursor<'a, T>,
     profile: Profile,
-) -> Result<DateRecord, Stop> {
+) -> Result<DateRecord, Reason> {
     take_marks(cursor)?;
-    parse_unmarked(cursor, profile, Stop::MonthDayMonthDigits)
+    parse_unmarked(cursor, profile, Reason::MonthDayMonthDigits)
 }
 
 /// Reads a month-day part by part, after the two hyphens that can be before its month.
@@ -157,10 +157,10 @@ pub fn parse_month_day_parts<'a, T: EncodingType>(
 fn parse_unmarked<'a, T: EncodingType>(
     cursor: &mut Cursor<'a, T>,
     profile: Profile,
-    first: Stop,
-) -> Result<DateRecord, Stop> {
-    let month = cursor.two_digits(first, Stop::MonthDayMonthDigits)?;
-    check_month(month, Stop::MonthDayMonthRange)?;
+    first: Reason,
+) -> Result<DateRecord, Reason> {
+    let month = cursor.two_digits(first, Reason::MonthDayMonthDigits)?;
+    check_month(month, Reason::MonthDayMonthRange)?;
     parse_day_of_month(cursor, profile, month)
 }
 
@@ -170,9 +170,9 @@ fn parse_day_of_month<'a, T: EncodingType>(
     cursor: &mut Cursor<'a, T>,
     profile: Profile,
     month: u8,
-) -> Result<DateRecord, Stop> {
-    take_hyphen(cursor, Stop::AfterMonthDayMonth)?;
-    let day = cursor.two_digits(Stop::MonthDayDayDigits, Stop::MonthDayDayDigits)?;
+) -> Result<DateRecord, Reason> {
+    take_hyphen(cursor, Reason::AfterMonthDayMonth)?;
+    let day = cursor.two_digits(Reason::MonthDayDayDigits, Reason::MonthDayDayDigits)?;
     check_month_day(profile, month, day)
 }
 
@@ -183,25 +183,25 @@ fn parse_day_of_month<'a, T: EncodingType>(
 /// neither a hyphen nor a digit, returns `DateMonth`. If a hyphen is next, and no hyphen follows it, returns
 /// `MonthDayHyphen`.
 #[inline(always)]
-fn take_marks<'a, T: EncodingType>(cursor: &mut Cursor<'a, T>) -> Result<bool, Stop> {
-    if !take_hyphen(cursor, Stop::MonthDayStart)? {
+fn take_marks<'a, T: EncodingType>(cursor: &mut Cursor<'a, T>) -> Result<bool, Reason> {
+    if !take_hyphen(cursor, Reason::MonthDayStart)? {
         return Ok(false);
     }
-    match cursor.look(Stop::MonthDayHyphen)? {
+    match cursor.look(Reason::MonthDayHyphen)? {
         Some(byte) if is_hyphen(byte) => {
             cursor.advance();
             Ok(true)
         }
-        _ => Err(Stop::MonthDayHyphen),
+        _ => Err(Reason::MonthDayHyphen),
     }
 }
 
 /// Returns the month-day if its month has the day in some year, and otherwise `InvalidMonthDay`. Day 0 is accepted too,
 /// but not under the strict profile.
 #[inline(always)]
-pub fn check_month_day(profile: Profile, month: u8, day: u8) -> Result<DateRecord, Stop> {
+pub fn check_month_day(profile: Profile, month: u8, day: u8) -> Result<DateRecord, Reason> {
     if !has_month_day(profile, month, day) {
-        return Err(Stop::MonthDayRange);
+        return Err(Reason::MonthDayRange);
     }
     Ok(DateRecord {
         year: 0,

@@ -3,6 +3,7 @@
 //! Functions that read offsets from UTC.
 
 use crate::parsers::time::{Clock, TimeShape, close_after, parse_clock};
+use crate::Reason;
 use crate::encoding::EncodingType;
 use crate::records::{
     FullPrecisionOffset, MinutePrecisionOffset, Sign, TimeRecord, UtcOffsetRecord,
@@ -10,7 +11,6 @@ use crate::records::{
 };
 use crate::classes::{is_annotation_open, is_ascii_sign, is_hyphen};
 use crate::cursor::Cursor;
-use crate::stop::Stop;
 
 /// What follows a core.
 #[derive(Clone, Copy)]
@@ -175,8 +175,8 @@ pub fn offset_from(sign: u8, shape: TimeShape, time: TimeRecord) -> UtcOffsetRec
 #[inline(always)]
 pub fn parse_offset_text<'a, T: EncodingType>(
     cursor: &mut Cursor<'a, T>,
-) -> Result<UtcOffsetRecord, Stop> {
-    match cursor.look(Stop::OffsetStart)? {
+) -> Result<UtcOffsetRecord, Reason> {
+    match cursor.look(Reason::OffsetStart)? {
         Some(byte) if is_ascii_sign(byte) => {
             cursor.advance();
             if let Some(offset) = take_last_offset(cursor, byte) {
@@ -187,6 +187,6 @@ pub fn parse_offset_text<'a, T: EncodingType>(
             close_after(cursor, Clock::Offset, shape)?;
             Ok(offset_from(byte, shape, time))
         }
-        _ => Err(Stop::OffsetStart),
+        _ => Err(Reason::OffsetStart),
     }
 }

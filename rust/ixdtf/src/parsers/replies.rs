@@ -2,11 +2,11 @@
 
 //! Functions that call the handler, and keep the first of its replies with the key `u-ca`.
 
+use crate::Reason;
 use crate::encoding::EncodingType;
 use crate::records::Annotation;
 use crate::parsers::annotations::next_annotation;
 use crate::cursor::Cursor;
-use crate::stop::Stop;
 
 /// Calls the handler with an annotation. This is the only function that calls it.
 #[inline(always)]
@@ -30,13 +30,13 @@ pub(crate) fn keep_first_calendar<'a, T: EncodingType>(
     cursor: &mut Cursor<'a, T>,
     calendar: &mut Option<Annotation<'a, T>>,
     reply: Option<Annotation<'a, T>>,
-) -> Result<(), Stop> {
+) -> Result<(), Reason> {
     let Some(found) = reply else {
         return Ok(());
     };
     if !cursor.is_calendar_key(found.key) {
         if found.critical {
-            return Err(Stop::UnrecognizedCritical);
+            return Err(Reason::UnrecognizedCritical);
         }
         return Ok(());
     }
@@ -49,7 +49,7 @@ pub(crate) fn keep_first_calendar<'a, T: EncodingType>(
             if !cursor.has_same_units(first.value, found.value)
                 && (first.critical || found.critical)
             {
-                return Err(Stop::CriticalDuplicateCalendar);
+                return Err(Reason::CriticalDuplicateCalendar);
             }
             Ok(())
         }
@@ -64,7 +64,7 @@ pub fn parse_annotations<'a, T: EncodingType, F>(
     cursor: &mut Cursor<'a, T>,
     first: Option<Annotation<'a, T>>,
     handler: &mut F,
-) -> Result<Option<Annotation<'a, T>>, Stop>
+) -> Result<Option<Annotation<'a, T>>, Reason>
 where
     F: FnMut(Annotation<'a, T>) -> Option<Annotation<'a, T>>,
 {

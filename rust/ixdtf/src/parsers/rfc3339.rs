@@ -12,6 +12,7 @@ use crate::parsers::date_times::take_fixed_date_time;
 use crate::parsers::dates::{check_month, has_day};
 use crate::parsers::offsets::{sign_from, take_numeric_offset};
 use crate::parsers::time::{WholeTime, next_number, parse_fraction};
+use crate::Reason;
 use crate::encoding::EncodingType;
 use crate::records::{
     DateRecord, Fraction, IxdtfParseRecord, MinutePrecisionOffset, UtcOffsetRecord,
@@ -21,12 +22,11 @@ use crate::classes::{
     is_ascii_sign, is_hyphen, is_time_designator, is_time_separator, is_utc_designator,
 };
 use crate::cursor::Cursor;
-use crate::stop::Stop;
 
 /// Consumes a colon. Returns `NonAsciiCodePoint` at a bad code unit, and `stop` at the end of the input and at any other
 /// code unit.
 #[inline(always)]
-fn take_colon<'a, T: EncodingType>(cursor: &mut Cursor<'a, T>, stop: Stop) -> Result<u8, Stop> {
+fn take_colon<'a, T: EncodingType>(cursor: &mut Cursor<'a, T>, stop: Reason) -> Result<u8, Reason> {
     match cursor.look(stop)? {
         Some(byte) if is_time_separator(byte) => {
             cursor.advance();
@@ -39,7 +39,10 @@ fn take_colon<'a, T: EncodingType>(cursor: &mut Cursor<'a, T>, stop: Stop) -> Re
 /// Consumes a hyphen of a date. Returns `at_end` at the end of the input, `NonAsciiCodePoint` at a bad code unit, and
 /// `DateSeparator` at any other code unit.
 #[inline(always)]
-fn take_date_hyphen<'a, T: EncodingType>(cursor: &mut Cursor<'a, T>, stop: Stop) -> Result<u8, Stop> {
+fn take_date_hyphen<'a, T: EncodingType>(
+    cursor: &mut Cursor<'a, T>,
+    stop: Reason,
+) -> Result<u8, Reason> {
     match cursor.look(stop)? {
         Some(byte) if is_hyphen(byte) => {
             cursor.advance();
@@ -52,13 +55,13 @@ fn take_date_hyphen<'a, T: EncodingType>(cursor: &mut Cursor<'a, T>, stop: Stop)
 /// Consumes `T` or `t`. Returns `NonAsciiCodePoint` at a bad code unit, and `TimeSeparator` at the end of the input and at
 /// any other code unit.
 #[inline(always)]
-fn take_time_letter<'a, T: EncodingType>(cursor: &mut Cursor<'a, T>) -> Result<u8, Stop> {
-    match cursor.look(Stop::AfterDayField)? {
+fn take_time_letter<'a, T: EncodingType>(cursor: &mut Cursor<'a, T>) -> Result<u8, Reason> {
+    match cursor.look(Reason::AfterDayField)? {
         Some(byte) if is_time_designator(byte) => {
             cursor.advance();
             Ok(byte)
         }
-        _ => Err(Stop::AfterDayField),
+        _ => Err(Reason::AfterDayField),
     }
 }
 
@@ -67,11 +70,11 @@ fn take_time_letter<'a, T: EncodingType>(cursor: &mut Cursor<'a, T>) -> Result<u
 /// Returns `AbruptDigit` at the end of the input, `NonAsciiCodePoint` at a bad code unit, and `DateYear` at any other code
 /// unit that is not a digit.
 #[inline(always)]
-fn parse_year<'a, T: EncodingType>(cursor: &mut Cursor<'a, T>) -> Result<u16, Stop> {
-    let thousands = cursor.next_digit(Stop::FourDigits)?;
-    let hundreds = cursor.next_digit(Stop::FourDigits)?;
-    let tens = cursor.next_digit(Stop::FourDigits)?;
-    let ones = cursor.next_digit(Stop::FourDigits)?;
+fn parse_year<'a, T: EncodingType>(cursor: &mut Cursor<'a, T>) -> Result<u16, Reason> {
+    let thousands = cursor.next_digit(Reason::FourDigits)?;
+    let hundreds = cursor.next_digit(Reason::FourDigits)?;
+    let tens = cursor.next_digit(Reason::FourDigits)?;
+    let ones = cursor.next_digit(Reason::FourDigits)?;
     Ok(
         1000 * u16::from(thousands - b'0')
             + 100 * u16::from(hundreds - b'0')
@@ -82,9 +85,9 @@ fn parse_year<'a, T: EncodingType>(cursor: &mut Cursor<'a, T>) -> Result<u16, St
 
 /// Reads a month, 01 to 12. Any other number is `InvalidMonthRange`.
 #[inline(always)]
-fn parse_month<'a, T: EncodingType>(cursor: &mut Cursor<'a, T>) -> Result<u8, Stop> {
-    let month = cursor.two_digits(Stop::MonthFieldDigits, Stop::MonthFieldDigits)?;
-    check_month(month, Stop::MonthFieldRange)
+fn parse_month<'a, T: EncodingType>(cursor: &mut Cursor<'a, T>) -> Result<u8, Reason> {
+    let month = cursor.two_digits(Reason::MonthFieldDigits, Reason::MonthFieldDigits)?;
+    check_month(month, Reason::MonthFieldRange)
 }
 
 /// Reads a day. If the month of the year does not have the day, returns `InvalidDayRange`.
@@ -93,10 +96,10 @@ fn parse_day<'a, T: EncodingType>(
     cursor: &mut Cursor<'a, T>,
     year: u16,
     month: u8,
-) -> Result<u8, Stop> {
-    let day = cursor.two_digits(Stop::DayFieldDigits, Stop::DayFieldDigits)?;
+) -> Result<u8, Reason> {
+    let day = cursor.two_digits(Reason::DayFieldDigits, Reason::DayFieldDigits)?;
     if !has_day(i32::from(year), month, day) {
-        return Err(Stop::DayFieldRange);
+        return Err(Reason::DayFieldRange);
     }
     Ok(day)
 }
@@ -107,7 +110,7 @@ fn parse_time_offset<'a, T: EncodingType>(
     cursor: &mut Cursor<'a, T>,
     lead: u8,
     found: &mut IxdtfParseRecord<'a, T>,
-) -> Result<(), Stop> {
+) -> Result<(), Reason> {
     if is_utc_designator(lead) {
         found.offset = Some(UtcOffsetRecordOrZ::Z);
         return Ok(());
@@ -123,20 +126,20 @@ fn parse_time_offset<'a, T: EncodingType>(
 
 /// Consumes the first code unit of a time offset, after the digits of a fraction, and returns it.
 #[inline(always)]
-fn take_lead<'a, T: EncodingType>(cursor: &mut Cursor<'a, T>) -> Result<u8, Stop> {
-    match cursor.look(Stop::AfterSecfrac)? {
+fn take_lead<'a, T: EncodingType>(cursor: &mut Cursor<'a, T>) -> Result<u8, Reason> {
+    match cursor.look(Reason::AfterSecfrac)? {
         Some(byte) if byte.is_ascii_digit() || is_ascii_sign(byte) || is_utc_designator(byte) => {
             cursor.advance();
             Ok(byte)
         }
-        _ => Err(Stop::AfterSecfrac),
+        _ => Err(Reason::AfterSecfrac),
     }
 }
 
 /// Reads the digits of a fraction after its `.`.
 #[inline(always)]
-fn parse_secfrac<'a, T: EncodingType>(cursor: &mut Cursor<'a, T>) -> Result<Fraction, Stop> {
-    parse_fraction(cursor, Stop::AfterPoint, Stop::AfterSecfrac)
+fn parse_secfrac<'a, T: EncodingType>(cursor: &mut Cursor<'a, T>) -> Result<Fraction, Reason> {
+    parse_fraction(cursor, Reason::AfterPoint, Reason::AfterSecfrac)
 }
 
 /// Reads the digits of a fraction after its `.`, and the offset after the fraction. Writes the time and the offset into the
@@ -146,7 +149,7 @@ fn parse_fractional<'a, T: EncodingType>(
     cursor: &mut Cursor<'a, T>,
     whole: WholeTime,
     found: &mut IxdtfParseRecord<'a, T>,
-) -> Result<(), Stop> {
+) -> Result<(), Reason> {
     let fraction = parse_secfrac(cursor)?;
     let lead = take_lead(cursor)?;
     found.time = Some(whole.with_fraction(Some(fraction)));
@@ -161,9 +164,9 @@ fn parse_after_seconds<'a, T: EncodingType>(
     date: DateRecord,
     whole: WholeTime,
     found: &mut IxdtfParseRecord<'a, T>,
-) -> Result<(), Stop> {
+) -> Result<(), Reason> {
     found.date = Some(date);
-    match cursor.look(Stop::AfterSecondField)? {
+    match cursor.look(Reason::AfterSecondField)? {
         Some(byte) if byte == b'.' => {
             cursor.advance();
             parse_fractional(cursor, whole, found)
@@ -173,7 +176,7 @@ fn parse_after_seconds<'a, T: EncodingType>(
             found.time = Some(whole.with_fraction(None));
             parse_time_offset(cursor, byte, found)
         }
-        _ => Err(Stop::AfterSecondField),
+        _ => Err(Reason::AfterSecondField),
     }
 }
 
@@ -196,23 +199,23 @@ fn take_fixed_rfc3339<'a, T: EncodingType>(
 fn parse_offset_by_numbers<'a, T: EncodingType>(
     cursor: &mut Cursor<'a, T>,
     sign: u8,
-) -> Result<MinutePrecisionOffset, Stop> {
-    let hour_digits = Stop::OffsetHourFieldDigits;
+) -> Result<MinutePrecisionOffset, Reason> {
+    let hour_digits = Reason::OffsetHourFieldDigits;
     let offset_hour = next_number(
         cursor,
         23,
         hour_digits,
         hour_digits,
-        Stop::OffsetHourFieldRange,
+        Reason::OffsetHourFieldRange,
     )?;
-    take_colon(cursor, Stop::AfterOffsetHourField)?;
-    let minute_digits = Stop::OffsetMinuteFieldDigits;
+    take_colon(cursor, Reason::AfterOffsetHourField)?;
+    let minute_digits = Reason::OffsetMinuteFieldDigits;
     let offset_minute = next_number(
         cursor,
         59,
         minute_digits,
         minute_digits,
-        Stop::OffsetMinuteFieldRange,
+        Reason::OffsetMinuteFieldRange,
     )?;
     Ok(MinutePrecisionOffset {
         sign: sign_from(sign),
@@ -223,26 +226,26 @@ fn parse_offset_by_numbers<'a, T: EncodingType>(
 
 /// Consumes a time, and returns the second of this time. The `T` or `t` before it has been consumed.
 #[inline(always)]
-fn pass_time<'a, T: EncodingType>(cursor: &mut Cursor<'a, T>) -> Result<u8, Stop> {
-    let hour_digits = Stop::HourFieldDigits;
-    next_number(cursor, 23, hour_digits, hour_digits, Stop::HourFieldRange)?;
-    take_colon(cursor, Stop::AfterHourField)?;
-    let minute_digits = Stop::MinuteFieldDigits;
+fn pass_time<'a, T: EncodingType>(cursor: &mut Cursor<'a, T>) -> Result<u8, Reason> {
+    let hour_digits = Reason::HourFieldDigits;
+    next_number(cursor, 23, hour_digits, hour_digits, Reason::HourFieldRange)?;
+    take_colon(cursor, Reason::AfterHourField)?;
+    let minute_digits = Reason::MinuteFieldDigits;
     next_number(
         cursor,
         59,
         minute_digits,
         minute_digits,
-        Stop::MinuteFieldRange,
+        Reason::MinuteFieldRange,
     )?;
-    take_colon(cursor, Stop::AfterMinuteField)?;
-    let second_digits = Stop::SecondFieldDigits;
+    take_colon(cursor, Reason::AfterMinuteField)?;
+    let second_digits = Reason::SecondFieldDigits;
     next_number(
         cursor,
         60,
         second_digits,
         second_digits,
-        Stop::SecondFieldRange,
+        Reason::SecondFieldRange,
     )
 }
 
@@ -253,7 +256,7 @@ fn pass_day_and_time<'a, T: EncodingType>(
     cursor: &mut Cursor<'a, T>,
     year: u16,
     month: u8,
-) -> Result<u8, Stop> {
+) -> Result<u8, Reason> {
     parse_day(cursor, year, month)?;
     take_time_letter(cursor)?;
     pass_time(cursor)
@@ -261,21 +264,21 @@ fn pass_day_and_time<'a, T: EncodingType>(
 
 /// Consumes a date, then `T` or `t`, and then a time. They are read number by number. Returns the second of the time.
 #[inline(always)]
-fn pass_date_and_time<'a, T: EncodingType>(cursor: &mut Cursor<'a, T>) -> Result<u8, Stop> {
+fn pass_date_and_time<'a, T: EncodingType>(cursor: &mut Cursor<'a, T>) -> Result<u8, Reason> {
     let year = parse_year(cursor)?;
-    take_date_hyphen(cursor, Stop::AfterFourDigits)?;
+    take_date_hyphen(cursor, Reason::AfterFourDigits)?;
     let month = parse_month(cursor)?;
-    take_date_hyphen(cursor, Stop::AfterMonthField)?;
+    take_date_hyphen(cursor, Reason::AfterMonthField)?;
     pass_day_and_time(cursor, year, month)
 }
 
 /// Returns the first error of a text that does not begin with a date, then `T` or `t`, and then a time. The text is
 /// read number by number. The function is not inlined, because it is called only for a text with an error.
 #[inline(never)]
-fn first_stop<'a, T: EncodingType>(cursor: &mut Cursor<'a, T>) -> Stop {
+fn first_stop<'a, T: EncodingType>(cursor: &mut Cursor<'a, T>) -> Reason {
     match pass_date_and_time(cursor) {
         // This does not happen: it is proved that such a text has an error.
-        Ok(_) => Stop::AfterSecondField,
+        Ok(_) => Reason::AfterSecondField,
         Err(stop) => stop,
     }
 }
@@ -285,7 +288,7 @@ fn first_stop<'a, T: EncodingType>(cursor: &mut Cursor<'a, T>) -> Stop {
 pub fn parse_internet_date_time<'a, T: EncodingType>(
     cursor: &mut Cursor<'a, T>,
     found: &mut IxdtfParseRecord<'a, T>,
-) -> Result<(), Stop> {
+) -> Result<(), Reason> {
     match take_fixed_rfc3339(cursor) {
         Some((date, whole)) => parse_after_seconds(cursor, date, whole, found),
         None => {
@@ -302,16 +305,16 @@ pub fn parse_internet_date_time<'a, T: EncodingType>(
 pub fn parse_rfc3339_text<'a, T: EncodingType>(
     cursor: &mut Cursor<'a, T>,
     found: &mut IxdtfParseRecord<'a, T>,
-) -> Result<(), Stop> {
+) -> Result<(), Reason> {
     parse_internet_date_time(cursor, found)?;
     cursor.close(stop_after_offset(found.offset))
 }
 
-/// Returns the `Stop` of the table line after a date-time with this offset.
+/// Returns the `Reason` of the table line after a date-time with this offset.
 #[inline(always)]
-pub fn stop_after_offset(offset: Option<UtcOffsetRecordOrZ>) -> Stop {
+pub fn stop_after_offset(offset: Option<UtcOffsetRecordOrZ>) -> Reason {
     match offset {
-        Some(UtcOffsetRecordOrZ::Z) => Stop::AfterUtc,
-        Some(UtcOffsetRecordOrZ::Offset(_)) | None => Stop::AfterOffsetMinuteField,
+        Some(UtcOffsetRecordOrZ::Z) => Reason::AfterUtc,
+        Some(UtcOffsetRecordOrZ::Offset(_)) | None => Reason::AfterOffsetMinuteField,
     }
 }

@@ -7,11 +7,12 @@ use crate::parsers::cores::CoreReader;
 use crate::parsers::replies::parse_annotations;
 use crate::parsers::brackets::Bracket;
 use crate::parsers::exact_zones::parse_bracket_by;
+use crate::Reason;
 use crate::encoding::EncodingType;
 use crate::parsers::profile::Profile;
 use crate::records::{Annotation, IxdtfParseRecord};
 use crate::cursor::Cursor;
-use crate::stop::{Stop, StopAt};
+use crate::stop::{StopAt, code_of};
 
 impl<'a, T: EncodingType> IxdtfParser<'a, T> {
     /// Reads all of the remaining input into an empty record. After an error, the remaining input is unchanged.
@@ -43,8 +44,8 @@ impl<'a, T: EncodingType> IxdtfParser<'a, T> {
                 let at = self.cursor.remaining().saturating_sub(here.remaining());
                 let next = here.next();
                 Err(StopAt {
-                    stop,
-                    code: stop.code(true, next),
+                    reason: stop,
+                    code: code_of(stop, true, next),
                     at,
                 })
             }
@@ -59,7 +60,7 @@ fn parse_text<'a, T: EncodingType, C: CoreReader, F>(
     profile: Profile,
     handler: &mut F,
     found: &mut IxdtfParseRecord<'a, T>,
-) -> Result<(), Stop>
+) -> Result<(), Reason>
 where
     F: FnMut(Annotation<'a, T>) -> Option<Annotation<'a, T>>,
 {
@@ -81,7 +82,7 @@ fn parse_brackets<'a, T: EncodingType, F>(
     is_exact: bool,
     found: &mut IxdtfParseRecord<'a, T>,
     handler: &mut F,
-) -> Result<(), Stop>
+) -> Result<(), Reason>
 where
     F: FnMut(Annotation<'a, T>) -> Option<Annotation<'a, T>>,
 {

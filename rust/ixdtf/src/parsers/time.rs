@@ -2,11 +2,11 @@
 
 //! Functions that read times of day, and offsets after their sign. Both are written in the same way.
 
+use crate::Reason;
 use crate::encoding::EncodingType;
 use crate::records::{Fraction, LeadingDigits, TimeRecord};
 use crate::classes::{is_decimal_separator, is_time_separator};
 use crate::cursor::Cursor;
-use crate::stop::Stop;
 
 /// What a function reads: a time, or one of two kinds of offsets. After its sign, an offset is written like a time.
 #[derive(Clone, Copy)]
@@ -40,9 +40,9 @@ impl Clock {
         }
     }
 
-    /// Returns the `Stop` of the table line after a time of this shape.
+    /// Returns the `Reason` of the table line after a time of this shape.
     #[inline(always)]
-    pub fn stop_after(self, shape: TimeShape) -> Stop {
+    pub fn stop_after(self, shape: TimeShape) -> Reason {
         match shape {
             TimeShape::Hours => self.stop(ClockLine::AfterHour),
             TimeShape::BasicMinutes => self.stop(ClockLine::AfterBasicMinute),
@@ -52,9 +52,9 @@ impl Clock {
         }
     }
 
-    /// Returns the `Stop` of the table line after a minute. `colons` says whether a colon is before the minute.
+    /// Returns the `Reason` of the table line after a minute. `colons` says whether a colon is before the minute.
     #[inline(always)]
-    fn stop_after_minute(self, colons: bool) -> Stop {
+    fn stop_after_minute(self, colons: bool) -> Reason {
         if colons {
             self.stop(ClockLine::AfterColonMinute)
         } else {
@@ -62,12 +62,12 @@ impl Clock {
         }
     }
 
-    /// Returns the `Stop` of a table line of the clock.
+    /// Returns the `Reason` of a table line of the clock.
     #[inline(always)]
-    pub fn stop(self, line: ClockLine) -> Stop {
+    pub fn stop(self, line: ClockLine) -> Reason {
         match self {
-            Clock::Time => line.time_stop(),
-            Clock::Offset => line.offset_stop(),
+            Clock::Time => line.time_reason(),
+            Clock::Offset => line.offset_reason(),
             Clock::MinuteOffset => line.zone_offset_stop(),
         }
     }
@@ -92,63 +92,63 @@ pub enum ClockLine {
 }
 
 impl ClockLine {
-    /// Returns the `Stop` of the line of times.
+    /// Returns the `Reason` of the line of times.
     #[inline(always)]
-    fn time_stop(self) -> Stop {
+    fn time_reason(self) -> Reason {
         match self {
-            ClockLine::HourStart => Stop::HourStart,
-            ClockLine::HourDigit => Stop::HourDigit,
-            ClockLine::HourRange => Stop::HourRange,
-            ClockLine::AfterHour => Stop::AfterHour,
-            ClockLine::MinuteDigits => Stop::MinuteDigits,
-            ClockLine::MinuteRange => Stop::MinuteRange,
-            ClockLine::AfterBasicMinute => Stop::AfterBasicMinute,
-            ClockLine::AfterColonMinute => Stop::AfterColonMinute,
-            ClockLine::SecondDigits => Stop::SecondDigits,
-            ClockLine::SecondRange => Stop::SecondRange,
-            ClockLine::AfterSecond => Stop::AfterSecond,
-            ClockLine::FractionStart => Stop::FractionStart,
-            ClockLine::AfterFraction => Stop::AfterFraction,
+            ClockLine::HourStart => Reason::HourStart,
+            ClockLine::HourDigit => Reason::HourDigit,
+            ClockLine::HourRange => Reason::HourRange,
+            ClockLine::AfterHour => Reason::AfterHour,
+            ClockLine::MinuteDigits => Reason::MinuteDigits,
+            ClockLine::MinuteRange => Reason::MinuteRange,
+            ClockLine::AfterBasicMinute => Reason::AfterBasicMinute,
+            ClockLine::AfterColonMinute => Reason::AfterColonMinute,
+            ClockLine::SecondDigits => Reason::SecondDigits,
+            ClockLine::SecondRange => Reason::SecondRange,
+            ClockLine::AfterSecond => Reason::AfterSecond,
+            ClockLine::FractionStart => Reason::FractionStart,
+            ClockLine::AfterFraction => Reason::AfterFraction,
         }
     }
 
-    /// Returns the `Stop` of the line of offsets.
+    /// Returns the `Reason` of the line of offsets.
     #[inline(always)]
-    fn offset_stop(self) -> Stop {
+    fn offset_reason(self) -> Reason {
         match self {
-            ClockLine::HourStart => Stop::OffsetHourStart,
-            ClockLine::HourDigit => Stop::OffsetHourDigit,
-            ClockLine::HourRange => Stop::OffsetHourRange,
-            ClockLine::AfterHour => Stop::OffsetAfterHour,
-            ClockLine::MinuteDigits => Stop::OffsetMinuteDigits,
-            ClockLine::MinuteRange => Stop::OffsetMinuteRange,
-            ClockLine::AfterBasicMinute => Stop::OffsetAfterBasicMinute,
-            ClockLine::AfterColonMinute => Stop::OffsetAfterColonMinute,
-            ClockLine::SecondDigits => Stop::OffsetSecondDigits,
-            ClockLine::SecondRange => Stop::OffsetSecondRange,
-            ClockLine::AfterSecond => Stop::OffsetAfterSecond,
-            ClockLine::FractionStart => Stop::OffsetFractionStart,
-            ClockLine::AfterFraction => Stop::OffsetAfterFraction,
+            ClockLine::HourStart => Reason::OffsetHourStart,
+            ClockLine::HourDigit => Reason::OffsetHourDigit,
+            ClockLine::HourRange => Reason::OffsetHourRange,
+            ClockLine::AfterHour => Reason::OffsetAfterHour,
+            ClockLine::MinuteDigits => Reason::OffsetMinuteDigits,
+            ClockLine::MinuteRange => Reason::OffsetMinuteRange,
+            ClockLine::AfterBasicMinute => Reason::OffsetAfterBasicMinute,
+            ClockLine::AfterColonMinute => Reason::OffsetAfterColonMinute,
+            ClockLine::SecondDigits => Reason::OffsetSecondDigits,
+            ClockLine::SecondRange => Reason::OffsetSecondRange,
+            ClockLine::AfterSecond => Reason::OffsetAfterSecond,
+            ClockLine::FractionStart => Reason::OffsetFractionStart,
+            ClockLine::AfterFraction => Reason::OffsetAfterFraction,
         }
     }
 
-    /// Returns the `Stop` of the line of offsets without seconds.
+    /// Returns the `Reason` of the line of offsets without seconds.
     #[inline(always)]
-    fn zone_offset_stop(self) -> Stop {
+    fn zone_offset_stop(self) -> Reason {
         match self {
-            ClockLine::HourStart => Stop::ZoneOffsetHourStart,
-            ClockLine::HourDigit => Stop::ZoneOffsetHourDigit,
-            ClockLine::HourRange => Stop::ZoneOffsetHourRange,
-            ClockLine::AfterHour => Stop::ZoneOffsetAfterHour,
-            ClockLine::MinuteDigits => Stop::ZoneOffsetMinuteDigits,
-            ClockLine::MinuteRange => Stop::ZoneOffsetMinuteRange,
-            ClockLine::AfterBasicMinute => Stop::ZoneOffsetAfterBasicMinute,
-            ClockLine::AfterColonMinute => Stop::ZoneOffsetAfterColonMinute,
-            ClockLine::SecondDigits => Stop::ZoneOffsetSecondDigits,
-            ClockLine::SecondRange => Stop::ZoneOffsetSecondRange,
-            ClockLine::AfterSecond => Stop::ZoneOffsetAfterSecond,
-            ClockLine::FractionStart => Stop::ZoneOffsetFractionStart,
-            ClockLine::AfterFraction => Stop::ZoneOffsetAfterFraction,
+            ClockLine::HourStart => Reason::ZoneOffsetHourStart,
+            ClockLine::HourDigit => Reason::ZoneOffsetHourDigit,
+            ClockLine::HourRange => Reason::ZoneOffsetHourRange,
+            ClockLine::AfterHour => Reason::ZoneOffsetAfterHour,
+            ClockLine::MinuteDigits => Reason::ZoneOffsetMinuteDigits,
+            ClockLine::MinuteRange => Reason::ZoneOffsetMinuteRange,
+            ClockLine::AfterBasicMinute => Reason::ZoneOffsetAfterBasicMinute,
+            ClockLine::AfterColonMinute => Reason::ZoneOffsetAfterColonMinute,
+            ClockLine::SecondDigits => Reason::ZoneOffsetSecondDigits,
+            ClockLine::SecondRange => Reason::ZoneOffsetSecondRange,
+            ClockLine::AfterSecond => Reason::ZoneOffsetAfterSecond,
+            ClockLine::FractionStart => Reason::ZoneOffsetFractionStart,
+            ClockLine::AfterFraction => Reason::ZoneOffsetAfterFraction,
         }
     }
 }
@@ -239,7 +239,7 @@ fn write_time(time: &mut TimeRecord, hour: u8, minute: u8, second: u8, fraction:
 
 /// Returns the number if it is at most `greatest`, and otherwise `stop`.
 #[inline(always)]
-fn check_most(number: u8, greatest: u8, stop: Stop) -> Result<u8, Stop> {
+fn check_most(number: u8, greatest: u8, stop: Reason) -> Result<u8, Reason> {
     if number > greatest {
         return Err(stop);
     }
@@ -253,10 +253,10 @@ fn check_most(number: u8, greatest: u8, stop: Stop) -> Result<u8, Stop> {
 pub fn next_number<'a, T: EncodingType>(
     cursor: &mut Cursor<'a, T>,
     greatest: u8,
-    first: Stop,
-    second: Stop,
-    past: Stop,
-) -> Result<u8, Stop> {
+    first: Reason,
+    second: Reason,
+    past: Reason,
+) -> Result<u8, Reason> {
     let number = cursor.two_digits(first, second)?;
     check_most(number, greatest, past)
 }
@@ -270,7 +270,7 @@ pub fn parse_clock<'a, T: EncodingType>(
     cursor: &mut Cursor<'a, T>,
     clock: Clock,
     time: &mut TimeRecord,
-) -> Result<TimeShape, Stop> {
+) -> Result<TimeShape, Reason> {
     parse_clock_from(cursor, clock, clock.stop(ClockLine::HourStart), time)
 }
 
@@ -279,9 +279,9 @@ pub fn parse_clock<'a, T: EncodingType>(
 pub fn parse_clock_from<'a, T: EncodingType>(
     cursor: &mut Cursor<'a, T>,
     clock: Clock,
-    first: Stop,
+    first: Reason,
     time: &mut TimeRecord,
-) -> Result<TimeShape, Stop> {
+) -> Result<TimeShape, Reason> {
     let hour = next_hour(cursor, clock, first)?;
     match look_after(cursor, clock, TimeShape::Hours)? {
         Some(byte) if is_time_separator(byte) => {
@@ -308,7 +308,7 @@ fn parse_minute<'a, T: EncodingType>(
     colons: bool,
     hour: u8,
     time: &mut TimeRecord,
-) -> Result<TimeShape, Stop> {
+) -> Result<TimeShape, Reason> {
     let minute = next_minute(cursor, clock)?;
     match look_after_minute(cursor, clock, colons)? {
         Some(byte) if clock.starts_second(colons, byte) => {
@@ -337,7 +337,7 @@ fn look_after<'a, T: EncodingType>(
     cursor: &mut Cursor<'a, T>,
     clock: Clock,
     shape: TimeShape,
-) -> Result<Option<u8>, Stop> {
+) -> Result<Option<u8>, Reason> {
     cursor.look(clock.stop_after(shape))
 }
 
@@ -347,7 +347,7 @@ pub fn close_after<'a, T: EncodingType>(
     cursor: &mut Cursor<'a, T>,
     clock: Clock,
     shape: TimeShape,
-) -> Result<(), Stop> {
+) -> Result<(), Reason> {
     cursor.close(clock.stop_after(shape))
 }
 
@@ -357,7 +357,7 @@ fn look_after_minute<'a, T: EncodingType>(
     cursor: &mut Cursor<'a, T>,
     clock: Clock,
     colons: bool,
-) -> Result<Option<u8>, Stop> {
+) -> Result<Option<u8>, Reason> {
     cursor.look(clock.stop_after_minute(colons))
 }
 
@@ -366,7 +366,7 @@ fn look_after_minute<'a, T: EncodingType>(
 fn parse_clock_fraction<'a, T: EncodingType>(
     cursor: &mut Cursor<'a, T>,
     clock: Clock,
-) -> Result<Fraction, Stop> {
+) -> Result<Fraction, Reason> {
     let start = clock.stop(ClockLine::FractionStart);
     let digits = clock.stop(ClockLine::AfterFraction);
     parse_fraction(cursor, start, digits)
@@ -377,8 +377,8 @@ fn parse_clock_fraction<'a, T: EncodingType>(
 fn next_hour<'a, T: EncodingType>(
     cursor: &mut Cursor<'a, T>,
     clock: Clock,
-    first: Stop,
-) -> Result<u8, Stop> {
+    first: Reason,
+) -> Result<u8, Reason> {
     let second = clock.stop(ClockLine::HourDigit);
     let past = clock.stop(ClockLine::HourRange);
     next_number(cursor, 23, first, second, past)
@@ -386,7 +386,7 @@ fn next_hour<'a, T: EncodingType>(
 
 /// Consumes the two digits of a minute, and returns their number.
 #[inline(always)]
-fn next_minute<'a, T: EncodingType>(cursor: &mut Cursor<'a, T>, clock: Clock) -> Result<u8, Stop> {
+fn next_minute<'a, T: EncodingType>(cursor: &mut Cursor<'a, T>, clock: Clock) -> Result<u8, Reason> {
     let digits = clock.stop(ClockLine::MinuteDigits);
     let past = clock.stop(ClockLine::MinuteRange);
     next_number(cursor, 59, digits, digits, past)
@@ -394,7 +394,7 @@ fn next_minute<'a, T: EncodingType>(cursor: &mut Cursor<'a, T>, clock: Clock) ->
 
 /// Consumes the two digits of a second, and returns their number: at most 60 in a time, and 59 in an offset.
 #[inline(always)]
-fn next_second<'a, T: EncodingType>(cursor: &mut Cursor<'a, T>, clock: Clock) -> Result<u8, Stop> {
+fn next_second<'a, T: EncodingType>(cursor: &mut Cursor<'a, T>, clock: Clock) -> Result<u8, Reason> {
     let digits = clock.stop(ClockLine::SecondDigits);
     let past = clock.stop(ClockLine::SecondRange);
     next_number(cursor, clock.greatest_second(), digits, digits, past)
@@ -408,7 +408,7 @@ fn parse_second<'a, T: EncodingType>(
     hour: u8,
     minute: u8,
     time: &mut TimeRecord,
-) -> Result<TimeShape, Stop> {
+) -> Result<TimeShape, Reason> {
     let second = next_second(cursor, clock)?;
     parse_after_second(cursor, clock, hour, minute, second, time)
 }
@@ -422,7 +422,7 @@ pub fn parse_after_second<'a, T: EncodingType>(
     minute: u8,
     second: u8,
     time: &mut TimeRecord,
-) -> Result<TimeShape, Stop> {
+) -> Result<TimeShape, Reason> {
     match look_after(cursor, clock, TimeShape::Seconds)? {
         Some(byte) if is_decimal_separator(byte) => {
             cursor.advance();
@@ -443,9 +443,9 @@ pub fn parse_after_second<'a, T: EncodingType>(
 #[inline(always)]
 pub fn parse_fraction<'a, T: EncodingType>(
     cursor: &mut Cursor<'a, T>,
-    start: Stop,
-    digits: Stop,
-) -> Result<Fraction, Stop> {
+    start: Reason,
+    digits: Reason,
+) -> Result<Fraction, Reason> {
     let mut here = cursor.fork();
     let read = parse_digits(&mut here, start, digits);
     *cursor = here;
@@ -456,9 +456,9 @@ pub fn parse_fraction<'a, T: EncodingType>(
 #[inline(never)]
 fn parse_digits<'a, T: EncodingType>(
     cursor: &mut Cursor<'a, T>,
-    start: Stop,
-    digits: Stop,
-) -> Result<Fraction, Stop> {
+    start: Reason,
+    digits: Reason,
+) -> Result<Fraction, Reason> {
     let mut here = cursor.fork();
     let read = match here.look(start) {
         Ok(Some(byte)) if byte.is_ascii_digit() => {
@@ -478,8 +478,8 @@ fn parse_digits<'a, T: EncodingType>(
 fn parse_more_digits<'a, T: EncodingType>(
     cursor: &mut Cursor<'a, T>,
     first: u8,
-    stop: Stop,
-) -> Result<Fraction, Stop> {
+    stop: Reason,
+) -> Result<Fraction, Reason> {
     let mut digits = LeadingDigits::start(first);
     while digits.is_short() {
         match cursor.look(stop)? {
@@ -498,8 +498,8 @@ fn parse_more_digits<'a, T: EncodingType>(
 fn count_more_digits<'a, T: EncodingType>(
     cursor: &mut Cursor<'a, T>,
     leading: Fraction,
-    stop: Stop,
-) -> Result<Fraction, Stop> {
+    stop: Reason,
+) -> Result<Fraction, Reason> {
     let mut fraction = leading;
     while let Some(byte) = cursor.look(stop)? {
         if !byte.is_ascii_digit() {

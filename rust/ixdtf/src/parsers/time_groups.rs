@@ -3,12 +3,12 @@
 //! The time part of a duration: groups of hours, minutes and seconds. The last group can have a fraction.
 
 use crate::parsers::group_numbers::{keep_number, parse_number};
+use crate::Reason;
 use crate::encoding::EncodingType;
 use crate::parsers::profile::Profile;
 use crate::records::{Fraction, TimeDurationRecord};
 use crate::classes::is_decimal_separator;
 use crate::cursor::Cursor;
-use crate::stop::Stop;
 use crate::parsers::time::parse_fraction;
 
 // The rank of the time unit that a letter names: hours have 1, minutes 2 and seconds 3. Any other code unit has 0.
@@ -55,15 +55,15 @@ fn take_time_unit<'a, T: EncodingType>(
     cursor: &mut Cursor<'a, T>,
     letter: u8,
     least: u8,
-    digits: Stop,
-) -> Result<u8, Stop> {
+    digits: Reason,
+) -> Result<u8, Reason> {
     let rank = time_rank(letter);
     if rank < least {
         if rank == 0 {
             return Err(digits);
         }
         cursor.advance_by(1);
-        return Err(Stop::TimeUnitOrder);
+        return Err(Reason::TimeUnitOrder);
     }
     cursor.advance_by(1);
     Ok(rank)
@@ -98,10 +98,14 @@ fn time_record(values: [u64; 4], rank: u8, fraction: Option<Fraction>) -> TimeDu
 fn parse_fraction_group<'a, T: EncodingType>(
     cursor: &mut Cursor<'a, T>,
     value: u64,
-) -> Result<TimeGroup, Stop> {
-    let fraction = parse_fraction(cursor, Stop::GroupFractionStart, Stop::GroupFractionDigits)?;
-    match cursor.look(Stop::GroupFractionDigits)? {
-        None => Err(Stop::GroupFractionDigits),
+) -> Result<TimeGroup, Reason> {
+    let fraction = parse_fraction(
+        cursor,
+        Reason::GroupFractionStart,
+        Reason::GroupFractionDigits,
+    )?;
+    match cursor.look(Reason::GroupFractionDigits)? {
+        None => Err(Reason::GroupFractionDigits),
         Some(letter) => Ok(TimeGroup {
             value,
             fraction: Some(fraction),
@@ -119,32 +123,37 @@ pub fn parse_time_groups<'a, T: EncodingType>(
     cursor: &mut Cursor<'a, T>,
     first: u8,
     profile: Profile,
-) -> Result<TimeDurationRecord, Stop> {
+) -> Result<TimeDurationRecord, Reason> {
     let mut values = [0; 4];
     let mut least = 1;
     let mut digit = first;
     loop {
-        let whole = parse_number(cursor, digit, Stop::TimeGroupDigits, Stop::TimeGroupRange)?;
+        let whole = parse_number(
+            cursor,
+            digit,
+            Reason::TimeGroupDigits,
+            Reason::TimeGroupRange,
+        )?;
         if is_decimal_separator(whole.next) {
             cursor.advance_by(1);
             let group = parse_fraction_group(cursor, whole.value)?;
-            let rank = take_time_unit(cursor, group.letter, least, Stop::GroupFractionDigits)?;
+            let rank = take_time_unit(cursor, group.letter, least, Reason::GroupFractionDigits)?;
             keep_number(&mut values, rank, group.value);
-            match cursor.look(Stop::AfterFractionGroup)? {
+            match cursor.look(Reason::AfterFractionGroup)? {
                 None => return Ok(time_record(values, rank, group.fraction)),
-                Some(_after_fraction) => return Err(Stop::AfterFractionGroup),
+                Some(_after_fraction) => return Err(Reason::AfterFractionGroup),
             }
         }
-        let rank = take_time_unit(cursor, whole.next, least, Stop::TimeGroupDigits)?;
+        let rank = take_time_unit(cursor, whole.next, least, Reason::TimeGroupDigits)?;
         keep_number(&mut values, rank, whole.value);
         least = rank + profile.least_step();
-        match cursor.look(Stop::AfterTimeGroups)? {
+        match cursor.look(Reason::AfterTimeGroups)? {
             None => return Ok(time_record(values, rank, None)),
             Some(byte) if byte.is_ascii_digit() => {
                 cursor.advance();
                 digit = byte;
             }
-            Some(_) => return Err(Stop::AfterTimeGroups),
+            Some(_) => return Err(Reason::AfterTimeGroups),
         }
     }
 }

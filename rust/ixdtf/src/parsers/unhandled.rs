@@ -417,6 +417,7 @@ impl<'a, T: EncodingType> IxdtfParser<'a, T> {
             Err(why) => return Err(LocatedError {
                 error: why.code.error(),
                 at: why.at,
+                reason: why.reason,
             }),
         }
     }
@@ -462,6 +463,7 @@ impl<'a, T: EncodingType> IxdtfParser<'a, T> {
             Err(why) => return Err(LocatedError {
                 error: why.code.error(),
                 at: why.at,
+                reason: why.reason,
             }),
         }
     }
@@ -499,6 +501,7 @@ impl<'a, T: EncodingType> IxdtfParser<'a, T> {
             Err(why) => return Err(LocatedError {
                 error: why.code.error(),
                 at: why.at,
+                reason: why.reason,
             }),
         }
     }
@@ -536,6 +539,7 @@ impl<'a, T: EncodingType> IxdtfParser<'a, T> {
             Err(why) => return Err(LocatedError {
                 error: why.code.error(),
                 at: why.at,
+                reason: why.reason,
             }),
         }
     }
@@ -573,6 +577,7 @@ impl<'a, T: EncodingType> IxdtfParser<'a, T> {
             Err(why) => return Err(LocatedError {
                 error: why.code.error(),
                 at: why.at,
+                reason: why.reason,
             }),
         }
     }

@@ -2,6 +2,7 @@
 
 //! Functions that read names of zones, and texts that are a time zone.
 
+use crate::Reason;
 use crate::encoding::EncodingType;
 use crate::records::{TimeRecord, TimeZoneRecord};
 use crate::classes::{
@@ -9,7 +10,6 @@ use crate::classes::{
 };
 use crate::cursor::Cursor;
 use crate::parsers::letters::{Letters, pass_letters};
-use crate::stop::Stop;
 use crate::parsers::offsets::{minute_offset, take_last_offset};
 use crate::parsers::time::{Clock, TimeShape, close_after, parse_clock};
 
@@ -35,11 +35,11 @@ impl NameState {
     /// Returns the error of a code unit that cannot follow here: `IanaCharPostSeparator` if the name cannot end here, and
     /// otherwise `IanaChar`.
     #[inline(always)]
-    pub fn stop(self) -> Stop {
+    pub fn stop(self) -> Reason {
         if self.may_end {
-            Stop::InZoneName
+            Reason::InZoneName
         } else {
-            Stop::AfterZoneSlash
+            Reason::AfterZoneSlash
         }
     }
 }
@@ -69,9 +69,9 @@ fn starts_part(next: Option<u8>) -> bool {
 #[inline(always)]
 pub fn pass_name<'a, T: EncodingType>(
     cursor: &mut Cursor<'a, T>,
-    in_name: Stop,
-    after_slash: Stop,
-) -> Result<PassedName, Stop> {
+    in_name: Reason,
+    after_slash: Reason,
+) -> Result<PassedName, Reason> {
     let mut here = cursor.fork();
     let passed = pass_parts(&mut here, in_name, after_slash);
     *cursor = here;
@@ -82,9 +82,9 @@ pub fn pass_name<'a, T: EncodingType>(
 #[inline(always)]
 fn pass_parts<'a, T: EncodingType>(
     cursor: &mut Cursor<'a, T>,
-    in_name: Stop,
-    after_slash: Stop,
-) -> Result<PassedName, Stop> {
+    in_name: Reason,
+    after_slash: Reason,
+) -> Result<PassedName, Reason> {
     loop {
         let behind = pass_letters::<T, PartLetters>(cursor, in_name)?;
         if !ends_part(behind) {
@@ -115,11 +115,11 @@ pub struct ReadName<'a, T: EncodingType> {
 #[inline(always)]
 pub fn parse_tz_name<'a, T: EncodingType>(
     cursor: &mut Cursor<'a, T>,
-) -> Result<ReadName<'a, T>, Stop> {
+) -> Result<ReadName<'a, T>, Reason> {
     let start = cursor.rest();
-    let name = pass_name(cursor, Stop::InZoneName, Stop::AfterZoneSlash)?;
+    let name = pass_name(cursor, Reason::InZoneName, Reason::AfterZoneSlash)?;
     if !name.state.may_end {
-        return Err(Stop::AfterZoneSlash);
+        return Err(Reason::AfterZoneSlash);
     }
     let count = start.len().saturating_sub(cursor.rest().len());
     Ok(ReadName {
@@ -132,11 +132,11 @@ pub fn parse_tz_name<'a, T: EncodingType>(
 #[inline]
 fn parse_name_alone<'a, T: EncodingType>(
     cursor: &mut Cursor<'a, T>,
-) -> Result<&'a [T::CodeUnit], Stop> {
+) -> Result<&'a [T::CodeUnit], Reason> {
     let name = parse_tz_name(cursor)?;
     match name.next {
         None => Ok(name.units),
-        Some(_) => Err(Stop::InZoneName),
+        Some(_) => Err(Reason::InZoneName),
     }
 }
 
@@ -146,18 +146,18 @@ fn parse_name_alone<'a, T: EncodingType>(
 #[inline]
 pub fn parse_iana_identifier_text<'a, T: EncodingType>(
     cursor: &mut Cursor<'a, T>,
-) -> Result<&'a [T::CodeUnit], Stop> {
-    match cursor.look(Stop::ZoneNameStart)? {
+) -> Result<&'a [T::CodeUnit], Reason> {
+    match cursor.look(Reason::ZoneNameStart)? {
         Some(byte) if is_tz_leading_char(byte) => parse_name_alone(cursor),
-        _ => Err(Stop::ZoneNameStart),
+        _ => Err(Reason::ZoneNameStart),
     }
 }
 
 /// Reads a name, or an offset without seconds, and expects the end of the input.
 pub fn parse_identifier_text<'a, T: EncodingType>(
     cursor: &mut Cursor<'a, T>,
-) -> Result<TimeZoneRecord<'a, T>, Stop> {
-    match cursor.look(Stop::IdentifierStart)? {
+) -> Result<TimeZoneRecord<'a, T>, Reason> {
+    match cursor.look(Reason::IdentifierStart)? {
         Some(byte) if is_ascii_sign(byte) => {
             cursor.advance();
             if let Some(offset) = take_last_offset(cursor, byte) {
@@ -172,7 +172,7 @@ pub fn parse_identifier_text<'a, T: EncodingType>(
             let name = parse_name_alone(cursor)?;
             Ok(TimeZoneRecord::Name(name))
         }
-        _ => Err(Stop::IdentifierStart),
+        _ => Err(Reason::IdentifierStart),
     }
 }
 
@@ -184,7 +184,7 @@ pub fn parse_identifier_text<'a, T: EncodingType>(
 fn close_bracket<'a, T: EncodingType>(
     cursor: &mut Cursor<'a, T>,
     shape: TimeShape,
-) -> Result<(), Stop> {
+) -> Result<(), Reason> {
     let stop = Clock::MinuteOffset.stop_after(shape);
     match cursor.look(stop)? {
         Some(byte) if is_annotation_close(byte) => {
@@ -199,7 +199,7 @@ fn close_bracket<'a, T: EncodingType>(
 pub fn parse_offset_in_bracket<'a, T: EncodingType>(
     cursor: &mut Cursor<'a, T>,
     sign: u8,
-) -> Result<TimeZoneRecord<'a, T>, Stop> {
+) -> Result<TimeZoneRecord<'a, T>, Reason> {
     let mut time = TimeRecord::default();
     let shape = parse_clock(cursor, Clock::MinuteOffset, &mut time)?;
     close_bracket(cursor, shape)?;
@@ -210,13 +210,13 @@ pub fn parse_offset_in_bracket<'a, T: EncodingType>(
 #[inline(always)]
 pub fn parse_name_in_bracket<'a, T: EncodingType>(
     cursor: &mut Cursor<'a, T>,
-) -> Result<&'a [T::CodeUnit], Stop> {
+) -> Result<&'a [T::CodeUnit], Reason> {
     let name = parse_tz_name(cursor)?;
     match name.next {
         Some(byte) if is_annotation_close(byte) => {
             cursor.advance();
             Ok(name.units)
         }
-        _ => Err(Stop::InZoneName),
+        _ => Err(Reason::InZoneName),
     }
 }

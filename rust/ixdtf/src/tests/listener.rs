@@ -236,7 +236,7 @@ fn refuses_at<'a, T: Foreign + 'static>(
     let mut listener = Listener::new(kind);
     match heard_located(parser, form, &mut listener) {
         Err(located) if listener.has_heard(calls) => {
-            is_refused && located == LocatedError { error, at }
+            is_refused && located.error == error && located.at == at
         }
         _ => false,
     }

@@ -6,8 +6,8 @@
 use crate::runtime::{HostRuntime, TryClone};
 
 use super::{AT_DIGIT, check, check_displayed};
-use ixdtf::LocatedError;
 use ixdtf::ParseError::{self, InvalidEnd, InvalidMonthRange};
+use ixdtf::{LocatedError, Reason};
 use crate::runtime::{AllocError, Global, String};
 use crate::runtime::Abort;
 use crate::runtime::Fail;
@@ -15,11 +15,13 @@ use crate::runtime::Fail;
 const AT_FIVE: LocatedError = LocatedError {
     error: InvalidMonthRange,
     at: 5,
+    reason: Reason::MonthRange,
 };
 
 const AT_THE_END: LocatedError = LocatedError {
     error: AT_DIGIT,
     at: 1234,
+    reason: Reason::DayDigits,
 };
 
 #[test]
@@ -32,20 +34,28 @@ fn displays_the_error_and_its_place() -> Result<(), Fail> {
 }
 
 #[test]
-fn is_equal_by_error_and_place() {
+fn is_equal_by_error_place_and_reason() {
     let rt = HostRuntime;
     let copy: Result<LocatedError, _> = AT_FIVE.try_clone();
     check(&rt, "a clone", copy == Ok(AT_FIVE));
     let place = LocatedError {
         error: InvalidMonthRange,
         at: 6,
+        reason: Reason::MonthRange,
     };
     check(&rt, "another place", AT_FIVE != place);
     let error = LocatedError {
         error: InvalidEnd,
         at: 5,
+        reason: Reason::MonthRange,
     };
     check(&rt, "another error", AT_FIVE != error);
+    let reason = LocatedError {
+        error: InvalidMonthRange,
+        at: 5,
+        reason: Reason::MonthDayMonthRange,
+    };
+    check(&rt, "another reason", AT_FIVE != reason);
 }
 
 #[test]
@@ -60,6 +70,7 @@ fn pointed(alloc: Global, text: &str, at: usize) -> Result<String, AllocError> {
     let error = LocatedError {
         error: InvalidEnd,
         at,
+        reason: Reason::AfterDate,
     };
     let lines = error.in_text(text);
     format!(in alloc; "{lines}")

@@ -1,5 +1,5 @@
 use Rattle.ixdtf_durations.proofs.date_groups.parse_dates.Goals as goal
-use Rattle.ixdtf_reading.specs.declared.stop.Stop.TheVariants as stops
+use Rattle.ixdtf_grammar.specs.declared.reason.Reason.TheVariants as reasons
 use Rattle.std.proofs.{Common.{◌≡◌, ℕ, [], List, map, drop, Some, None, Ok, true, false, refl, ap, ◌∙◌, arith, rules}, lemmas.Result.err_from_is_err_and}
 use Rattle.ixdtf_grammar.specs.language.Letters.{digit, time_letter}
 use Rattle.ixdtf_reading.specs.reading.Looks.{seen}
@@ -41,7 +41,7 @@ returns-in-None-clause-dates g c =
     (map g.T.EncodingType.letter c.take_date_unit.new.cursor.rest)
     (ends_date _ _ _ c.in_ok-number.number _ c.in_ok-number.ensures.number c.args.profile) c.in_ok-rank.ensures.left
     _ _ c.in_ok-rank.ensures.rank c.least_step.ensures) in
-    let none : seen stops.AfterDateGroups (map g.T.EncodingType.letter c.take_date_unit.new.cursor.rest) ≡ Ok None =
+    let none : seen reasons.AfterDateGroups (map g.T.EncodingType.letter c.take_date_unit.new.cursor.rest) ≡ Ok None =
     cc (c.in_ok-look.ensures.letter, c.in-None.is) in
     dates_alone _ _ _ read g.T.EncodingType.letter _ refl _ _ c.date_record.ensures _ none (rw c.in_ok-look.ensures.rest refl)
 
@@ -81,7 +81,7 @@ returns-in-Some-2-clause-dates g c =
     (map g.T.EncodingType.letter c.take_date_unit.new.cursor.rest)
     (ends_date _ _ _ c.in_ok-number.number _ c.in_ok-number.ensures.number c.args.profile) c.in_ok-rank.ensures.left
     _ _ c.in_ok-rank.ensures.rank c.least_step.ensures) in
-    let found : seen stops.AfterDateGroups (map g.T.EncodingType.letter c.take_date_unit.new.cursor.rest) ≡ Ok (Some c.in-Some-2.byte) =
+    let found : seen reasons.AfterDateGroups (map g.T.EncodingType.letter c.take_date_unit.new.cursor.rest) ≡ Ok (Some c.in-Some-2.byte) =
     cc (c.in_ok-look.ensures.letter, c.in-Some-2.is) in
     let is : time_letter c.in-Some-2.byte ≡ true = search rules in
     let left : map g.T.EncodingType.letter c.advance-in-Some-2.new.self.rest ≡ drop 1 (map g.T.EncodingType.letter c.take_date_unit.new.cursor.rest) =
@@ -95,7 +95,7 @@ returns-in-Some-3-clause-refused g c =
     (map g.T.EncodingType.letter c.take_date_unit.new.cursor.rest)
     (ends_date _ _ _ c.in_ok-number.number _ c.in_ok-number.ensures.number c.args.profile) c.in_ok-rank.ensures.left
     _ _ c.in_ok-rank.ensures.rank c.least_step.ensures) in
-    let found : seen stops.AfterDateGroups (map g.T.EncodingType.letter c.take_date_unit.new.cursor.rest) ≡ Ok (Some c.in-Some.byte) =
+    let found : seen reasons.AfterDateGroups (map g.T.EncodingType.letter c.take_date_unit.new.cursor.rest) ≡ Ok (Some c.in-Some.byte) =
     cc (c.in_ok-look.ensures.letter, c.in-Some.is) in
     let miss : digit c.in-Some.byte ≡ false = search rules in
     let nor : time_letter c.in-Some.byte ≡ false = search rules in

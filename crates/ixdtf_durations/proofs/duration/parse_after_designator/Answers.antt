@@ -1,5 +1,5 @@
 use Rattle.ixdtf_durations.proofs.duration.parse_after_designator.Goals as goal
-use Rattle.ixdtf_reading.specs.declared.stop.Stop.TheVariants as stops
+use Rattle.ixdtf_grammar.specs.declared.reason.Reason.TheVariants as reasons
 use Rattle.std.proofs.{Common.{◌≡◌, ℕ, [], List, map, drop, Some, None, Ok, true, false, rules, refl, ap, ◌∙◌, arith}, lemmas.Result.err_from_is_err_and}
 use Rattle.ixdtf_grammar.specs.{language.Letters.{digit, time_letter}, table.DurationFronts.Context.in_dates}
 use Rattle.ixdtf_reading.specs.reading.Looks.{seen}
@@ -16,7 +16,7 @@ returns-in_err-byte-clause-duration g c =
 -- The next code unit is `T` or `t`.
 pub returns-in-Some-clause-duration : goal.returns-in-Some-clause-duration
 returns-in-Some-clause-duration g c =
-    let found : seen stops.AfterDurationDesignator (map g.T.EncodingType.letter c.args.cursor.now.rest) ≡ Ok (Some c.in-Some.byte) =
+    let found : seen reasons.AfterDurationDesignator (map g.T.EncodingType.letter c.args.cursor.now.rest) ≡ Ok (Some c.in-Some.byte) =
     cc (c.in_ok-byte.ensures.letter, c.in-Some.is) in
     let is : time_letter c.in-Some.byte ≡ true = search rules in
     let left : map g.T.EncodingType.letter c.advance.new.self.rest ≡ drop 1 (map g.T.EncodingType.letter c.args.cursor.now.rest) =
@@ -26,7 +26,7 @@ returns-in-Some-clause-duration g c =
 -- A group begins.
 pub returns-in-Some-2-clause-duration : goal.returns-in-Some-2-clause-duration
 returns-in-Some-2-clause-duration g c =
-    let found : seen stops.AfterDurationDesignator (map g.T.EncodingType.letter c.args.cursor.now.rest) ≡ Ok (Some c.in-Some.byte) =
+    let found : seen reasons.AfterDurationDesignator (map g.T.EncodingType.letter c.args.cursor.now.rest) ≡ Ok (Some c.in-Some.byte) =
     cc (c.in_ok-byte.ensures.letter, c.in-Some.is) in
     let is : digit c.in-Some.byte ≡ true = search rules in
     let left : map g.T.EncodingType.letter c.advance-in-Some-2.new.self.rest ≡ drop 1 (map g.T.EncodingType.letter c.args.cursor.now.rest) =
@@ -43,12 +43,12 @@ returns-in-Some-2-clause-looks g c =
 pub returns-in_default-clause-duration : goal.returns-in_default-clause-duration
 returns-in_default-clause-duration g c = elim c.in_default.branch [
   | in_default-via-in-Some-2+else-is_ascii_digit w ↦
-      let found : seen stops.AfterDurationDesignator (map g.T.EncodingType.letter c.args.cursor.now.rest) ≡ Ok (Some w.in-Some.byte) =
+      let found : seen reasons.AfterDurationDesignator (map g.T.EncodingType.letter c.args.cursor.now.rest) ≡ Ok (Some w.in-Some.byte) =
       cc (c.in_ok-byte.ensures.letter, w.in-Some.is) in
       let miss : digit w.in-Some.byte ≡ false = search rules in
       let nor : time_letter w.in-Some.byte ≡ false = search rules in
       rw c.in_ok-byte.ensures.rest (dates_at_other _ _ _ _ found c.args.sign [] miss nor)
   | in_default-via-in_default w ↦
-      let none : seen stops.AfterDurationDesignator (map g.T.EncodingType.letter c.args.cursor.now.rest) ≡ Ok None = cc (c.in_ok-byte.ensures.letter, w.in_default.is) in
+      let none : seen reasons.AfterDurationDesignator (map g.T.EncodingType.letter c.args.cursor.now.rest) ≡ Ok None = cc (c.in_ok-byte.ensures.letter, w.in_default.is) in
       rw c.in_ok-byte.ensures.rest (opened_at_end _ _ _ none _)
 ]

@@ -1,5 +1,5 @@
 use Rattle.ixdtf_durations.proofs.duration.parse_opening.Goals as goal
-use Rattle.ixdtf_reading.specs.declared.stop.Stop.TheVariants as stops
+use Rattle.ixdtf_grammar.specs.declared.reason.Reason.TheVariants as reasons
 use Rattle.std.proofs.{Common.{◌≡◌, ℕ, List, map, drop, Some, Ok, true, refl, rules, ap, ◌∙◌}, lemmas.Result.err_from_is_err_and}
 use Rattle.ixdtf_grammar.specs.language.Letters.{sign}
 use Rattle.ixdtf_reading.specs.reading.Looks.{seen}
@@ -14,7 +14,7 @@ returns-in_err-byte-clause-sign g c profile =
 -- The next code unit is a sign.
 pub returns-in-Some-clause-sign : goal.returns-in-Some-clause-sign
 returns-in-Some-clause-sign g c profile =
-    let found : seen stops.DurationStart (map g.T.EncodingType.letter c.args.cursor.now.rest) ≡ Ok (Some c.in-Some.byte) =
+    let found : seen reasons.DurationStart (map g.T.EncodingType.letter c.args.cursor.now.rest) ≡ Ok (Some c.in-Some.byte) =
     cc (c.in_ok-byte.ensures.letter, c.in-Some.is) in
     let is : sign c.in-Some.byte ≡ true = search rules in
     let left : map g.T.EncodingType.letter c.advance.new.self.rest ≡ drop 1 (map g.T.EncodingType.letter c.args.cursor.now.rest) =

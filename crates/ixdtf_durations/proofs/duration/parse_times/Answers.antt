@@ -1,5 +1,5 @@
 use Rattle.ixdtf_durations.proofs.duration.parse_times.Goals as goal
-use Rattle.ixdtf_reading.specs.declared.stop.Stop.TheVariants as stops
+use Rattle.ixdtf_grammar.specs.declared.reason.Reason.TheVariants as reasons
 use Rattle.std.proofs.{Common.{◌≡◌, ℕ, [], List, map, drop, Some, None, Ok, true, false, rules, ap, ◌∙◌}, lemmas.Result.err_from_is_err_and}
 use Rattle.ixdtf_grammar.specs.{language.Letters.digit, table.DurationFronts.Context.in_times}
 use Rattle.ixdtf_reading.specs.reading.Looks.{seen}
@@ -15,7 +15,7 @@ returns-in_err-byte-clause-duration g c dates is =
 -- Time groups were read.
 pub returns-in-Ok-clause-duration : goal.returns-in-Ok-clause-duration
 returns-in-Ok-clause-duration g c dates is =
-    let found : seen stops.AfterTimeDesignator (map g.T.EncodingType.letter c.args.cursor.now.rest) ≡ Ok (Some c.in-Some.byte) =
+    let found : seen reasons.AfterTimeDesignator (map g.T.EncodingType.letter c.args.cursor.now.rest) ≡ Ok (Some c.in-Some.byte) =
     cc (c.in_ok-byte.ensures.letter, c.in-Some.is) in
     let begins : digit c.in-Some.byte ≡ true = search rules in
     let left : map g.T.EncodingType.letter c.advance.new.self.rest ≡ drop 1 (map g.T.EncodingType.letter c.args.cursor.now.rest) =
@@ -25,7 +25,7 @@ returns-in-Ok-clause-duration g c dates is =
 -- Reading the time groups failed.
 pub returns-in-Err-clause-duration : goal.returns-in-Err-clause-duration
 returns-in-Err-clause-duration g c dates is =
-    let found : seen stops.AfterTimeDesignator (map g.T.EncodingType.letter c.args.cursor.now.rest) ≡ Ok (Some c.in-Some.byte) =
+    let found : seen reasons.AfterTimeDesignator (map g.T.EncodingType.letter c.args.cursor.now.rest) ≡ Ok (Some c.in-Some.byte) =
     cc (c.in_ok-byte.ensures.letter, c.in-Some.is) in
     let begins : digit c.in-Some.byte ≡ true = search rules in
     let left : map g.T.EncodingType.letter c.advance.new.self.rest ≡ drop 1 (map g.T.EncodingType.letter c.args.cursor.now.rest) =
@@ -36,11 +36,11 @@ returns-in-Err-clause-duration g c dates is =
 pub returns-in_default-clause-duration : goal.returns-in_default-clause-duration
 returns-in_default-clause-duration g c dates is = elim c.in_default.branch [
   | in_default-via-in-Some+else-is_ascii_digit w ↦
-      let found : seen stops.AfterTimeDesignator (map g.T.EncodingType.letter c.args.cursor.now.rest) ≡ Ok (Some w.in-Some.byte) =
+      let found : seen reasons.AfterTimeDesignator (map g.T.EncodingType.letter c.args.cursor.now.rest) ≡ Ok (Some w.in-Some.byte) =
       cc (c.in_ok-byte.ensures.letter, w.in-Some.is) in
       let miss : digit w.in-Some.byte ≡ false = search rules in
       rw c.in_ok-byte.ensures.rest (times_at_other _ _ _ _ found _ dates miss)
   | in_default-via-in_default w ↦
-      let none : seen stops.AfterTimeDesignator (map g.T.EncodingType.letter c.args.cursor.now.rest) ≡ Ok None = cc (c.in_ok-byte.ensures.letter, w.in_default.is) in
+      let none : seen reasons.AfterTimeDesignator (map g.T.EncodingType.letter c.args.cursor.now.rest) ≡ Ok None = cc (c.in_ok-byte.ensures.letter, w.in_default.is) in
       rw c.in_ok-byte.ensures.rest (times_at_end _ _ _ none _ dates)
 ]

@@ -1,5 +1,5 @@
 use Rattle.ixdtf_durations.proofs.time_groups.parse_fraction_group.Goals as goal
-use Rattle.ixdtf_reading.specs.declared.stop.Stop.TheVariants as stops
+use Rattle.ixdtf_grammar.specs.declared.reason.Reason.TheVariants as reasons
 use Rattle.std.proofs.{Common.{◌≡◌, map, None, Ok}, lemmas.Result.err_from_is_err_and}
 use Rattle.ixdtf_reading.specs.reading.Looks.{seen}
 use Rattle.ixdtf_durations.proofs.code.{DurationFractions.{fraction_fails, fraction_over, no_letter, breaks, ends_group}, DurationSteps.letter_stays}
@@ -19,7 +19,7 @@ returns-in_err-look-clause-group g c profile s dates times ds number =
 -- The text ends.
 pub returns-in-None-clause-group : goal.returns-in-None-clause-group
 returns-in-None-clause-group g c profile s dates times ds number =
-    let none : seen stops.GroupFractionDigits (map g.T.EncodingType.letter c.parse_fraction.new.cursor.rest) ≡ Ok None =
+    let none : seen reasons.GroupFractionDigits (map g.T.EncodingType.letter c.parse_fraction.new.cursor.rest) ≡ Ok None =
     cc (c.in_ok-look.ensures.letter, c.in-None.is) in
     rw c.in_ok-look.ensures.rest (no_letter _ _ _ (fraction_over _ _ _ c.in_ok-fraction.ensures.fraction) profile s dates times ds none)
 

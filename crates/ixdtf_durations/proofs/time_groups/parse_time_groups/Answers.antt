@@ -1,5 +1,5 @@
 use Rattle.ixdtf_durations.proofs.time_groups.parse_time_groups.Goals as goal
-use Rattle.ixdtf_reading.specs.declared.stop.Stop.TheVariants as stops
+use Rattle.ixdtf_grammar.specs.declared.reason.Reason.TheVariants as reasons
 use Rattle.std.proofs.{Common.{◌≡◌, [], refl, map, None, Some, Ok, true, false, ◌∙◌, arith, rules}, lemmas.Result.err_from_is_err_and}
 use Rattle.ixdtf_grammar.specs.language.{Letters.{digit, decimal_mark}, Durations.least_step}
 use Rattle.ixdtf_reading.specs.reading.Looks.{seen}
@@ -65,7 +65,7 @@ returns-in-None-clause-times g c s dates =
     (λ s dates times. at_decimal_mark _ _ _ _ _ number c.args.profile s dates times _ (letters_left g.T.EncodingType.letter _ _ c.advance_by.ensures.rest) is
     ∙ c.in_ok-group.ensures.group c.args.profile s dates times number.ds number.value)
     c.in_ok-rank.ensures.left _ _ (least_step c.args.profile) (fraction_digits_stop _ c.in_ok-group.ensures.fraction) c.in_ok-rank.ensures.rank refl) in
-    let none : seen stops.AfterFractionGroup (map g.T.EncodingType.letter c.take_time_unit.new.cursor.rest) ≡ Ok None = cc (c.in_ok-look.ensures.letter, c.in-None.is) in
+    let none : seen reasons.AfterFractionGroup (map g.T.EncodingType.letter c.take_time_unit.new.cursor.rest) ≡ Ok None = cc (c.in_ok-look.ensures.letter, c.in-None.is) in
     rw c.in_ok-look.ensures.rest (times_end_with _ _ _ read _ _ none c.time_record.ensures s dates)
 
 -- A code unit follows.
@@ -78,7 +78,7 @@ returns-in-Some-clause-times g c s dates =
     (λ s dates times. at_decimal_mark _ _ _ _ _ number c.args.profile s dates times _ (letters_left g.T.EncodingType.letter _ _ c.advance_by.ensures.rest) is
     ∙ c.in_ok-group.ensures.group c.args.profile s dates times number.ds number.value)
     c.in_ok-rank.ensures.left _ _ (least_step c.args.profile) (fraction_digits_stop _ c.in_ok-group.ensures.fraction) c.in_ok-rank.ensures.rank refl in
-    let found : seen stops.AfterFractionGroup (map g.T.EncodingType.letter c.take_time_unit.new.cursor.rest) ≡ Ok (Some c.in-Some._after_fraction) =
+    let found : seen reasons.AfterFractionGroup (map g.T.EncodingType.letter c.take_time_unit.new.cursor.rest) ≡ Ok (Some c.in-Some._after_fraction) =
     cc (c.in_ok-look.ensures.letter, c.in-Some.is) in
     let some = c.in_ok-group.ensures.fraction in
     let never : digit c.in-Some._after_fraction ≡ true → c.in_ok-group.group.fraction ≡ None → ⊥ = λ begins none. let bad = rw none at some in absurd cc in
@@ -117,7 +117,7 @@ returns-in-None-2-clause-times g c s dates =
     (map g.T.EncodingType.letter c.take_time_unit-in-loop-whole.new.cursor.rest)
     (λ s dates times. ends_time _ _ _ _ _ c.in_ok-whole.ensures.number c.args.profile s dates times miss c.in_ok-whole.ensures.small)
     c.in_ok-rank-2.ensures.left _ _ _ refl c.in_ok-rank-2.ensures.rank c.least_step.ensures) in
-    let none : seen stops.AfterTimeGroups (map g.T.EncodingType.letter c.take_time_unit-in-loop-whole.new.cursor.rest) ≡ Ok None =
+    let none : seen reasons.AfterTimeGroups (map g.T.EncodingType.letter c.take_time_unit-in-loop-whole.new.cursor.rest) ≡ Ok None =
     cc (c.in_ok-look-2.ensures.letter, c.in-None-2.is) in
     rw c.in_ok-look-2.ensures.rest (times_end_with _ _ _ read _ _ none c.time_record-in-None-2.ensures s dates)
 
@@ -154,7 +154,7 @@ returns-in-Some-2-2-clause-times g c s dates =
     (map g.T.EncodingType.letter c.take_time_unit-in-loop-whole.new.cursor.rest)
     (λ s dates times. ends_time _ _ _ _ _ c.in_ok-whole.ensures.number c.args.profile s dates times miss c.in_ok-whole.ensures.small)
     c.in_ok-rank-2.ensures.left _ _ _ refl c.in_ok-rank-2.ensures.rank c.least_step.ensures in
-    let found : seen stops.AfterTimeGroups (map g.T.EncodingType.letter c.take_time_unit-in-loop-whole.new.cursor.rest) ≡ Ok (Some c.in-Some-2.byte) =
+    let found : seen reasons.AfterTimeGroups (map g.T.EncodingType.letter c.take_time_unit-in-loop-whole.new.cursor.rest) ≡ Ok (Some c.in-Some-2.byte) =
     cc (c.in_ok-look-2.ensures.letter, c.in-Some-2.is) in
     let other : digit c.in-Some-2.byte ≡ false = search rules in
     rw c.in_ok-look-2.ensures.rest (times_stop _ _ _ read _ _ _ refl found (λ begins none. absurd cc) s dates)

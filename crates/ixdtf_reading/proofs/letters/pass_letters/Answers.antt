@@ -1,24 +1,25 @@
+use Rattle.ixdtf_grammar.specs.declared.reason.Reason.{Reason}
 use Rattle.ixdtf_reading.proofs.letters.pass_letters.Goals as goal
 use Rattle.std.proofs.Common.{◌≡◌, ◌+◌, ℕ, List, map, length, drop, Option, Some, None, Result, Ok, Err, true, false, refl, sym, arith}
 use Rattle.std.specs.Prelude.{IfOk, IsSome}
 use Rattle.ixdtf_grammar.specs.{language.Letters.{Letter, Text, Class, Letter.Plain}, Views.Unread}
-use Rattle.ixdtf_reading.specs.{declared.stop.Stop.Stop, reading.{Clauses.{YieldsAt}, Looks.{Placed, seen}, Runs.{PassesOver, always, found_in, within}}}
+use Rattle.ixdtf_reading.specs.{reading.{Clauses.{YieldsAt}, Looks.{Placed, seen}, Runs.{PassesOver, always, found_in, within}}}
 use Rattle.ixdtf_reading.proofs.code.{FractionLoop.one_taken, LetterLoops.{IsSoFar, goes_on, ceases, fails}}
 
 -- A look found a code unit of the class.
-one_found : (class : Class) (found : Result (Option ℕ) Stop) (text : Text) (sees : Result (Option ℕ) Placed) → YieldsAt (λ x. x) found text sees
+one_found : (class : Class) (found : Result (Option ℕ) Reason) (text : Text) (sees : Result (Option ℕ) Placed) → YieldsAt (λ x. x) found text sees
     → found_in class found ≡ true → (c : ℕ) × (sees ≡ Ok (Some c)) × (class c ≡ true)
 one_found class (Ok (Some c)) text sees is has = (c, is, has)
 one_found class (Ok None) text sees is has = absurd cc
 one_found class (Err stop) text sees is has = absurd cc
 
 -- A step consumed a code unit. The run continues after it.
-record Step (stop : Stop) (letter : ℕ → Letter) (class : Class) (whole before after : List ℕ) : Type 0 where
+record Step (stop : Reason) (letter : ℕ → Letter) (class : Class) (whole before after : List ℕ) : Type 0 where
   far : IsSoFar (always stop) (within class) letter tt whole after tt
   taken : length after + 1 ≡ length before
 
-step : {stop : Stop} (letter : ℕ → Letter) (faithful : (unit n : ℕ) → letter unit ≡ Plain n → n ≡ unit) (class : Class) (whole before looked after : List ℕ)
-    (found : Result (Option ℕ) Stop) → IsSoFar (always stop) (within class) letter tt whole before tt → YieldsAt (λ x. x) found (map letter before) (seen stop (map letter before))
+step : {stop : Reason} (letter : ℕ → Letter) (faithful : (unit n : ℕ) → letter unit ≡ Plain n → n ≡ unit) (class : Class) (whole before looked after : List ℕ)
+    (found : Result (Option ℕ) Reason) → IsSoFar (always stop) (within class) letter tt whole before tt → YieldsAt (λ x. x) found (map letter before) (seen stop (map letter before))
     → true ≡ found_in class found → looked ≡ before → after ≡ drop 1 looked → Step stop letter class whole before after
 step letter faithful class whole before looked after found far is goes same moved =
     let (byte, sees, has) = one_found class found _ _ is (sym goes) in
@@ -27,8 +28,8 @@ step letter faithful class whole before looked after found far is goes same move
     record { far = goes_on _ _ letter faithful _ _ _ _ far _ _ _ _ off.found next off.moved; taken = off.shorter }
 
 -- The run ends at the end of the text, at a code unit of another class, or at a bad code unit.
-run_ends : (stop : Stop) (letter : ℕ → Letter) (faithful : (unit n : ℕ) → letter unit ≡ Plain n → n ≡ unit) (class : Class) (old here : Unread)
-    (found : Result (Option ℕ) Stop) → IsSoFar (always stop) (within class) letter tt old.rest here.rest tt
+run_ends : (stop : Reason) (letter : ℕ → Letter) (faithful : (unit n : ℕ) → letter unit ≡ Plain n → n ≡ unit) (class : Class) (old here : Unread)
+    (found : Result (Option ℕ) Reason) → IsSoFar (always stop) (within class) letter tt old.rest here.rest tt
     → YieldsAt (λ x. x) found (map letter here.rest) (seen stop (map letter here.rest)) → found_in class found ≡ false → PassesOver letter stop old found here class
 run_ends stop letter faithful class old here (Ok (Some c)) far is other =
     let none : within class tt c ≡ None = rw other refl in
@@ -37,7 +38,7 @@ run_ends stop letter faithful class old here (Ok None) far is other = (far.taken
 run_ends stop letter faithful class old here (Err e) far is other = fails _ _ letter faithful _ _ _ _ far _ is
 
 -- If a look found a code unit, a step consumes one code unit.
-stays : (stop : Stop) (letter : ℕ → Letter) (rest : List ℕ) (found : Result (Option ℕ) Stop) → YieldsAt (λ x. x) found (map letter rest) (seen stop (map letter rest))
+stays : (stop : Reason) (letter : ℕ → Letter) (rest : List ℕ) (found : Result (Option ℕ) Reason) → YieldsAt (λ x. x) found (map letter rest) (seen stop (map letter rest))
     → IfOk found (λ next. IsSome next → length (drop 1 rest) + 1 ≡ length rest)
 stays stop letter rest (Ok (Some c)) is = λ some. (one_taken {letter = letter} {rest = rest} is refl refl refl).shorter
 stays stop letter rest (Ok None) is = λ some. absurd cc

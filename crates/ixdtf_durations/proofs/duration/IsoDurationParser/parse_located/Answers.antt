@@ -16,7 +16,7 @@ returns-in-Ok g c =
     let no_other_reader = plain.no_other_reader c.self.inside.profile in
     let empty = plain.empty _ groups.ended in
     rw (← c.self.view_is, ← c.fork-here.ensures.same) (record {
-      reads = record { ok = plain.ok; err = gives.err; place = gives.place; no_row = plain.no_row; only = plain.only; leaves = search rules };
+      reads = record { ok = plain.ok; err = gives.err; place = gives.place; reason = gives.reason; one_reason = gives.one_reason; no_row = plain.no_row; only = plain.only; leaves = search rules };
       no_other_reader = no_other_reader;
       profile = search rules;
     })
@@ -30,7 +30,7 @@ returns-in-Err g c =
     (c.in-Err.ensures.sign _) c.settle.ensures.settled c.settle.ensures.place in
     let plain = gives.plain in
     rw (← c.self.view_is, ← c.fork-here.ensures.same) (record {
-      reads = record { ok = plain.ok; err = gives.err; place = gives.place; no_row = plain.no_row; only = plain.only; leaves = search rules };
+      reads = record { ok = plain.ok; err = gives.err; place = gives.place; reason = gives.reason; one_reason = gives.one_reason; no_row = plain.no_row; only = plain.only; leaves = search rules };
       no_other_reader = search rules;
       profile = search rules;
     })

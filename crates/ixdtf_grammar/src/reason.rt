@@ -1,0 +1,294 @@
+//! The reasons why a reader refuses a text.
+
+/// The reason why a reader refused a text: a line of the fault table, or the refusal of an annotation.
+///
+/// The fault table is in `docs/FAULTS.md` of the repository. Each variant names the line of the table that fits the text. The line
+/// says what the text has before the position of the error, and what may follow there. Several reasons can have the same
+/// [`ParseError`](crate::ParseError), and one reason can have several errors: one at the end of the text, and others at other code
+/// units.
+///
+/// # Examples
+///
+/// ```rust
+/// use ixdtf::Reason;
+/// use ixdtf::parsers::IxdtfParser;
+///
+/// let error = IxdtfParser::from_str("2024-02-30").parse_located().unwrap_err();
+/// assert_eq!(error.reason, Reason::DayRange);
+/// let error = IxdtfParser::from_str("2024-2-30").parse_located().unwrap_err();
+/// assert_eq!(error.reason, Reason::MonthDigits);
+/// ```
+#[derive(Clone, Copy, Debug, PartialEq, Eq, Hash)]
+pub enum Reason {
+    // Dates
+    /// Line `year_start`: a year has to begin.
+    YearStart,
+    /// Line `year_digits`: a digit of a year of four digits has to follow.
+    YearDigits,
+    /// Line `extended_year_digits`: a digit of a year with a sign and six digits has to follow.
+    ExtendedYearDigits,
+    /// Line `minus_zero_year`: the year is `-000000`.
+    MinusZeroYear,
+    /// Line `after_year`: what follows the year of a date does not fit.
+    AfterYear,
+    /// Line `month_digits`: a digit of the month has to follow.
+    MonthDigits,
+    /// Line `month_range`: the month is not 01 to 12.
+    MonthRange,
+    /// Line `after_hyphened_month`: a `-` has to follow the month, because there is one before the month.
+    AfterHyphenedMonth,
+    /// Line `after_basic_month`: a digit of the day has to follow the month, because there is no `-` before the month.
+    AfterBasicMonth,
+    /// Line `day_digits`: a digit of the day has to follow.
+    DayDigits,
+    /// Line `day_range`: the month does not have this day.
+    DayRange,
+    /// Line `after_date`: what follows the date does not fit.
+    AfterDate,
+    // Year-months
+    /// Line `after_year_in_year_month`: what follows the year of a year-month does not fit.
+    AfterYearInYearMonth,
+    /// Line `after_year_month`: what follows the year-month does not fit.
+    AfterYearMonth,
+    // Month-days
+    /// Line `month_day_start`: a month-day has to begin.
+    MonthDayStart,
+    /// Line `month_day_hyphen`: the second `-` of a month-day has to follow.
+    MonthDayHyphen,
+    /// Line `month_day_month_digits`: a digit of the month of a month-day has to follow.
+    MonthDayMonthDigits,
+    /// Line `month_day_month_range`: the month of a month-day is not 01 to 12.
+    MonthDayMonthRange,
+    /// Line `after_month_day_month`: what follows the month of a month-day does not fit.
+    AfterMonthDayMonth,
+    /// Line `month_day_day_digits`: a digit of the day of a month-day has to follow.
+    MonthDayDayDigits,
+    /// Line `month_day_range`: the month of a month-day does not have this day in any year.
+    MonthDayRange,
+    /// Line `after_month_day`: what follows the month-day does not fit.
+    AfterMonthDay,
+    // Times without a date
+    /// Line `time_start`: a time has to begin.
+    TimeStart,
+    /// Line `time_reads_as_month_day`: the time begins like a month-day.
+    TimeReadsAsMonthDay,
+    /// Line `time_reads_as_year_month`: the time begins like a year-month.
+    TimeReadsAsYearMonth,
+    // Times of day
+    /// Line `hour_start` of times: the hour has to begin.
+    HourStart,
+    /// Line `hour_digit` of times: the second digit of the hour has to follow.
+    HourDigit,
+    /// Line `hour_range` of times: the hour is greater than 23.
+    HourRange,
+    /// Line `after_hour` of times: what follows the hour does not fit.
+    AfterHour,
+    /// Line `minute_digits` of times: a digit of the minute has to follow.
+    MinuteDigits,
+    /// Line `minute_range` of times: the minute is greater than 59.
+    MinuteRange,
+    /// Line `after_basic_minute` of times: what follows the minute does not fit. There is no `:` before the minute.
+    AfterBasicMinute,
+    /// Line `after_colon_minute` of times: what follows the minute does not fit. There is a `:` before the minute.
+    AfterColonMinute,
+    /// Line `second_digits` of times: a digit of the second has to follow.
+    SecondDigits,
+    /// Line `second_range` of times: the second is greater than 60.
+    SecondRange,
+    /// Line `after_second` of times: what follows the second does not fit.
+    AfterSecond,
+    /// Line `fraction_start` of times: a digit of the fraction has to follow.
+    FractionStart,
+    /// Line `after_fraction` of times: what follows the fraction does not fit.
+    AfterFraction,
+    // Offsets after a time, and offsets without a time
+    /// Line `hour_start` of offsets: the hour has to begin.
+    OffsetHourStart,
+    /// Line `hour_digit` of offsets: the second digit of the hour has to follow.
+    OffsetHourDigit,
+    /// Line `hour_range` of offsets: the hour is greater than 23.
+    OffsetHourRange,
+    /// Line `after_hour` of offsets: what follows the hour does not fit.
+    OffsetAfterHour,
+    /// Line `minute_digits` of offsets: a digit of the minute has to follow.
+    OffsetMinuteDigits,
+    /// Line `minute_range` of offsets: the minute is greater than 59.
+    OffsetMinuteRange,
+    /// Line `after_basic_minute` of offsets: what follows the minute does not fit. There is no `:` before the minute.
+    OffsetAfterBasicMinute,
+    /// Line `after_colon_minute` of offsets: what follows the minute does not fit. There is a `:` before the minute.
+    OffsetAfterColonMinute,
+    /// Line `second_digits` of offsets: a digit of the second has to follow.
+    OffsetSecondDigits,
+    /// Line `second_range` of offsets: the second is greater than 59.
+    OffsetSecondRange,
+    /// Line `after_second` of offsets: what follows the second does not fit.
+    OffsetAfterSecond,
+    /// Line `fraction_start` of offsets: a digit of the fraction has to follow.
+    OffsetFractionStart,
+    /// Line `after_fraction` of offsets: what follows the fraction does not fit.
+    OffsetAfterFraction,
+    // Offsets that are time zones
+    /// Line `hour_start` of offsets that are time zones: the hour has to begin.
+    ZoneOffsetHourStart,
+    /// Line `hour_digit` of offsets that are time zones: the second digit of the hour has to follow.
+    ZoneOffsetHourDigit,
+    /// Line `hour_range` of offsets that are time zones: the hour is greater than 23.
+    ZoneOffsetHourRange,
+    /// Line `after_hour` of offsets that are time zones: what follows the hour does not fit.
+    ZoneOffsetAfterHour,
+    /// Line `minute_digits` of offsets that are time zones: a digit of the minute has to follow.
+    ZoneOffsetMinuteDigits,
+    /// Line `minute_range` of offsets that are time zones: the minute is greater than 59.
+    ZoneOffsetMinuteRange,
+    /// Line `after_basic_minute` of offsets that are time zones: what follows the minute does not fit. There is no `:` before the
+    /// minute.
+    ZoneOffsetAfterBasicMinute,
+    /// Line `after_colon_minute` of offsets that are time zones: what follows the minute does not fit. There is a `:` before the
+    /// minute.
+    ZoneOffsetAfterColonMinute,
+    /// Line `second_digits` of offsets that are time zones: a digit of the second has to follow.
+    ZoneOffsetSecondDigits,
+    /// Line `second_range` of offsets that are time zones: the second is greater than 59.
+    ZoneOffsetSecondRange,
+    /// Line `after_second` of offsets that are time zones: what follows the second does not fit.
+    ZoneOffsetAfterSecond,
+    /// Line `fraction_start` of offsets that are time zones: a digit of the fraction has to follow.
+    ZoneOffsetFractionStart,
+    /// Line `after_fraction` of offsets that are time zones: what follows the fraction does not fit.
+    ZoneOffsetAfterFraction,
+    // The other lines of offsets
+    /// Line `offset_start`: an offset has to begin.
+    OffsetStart,
+    /// Line `after_zulu`: what follows the `Z` does not fit.
+    AfterZulu,
+    // Date-times of RFC 3339
+    /// Line `four_digits`: a digit of the year, which has four digits, has to follow.
+    FourDigits,
+    /// Line `after_four_digits`: a `-` has to follow the year.
+    AfterFourDigits,
+    /// Line `field_digits month_field`: a digit of the month has to follow.
+    MonthFieldDigits,
+    /// Line `field_digits day_field`: a digit of the day has to follow.
+    DayFieldDigits,
+    /// Line `field_digits hour_field`: a digit of the hour has to follow.
+    HourFieldDigits,
+    /// Line `field_digits minute_field`: a digit of the minute has to follow.
+    MinuteFieldDigits,
+    /// Line `field_digits second_field`: a digit of the second has to follow.
+    SecondFieldDigits,
+    /// Line `field_digits offset_hour_field`: a digit of the hour of the offset has to follow.
+    OffsetHourFieldDigits,
+    /// Line `field_digits offset_minute_field`: a digit of the minute of the offset has to follow.
+    OffsetMinuteFieldDigits,
+    /// Line `field_range month_field`: the month is not 01 to 12.
+    MonthFieldRange,
+    /// Line `field_range day_field`: the day is not a day of the month.
+    DayFieldRange,
+    /// Line `field_range hour_field`: the hour is greater than 23.
+    HourFieldRange,
+    /// Line `field_range minute_field`: the minute is greater than 59.
+    MinuteFieldRange,
+    /// Line `field_range second_field`: the second is greater than 60.
+    SecondFieldRange,
+    /// Line `field_range offset_hour_field`: the hour of the offset is greater than 23.
+    OffsetHourFieldRange,
+    /// Line `field_range offset_minute_field`: the minute of the offset is greater than 59.
+    OffsetMinuteFieldRange,
+    /// Line `after_field month_field`: a `-` has to follow the month.
+    AfterMonthField,
+    /// Line `after_field day_field`: a `T` has to follow the day.
+    AfterDayField,
+    /// Line `after_field hour_field`: a `:` has to follow the hour.
+    AfterHourField,
+    /// Line `after_field minute_field`: a `:` has to follow the minute.
+    AfterMinuteField,
+    /// Line `after_field second_field`: a fraction or an offset has to follow the second.
+    AfterSecondField,
+    /// Line `after_field offset_hour_field`: a `:` has to follow the hour of the offset.
+    AfterOffsetHourField,
+    /// Line `after_field offset_minute_field`: what follows the minute of the offset does not fit.
+    AfterOffsetMinuteField,
+    /// Line `after_point`: a digit of the fraction has to follow.
+    AfterPoint,
+    /// Line `after_secfrac`: another digit of the fraction or an offset has to follow.
+    AfterSecfrac,
+    /// Line `after_utc`: what follows the `Z` does not fit.
+    AfterUtc,
+    // Names of time zones
+    /// Line `identifier_start`: a time zone, which is a name or an offset, has to begin.
+    IdentifierStart,
+    /// Line `zone_name_start`: the name of a time zone has to begin.
+    ZoneNameStart,
+    /// Line `in_zone_name`: what follows a part of the name of a time zone does not fit.
+    InZoneName,
+    /// Line `after_zone_slash`: a character of a name has to follow the `/` in the name of a time zone.
+    AfterZoneSlash,
+    // Brackets
+    /// Line `first_bracket_start`: what follows the `[` of the first bracket does not fit.
+    FirstBracketStart,
+    /// Line `first_critical_start`: what follows the `[!` of the first bracket does not fit.
+    FirstCriticalStart,
+    /// Line `first_bracket_scan`: the first bracket has neither a `=` nor a `]` before the end of the text or before a bad code
+    /// unit.
+    FirstBracketScan,
+    /// Lines `first_dots_form` and `first_name_form`: the name of the time zone is not one of RFC 9557, section 4.1.
+    FirstNameForm,
+    /// Line `first_offset_form`: the offset in the first bracket has no minutes, or no `:` before them.
+    FirstOffsetForm,
+    /// Line `after_bracket`: what follows a bracket does not fit.
+    AfterBracket,
+    // Annotations
+    /// Line `key_start`: a key or a `!` has to follow the `[`.
+    KeyStart,
+    /// Line `critical_key_start`: a key has to follow the `[!`.
+    CriticalKeyStart,
+    /// Line `in_key`: what follows a part of the key does not fit.
+    InKey,
+    /// Line `value_start`: a value has to follow the `=`.
+    ValueStart,
+    /// Line `in_value`: what follows a part of the value does not fit.
+    InValue,
+    /// Line `after_value_hyphen`: a letter or a digit has to follow the `-` in the value.
+    AfterValueHyphen,
+    // Durations
+    /// Line `duration_start`: a duration has to begin.
+    DurationStart,
+    /// Line `after_duration_sign`: a `P` has to follow the sign.
+    AfterDurationSign,
+    /// Line `after_duration_designator`: a number or a `T` has to follow the `P`.
+    AfterDurationDesignator,
+    /// Line `after_date_groups`: what follows the years, months, weeks and days does not fit.
+    AfterDateGroups,
+    /// Line `after_time_designator`: a number has to follow the `T`.
+    AfterTimeDesignator,
+    /// Line `after_time_groups`: what follows the hours, minutes and seconds does not fit.
+    AfterTimeGroups,
+    /// Line `after_fraction_group`: the text has to end after a group with a fraction.
+    AfterFractionGroup,
+    /// Line `group_digits date`: another digit or a unit has to follow the number of years, months, weeks or days.
+    DateGroupDigits,
+    /// Line `group_digits time`: another digit, a fraction or a unit has to follow the number of hours, minutes or seconds.
+    TimeGroupDigits,
+    /// Line `group_value_range date`: the number of years, months, weeks or days is 2^64 or greater.
+    DateGroupRange,
+    /// Line `group_value_range time`: the number of hours, minutes or seconds is 2^64 or greater.
+    TimeGroupRange,
+    /// Line `unit_order date`: the units of years, months, weeks and days are not in their order.
+    DateUnitOrder,
+    /// Line `unit_order time`: the units of hours, minutes and seconds are not in their order.
+    TimeUnitOrder,
+    /// Line `date_unit_range`: the number of years, months or weeks is 2^32 or greater.
+    DateUnitRange,
+    /// Line `group_fraction_start`: a digit of the fraction has to follow.
+    GroupFractionStart,
+    /// Line `group_fraction_digits`: another digit or a unit has to follow the fraction.
+    GroupFractionDigits,
+    // Refused annotations
+    /// An annotation is critical, and its key is not known. There is no line for this.
+    UnrecognizedCritical,
+    /// A later calendar is different from the first one, and one of the two is critical. There is no line for this.
+    CriticalDuplicateCalendar,
+}
+
+const _: () = prove!(size_of::<Reason>() == 1);
