@@ -117,7 +117,7 @@ REMOVED = [phrase(t) for t in ['#![tactic(auto)]', '#[rattlefmt::skip]', 'use st
                                'let common = left.len().min(right.len());', 'self.looks.tick_by(common);', 'self.looks.tick_by(4);',
                                'looks: std::mem::replace(&mut self.looks, Looks::none()),', 'self.keep_looks(here);', 'self.cursor.keep_looks(here);',
                                'cursor.keep_looks(again);', 'cursor.keep_looks(front);', '#[inline(always)] pub fn keep_looks(&mut self, here: Self) { self.looks = here.looks; }',
-                               'impl PartialEq for LocatedError { fn eq(&self, other: &LocatedError) -> bool { self.at == other.at && self.error == other.error } }',
+                               'impl PartialEq for LocatedError { fn eq(&self, other: &LocatedError) -> bool { self.at == other.at && self.reason == other.reason && self.error == other.error } }',
                                'impl PartialEq for ParseError { fn eq(&self, other: &ParseError) -> bool'
                                ' { self.variant_index() == other.variant_index() && self.location() == other.location() } }',
                                'impl ParseError { fn location(&self) -> &\'static str'
