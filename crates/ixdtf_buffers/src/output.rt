@@ -7,8 +7,8 @@ use crate::sink::Sink;
 use crate::waiting::{WAITING_LIMIT, Waiting};
 
 /// The least number of bytes that are written to the sink when the buffer is full. This is half of the buffer. So after such a
-/// write, at least half of the buffer is free again. Most of the next slices then fit into the buffer completely, and few
-/// slices have to be written in two parts.
+/// write, at least half of the buffer is free again. Most of the next slices then fit into this free part, and few slices
+/// have to be split into two parts.
 const LEAST_WRITTEN: usize = 2048;
 
 /// A sink, and a buffer for the bytes that are not written to it yet.

@@ -37,8 +37,8 @@ fn place_in_few(wanted: u8, bytes: &[u8]) -> Option<usize>
 ///
 /// The last comparison takes the last `LANES` bytes. Some of these bytes can have been compared before.
 ///
-/// A former version of this function compared all bytes one by one. It took five instructions for each byte, which was a
-/// quarter to a third of the work on a line of a log.
+/// A former version of this function compared all bytes one by one. It took five instructions for each byte. For the lines
+/// of a log file, this was a quarter to a third of all the work.
 #[inline(always)]
 fn place_in_many(wanted: u8, bytes: &[u8]) -> Option<usize>
     requires { 16 ≤ length bytes.now }
@@ -62,7 +62,8 @@ fn place_in_many(wanted: u8, bytes: &[u8]) -> Option<usize>
     }
 }
 
-/// Compares `LANES` bytes from the index `start` on with `wanted`. Returns one bit for each byte, the lowest bit for the first byte.
+/// Compares each of the `LANES` bytes that begin at the index `start` with `wanted`. Returns one bit for each byte, the lowest bit
+/// for the first byte.
 #[inline(always)]
 fn marks_from(wanted: u8, bytes: &[u8], start: usize) -> u64
     requires { start + 16 ≤ length bytes.now }
@@ -81,8 +82,8 @@ pub struct Passed {
     pub left: usize,
 }
 
-/// Skips bytes in steps of 16, and counts those that are equal to `wanted`. Stops before the step in which this number would reach
-/// `count`.
+/// Skips bytes in steps of 16, and counts the skipped bytes that are equal to `wanted`. Stops before the step in which their number
+/// would reach `count`.
 ///
 /// For example, if `wanted` is `b','` and `count` is 3, the function stops before the step that contains the third comma. The
 /// function also stops if fewer than 16 bytes are left.

@@ -11,7 +11,7 @@
 //! compiler can keep the index in a register.
 
 /// The size in bytes of the array in which `ixdtf_lines` makes an answer. Three parts of an answer are not written into this array:
-/// the name of a time zone, a calendar, and a canonical text. The other parts fit into it.
+/// the calendar, the name of the time zone, and the canonical text. All other parts together fit into it.
 pub const ROOM: usize = 192;
 
 /// The number of digits of the greatest `u64`.
@@ -96,7 +96,7 @@ pub fn add_signed<const SIZE: usize>(room: &mut [u8; SIZE], at: usize, number: i
     }
 }
 
-/// Writes a number that has a sign, or not exactly four digits, and returns the index after it.
+/// Writes a number that is negative, or that does not have exactly four digits, and returns the index after it.
 #[cold]
 #[inline(never)]
 fn add_other_signed<const SIZE: usize>(room: &mut [u8; SIZE], at: usize, number: i32) -> usize {
@@ -110,8 +110,8 @@ fn add_other_signed<const SIZE: usize>(room: &mut [u8; SIZE], at: usize, number:
 
 /// Writes a number below 100 from the index on, and returns the index after it.
 ///
-/// The function always writes the tens digit first. If the number is below 10, the ones digit overwrites it. So the code
-/// does not branch on the number.
+/// The function always writes the tens digit first, and then the ones digit. For a number below 10, both have the same index, so
+/// the ones digit overwrites the tens digit. So the code does not branch on the number.
 #[inline(always)]
 fn add_below_100<const SIZE: usize>(room: &mut [u8; SIZE], at: usize, number: u8) -> usize {
     let last = last_place(at, number);

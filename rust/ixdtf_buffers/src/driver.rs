@@ -30,17 +30,17 @@ pub struct Driven {
     pub end: Result<(), RunError>,
 }
 
-/// Reads the source up to its end or an error, and passes each line to the task. The task writes its results to the sink.
+/// Reads the source up to its end or an error, and passes each line to the task. The task writes its results to an output, which is
+/// a buffer in front of the sink.
 ///
 /// A newline ends a line. If bytes follow the last newline, they are the last line. A source without a newline is one line,
 /// unless it is empty.
 ///
-/// Before each read, the function writes the results of all lines so far to the sink. At the end of the source, it writes the
-/// results of the last lines, and then it flushes the sink. If a read fails, the sink is not flushed, and bytes after the last
-/// newline are not passed to the task.
+/// Before each read, the function writes what is in the buffer to the sink. At the end of the source, it does this again, and then
+/// it flushes the sink. If a read fails, the sink is not flushed, and bytes after the last newline are not passed to the task.
 ///
-/// A read asks for at most `LIMIT` bytes. Before each read, the function adds `LIMIT` to the total number of bytes that were read
-/// so far. If the sum is greater than `u64::MAX`, the function does not read, and ends as if a read had failed: [`Driven::end`] is
+/// A read asks for at most `LIMIT` bytes. Before each read, the function tests whether `LIMIT` bytes more than were read so far
+/// would be more than `u64::MAX`. If so, it does not read, and ends as if a read had failed: [`Driven::end`] is
 /// `Err(RunError::Read)`.
 pub fn drive<S: Source, K: Sink, T: LineTask<LIMIT>, const LIMIT: usize>(
     source: &mut S,
@@ -53,8 +53,8 @@ pub fn drive<S: Source, K: Sink, T: LineTask<LIMIT>, const LIMIT: usize>(
     Driven { bytes, end }
 }
 
-/// Does the work of `drive` with an output whose buffer is empty. Increases `bytes` by the number of bytes that the function
-/// reads.
+/// Does the work of `drive`. The buffer of the output must be empty when the function is called. Increases `bytes` by the number of
+/// bytes that the function reads.
 fn drive_all<S: Source, K: Sink, T: LineTask<LIMIT>, const LIMIT: usize>(
     source: &mut S,
     output: &mut Output<'_, K>,
@@ -94,7 +94,7 @@ fn take_bytes<K: Sink, T: LineTask<LIMIT>, const LIMIT: usize>(
 
 /// Passes a line to the task, and begins the next line. `bytes` are the last bytes of the line.
 ///
-/// If no earlier bytes of the line are kept, `bytes` is the complete line, and is not copied.
+/// If the line began in this read, `bytes` is the complete line, and is passed on without a copy.
 #[inline(always)]
 fn end_line<K: Sink, T: LineTask<LIMIT>, const LIMIT: usize>(
     output: &mut Output<'_, K>,
@@ -110,7 +110,7 @@ fn end_line<K: Sink, T: LineTask<LIMIT>, const LIMIT: usize>(
 
 /// Does the work of `end_line` for a line whose first bytes are kept, or that is too long.
 ///
-/// The function is not inlined, because at most one such line ends in the bytes of a read.
+/// The function is not inlined, because it is called rarely: at most once for each read.
 #[inline(never)]
 fn end_kept_line<K: Sink, T: LineTask<LIMIT>, const LIMIT: usize>(
     output: &mut Output<'_, K>,

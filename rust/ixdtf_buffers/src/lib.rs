@@ -4,7 +4,7 @@
 //! search for a byte, and functions that write short texts and decimal numbers into arrays.
 //!
 //! A *run* is one call of [`drive`](crate::driver::drive). It reads a *source* line by line, and passes each line to a
-//! *task*. The task writes its results to a *sink*.
+//! *task*. The task writes its results to an *output*, which is a buffer in front of a *sink*.
 //!
 //! Nothing in this crate allocates, because each buffer is an array of fixed size. The crate uses only the standard library.
 
