@@ -13,7 +13,7 @@ returns g c =
     c.parse_rfc3339_text.result c.default-found.ensures c.parse_rfc3339_text.ensures.kept c.parse_rfc3339_text.ensures.date_time in
     let gives = located g.T.EncodingType.letter (parsed_of g.T.EncodingType.number) reader_rfc3339 dated (λ x y e. cc) tt (rfc_3339_at error_of) c.fork-here.result
     c.parse_rfc3339_text.new.cursor refl _ (rfc_3339_read error_of _) _ (c.fork-here.ensures.rest ∙ ap (λ (u : Unread). u.rest) (sym c.fork-here.ensures.same)) _ _
-    read settled tt in
+    read settled (rw c.in-Ok.is tt) in
     let plain = gives.plain in
     let spent = c.parse_rfc3339_text.ensures.looks in
     rw (← c.self.view_is, ← c.fork-here.ensures.same) (record {
@@ -21,6 +21,8 @@ returns g c =
         ok = plain.ok;
         err = gives.err;
         place = gives.place;
+        reason = gives.reason;
+        one_reason = gives.one_reason;
         no_row = plain.no_row;
         only = plain.only;
         leaves = record { empty = plain.empty _ refl; unchanged = tt; comes = tt; looks = omega (arith, spent.0); counted = omega (arith, spent.1) };
@@ -36,9 +38,9 @@ returns-in-Err g c =
     c.parse_rfc3339_text.result c.default-found.ensures c.parse_rfc3339_text.ensures.kept c.parse_rfc3339_text.ensures.date_time in
     let gives = located g.T.EncodingType.letter (parsed_of g.T.EncodingType.number) reader_rfc3339 dated (λ x y e. cc) tt (rfc_3339_at error_of) c.fork-here.result
     c.parse_rfc3339_text.new.cursor refl _ (rfc_3339_read error_of _) _ (c.fork-here.ensures.rest ∙ ap (λ (u : Unread). u.rest) (sym c.fork-here.ensures.same)) _ _
-    read settled (rw (c.saturating_sub-at.ensures, c.remaining.ensures, c.remaining-in-Err.ensures) at c.error_at-error.ensures.place) in
+    read settled (rw c.in-Err.is (rw (c.saturating_sub-at.ensures, c.remaining.ensures, c.remaining-in-Err.ensures) at c.error_at-error.ensures.place)) in
     let plain = gives.plain in
     rw (← c.self.view_is, ← c.fork-here.ensures.same) (record {
-      reads = record { ok = plain.ok; err = gives.err; place = gives.place; no_row = plain.no_row; only = plain.only; leaves = search rules };
+      reads = record { ok = plain.ok; err = gives.err; place = gives.place; reason = gives.reason; one_reason = gives.one_reason; no_row = plain.no_row; only = plain.only; leaves = search rules };
       profile = search rules;
     })

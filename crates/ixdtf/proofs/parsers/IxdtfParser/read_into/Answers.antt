@@ -18,7 +18,7 @@ returns-in-Err g c =
           map letter left,
           omega (arith, short, ap (λ (t : List ℕ). length t) taken, length-map left letter, length-map c.fork-here.result.rest letter, c.saturating_sub-at.ensures, c.remaining.ensures, c.remaining-in-Err.ensures),
           replied,
-          c.code.ensures _ c.next-next.ensures.next,
+          c.code_of.ensures _ c.next-next.ensures.next,
         );
         leaves = search rules;
         profile = search rules;
