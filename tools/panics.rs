@@ -93,7 +93,7 @@ pub extern "C" fn _start() -> ! {
     #[cfg(readers)]
     wide(black_box(&[]));
     #[cfg(display)]
-    show(black_box(LocatedError { error: ixdtf::ParseError::InvalidEnd, at: 0 }), black_box(""));
+    show(black_box(LocatedError { error: ixdtf::ParseError::InvalidEnd, at: 0, reason: ixdtf::Reason::AfterDate }), black_box(""));
     #[cfg(printer)]
     printed(black_box(&ixdtf::records::IxdtfParseRecord::default()), black_box(&mut [0; 64]));
     loop {}
