@@ -33,6 +33,8 @@ fn show(error: LocatedError, text: &str) {
     let _ = black_box(error.error.to_static_string());
     let _ = write!(Nowhere, "{error}");
     let _ = write!(Nowhere, "{}", error.in_text(text));
+    let _ = write!(Nowhere, "{}", error.message_in(text.as_bytes()));
+    black_box(error.part_in(text.as_bytes()));
 }
 
 macro_rules! of_records {

@@ -1014,14 +1014,14 @@ def reason_text(reason: Reason, units: Sequence[int], wide: bool = False, strict
     """The text of a reason: what stands in the text, and what was expected."""
     line, way, begin, end, follow = reason
     letter = letters_of(units[begin:begin + 1], wide)
-    template = reasons.template(reasons.texts_of(line, follow, strict, begin), way, letter)
+    template = reasons.template(reasons.texts_of(line, follow, begin), way, letter)
     return reasons.filled(template, line, units, begin, end, wide)
 
 
 def hints_of(name: str, found: Refusal, units: Sequence[int], wide: bool = False, strict: bool = False) -> list[str]:
     """The hints for a text that a reader refuses, at most one."""
-    line, way, begin, _, follow = found.reason
-    texts = reasons.texts_of(line, follow, strict, begin)
+    line, way, begin, end, follow = found.reason
+    texts = reasons.texts_of(line, follow, begin)
     ends_here = texts.other is not None and texts.end is None
     text = ''.join(map(chr, units))
     return hints.hints(hints.Case(name, line, way, text, found.fault.place, ends_here, ends_here and '`[`' in texts.other))

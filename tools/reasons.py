@@ -173,8 +173,8 @@ TIMES_ALONE = {
 }
 
 
-def date_time_texts(follow: Follow) -> dict[str, Texts]:
-    """The texts of the lines of date-times of RFC 3339. `follow` is what may follow the offset."""
+def date_time_texts() -> dict[str, Texts]:
+    """The texts of the lines of date-times of RFC 3339. After the offset, `parse_rfc9557` reads brackets too. The texts do not name them."""
     parts = {'month_field': 'month', 'day_field': 'day', 'hour_field': 'hour', 'minute_field': 'minute', 'second_field': 'second',
              'offset_hour_field': "offset's hour", 'offset_minute_field': "offset's minute"}
     ranges = {'month_field': ('01', '12'), 'day_field': ('01', '{last}'), 'hour_field': ('00', '23'), 'minute_field': ('00', '59'),
@@ -193,14 +193,15 @@ def date_time_texts(follow: Follow) -> dict[str, Texts]:
         'after_secfrac': Texts('the text ends after the fraction; expected an offset',
                                'expected a digit or an offset after the fraction, found {char}'),
         'after_field offset_hour_field': needs("the offset's hour", '`:`', 'its minute'),
-        'after_field offset_minute_field': after_part("the offset's minute", *follow),
-        'after_utc': after_part('`Z`', *follow),
+        'after_field offset_minute_field': after_part("the offset's minute", 'the end'),
+        'after_utc': after_part('`Z`', 'the end'),
     }
 
 
 # ---------------------------------------------------------------------------------------------------------------------------------
 # Zone names, brackets and annotations
 
+NAME_FORM = Texts(whole="a part of the time zone's name does not begin with a letter, and has to")
 ZONES = {
     'identifier_start': Texts('the text is empty; expected a time zone',
                               'expected a letter, `+` or `-` at the start of the time zone, found {char}'),
@@ -208,8 +209,8 @@ ZONES = {
                              "expected a letter at the start of the time zone's name, found {char}"),
     'after_zone_slash': Texts("the text ends after `/`; expected more of the time zone's name",
                               "expected more of the time zone's name after `/`, found {char}"),
-    'first_dots_form': Texts(whole="a part of the time zone's name is `.` or `..`, and has to be a name"),
-    'first_name_form': Texts(whole="a part of the time zone's name does not begin with a letter, and has to"),
+    'first_dots_form': NAME_FORM,
+    'first_name_form': NAME_FORM,
     'first_offset_form': Texts(whole="the time zone's offset has no `:`, and has to be like `+05:30`"),
 }
 BRACKETS = {
@@ -272,9 +273,9 @@ DURATIONS = {
 }
 
 
-def unit_order_texts(units: str, strict: bool) -> Texts:
+def unit_order_texts(units: str) -> Texts:
     """The text of a duration unit that is out of order."""
-    return Texts(whole=f'the unit {{char}} stands too late; the order is {units}' + (', each once' if strict else ''))
+    return Texts(whole=f'the unit {{char}} stands too late; the order is {units}, each once')
 
 
 # ---------------------------------------------------------------------------------------------------------------------------------
@@ -284,19 +285,19 @@ WITHOUT_READERS = {**DATES, **TIMES_ALONE, **ZONES, **BRACKETS, **REFUSED_ANNOTA
 UNIT_ORDERS = {'unit_order date': 'Y, M, W, D', 'unit_order time': 'H, M, S'}
 
 
-def texts_of(line: str, follow: Follow = (), strict: bool = False, begin: int = 0) -> Texts:
-    """The texts of a line. Those of some lines depend on what may follow a complete part, on the profile, or on whether the text is wrong
-    from its beginning (`begin` is 0)."""
+def texts_of(line: str, follow: Follow = (), begin: int = 0) -> Texts:
+    """The texts of a line. Those of some lines depend on what may follow a complete part, or on whether the text is wrong from its
+    beginning (`begin` is 0)."""
     if line == 'four_digits':
         return DATES['year_digits'] if begin else EMPTY_YEAR
     if line == 'in_zone_name':
         return zone_name_texts(follow)
     if line in UNIT_ORDERS:
-        return unit_order_texts(UNIT_ORDERS[line], strict)
+        return unit_order_texts(UNIT_ORDERS[line])
     if line in WITHOUT_READERS:
         return WITHOUT_READERS[line]
     name, _, clock = line.partition(' ')
-    return clock_texts(clock, follow)[name] if clock in ('Time', 'Offset', 'MinuteOffset') else date_time_texts(follow)[line]
+    return clock_texts(clock, follow)[name] if clock in ('Time', 'Offset', 'MinuteOffset') else date_time_texts()[line]
 
 
 def template(texts: Texts, way: str, letter: str) -> str:

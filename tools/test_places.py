@@ -193,7 +193,7 @@ def texts_of_model() -> Iterator[tuple[str, str, str, str]]:
     """The texts of the model: for each one the line, the way, the letters at which it is said, and the text."""
     for strict, its_readers in places.READERS.items():
         for line, begin in itertools.product([line for reader in its_readers.values() for line in reader.lines], (0, 1)):
-            texts = reasons.texts_of(line.name, line.follow, strict, begin)
+            texts = reasons.texts_of(line.name, line.follow, begin)
             ways = {row for row, _ in rows_of(line)}
             if places.AT_OTHER in ways:
                 ways.remove(places.AT_BAD)
@@ -212,7 +212,7 @@ class Texts(unittest.TestCase):
     def test_numbers(self):
         lines = {it.line for it in reason_texts()} - {'UnrecognizedCritical', 'CriticalDuplicateCalendar'}
         self.assertEqual(lines, {line.name for reader in places.READERS[False].values() for line in reader.lines})
-        self.assertEqual((len(lines), len({it.text for it in reason_texts()})), (120, 155))
+        self.assertEqual((len(lines), len({it.text for it in reason_texts()})), (120, 151))
 
     def test_examples(self):
         for it in reason_texts():
@@ -359,7 +359,7 @@ P1D2H
     ^
 hint: write `T` before hours, minutes and seconds
 $ duration P1W2Y
-the unit `Y` stands too late; the order is Y, M, W, D
+the unit `Y` stands too late; the order is Y, M, W, D, each once
 P1W2Y
    ^^
 $ duration P99999999999999999999999D
@@ -548,8 +548,8 @@ class WrongModels(unittest.TestCase):
         """Whether an example shows that a line has the text of another line."""
         right = reasons.texts_of
 
-        def swapped(name, follow=(), strict=False, begin=0):
-            return right(other.name, other.follow or follow, strict, begin) if name == line.name else right(name, follow, strict, begin)
+        def swapped(name, follow=(), begin=0):
+            return right(other.name, other.follow or follow, begin) if name == line.name else right(name, follow, begin)
         shown = [it for it in examples() if it.line == line.name]
         with mock.patch.object(reasons, 'texts_of', swapped):
             try:

@@ -73,7 +73,7 @@ FOR_C = ('#![cfg_attr(not(test), no_std)]\n', '\n#[cfg(not(test))]\nmod abort;\n
 # the layers of the library, and where their modules go in the crate that is made from all of them
 LAYERS = {
     'ixdtf_instants': 'civil days display instant'.split(),
-    'ixdtf_grammar': 'encoding error instants located packed pointed reason records parsers/profile'.split(),
+    'ixdtf_grammar': 'encoding error instants located message packed part pointed reason records parsers/profile'.split(),
     'ixdtf_reading': 'cursor classes stop parsers/annotations parsers/letters'.split(),
     'ixdtf_times': 'parsers/date_times parsers/dates parsers/months parsers/offsets parsers/rfc3339 parsers/time'.split(),
     'ixdtf_brackets': 'parsers/brackets parsers/exact_zones parsers/zone'.split(),
@@ -177,11 +177,11 @@ STD_PATHS = {'std::str::from_utf8', 'std::fmt', 'std::error::Error', 'std::marke
              'std::io::Write', 'std::io::Read', 'std::fmt::Write', 'std::str', 'std::hash::Hash', 'std::hash::{Hash,Hasher}'}
 STD_METHODS = set('get len split_at is_ascii_digit is_ascii_alphabetic is_ascii_lowercase write_str as_bytes then_some pow is_ok'
                   ' is_none to_le_bytes saturating_add saturating_sub min map copied checked_mul checked_add unsigned_abs'
-                  ' is_ascii_alphanumeric as_slice iter position is_empty copy_from_slice read write flush digit_count leading_value'
+                  ' is_ascii_alphanumeric as_slice iter position all contains first is_empty valid_up_to copy_from_slice read write flush digit_count leading_value'
                   ' chars len_utf8 is_control encode_utf8 last is_some unwrap_or starts_with parse checked_sub ok max as_ref copy_within is_ascii ilog10 split_once enumerate'
                   ' hash into is_ascii_graphic wrapping_sub div_euclid rem_euclid eq_ignore_ascii_case'.split())
 # methods of the iterators over the characters of a text, and the heads of the types that they return
-ON_CHARACTERS = {('Chars', 'take'): 'Chars', ('Chars', 'skip'): 'Chars', ('Chars', 'count'): 'usize'}
+ON_CHARACTERS = {('Chars', 'next'): 'Option', ('Chars', 'take'): 'Chars', ('Chars', 'skip'): 'Chars', ('Chars', 'count'): 'usize'}
 CALLED_ON_CHARACTERS = {method for _, method in ON_CHARACTERS}
 OWN_PATHS = {'self', 'crate', 'Self', 'T', 'C', 'E', 'L'}
 HIDDEN = '# [ doc ( hidden ) ] pub fn'.split()
@@ -197,7 +197,7 @@ TOKEN = re.compile(r'''
  |(?P<doc>///(?!/)[^\n]*|//![^\n]*)
  |(?P<comment>//[^\n]*)
  |(?P<string>b?"(?:[^"\\\n]|\\(?:[nrt0\\'"]|x[0-9a-fA-F]{2}|u\{[0-9a-fA-F]+\}))*")
- |(?P<char>b?'(?:[^'\\\n]|\\(?:[nrt0\\'"]|x[0-9a-fA-F]{2}))')
+ |(?P<char>b?'(?:[^'\\\n]|\\(?:[nrt0\\'"]|x[0-9a-fA-F]{2}|u\{[0-9a-fA-F]{1,6}\}))')
  |(?P<life>'[a-z_]+(?!'))
  |(?P<word>(?!r\#|b?r"|b?r\#)[A-Za-z_][A-Za-z_0-9]*)
  |(?P<number>[0-9][A-Za-z_0-9]*)

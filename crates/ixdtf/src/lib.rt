@@ -41,5 +41,6 @@ pub mod laws;
 pub mod parsers;
 
 pub use ixdtf_grammar::{
-    Instant, LocatedError, ParseError, ParserResult, PointedText, Reason, encoding, records,
+    Instant, LocatedError, Message, ParseError, ParserResult, PointedText, Reason, WrongPart,
+    encoding, records,
 };

@@ -1,5 +1,5 @@
 -- Laws about the instants of dates, times and offsets.
-use Rattle.std.specs.Prelude.{◌≡◌, ◌↔◌, ◌⊎◌, ℕ, ◌+◌, ◌*◌, ◌<◌, ◌≤◌, ◌^◌, min, map, Some, None, ℤ, pos, neg_ℤ, ◌+ℤ◌, ◌-ℤ◌, ◌<ℤ◌, ◌≤ℤ◌}
+use Rattle.std.specs.Prelude.{◌≡◌, ◌↔◌, ◌⊎◌, ◌+◌, ◌*◌, ◌<◌, ◌≤◌, ◌^◌, min, map, Some, None, pos, neg_ℤ, ◌+ℤ◌, ◌-ℤ◌, ◌<ℤ◌, ◌≤ℤ◌}
 use Rattle.ixdtf_instants.specs.{declared.instant.Instant.{Instant}, Calendar.{IsCivilDate, month_length, day_number_of}, Counts.count_of, Texts.instant_text}
 use Rattle.ixdtf_grammar.specs.declared.records.{DateRecord.DateRecord, TimeRecord.TimeRecord, UtcOffsetRecordOrZ.{UtcOffsetRecordOrZ, TheVariants.{Z}}}
 use Rattle.ixdtf_grammar.specs.{Handlers.UnhandledRecord, language.{Letters.Letter.Plain, Languages.Parsed, Readers.parse}}

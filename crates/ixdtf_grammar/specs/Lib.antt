@@ -4,6 +4,8 @@ pub mod Instants
 pub mod Laws
 pub mod LocatedEquality
 pub mod LocatedTexts
+pub mod Messages
+pub mod Parts
 pub mod Places
 pub mod Promises
 pub mod Rfc3339Laws

@@ -21,15 +21,17 @@
 //! - Under one profile, a text is in the grammar of at most one text reader.
 //! - Suppose that a row of a line fits a text with a bad code unit. There are two cases. In the first case, the error
 //!   of the row is `NonAsciiCodePoint`, and its position is the first bad code unit. In the second case, the code units
-//!   before the first bad one decide the error. For every text that begins with them, some row of the same line fits,
-//!   and it has the same error.
+//!   before the first bad one decide the error. Every other text that begins with these
+//!   code units is also fitted by a row of this line, and the error of that row is the same.
 #![tactic(auto)]
 
 pub mod encoding;
 mod error;
 mod instants;
 mod located;
+mod message;
 pub mod packed;
+mod part;
 mod pointed;
 pub mod profile;
 mod reason;
@@ -38,6 +40,8 @@ pub mod records;
 pub use error::ParseError;
 pub use ixdtf_instants::Instant;
 pub use located::LocatedError;
+pub use message::Message;
+pub use part::WrongPart;
 pub use pointed::PointedText;
 pub use reason::Reason;
 

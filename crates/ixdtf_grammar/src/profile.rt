@@ -53,8 +53,8 @@ impl Profile {
     /// repeated.
     ///
     /// Each duration unit has a *rank*. In each part of a duration, the longest unit has the rank 1, the next shorter
-    /// unit has the rank 2, and so on. The rank of a unit must be greater than the rank of the unit directly before it
-    /// by at least the result of this function.
+    /// unit has the rank 2, and so on. The rank of a unit must be at least the rank of the unit directly before it
+    /// plus the result of this function.
     #[inline(always)]
     #[doc(hidden)]
     pub fn least_step(self) -> u8

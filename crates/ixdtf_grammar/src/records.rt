@@ -479,7 +479,8 @@ pub enum TimeDurationRecord {
 /// public interface.
 ///
 /// While digits are read one by one, their value is an ordinary number. A [`Fraction`] stores its value in a packed
-/// form, as eight bytes. The code that Rattle's compiler produces needs about 50 instructions to pack a value. So the
+/// form, as eight bytes. This crate is written in Rattle, which is Rust with
+/// contracts. The code that Rattle's compiler produces needs about 50 instructions to pack a value. So the
 /// value is packed only once, after the last of these digits.
 #[doc(hidden)]
 #[derive(Clone, Copy, Debug)]

@@ -5,12 +5,15 @@
 use core::error::Error;
 use core::fmt;
 
-/// The reason why a reader refused a text, such as `InvalidMonthRange` for `2021-13-01`.
+/// The error that a reader returns when it refuses a text, such as `InvalidMonthRange` for `2021-13-01`.
 ///
-/// `CriticalDuplicateCalendar` and `UnrecognizedCritical` are about annotations: about those that the handler returned,
-/// or, without a handler, about those in the text. Each other error that a reader returns is in the fault table,
-/// `docs/FAULTS.md` of the repository, with its position in the text. The names and the messages are those of `ixdtf`
-/// 0.6.7 of ICU4X, with its spelling.
+/// A caller can pass a *handler* to a reader: a function that gets each annotation, and returns an annotation or `None`.
+/// `CriticalDuplicateCalendar` and `UnrecognizedCritical` are about the annotations that the handler returned. Without a handler,
+/// they are about all annotations of the text. Each other error that a reader returns is in the fault table, `docs/FAULTS.md` of
+/// the repository, with its position in the text.
+///
+/// The names and the messages are those of another crate, `ixdtf` 0.6.7 of the project ICU4X. Its spelling mistakes, such as
+/// `DurationDisgnator`, are kept.
 ///
 /// # Examples
 ///
@@ -119,7 +122,7 @@ pub enum ParseError {
     /// No reader returns this error.
     AnnotationOpen,
     /// A bracket is not closed. This is the error if the text ends after the value in a bracket or after the offset in
-    /// a bracket, or if another character than `]`, a colon or a digit follows this offset. This is also the error if
+    /// a bracket, or if this offset is followed by a character that is neither `]` nor a colon nor a digit. This is also the error if
     /// the text ends after the name of a zone, and the name does not begin with a lowercase letter or `_`.
     AnnotationClose,
     /// No reader returns this error.
@@ -129,8 +132,7 @@ pub enum ParseError {
     /// In a bracket that is not the first one, the key begins with a character that cannot begin a key. This is also
     /// the error if the text ends there.
     AnnotationKeyLeadingChar,
-    /// The key of an annotation contains a character that a key cannot contain. The `=` that ends the key is not such a
-    /// character.
+    /// The key of an annotation contains a character that a key cannot contain, and that is not the `=` after it.
     AnnotationKeyChar,
     /// In the value of an annotation, no ASCII letter or digit follows a hyphen. This is also the error if the text
     /// ends there.

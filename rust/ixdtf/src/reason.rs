@@ -6,8 +6,13 @@
 ///
 /// The fault table is in `docs/FAULTS.md` of the repository. Each variant names the line of the table that fits the text. The line
 /// says what the text has before the position of the error, and what may follow there. Several reasons can have the same
-/// [`ParseError`](crate::ParseError), and one reason can have several errors: one at the end of the text, and others at other code
-/// units.
+/// [`ParseError`](crate::ParseError), and one reason can have several errors: one if the text ends at the position, and others that
+/// depend on the code unit at the position.
+///
+/// A line of the table is for one place in a text. If the name of a line has two words, as `field_digits month_field`, the second
+/// word is the part of the text. Some lines have the same name for times, for offsets, and for offsets that are time zones: each
+/// has
+/// its own variant.
 ///
 /// # Examples
 ///
@@ -149,15 +154,15 @@ pub enum Reason {
     /// Line `after_colon_minute` of offsets that are time zones: what follows the minute does not fit. There is a `:` before the
     /// minute.
     ZoneOffsetAfterColonMinute,
-    /// Line `second_digits` of offsets that are time zones: a digit of the second has to follow.
+    /// Line `second_digits` of offsets that are time zones. No text has this reason, because such an offset has no seconds.
     ZoneOffsetSecondDigits,
-    /// Line `second_range` of offsets that are time zones: the second is greater than 59.
+    /// Line `second_range` of offsets that are time zones. No text has this reason, because such an offset has no seconds.
     ZoneOffsetSecondRange,
-    /// Line `after_second` of offsets that are time zones: what follows the second does not fit.
+    /// Line `after_second` of offsets that are time zones. No text has this reason, because such an offset has no seconds.
     ZoneOffsetAfterSecond,
-    /// Line `fraction_start` of offsets that are time zones: a digit of the fraction has to follow.
+    /// Line `fraction_start` of offsets that are time zones. No text has this reason, because such an offset has no seconds.
     ZoneOffsetFractionStart,
-    /// Line `after_fraction` of offsets that are time zones: what follows the fraction does not fit.
+    /// Line `after_fraction` of offsets that are time zones. No text has this reason, because such an offset has no seconds.
     ZoneOffsetAfterFraction,
     // The other lines of offsets
     /// Line `offset_start`: an offset has to begin.
@@ -165,57 +170,61 @@ pub enum Reason {
     /// Line `after_zulu`: what follows the `Z` does not fit.
     AfterZulu,
     // Date-times of RFC 3339
-    /// Line `four_digits`: a digit of the year, which has four digits, has to follow.
+    /// Line `four_digits`, in `parse_rfc3339` and `parse_rfc9557`: a digit of the year, which has four digits, has to follow.
     FourDigits,
-    /// Line `after_four_digits`: a `-` has to follow the year.
+    /// Line `after_four_digits`, in `parse_rfc3339` and `parse_rfc9557`: a `-` has to follow the year.
     AfterFourDigits,
-    /// Line `field_digits month_field`: a digit of the month has to follow.
+    /// Line `field_digits month_field`, in `parse_rfc3339` and `parse_rfc9557`: a digit of the month has to follow.
     MonthFieldDigits,
-    /// Line `field_digits day_field`: a digit of the day has to follow.
+    /// Line `field_digits day_field`, in `parse_rfc3339` and `parse_rfc9557`: a digit of the day has to follow.
     DayFieldDigits,
-    /// Line `field_digits hour_field`: a digit of the hour has to follow.
+    /// Line `field_digits hour_field`, in `parse_rfc3339` and `parse_rfc9557`: a digit of the hour has to follow.
     HourFieldDigits,
-    /// Line `field_digits minute_field`: a digit of the minute has to follow.
+    /// Line `field_digits minute_field`, in `parse_rfc3339` and `parse_rfc9557`: a digit of the minute has to follow.
     MinuteFieldDigits,
-    /// Line `field_digits second_field`: a digit of the second has to follow.
+    /// Line `field_digits second_field`, in `parse_rfc3339` and `parse_rfc9557`: a digit of the second has to follow.
     SecondFieldDigits,
-    /// Line `field_digits offset_hour_field`: a digit of the hour of the offset has to follow.
+    /// Line `field_digits offset_hour_field`, in `parse_rfc3339` and `parse_rfc9557`: a digit of the hour of the offset has to
+    /// follow.
     OffsetHourFieldDigits,
-    /// Line `field_digits offset_minute_field`: a digit of the minute of the offset has to follow.
+    /// Line `field_digits offset_minute_field`, in `parse_rfc3339` and `parse_rfc9557`: a digit of the minute of the offset has to
+    /// follow.
     OffsetMinuteFieldDigits,
-    /// Line `field_range month_field`: the month is not 01 to 12.
+    /// Line `field_range month_field`, in `parse_rfc3339` and `parse_rfc9557`: the month is not 01 to 12.
     MonthFieldRange,
-    /// Line `field_range day_field`: the day is not a day of the month.
+    /// Line `field_range day_field`, in `parse_rfc3339` and `parse_rfc9557`: the day is not a day of the month.
     DayFieldRange,
-    /// Line `field_range hour_field`: the hour is greater than 23.
+    /// Line `field_range hour_field`, in `parse_rfc3339` and `parse_rfc9557`: the hour is greater than 23.
     HourFieldRange,
-    /// Line `field_range minute_field`: the minute is greater than 59.
+    /// Line `field_range minute_field`, in `parse_rfc3339` and `parse_rfc9557`: the minute is greater than 59.
     MinuteFieldRange,
-    /// Line `field_range second_field`: the second is greater than 60.
+    /// Line `field_range second_field`, in `parse_rfc3339` and `parse_rfc9557`: the second is greater than 60.
     SecondFieldRange,
-    /// Line `field_range offset_hour_field`: the hour of the offset is greater than 23.
+    /// Line `field_range offset_hour_field`, in `parse_rfc3339` and `parse_rfc9557`: the hour of the offset is greater than 23.
     OffsetHourFieldRange,
-    /// Line `field_range offset_minute_field`: the minute of the offset is greater than 59.
+    /// Line `field_range offset_minute_field`, in `parse_rfc3339` and `parse_rfc9557`: the minute of the offset is greater than 59.
     OffsetMinuteFieldRange,
-    /// Line `after_field month_field`: a `-` has to follow the month.
+    /// Line `after_field month_field`, in `parse_rfc3339` and `parse_rfc9557`: a `-` has to follow the month.
     AfterMonthField,
-    /// Line `after_field day_field`: a `T` has to follow the day.
+    /// Line `after_field day_field`, in `parse_rfc3339` and `parse_rfc9557`: a `T` has to follow the day.
     AfterDayField,
-    /// Line `after_field hour_field`: a `:` has to follow the hour.
+    /// Line `after_field hour_field`, in `parse_rfc3339` and `parse_rfc9557`: a `:` has to follow the hour.
     AfterHourField,
-    /// Line `after_field minute_field`: a `:` has to follow the minute.
+    /// Line `after_field minute_field`, in `parse_rfc3339` and `parse_rfc9557`: a `:` has to follow the minute.
     AfterMinuteField,
-    /// Line `after_field second_field`: a fraction or an offset has to follow the second.
+    /// Line `after_field second_field`, in `parse_rfc3339` and `parse_rfc9557`: a fraction or an offset has to follow the second.
     AfterSecondField,
-    /// Line `after_field offset_hour_field`: a `:` has to follow the hour of the offset.
+    /// Line `after_field offset_hour_field`, in `parse_rfc3339` and `parse_rfc9557`: a `:` has to follow the hour of the offset.
     AfterOffsetHourField,
-    /// Line `after_field offset_minute_field`: what follows the minute of the offset does not fit.
+    /// Line `after_field offset_minute_field`, in `parse_rfc3339` and `parse_rfc9557`: what follows the minute of the offset does
+    /// not fit.
     AfterOffsetMinuteField,
-    /// Line `after_point`: a digit of the fraction has to follow.
+    /// Line `after_point`, in `parse_rfc3339` and `parse_rfc9557`: a digit of the fraction has to follow.
     AfterPoint,
-    /// Line `after_secfrac`: another digit of the fraction or an offset has to follow.
+    /// Line `after_secfrac`, in `parse_rfc3339` and `parse_rfc9557`: either an offset or another digit of the fraction has to
+    /// follow.
     AfterSecfrac,
-    /// Line `after_utc`: what follows the `Z` does not fit.
+    /// Line `after_utc`, in `parse_rfc3339` and `parse_rfc9557`: what follows the `Z` does not fit.
     AfterUtc,
     // Names of time zones
     /// Line `identifier_start`: a time zone, which is a name or an offset, has to begin.
@@ -234,7 +243,8 @@ pub enum Reason {
     /// Line `first_bracket_scan`: the first bracket has neither a `=` nor a `]` before the end of the text or before a bad code
     /// unit.
     FirstBracketScan,
-    /// Lines `first_dots_form` and `first_name_form`: the name of the time zone is not one of RFC 9557, section 4.1.
+    /// Lines `first_dots_form` and `first_name_form`: the grammar of RFC 9557, section 4.1, does not allow this name of a time
+    /// zone. A part of it does not begin with a letter, `.` or `_`, or is `.` or `..`.
     FirstNameForm,
     /// Line `first_offset_form`: the offset in the first bracket has no minutes, or no `:` before them.
     FirstOffsetForm,
@@ -266,7 +276,7 @@ pub enum Reason {
     AfterTimeDesignator,
     /// Line `after_time_groups`: what follows the hours, minutes and seconds does not fit.
     AfterTimeGroups,
-    /// Line `after_fraction_group`: the text has to end after a group with a fraction.
+    /// Line `after_fraction_group`: the text has to end after the unit of a number with a fraction, as after `PT1.5H`.
     AfterFractionGroup,
     /// Line `group_digits date`: another digit or a unit has to follow the number of years, months, weeks or days.
     DateGroupDigits,

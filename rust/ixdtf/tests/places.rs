@@ -1,8 +1,8 @@
-//! Tests the error, the position and the reason of each `*_located` reader, for 8-bit and for 16-bit text, on the texts of `tools/places.tsv`. This list
+//! Tests the error, the position, the reason and the message of each `*_located` reader, for 8-bit and for 16-bit text, on the texts of `tools/places.tsv`. This list
 //! has texts for each row of the fault table. A person counted the positions.
 use ixdtf::encoding::{EncodingType, Utf8, Utf16};
 use ixdtf::parsers::{IsoDurationParser, IxdtfParser, Profile, TimeZoneParser};
-use ixdtf::{LocatedError, ParseError, ParserResult, Reason};
+use ixdtf::{LocatedError, ParseError, ParserResult, Reason, WrongPart};
 
 const ROWS: &str = include_str!("places.tsv");
 
@@ -16,12 +16,14 @@ struct Row {
     error: &'static str,
     place: usize,
     reason: String,
+    part: WrongPart,
+    message: &'static str,
 }
 
 impl Row {
     fn of(line: &'static str) -> Row {
         let cells: Vec<&'static str> = line.split('\t').collect();
-        let [reader, profile, bits, name, _, text, _, error, place, ..] = cells[..] else {
+        let [reader, profile, bits, name, _, text, _, error, place, begin, end, message] = cells[..] else {
             panic!("{line}");
         };
         Row {
@@ -33,6 +35,8 @@ impl Row {
             error,
             place: place.parse().unwrap(),
             reason: if name == "reply" { error.to_string() } else { reason_of(name) },
+            part: WrongPart { begin: begin.parse().unwrap(), end: end.parse().unwrap() },
+            message,
         }
     }
 
@@ -144,6 +148,11 @@ fn check<T: EncodingType>(row: &Row, units: &[T::CodeUnit]) {
         assert!(row.has(located.error) && located.at == row.place, "{located:?}: {}", row.line);
         assert_eq!(format!("{:?}", located.reason), row.reason, "{}", row.line);
         assert_eq!(ParseError::from(located), found.plain, "{}", row.line);
+        if let Ok(text) = String::from_utf16(&row.units) {
+            assert_eq!(located.part_in(text.as_bytes()), row.part, "{}", row.line);
+            let message = located.message_in(text.as_bytes()).to_string();
+            assert_eq!(message, row.message, "{}", row.line);
+        }
     }
 }
 

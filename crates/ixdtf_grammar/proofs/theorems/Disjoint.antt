@@ -6,7 +6,7 @@ use Rattle.ixdtf_grammar.specs.language.{Cores.{Core, IsDateTimeCore, BeginsWith
 use Rattle.ixdtf_grammar.specs.language.Readers.CoreKind.{date_time, internet_date_time, year_month, month_day, time_of_day}
 use Rattle.ixdtf_grammar.specs.language.Readers.Reader.{bracketed, parse_rfc3339, parse_offset, parse_identifier, parse_iana_identifier, parse_duration}
 use Rattle.ixdtf_grammar.specs.language.Languages.{Parsed, IsBracketed, Derives.{as_parsed, as_lasting}}
-use Rattle.ixdtf_grammar.specs.Laws.{IsKindUnder, IsTextReader, InLanguage, LanguagesDisjoint, InNoOther}
+use Rattle.ixdtf_grammar.specs.Laws.{IsKindUnder, InLanguage, LanguagesDisjoint, InNoOther}
 use Rattle.ixdtf_grammar.proofs.{parts.{CoreLetters.{same_core, no_duration}, Texts.year_month_text}, theorems.CoreEnds.{tail_ends, core_inside}}
 use Rattle.ixdtf_grammar.proofs.theorems.CoreSizes.{date_time_size, year_month_size, month_day_size, at_least, longer}
 

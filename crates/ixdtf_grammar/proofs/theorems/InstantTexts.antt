@@ -1,18 +1,18 @@
 -- `parse` derives a date, a time and `Z` from the text of an instant, and these have this instant.
-use Rattle.std.proofs.Common.{◌≡◌, ◌≢◌, ℕ, zero, suc, ◌+◌, ◌-◌, ◌*◌, ◌/◌, ◌%◌, ◌^◌, ◌<◌, ◌≤◌, IsTrue, List, [], ◌∷◌, ◌++◌, map, take, length, Option, Some, None, min, nat_abs, ℤ, pos, negsuc, neg_ℤ, ◌+ℤ◌, ◌*ℤ◌, ◌<ℤ◌, ◌≤ℤ◌, refl, sym, ap, ◌∙◌, inl, inr, arith, append_assoc, append-nil, take_all}
+use Rattle.std.proofs.Common.{◌≡◌, ◌≢◌, ℕ, zero, suc, ◌+◌, ◌-◌, ◌*◌, ◌/◌, ◌%◌, ◌^◌, ◌<◌, ◌≤◌, IsTrue, [], ◌∷◌, ◌++◌, map, take, length, Option, Some, None, min, nat_abs, ℤ, pos, negsuc, neg_ℤ, ◌≤ℤ◌, refl, sym, ap, ◌∙◌, inl, inr, arith, append_assoc, append-nil, take_all}
 use Rattle.std.proofs.lemmas.{Bool.{cases_lt, Decides.nat_tests}, List.map-append}
 use Rattle.std.proofs.Math.Nat.{pow-suc, mul_assoc}
 use Rattle.std.specs.Int.{int_rem_euclid}
-use Rattle.ixdtf_instants.specs.{declared.instant.Instant.{Instant}, Calendar.{IsCivilDate, day_number_of}, Counts.count_of, CivilDates.{Civil, date_on}}
+use Rattle.ixdtf_instants.specs.{declared.instant.Instant.{Instant}, Calendar.{IsCivilDate}, Counts.count_of, CivilDates.{Civil, date_on}}
 use Rattle.ixdtf_instants.specs.Texts.{digits_in, trimmed_digits, long_year, year_digits, date_digits, clock_digits, fraction_digits, seconds_of, days_of, text_of_count, instant_text}
 use Rattle.ixdtf_instants.proofs.{SignedLemmas.{signed_arith, billions, days}, CivilLemmas.six_digit_year, WalkLemmas.{IsDay, date_on-is, month_length-most}}
 use Rattle.ixdtf_instants.proofs.TextLemmas.{trimmed-zero, trimmed-other, year_digits-short, year_digits-plus, year_digits-minus, fraction_digits-none, fraction_digits-some}
 use Rattle.ixdtf_grammar.specs.declared.records.{DateRecord.DateRecord, TimeRecord.TimeRecord, UtcOffsetRecordOrZ.TheVariants.Z}
-use Rattle.ixdtf_grammar.specs.language.{Letters.{Text, digit, sign, hyphen, Letter.Plain}, Shapes.digits, Digits.{decimal, padded_digits, TwoDigits, UpTo}}
-use Rattle.ixdtf_grammar.specs.language.{Dates.{IsDate, Year, ExtendedYear, signed}, Times.{Clock as clocks, SecondText, IsTime, TimeShape.{seconds, fractions}}, Fractions.{FractionParts, fraction_of, nanoseconds_of}}
+use Rattle.ixdtf_grammar.specs.language.{Letters.{digit, sign, hyphen, Letter.Plain}, Shapes.digits, Digits.{decimal, padded_digits, TwoDigits, UpTo}}
+use Rattle.ixdtf_grammar.specs.language.{Dates.{IsDate, Year, ExtendedYear, signed}, Times.{Clock as clocks, SecondText, IsTime, TimeShape.{seconds, fractions}}, Fractions.{FractionParts, fraction_of}}
 use Rattle.ixdtf_grammar.specs.language.{Cores.{core_of, IsDateTimeCore}, Readers.parse, Languages.{Derives, Derives.as_parsed, Found.parsed}}
 use Rattle.ixdtf_grammar.specs.{Instants.{instant_count, fraction_nanoseconds}, InstantLaws.{HasSixDigitYear, in_utc}}
-use Rattle.ixdtf_grammar.proofs.PaddedDigits.{ten_pos, length-padded, decimal-whole}
+use Rattle.ixdtf_grammar.proofs.PaddedDigits.{length-padded, decimal-whole}
 use Rattle.ixdtf_grammar.proofs.code.Nanoseconds.{filled}
 use Rattle.ixdtf_grammar.proofs.parts.Texts.{colon_seconds_text, date_and_time, bracketed_text}
 

@@ -1,12 +1,12 @@
 -- Theorems about the instants of dates, times and offsets.
-use Rattle.std.proofs.Common.{◌≡◌, ◌⊎◌, ◌↔◌, ℕ, zero, suc, ◌+◌, ◌-◌, ◌*◌, ◌/◌, ◌%◌, ◌^◌, ◌<◌, ◌≤◌, min, List, [], ◌∷◌, ◌++◌, take, length, Option, Some, None, inl, inr, refl, arith, ℤ, pos, ◌+ℤ◌, ◌-ℤ◌, ◌*ℤ◌, ◌<ℤ◌, ◌≤ℤ◌}
+use Rattle.std.proofs.Common.{◌≡◌, ◌⊎◌, ◌↔◌, ℕ, zero, suc, ◌+◌, ◌-◌, ◌*◌, ◌/◌, ◌%◌, ◌^◌, ◌<◌, ◌≤◌, min, ◌∷◌, ◌++◌, take, length, Option, Some, None, inl, inr, refl, arith, ℤ, pos, ◌+ℤ◌, ◌*ℤ◌, ◌<ℤ◌}
 use Rattle.std.proofs.lemmas.{Bool.{cases_order}, Int.{by_lt_z}, List.length-take}
 use Rattle.std.proofs.Math.Nat.{pow-succ', pow-le-pow_right, mul-le-mul_left}
 use Rattle.ixdtf_instants.specs.{declared.instant.Instant.{Instant}, Calendar.{day_number_of}, Counts.count_of}
 use Rattle.ixdtf_instants.proofs.{SignedLemmas.{signed_arith}, LawLemmas.{day_number-next_day, day_number-next_month, day_number-next_year, day_number-order}}
 use Rattle.ixdtf_grammar.specs.declared.records.{DateRecord.DateRecord, TimeRecord.TimeRecord}
 use Rattle.ixdtf_grammar.specs.{Instants.{fraction_nanoseconds, time_count}, InstantLaws.{HasDay, IsShown, IsNextDay, IsEarlierTime, IsEarlierDate, SameDate}}
-use Rattle.ixdtf_grammar.specs.language.{Letters.{Text, Letter.Plain}, Digits.{decimal, padded_digits}, Fractions.{FractionParts, nanoseconds_of, places_of}}
+use Rattle.ixdtf_grammar.specs.language.{Letters.{Text, Letter.Plain}, Digits.{decimal, padded_digits}, Fractions.{FractionParts, places_of}}
 use Rattle.ixdtf_grammar.proofs.PaddedDigits.{ten_pos}
 
 -- ---- nanoseconds

@@ -1,11 +1,10 @@
 -- Date-times of RFC 3339 are plain, and the prefixes of their lines are plain.
-use Rattle.std.proofs.Common.{ℕ, suc, Bool, Option, Some, None, ◌++◌, refl, inl, inr, arith}
-use Rattle.std.proofs.lemmas.Bool.Decides.{nat_tests}
-use Rattle.ixdtf_grammar.specs.declared.records.{DateRecord.DateRecord, TimeRecord.TimeRecord, UtcOffsetRecordOrZ.UtcOffsetRecordOrZ}
-use Rattle.ixdtf_grammar.specs.language.{Letters.Text, Shapes.{Shape, some, ◌then◌, nothing, ◌either◌}, Digits.UpTo, Dates.Month, Fractions.FractionParts}
+use Rattle.std.proofs.Common.{ℕ, suc, Bool, refl}
+use Rattle.ixdtf_grammar.specs.declared.records.{DateRecord.DateRecord}
+use Rattle.ixdtf_grammar.specs.language.{Letters.Text, Shapes.{some}, Digits.UpTo, Dates.Month}
 use Rattle.ixdtf_grammar.specs.language.{Cores.{Core, IsDateTime}, DateTimes.FullDateText, Rfc3339.SecondFraction}
-use Rattle.ixdtf_grammar.specs.table.DateTimeFronts.{Field, UntilDay, UntilHour, UntilMinute, UntilSecond, ThroughSecond, ThroughTime, UntilOffsetHour}
-use Rattle.ixdtf_grammar.specs.table.DateTimeFronts.{UntilOffsetMinute, Until, Through, Field.{month_field, day_field, hour_field, minute_field, second_field}}
+use Rattle.ixdtf_grammar.specs.table.DateTimeFronts.{Field, UntilHour, UntilMinute, UntilSecond, ThroughSecond, ThroughTime, UntilOffsetHour}
+use Rattle.ixdtf_grammar.specs.table.DateTimeFronts.{UntilOffsetMinute, Until, Field.{month_field, day_field, hour_field, minute_field, second_field}}
 use Rattle.ixdtf_grammar.specs.table.DateTimeFronts.Field.{offset_hour_field, offset_minute_field}
 use Rattle.ixdtf_grammar.specs.table.LineNames.{DateTimeLine, DateTimeLine.{four_digits, after_four_digits, field_digits, field_range, after_field}}
 use Rattle.ixdtf_grammar.specs.table.{LineNames.DateTimeLine.{after_point, after_secfrac, after_utc}, Lines.{OutOfRange, date_time_line}, Rows.front_of}

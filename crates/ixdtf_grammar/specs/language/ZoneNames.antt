@@ -1,5 +1,5 @@
 -- Zones: which texts are names of time zones (`time-zone-name` of RFC 9557 section 4.1), and which texts are zones.
-use Rattle.std.specs.{Prelude.{◌≡◌, ◌≢◌, ℕ, ◌⊎◌, Bool, true, false, List, [], ◌∷◌, map, nat_eq, ◌&&◌, IsTrue, All}, List.{list_any, slice_split}}
+use Rattle.std.specs.{Prelude.{◌≡◌, ◌≢◌, ℕ, ◌⊎◌, Bool, false, List, [], ◌∷◌, map, nat_eq, ◌&&◌, IsTrue, All}, List.{list_any, slice_split}}
 use Rattle.ixdtf_grammar.specs.{declared.records.MinutePrecisionOffset.MinutePrecisionOffset, language.Letters.{Text, zone_lead, zone_char, slash}}
 use Rattle.ixdtf_grammar.specs.language.{Letters.Letter.Plain, Shapes.{Shape, one, ◌then◌, ◌either◌, many}, Offsets.IsMinuteOffset, DateTimes.IsNumOffset}
 

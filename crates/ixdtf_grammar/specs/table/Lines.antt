@@ -4,7 +4,7 @@ use Rattle.ixdtf_grammar.specs.{declared.{profile.Profile.Profile, records.{Date
 use Rattle.ixdtf_grammar.specs.language.Letters.{hyphen, colon, decimal_mark, date_time_separator, zulu, opening, closing, time_letter, exclamation, equals}
 use Rattle.ixdtf_grammar.specs.language.Letters.{slash, zone_lead, zone_char, key_lead, key_char, value_char, duration_designator}
 use Rattle.ixdtf_grammar.specs.language.{Shapes.{Shape, nothing, one, ◌then◌, ◌either◌, digits, fewer_digits_than, some, many}, Digits.{decimal, UpTo}}
-use Rattle.ixdtf_grammar.specs.language.{Dates.{Year, Month, DateText, IsDayOfMonth, IsDate}, DateTimes.{FullDateText, IsFullDate}, Rfc3339.SecondFraction}
+use Rattle.ixdtf_grammar.specs.language.{Dates.{Year, Month, DateText, IsDayOfMonth, IsDate}, DateTimes.{FullDateText}, Rfc3339.SecondFraction}
 use Rattle.ixdtf_grammar.specs.language.Months.{Marks, OptionalHyphen, IsYearMonth, MonthDayText, IsDayOfSomeYear, IsMonthDay}
 use Rattle.ixdtf_grammar.specs.language.Times.{Clock, ClockOf, BasicMinuteText, ColonMinuteText, greatest_second, has_seconds}
 use Rattle.ixdtf_grammar.specs.language.Times.{Clock.{Time, Offset, MinuteOffset}, TimeShape.{hours, basic_minutes, colon_minutes, seconds, fractions}}

@@ -7,7 +7,7 @@ use crate::runtime::{HostRuntime, TryClone};
 
 use super::{AT_DIGIT, check, check_displayed};
 use ixdtf::ParseError::{self, InvalidEnd, InvalidMonthRange};
-use ixdtf::{LocatedError, Reason};
+use ixdtf::{LocatedError, Reason, WrongPart};
 use crate::runtime::{AllocError, Global, String};
 use crate::runtime::Abort;
 use crate::runtime::Fail;
@@ -56,6 +56,74 @@ fn is_equal_by_error_place_and_reason() {
         reason: Reason::MonthDayMonthRange,
     };
     check(&rt, "another reason", AT_FIVE != reason);
+}
+
+// A reason, its position in a text, the text, its message, and the part of the text that is wrong.
+const MESSAGES: &[(Reason, usize, &[u8], &str, WrongPart)] = &[
+    (
+        Reason::MonthRange,
+        7,
+        b"2024-13-01",
+        "the month is 13, and has to be 01 to 12",
+        WrongPart { begin: 5, end: 7 },
+    ),
+    (
+        Reason::DayRange,
+        10,
+        b"2023-02-29",
+        "the day is 29, and has to be 01 to 28",
+        WrongPart { begin: 8, end: 10 },
+    ),
+    (
+        Reason::MonthDigits,
+        6,
+        b"2024-3-02",
+        "expected a digit of the month, which has two, found `-`",
+        WrongPart { begin: 6, end: 7 },
+    ),
+    (
+        Reason::MonthDigits,
+        6,
+        b"2024-3",
+        "the text ends in the month; expected two digits",
+        WrongPart { begin: 6, end: 6 },
+    ),
+    (
+        Reason::AfterDate,
+        10,
+        b"2024-03-02\xE9",
+        "expected `T`, a space, `[` or the end after the date, found the byte 0xE9",
+        WrongPart { begin: 10, end: 11 },
+    ),
+    (
+        Reason::AfterYear,
+        4,
+        b"2024\xE2\x80\x9303",
+        "expected `-` or a digit of the month, found U+2013 (en dash)",
+        WrongPart { begin: 4, end: 5 },
+    ),
+    (
+        Reason::DateUnitOrder,
+        5,
+        b"P1D1Y",
+        "the unit `Y` stands too late; the order is Y, M, W, D, each once",
+        WrongPart { begin: 3, end: 5 },
+    ),
+];
+
+#[test]
+fn says_what_is_wrong() -> Result<(), Fail> {
+    let rt = HostRuntime;
+    for (reason, at, text, said, wrong) in MESSAGES {
+        let error = LocatedError {
+            error: InvalidEnd,
+            at: *at,
+            reason: *reason,
+        };
+        check_displayed(&rt, rt.alloc(), &error.message_in(text), said)?;
+        check(&rt, said, error.part_in(text) == *wrong);
+    }
+    Ok(())
 }
 
 #[test]

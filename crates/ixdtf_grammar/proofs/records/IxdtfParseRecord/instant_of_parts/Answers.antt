@@ -1,5 +1,5 @@
-use Rattle.std.proofs.Common.{rules, arith, ◌≡◌, ◌∙◌, Some}
-use Rattle.ixdtf_grammar.specs.Instants.{HasInstant, IsInstantOf, instant_count}
+use Rattle.std.proofs.Common.{rules, arith}
+use Rattle.ixdtf_grammar.specs.Instants.{instant_count}
 use Rattle.ixdtf_instants.proofs.SignedLemmas.{signed_arith}
 use Rattle.ixdtf_grammar.proofs.records.IxdtfParseRecord.instant_of_parts.Goals as goal
 

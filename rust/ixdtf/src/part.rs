@@ -1,0 +1,177 @@
+// Made by tools/to_rust.py of crates/ixdtf_grammar/src/part.rt. Do not edit.
+
+//! The part of a text that is wrong.
+
+use crate::located::LocatedError;
+use crate::reason::Reason;
+
+/// The part of a text that is wrong: the bytes from the index `begin` up to, but not including, the index `end`.
+#[derive(Clone, Copy, Debug, PartialEq, Eq, Hash)]
+pub struct WrongPart {
+    /// The index of the first byte.
+    pub begin: usize,
+    /// The index after the last byte.
+    pub end: usize,
+}
+
+/// Where the wrong part of a text is, seen from the position of the error.
+#[derive(Clone, Copy)]
+enum Extent {
+    /// The byte at the position, or nothing if the text ends there.
+    Byte,
+    /// The two digits before the position.
+    TwoDigits,
+    /// All bytes before the position.
+    Front,
+    /// The number that has digits directly before the position. It can go on after the position.
+    Number,
+    /// The number, its fraction and its unit, directly before the position.
+    Group,
+    /// The number before the unit that is directly before the position.
+    NumberBeforeUnit,
+    /// The bracket that ends at the position.
+    Bracket,
+}
+
+impl LocatedError {
+    /// Returns the part of the text that is wrong.
+    ///
+    /// `text` must be the complete source of the parser that returned this error, as for [`in_text`](LocatedError::in_text). If the
+    /// source has 16-bit code units, `text` must be this source, converted to UTF-8.
+    ///
+    /// - If a code unit does not fit, the part is one byte: the one at the position of the error.
+    /// - If the text ends too early, the part is empty, and is at the end of the text.
+    /// - If a number is out of range, the part is the number. If it is a number of a duration, the part has its fraction, but not its
+    ///   unit.
+    /// - If the year is `-000000`, the part is the year with its sign.
+    /// - If a unit of a duration is not in order, the part is the unit with its number.
+    /// - If a time is ambiguous, the part is the month and the day, or the year and the month, with which it begins.
+    /// - If an annotation is refused, or a time zone that has to have the form of RFC 9557, the part is the bracket.
+    ///
+    /// # Examples
+    ///
+    /// ```rust
+    /// use ixdtf::WrongPart;
+    /// use ixdtf::parsers::IxdtfParser;
+    ///
+    /// let text = "2024-13-01";
+    /// let error = IxdtfParser::from_str(text).parse_located().unwrap_err();
+    /// assert_eq!(error.part_in(text.as_bytes()), WrongPart { begin: 5, end: 7 });
+    /// ```
+    pub fn part_in(&self, text: &[u8]) -> WrongPart {
+        let at = self.at.min(text.len());
+        let before = at.saturating_sub(1);
+        match extent_of(self.reason) {
+            Extent::Byte => WrongPart {
+                begin: at,
+                end: if at < text.len() { at + 1 } else { at },
+            },
+            Extent::TwoDigits => WrongPart {
+                begin: at.saturating_sub(2),
+                end: at,
+            },
+            Extent::Front => WrongPart { begin: 0, end: at },
+            Extent::Number => WrongPart {
+                begin: begin_of_number(text, at),
+                end: end_of_digits(text, at),
+            },
+            Extent::Group => WrongPart {
+                begin: begin_of_number(text, before),
+                end: at,
+            },
+            Extent::NumberBeforeUnit => WrongPart {
+                begin: begin_of_number(text, before),
+                end: before,
+            },
+            Extent::Bracket => WrongPart {
+                begin: begin_of_bracket(text, at),
+                end: at,
+            },
+        }
+    }
+}
+
+/// Returns where the wrong part is for a reason.
+fn extent_of(reason: Reason) -> Extent {
+    match reason {
+        Reason::MinusZeroYear | Reason::TimeReadsAsMonthDay | Reason::TimeReadsAsYearMonth => {
+            Extent::Front
+        }
+        Reason::DateGroupRange | Reason::TimeGroupRange => Extent::Number,
+        Reason::DateUnitOrder | Reason::TimeUnitOrder => Extent::Group,
+        Reason::DateUnitRange => Extent::NumberBeforeUnit,
+        Reason::FirstNameForm
+        | Reason::FirstOffsetForm
+        | Reason::UnrecognizedCritical
+        | Reason::CriticalDuplicateCalendar => Extent::Bracket,
+        _ if is_range_of_two_digits(reason) => Extent::TwoDigits,
+        _ => Extent::Byte,
+    }
+}
+
+/// Returns whether the reason is a number of two digits that is out of its range.
+fn is_range_of_two_digits(reason: Reason) -> bool {
+    matches!(
+        reason,
+        Reason::MonthRange
+            | Reason::DayRange
+            | Reason::MonthDayMonthRange
+            | Reason::MonthDayRange
+            | Reason::HourRange
+            | Reason::MinuteRange
+            | Reason::SecondRange
+            | Reason::OffsetHourRange
+            | Reason::OffsetMinuteRange
+            | Reason::OffsetSecondRange
+            | Reason::ZoneOffsetHourRange
+            | Reason::ZoneOffsetMinuteRange
+            | Reason::ZoneOffsetSecondRange
+            | Reason::MonthFieldRange
+            | Reason::DayFieldRange
+            | Reason::HourFieldRange
+            | Reason::MinuteFieldRange
+            | Reason::SecondFieldRange
+            | Reason::OffsetHourFieldRange
+            | Reason::OffsetMinuteFieldRange
+    )
+}
+
+/// Returns whether the byte can be in a number of a duration: a digit, `.` or `,`.
+fn is_of_number(byte: u8) -> bool {
+    byte.is_ascii_digit() || byte == b'.' || byte == b','
+}
+
+/// Returns the index at which the number begins that ends before `end`. The number can have a fraction.
+#[inline(always)]
+fn begin_of_number(text: &[u8], end: usize) -> usize {
+    let mut front = &text[..end];
+    while let [before @ .., last] = front {
+        if !is_of_number(*last) {
+            return front.len();
+        }
+        front = before;
+    }
+    0
+}
+
+/// Returns the index of the first byte from `start` on that is not a digit. Returns the length of the text if there is none.
+fn end_of_digits(text: &[u8], start: usize) -> usize {
+    let mut end = start;
+    while end < text.len() && text[end].is_ascii_digit() {
+        end += 1;
+    }
+    end
+}
+
+/// Returns the index of the last `[` before `end`, or 0 if there is none.
+#[inline(always)]
+fn begin_of_bracket(text: &[u8], end: usize) -> usize {
+    let mut front = &text[..end];
+    while let [before @ .., last] = front {
+        if *last == b'[' {
+            return before.len();
+        }
+        front = before;
+    }
+    0
+}
