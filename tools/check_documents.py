@@ -11,7 +11,7 @@ must be those with the contracts of its tables. Each line of a table must begin 
 (b) Examples. The lines of docs/FAULTS.md must be those of the model places.py: their names, what can follow, and their errors. Each
 example is a text with the position of its error (`place` in this file). It must have this error at this position in the model, and in
 places.tsv, in which a person counted the positions. The errors must have the texts that they have in the code and in the model, and the
-readers that they have in the model.
+readers that they have in the model. Each reason must have one row with its messages, and these must be the messages that message.rt has.
 
 (c) Snippets. Each block of Rattle or Rust in README.md and docs/CALLING.md must be in a crate of tests or in an example of rust/ixdtf,
 which are compiled: all of its items, word by word, and all of its imports. The blocks in the READMEs of `rust/` are tests of their crates.
@@ -837,6 +837,187 @@ def findings_in_errors(document: Document) -> Iterator[Finding]:
 
 
 # ---------------------------------------------------------------------------------------------------------------------------------
+# The messages
+
+GRAMMAR = 'crates/ixdtf_grammar/src/'
+AT_END, AT_ANOTHER = 'At the end of the text', 'At another character'
+# what a cell has instead of a message if the text may end, and the conditions that no guard has
+MAY_END, WHATEVER, OTHERWISE = 'ok', 'Whatever follows', 'Otherwise'
+# the guards of arms, and the conditions of the table
+GUARDS = {
+    '': '',
+    'place.is_first': 'At the beginning of the text',
+    'place.is_in_bracket': 'In a bracket',
+    'place.is_lone_offset': 'In a lone offset',
+    "place.is_next(b'-')": 'At `-`',
+    "place.is_next(b':')": 'At `:`',
+    "place.is_next(b']')": 'At `]`',
+    'place.is_digit_next()': 'At a digit',
+    'place.has_seconds()': 'At `:` or a digit',
+    'place.has_seconds() && place.is_in_bracket': 'In a bracket, at `:` or a digit',
+}
+AT_A_CHARACTER = re.compile('is_next|is_digit_next|has_seconds')
+OPENING, CLOSING = {'(', '[', '{'}, {')', ']', '}'}
+TOKEN = re.compile(r"""//[^\n]*|"(?:[^"\\]|\\.)*"|b?'(?:[^'\\]|\\.)'|\w+|=>|\s+|.""", re.S)
+PATTERN = re.compile(r'Reason::\w+(?: \| Reason::\w+)*')
+# the last day of a month is an argument of `to_day`, and all other words are string literals without escapes
+STRING = r'"([^"\\]*)"'
+WORDING = re.compile(rf'\{{?\s*(expected|Wording::\w+)\(\s*(?:place,\s*)?{STRING}'
+                     rf'(?:,\s*(?:{STRING}|(to_day\(place\.last_day\))))?,?\s*\)\s*\}}?')
+LAST_DAY = re.compile(r'"([^"\\]*) (?:28|29|30|31)"')
+Message = tuple[str, str]  # a condition, and what the cell has if it is true
+Cells = dict[str, list[Message]]
+
+
+class Arm(NamedTuple):
+    """An arm of a `match`: its pattern, its guard and its body. The guard is empty if there is none."""
+    pattern: str
+    guard: str
+    body: str
+
+    def reasons(self) -> list[str]:
+        """The reasons of the pattern."""
+        return re.findall(r'Reason::(\w+)', self.pattern)
+
+
+def arms_of(source: str, function: str) -> list[Arm]:
+    """The arms of the `match` of a function. An arm ends at a comma, or at the end of its block. Raises ValueError if there is none."""
+    head = re.search(rf'\bfn {function}\b(?:(?!\bfn\b).)*?\bmatch \w+ \{{', source, re.S)
+    if head is None:
+        raise ValueError(f'no `match` in `{function}`')
+    found, parts, depth = [], [''], 0
+    for token in TOKEN.findall(source, head.end()):
+        depth += (token in OPENING) - (token in CLOSING)
+        if depth < 0:
+            break
+        if token == '=>' and len(parts) == 1:
+            parts.append('')
+        elif not token.startswith('//') and not (token == ',' and depth == 0):
+            parts[-1] += token
+        if depth == 0 and len(parts) == 2 and (token == ',' or token == '}' and parts[1].lstrip().startswith('{')):
+            found.append(arm_of(*parts))
+            parts = ['']
+    return found + [arm_of(*parts)] if len(parts) == 2 else found
+
+
+def arm_of(head: str, body: str) -> Arm:
+    """An arm, from what is before its `=>` and what is after it."""
+    pattern, _, guard = in_one_line(head).partition(' if ')
+    return Arm(pattern, guard, body.strip())
+
+
+def reasons(tree: Tree) -> list[str]:
+    """The variants of `Reason`."""
+    return re.findall(r'^    (\w+),', re.search(r'pub enum Reason \{(.*?)\n\}', tree.read(GRAMMAR + 'reason.rt'), re.S)[1], re.M)
+
+
+def shows_front(tree: Tree) -> set[str]:
+    """The reasons whose wrong part is all of the text before the position."""
+    return {it for arm in arms_of(tree.read(GRAMMAR + 'part.rt'), 'extent_of') if 'Extent::Front' in arm.body for it in arm.reasons()}
+
+
+def last_day_words(tree: Tree) -> str:
+    """The words about the last day of the month. Raises ValueError if they differ in more than the day."""
+    words = {words[1] if words else arm.body for arm in arms_of(tree.read(GRAMMAR + 'message.rt'), 'to_day')
+             for words in [LAST_DAY.fullmatch(arm.body)]}
+    if len(words) != 1:
+        raise ValueError(f'`to_day` has different words: {"; ".join(sorted(words))}')
+    return words.pop() + ' {last}'
+
+
+def texts_of(arm: Arm, part: str, last_day: str) -> tuple[str, str]:
+    """What an arm says at the end of the text, and at another character. Raises ValueError if the arm is not written in the right form."""
+    wording = WORDING.fullmatch(arm.body)
+    if wording is None or PATTERN.fullmatch(arm.pattern) is None:
+        raise ValueError(f'an arm of `wording_of` has another form: {arm.pattern} => {in_one_line(arm.body)}')
+    kind, first, second, to_day = wording.groups()
+    if kind == 'expected':
+        return first, second + '{char}'
+    if kind == 'Wording::Found':
+        return MAY_END, first + '{char}'
+    shown = {'Wording::Fixed': '', 'Wording::AroundPart': part, 'Wording::AroundUnit': '{char}'}[kind]
+    text = first + shown + (last_day if to_day else second or '')
+    return text, text
+
+
+def messages_in_code(tree: Tree) -> dict[str, Cells]:
+    """The cells that the code has for each reason. Raises ValueError or KeyError if the code is not written in the right form."""
+    fronts, last_day, found = shows_front(tree), last_day_words(tree), {}
+    for arm in arms_of(tree.read(GRAMMAR + 'message.rt'), 'wording_of'):
+        for reason in arm.reasons() or [arm.pattern]:
+            at_end, at_another = texts_of(arm, '{front}' if reason in fronts else '{number}', last_day)
+            cells = found.setdefault(reason, {AT_END: [], AT_ANOTHER: []})
+            cells[AT_ANOTHER].append((GUARDS[arm.guard], at_another))
+            if not AT_A_CHARACTER.search(arm.guard):
+                cells[AT_END].append((GUARDS[arm.guard], at_end))
+    for reason, cells in found.items():
+        if [it for it, _ in cells[AT_ANOTHER] if it] != [it for it, _ in cells[AT_ANOTHER][:-1]]:
+            raise ValueError(f'the last arm of {reason} has a guard, or another arm has none')
+    return {reason: as_in_table(cells) for reason, cells in found.items()}
+
+
+def as_in_table(cells: Cells) -> Cells:
+    """The cells of a reason, in the form of the table: a message that does not depend on what follows is in the first cell alone."""
+    if cells[AT_END] == cells[AT_ANOTHER]:
+        return {AT_END: [(WHATEVER, text) for _, text in cells[AT_END]], AT_ANOTHER: []}
+    return {head: with_otherwise(messages) for head, messages in cells.items()}
+
+
+def with_otherwise(messages: list[Message]) -> list[Message]:
+    """The messages of a cell, in the form of the table: if they are all the same, one without a condition, and else the last one is for
+    all other cases."""
+    if len({text for _, text in messages}) == 1:
+        return [('', messages[0][1])]
+    return messages[:-1] + [(OTHERWISE, messages[-1][1])]
+
+
+def messages_in_cell(cell: str) -> list[Message]:
+    """The messages of a cell, each with the condition before it. The condition is empty if there is none."""
+    first, *rest = re.split(r'\*([^*]+):\*', cell)
+    return [(condition, text.strip()) for condition, text in zip(['', *rest[::2]], [first, *rest[1::2]]) if condition or text.strip()]
+
+
+def written(message: Message) -> str:
+    """A message as in a cell."""
+    condition, text = message
+    return f'*{condition}:* {text}' if condition else text
+
+
+def differences_in_cell(said: list[Message], had: list[Message]) -> Iterator[str]:
+    """The differences of a cell from the code."""
+    yield from (f'the code also has "{written(it)}"' for it in had if it not in said)
+    yield from (f'the code does not have "{written(it)}"' for it in said if it not in had)
+    if said != had and sorted(said) == sorted(had):
+        yield 'the code has another order'
+    elif len(said) != len(set(said)):
+        yield 'a message is there twice'
+
+
+def differences_in_reasons(tree: Tree, said: list[str]) -> Iterator[str]:
+    """The reasons that do not have exactly one row."""
+    yield from (f'no row for the reason {it}' for it in reasons(tree) if it not in said)
+    yield from (f'several rows for the reason {it}' for it in sorted(set(said)) if said.count(it) > 1)
+    yield from (f'no reason {it}' for it in sorted(set(said) - set(reasons(tree))))
+
+
+def findings_in_messages(document: Document) -> Iterator[Finding]:
+    """The differences of the tables of messages from the code."""
+    rows = [(number, row['Reason'].strip('`'), row) for number, row in document.tables() if 'Reason' in row]
+    try:
+        had = messages_in_code(document.tree)
+        yield from (Finding(document.path, 1, it) for it in differences_in_reasons(document.tree, [reason for _, reason, _ in rows]))
+        if set(had) != set(reasons(document.tree)):
+            yield Finding(document.path, 1, 'the reasons of `wording_of` are not the variants of `Reason`')
+    except (ValueError, KeyError, TypeError) as why:
+        yield Finding(document.path, 1, f'the messages of the code cannot be read: {why}')
+        return
+    for number, reason, row in rows:
+        for head, messages in had.get(reason, {}).items():
+            for what in differences_in_cell(messages_in_cell(row.get(head, '')), messages):
+                yield Finding(document.path, number, f'{reason}, {head.lower()}: {what}')
+
+
+# ---------------------------------------------------------------------------------------------------------------------------------
 # All of it
 
 def findings(tree: Tree) -> Iterator[Finding]:
@@ -852,6 +1033,7 @@ def findings(tree: Tree) -> Iterator[Finding]:
             yield from findings_in_reading_order(document)
         if path == 'docs/FAULTS.md':
             yield from findings_in_faults(document)
+            yield from findings_in_messages(document)
         if path in WITH_SNIPPETS:
             yield from findings_in_snippets(document)
     yield from findings_in_code(tree)

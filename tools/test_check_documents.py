@@ -195,6 +195,158 @@ class Tables(InATree):
         self.assertEqual([row for _, row in self.document('A | B\n---|---\ny |\n').tables()], [{'A': 'y', 'B': ''}])
 
 
+MESSAGE = '''/// A function before.
+fn before(reason: Reason) -> Wording {
+    match reason {
+        Reason::Other => Wording::Fixed("not this `match`"),
+    }
+}
+
+/// Returns the words of the message of a reason.
+fn wording_of(reason: Reason, place: Context) -> Wording
+    ensures { words_of result ≡ wording reason place }
+{
+    match reason {
+        // a comment, with => and "a quote
+        Reason::Start => expected(
+            place,
+            "the text is empty; expected `{`, or `}`",
+            "expected `=>`, found ",
+        ),
+        Reason::Hour | Reason::OffsetHour
+        | Reason::ZoneHour => Wording::AroundPart("the hour is ", ", and has to be 00 to 23"),
+        Reason::Day => Wording::AroundPart(
+            "the day is ",
+            to_day(place.last_day),
+        ),
+        Reason::Front => { Wording::AroundPart("`", "` is not a time") }
+        Reason::After if place.is_next(b':') => Wording::Fixed("found `:`"),
+        Reason::After | Reason::Behind
+            if place.has_seconds() && place.is_in_bracket => Wording::Found(
+            "expected `]`, found ",
+        ),
+        Reason::After | Reason::Behind if place.is_in_bracket => expected(place, "the text ends", "expected `]`, found "),
+        Reason::After | Reason::Behind => Wording::Found("expected the end, found "),
+        Reason::Unit => Wording::AroundUnit("the unit ", " stands too late")
+    }
+}
+
+fn to_day(last_day: u8) -> &'static str {
+    match last_day {
+        28 => ", and has to be 01 to 28",
+        _ => ", and has to be 01 to 31",
+    }
+}
+'''
+PART = '''fn extent_of(reason: Reason) -> Extent {
+    match reason {
+        Reason::Front => {
+            Extent::Front
+        }
+        _ => Extent::Byte,
+    }
+}
+'''
+MESSAGES = '''| Reason | At the end of the text | At another character |
+|---|---|---|
+| `Start` | the text is empty; expected `{`, or `}` | expected `=>`, found {char} |
+| `Hour` | *Whatever follows:* the hour is {number}, and has to be 00 to 23 | |
+| `OffsetHour` | *Whatever follows:* the hour is {number}, and has to be 00 to 23 | |
+| `ZoneHour` | *Whatever follows:* the hour is {number}, and has to be 00 to 23 | |
+| `Day` | *Whatever follows:* the day is {number}, and has to be 01 to {last} | |
+| `Front` | *Whatever follows:* `{front}` is not a time | |
+| `After` | *In a bracket:* the text ends *Otherwise:* ok | *At `:`:* found `:` \
+*In a bracket, at `:` or a digit:* expected `]`, found {char} \
+*In a bracket:* expected `]`, found {char} *Otherwise:* expected the end, found {char} |
+| `Behind` | *In a bracket:* the text ends *Otherwise:* ok | *In a bracket, at `:` or a digit:* expected `]`, found {char} \
+*In a bracket:* expected `]`, found {char} *Otherwise:* expected the end, found {char} |
+| `Unit` | *Whatever follows:* the unit {char} stands too late | |
+'''
+
+
+class Messages(InATree):
+    """The messages of reasons."""
+
+    def setUp(self):
+        super().setUp()
+        self.write_code(MESSAGE)
+        self.write(check.GRAMMAR + 'part.rt', PART)
+
+    def write_code(self, message: str, reasons: str = 'Start, Hour, OffsetHour, ZoneHour, Day, Front, After, Behind, Unit'):
+        """Writes the code of the messages, and the reasons."""
+        self.write(check.GRAMMAR + 'message.rt', message)
+        self.write(check.GRAMMAR + 'reason.rt', 'pub enum Reason {\n' + ''.join(f'    {it},\n' for it in reasons.split(', ')) + '}\n')
+
+    def found(self, old: str = '', new: str = '') -> list[str]:
+        """The findings after a change of the page."""
+        self.assertIn(old, MESSAGES)
+        return [str(it).removeprefix('docs/PAGE.md:') for it in check.findings_in_messages(self.document(MESSAGES.replace(old, new)))]
+
+    def found_in_code(self, old: str, new: str) -> list[str]:
+        """The findings after a change of the code."""
+        self.assertEqual(MESSAGE.count(old), 1, old)
+        self.write_code(MESSAGE.replace(old, new))
+        return self.found()
+
+    def test_arms(self):
+        arms = check.arms_of(MESSAGE, 'wording_of')
+        self.assertEqual([(it.reasons(), it.guard) for it in arms[1:6]],
+                         [(['Hour', 'OffsetHour', 'ZoneHour'], ''), (['Day'], ''), (['Front'], ''), (['After'], "place.is_next(b':')"),
+                          (['After', 'Behind'], 'place.has_seconds() && place.is_in_bracket')])
+        self.assertEqual((len(arms), arms[-1].body), (9, 'Wording::AroundUnit("the unit ", " stands too late")'))
+        self.assertEqual([it.pattern for it in check.arms_of(MESSAGE, 'to_day')], ['28', '_'])
+
+    def test_a_right_page(self):
+        self.assertEqual(self.found(), [])
+
+    def test_rows(self):
+        row = '| `Unit` | *Whatever follows:* the unit {char} stands too late | |\n'
+        self.assertEqual(self.found(row, ''), ['1: no row for the reason Unit'])
+        self.assertEqual(self.found(row, row + row), ['1: several rows for the reason Unit'])
+        self.assertEqual(self.found('`Unit`', '`Units`'), ['1: no row for the reason Unit', '1: no reason Units'])
+
+    def test_another_text(self):
+        self.assertEqual(self.found('found `:` ', 'found `;` '),
+                         ['9: After, at another character: the code also has "*At `:`:* found `:`"',
+                          '9: After, at another character: the code does not have "*At `:`:* found `;`"'])
+        self.assertEqual(len(self.found('{number}, and has to be 00', '{char}, and has to be 00')), 6)
+        self.assertEqual(len(self.found('{last}', '31')), 2)
+        self.assertEqual(len(self.found('{front}', '{number}')), 2)
+
+    def test_a_text_in_the_wrong_row(self):
+        self.assertEqual(self.found(' `{front}` is not a time |', ' `{front}` is not a time *At `:`:* found `:` |'),
+                         ['8: Front, at the end of the text: the code does not have "*At `:`:* found `:`"'])
+        self.assertEqual(self.found('`Front`', '`Start`')[:2], ['1: no row for the reason Front', '1: several rows for the reason Start'])
+
+    def test_cells(self):
+        self.assertEqual(self.found('| *At `:`:* found `:` ', '| '),
+                         ['9: After, at another character: the code also has "*At `:`:* found `:`"'])
+        self.assertEqual(len(self.found('*Whatever follows:* the day', 'the day')), 2)
+        self.assertEqual(len(self.found('01 to {last} | |', '01 to {last} | ok |')), 1)
+        self.assertEqual(self.found('*In a bracket:* the text ends *Otherwise:* ok | *At `:`',
+                                    '*Otherwise:* ok *In a bracket:* the text ends | *At `:`'),
+                         ['9: After, at the end of the text: the code has another order'])
+        self.assertEqual(self.found('| *At `:`:* found `:` ', '| *At `:`:* found `:` *At `:`:* found `:` '),
+                         ['9: After, at another character: a message is there twice'])
+
+    def test_changed_code(self):
+        self.assertEqual(len(self.found_in_code('"the unit "', '"a unit "')), 2)
+        self.assertEqual(len(self.found_in_code('Reason::Hour | ', '')), 1)
+        self.assertEqual(len(self.found_in_code('b\':\') => Wording::Fixed("found `:`")', 'b\'-\') => Wording::Fixed("found `:`")')), 2)
+
+    def test_code_that_cannot_be_read(self):
+        for old, new, why in [
+            ("place.is_next(b':')", 'place.is_new()', "'place.is_new()'"),
+            ('Wording::Fixed("found `:`")', 'found()', 'an arm of `wording_of` has another form: Reason::After => found()'),
+            ('Reason::Unit', '_', 'an arm of `wording_of` has another form: _ => Wording::AroundUnit("the unit ", " stands too late")'),
+            ('        Reason::After | Reason::Behind => ', '        Reason::Behind => ',
+             'the last arm of After has a guard, or another arm has none'),
+            ('01 to 28', '00 to 28', '`to_day` has different words: , and has to be 00 to; , and has to be 01 to'),
+            ('fn wording_of', 'fn words_of', 'no `match` in `wording_of`'),
+        ]:
+            self.assertEqual(self.found_in_code(old, new), [f'1: the messages of the code cannot be read: {why}'])
+
+
 class Repository(unittest.TestCase):
     """The documents of this repository, and the findings after one of them is changed."""
 
@@ -241,10 +393,25 @@ class Repository(unittest.TestCase):
         self.assertIn('in the model, OffsetNeedsSign is returned by parse_offset, parse_rfc3339, parse_rfc9557',
                       self.faults('UTC offset needs a sign | `parse_rfc3339`, `parse_rfc9557`, `parse_offset`', 'UTC offset needs a sign | `parse_time`'))
 
+    def test_messages(self):
+        self.assertEqual(list(check.findings_in_messages(Document(self.TREE, 'docs/FAULTS.md'))), [])
+        row = "| `OffsetStart` | the text is empty; expected an offset | expected `+` or `-` before the offset's hour, found {char} |\n"
+        for old, new, what in [
+            (row, '', ['no row for the reason OffsetStart']),
+            (row, row + row, ['several rows for the reason OffsetStart']),
+            (row, row.replace('an offset', 'an hour'),
+             ['OffsetStart, at the end of the text: the code also has "the text is empty; expected an offset"',
+              'OffsetStart, at the end of the text: the code does not have "the text is empty; expected an hour"']),
+            ('| `AfterZulu` | ok | ', '| `AfterZulu` | the text is empty; expected an offset | ',
+             ['AfterZulu, at the end of the text: the code also has "ok"',
+              'AfterZulu, at the end of the text: the code does not have "the text is empty; expected an offset"']),
+        ]:
+            self.assertEqual(self.found('docs/FAULTS.md', old, new, check.findings_in_messages), what)
+
     def test_counts(self):
         self.assertEqual(self.found('docs/FAULTS.md', '46 variants', '45 variants', check.findings_in_counts),
                          ['"45 variants": there are 46'])
-        self.assertEqual(len(self.found('docs/TRUST.md', 'of the list have 3', 'of the list have 4', check.findings_in_counts)), 1)
+        self.assertEqual(len(self.found('docs/TRUST.md', 'of the list have ', 'of the list have 1', check.findings_in_counts)), 1)
 
     def test_the_order_of_reading(self):
         self.assertEqual(self.found('docs/TRUST.md', '3. `Handlers`, ', '3. ', check.findings_in_reading_order),
