@@ -176,7 +176,7 @@ CALLED = {'handler', 'to_c', 'from_c', 'place_of', 'pass_many'}
 STD_PATHS = {'std::str::from_utf8', 'std::fmt', 'std::error::Error', 'std::marker::PhantomData', 'std::mem::replace', 'std::fmt::Debug', 'std::io::{Read,Write}',
              'std::io::Write', 'std::io::Read', 'std::fmt::Write', 'std::str', 'std::hash::Hash', 'std::hash::{Hash,Hasher}'}
 STD_METHODS = set('get len split_at is_ascii_digit is_ascii_alphabetic is_ascii_lowercase write_str as_bytes then_some pow is_ok'
-                  ' is_none to_le_bytes saturating_add saturating_sub min map copied checked_mul checked_add unsigned_abs'
+                  ' is_none to_le_bytes saturating_add saturating_sub min max map copied checked_mul checked_add unsigned_abs'
                   ' is_ascii_alphanumeric as_slice iter position all contains first is_empty valid_up_to copy_from_slice read write flush digit_count leading_value'
                   ' chars len_utf8 is_control encode_utf8 last is_some unwrap_or starts_with parse checked_sub ok max as_ref copy_within is_ascii ilog10 split_once enumerate'
                   ' hash into is_ascii_graphic wrapping_sub div_euclid rem_euclid eq_ignore_ascii_case'.split())

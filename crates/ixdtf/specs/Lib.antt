@@ -10,5 +10,7 @@ pub use Rattle.ixdtf_grammar.specs.Promises
 pub use Rattle.ixdtf_grammar.specs.Rfc3339Laws
 pub use Rattle.ixdtf_grammar.specs.Rfc9557Laws
 pub use Rattle.ixdtf_grammar.specs.LocatedTexts
+pub use Rattle.ixdtf_grammar.specs.Parts
+pub use Rattle.ixdtf_grammar.specs.Messages
 pub use Rattle.ixdtf_grammar.specs.Widths
 pub mod Readings

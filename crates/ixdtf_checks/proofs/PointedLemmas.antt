@@ -7,7 +7,7 @@ use Rattle.std.proofs.lemmas.Str.{length-encode, len_utf8_bounds, IsCharBoundary
 use Rattle.std.proofs.lemmas.Str.Ascii.{IsAscii-nil, IsAscii-cons}
 use Rattle.std.specs.{Str.{IsAscii, IsUtf8, IsCharBoundary, is_utf8, chars, encode_utf8_all}, Prelude.{nat_lt}}
 use lib.Utf8.{encode}
-use Rattle.ixdtf_grammar.specs.LocatedTexts.{shown, column_of, cut_mark, indent_of, pointed_text}
+use Rattle.ixdtf_grammar.specs.LocatedTexts.{shown, column_of, cut_mark, indent_of, marks_of, pointed_text}
 use Rattle.ixdtf_buffers.specs.{Adding.Adds, Lines.newline}
 use Rattle.ixdtf_checks.specs.{declared.pointed.Window.Window, Pointed.{Fits, IsNear, IsWindow, mark_of, bytes_in, masked, window_lines}, Seen.lines_at}
 use Rattle.ixdtf_checks.proofs.{CharactersLemmas.{column_at, column_beyond}, MaskedLemmas.{masked_shown}}
@@ -26,15 +26,21 @@ regroup l m a b c s = simp append_assoc refl
 encoded : (x y : Bool) (m : List ℕ) → encode_utf8_all (cut_mark x ++ (m ++ cut_mark y)) ≡ cut_mark x ++ (encode_utf8_all m ++ cut_mark y)
 encoded x y m = rw (encodes-append (cut_mark x) (m ++ cut_mark y), encodes-append m (cut_mark y), cut_text x, cut_text y) refl
 
+-- There is one mark under an empty part.
+one_mark : (at : ℕ) → replicate (marks_of at at) 94 ≡ 94 ∷ []
+one_mark at =
+    let none : marks_of at at ≡ 1 = omega arith in
+    ap (λ n. replicate n 94) none
+
 -- The lines under a message are those of the window that is shown.
 pub window_shown : (bs : List ℕ) (at : ℕ) (w : Window) → IsWindow bs at w
-    → pointed_text bs at ++ newline ∷ [] ≡ window_lines bs w (encode_utf8_all (map shown (chars (bytes_in w bs))))
+    → pointed_text bs at at ++ newline ∷ [] ≡ window_lines bs w (encode_utf8_all (map shown (chars (bytes_in w bs))))
 window_shown bs at w p =
     let col = column_of (chars bs) at in
     let part = map shown (drop (col - 48) (take (col + 24) (chars bs))) in
     let before = nat_lt 48 col in
     let behind = nat_lt (col + 24) (length (chars bs)) in
-    rw (p.before, p.behind, p.indent, p.characters, encoded before behind part)
+    rw (p.before, p.behind, p.indent, p.characters, encoded before behind part, one_mark at)
     (regroup 10 94 (cut_mark before) (encode_utf8_all part) (cut_mark behind) (replicate (indent_of col) 32))
 
 none_encoded : (cs : List ℕ) → length cs ≡ 0 → length (encode_utf8_all cs) ≡ 0
@@ -323,7 +329,7 @@ module _ (bs : List ℕ) (at : ℕ) (w : Window) (good : IsUtf8 bs) (fits : Fits
       (λ none. omega (arith, indent_whole_near none, length_front, none))
 
 -- If the bytes are UTF-8, these are the lines under the message.
-lines_shown : (bs : List ℕ) (at : ℕ) → IsUtf8 bs → lines_at at bs ≡ pointed_text bs at ++ newline ∷ []
+lines_shown : (bs : List ℕ) (at : ℕ) → IsUtf8 bs → lines_at at bs ≡ pointed_text bs at at ++ newline ∷ []
 lines_shown bs at good = rw (is_utf8-from_IsUtf8 bs good) refl
 
 -- The lines of a window with masked bytes are the lines under the message.
@@ -335,7 +341,7 @@ lines_masked bs at w good p =
 pub lines_hidden : (bs : List ℕ) (at : ℕ) → ¬ (IsUtf8 bs) → lines_at at bs ≡ []
 lines_hidden bs at bad = go (is_utf8 bs) refl
   where
-    go : (test : Bool) → is_utf8 bs ≡ test → (if test then pointed_text bs at ++ newline ∷ [] else []) ≡ []
+    go : (test : Bool) → is_utf8 bs ≡ test → (if test then pointed_text bs at at ++ newline ∷ [] else []) ≡ []
     go true is = absurd (bad (IsUtf8-from_is_utf8 bs is))
     go false is = refl
 

@@ -19,7 +19,7 @@ message_in (Early early) = codes "earlier than the line before"
 
 -- These lines show the position in a text. There are no lines if the bytes are not UTF-8.
 abbrev pub lines_at : ℕ → List ℕ → List ℕ
-lines_at at bytes = if is_utf8 bytes then pointed_text bytes at ++ newline ∷ [] else []
+lines_at at bytes = if is_utf8 bytes then pointed_text bytes at at ++ newline ∷ [] else []
 
 abbrev pub lines_in : Reason → List ℕ
 lines_in TooLong = []

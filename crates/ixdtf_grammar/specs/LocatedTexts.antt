@@ -1,5 +1,5 @@
 -- The text of an error with its position, and a text with a mark under the position of an error.
-use Rattle.std.specs.Prelude.{ℕ, ◌+◌, ◌-◌, Bool, List, [], ◌∷◌, ◌++◌, map, length, take, drop, replicate, codes, if◌then◌else◌, nat_lt}
+use Rattle.std.specs.Prelude.{ℕ, ◌+◌, ◌-◌, Bool, List, [], ◌∷◌, ◌++◌, map, length, take, drop, replicate, codes, if◌then◌else◌, nat_lt, min, max}
 use Rattle.std.specs.{Char.{is_control, len_utf8}, Str.{chars, encode_utf8_all}, Fmt.decimal}
 use Rattle.ixdtf_grammar.specs.table.{Faults.Fault, ErrorTexts.message_of}
 
@@ -32,8 +32,12 @@ line_of characters column =
 abbrev pub indent_of : ℕ → ℕ
 indent_of column = if nat_lt 48 column then 50 else column
 
--- There are two lines: the text, and a `^` under the position.
-abbrev pub pointed_text : List ℕ → ℕ → List ℕ
-pointed_text text at =
-    let column = column_of (chars text) at in
-    encode_utf8_all (line_of (chars text) column) ++ (codes "\n" ++ (replicate (indent_of column) 32 ++ codes "^"))
+-- This is the number of marks under a part of a text: one for each byte, but at least one, and at most 24.
+abbrev pub marks_of : ℕ → ℕ → ℕ
+marks_of begin end = max 1 (min (end - begin) 24)
+
+-- There are two lines: the text, and a `^` under each byte of the part from `begin` up to `end`.
+abbrev pub pointed_text : List ℕ → ℕ → ℕ → List ℕ
+pointed_text text begin end =
+    let column = column_of (chars text) begin in
+    encode_utf8_all (line_of (chars text) column) ++ (codes "\n" ++ (replicate (indent_of column) 32 ++ replicate (marks_of begin end) 94))

@@ -182,11 +182,12 @@ pub enum ParseError {
     TimeDurationPartOrder,
     /// No digit follows the `T` of a duration. This is also the error if the text ends there.
     TimeDurationDesignator,
-    /// The text for `parse_time` is ambiguous: up to its first `[` it is a time, but it begins like a month-day, as in
-    /// `1200`.
+    /// The text for `parse_time` is ambiguous: the part before its first `[` is a time, but this part also begins like a month-day. For
+    /// example, `1200` is the time 12:00, and also the month 12 with the day 00, which
+    /// [`Profile::Crate`](crate::parsers::Profile::Crate) allows.
     AmbiguousTimeMonthDay,
-    /// The text for `parse_time` is ambiguous: up to its first `[` it is a time, but it begins like a year-month, and
-    /// not like a month-day, as in `200112`.
+    /// The text for `parse_time` is ambiguous: the part before its first `[` is a time, but this part also begins like a year-month,
+    /// and not like a month-day, as in `200112`.
     AmbiguousTimeYearMonth,
     /// In the text for `parse_month_day`, the day is after the last day of the month. February has 29 days here. Under the strict
     /// profile, this is also the error of the day 00.

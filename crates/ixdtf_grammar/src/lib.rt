@@ -21,8 +21,8 @@
 //! - Under one profile, a text is in the grammar of at most one text reader.
 //! - Suppose that a row of a line fits a text with a bad code unit. There are two cases. In the first case, the error
 //!   of the row is `NonAsciiCodePoint`, and its position is the first bad code unit. In the second case, the code units
-//!   before the first bad one decide the error. Every other text that begins with these
-//!   code units is also fitted by a row of this line, and the error of that row is the same.
+//!   before the first bad one decide the error: for each text that begins with these code units, some row of the same
+//!   line fits, and it has the same error.
 #![tactic(auto)]
 
 pub mod encoding;

@@ -1,12 +1,15 @@
 //! An error with its position in the text.
 
-ghost use Rattle.std.specs.Prelude.{◌≡◌};
+ghost use Rattle.std.specs.Prelude.{◌≡◌, length, min, take};
+ghost use Rattle.std.specs.Str.Lossy.{utf8_valid_len};
+ghost use Rattle.ixdtf_grammar.specs.Parts.{IsPart, extent_of};
 
 use crate::error::ParseError;
 use crate::pointed::PointedText;
 use crate::reason::Reason;
 use std::error::Error;
 use std::fmt;
+use std::str::from_utf8;
 
 /// An error and its position in the text, as the `*_located` readers return it.
 ///
@@ -33,7 +36,7 @@ pub struct LocatedError {
 }
 
 impl LocatedError {
-    /// Returns the text with a mark under the position of the error, so that people can see where the text is wrong.
+    /// Returns the text with a mark under each byte of the part that is wrong, so that people can see it.
     ///
     /// `text` must be the complete source of the parser that returned this error. An earlier call on this parser must
     /// not have returned `Ok`: such a call consumes the source, so the position of this error would not be counted from
@@ -49,15 +52,47 @@ impl LocatedError {
     /// ```rust
     /// use ixdtf::parsers::IxdtfParser;
     ///
-    /// let text = "2020-x1";
+    /// let text = "2020-13-01";
     /// let error = IxdtfParser::from_str(text).parse_located().unwrap_err();
-    /// assert_eq!(error.in_text(text).to_string(), "2020-x1\n     ^");
+    /// assert_eq!(error.in_text(text).to_string(), "2020-13-01\n     ^^");
     /// ```
     pub fn in_text<'a>(&self, text: &'a str) -> PointedText<'a>
         ensures text { result.text.now ≡ text.now }
-        ensures place { result.at ≡ self.now.at }
+        ensures part { IsPart (extent_of self.now.reason) text.now (min self.now.at (length text.now)) result.part }
     {
-        PointedText::new(text, self.at)
+        PointedText::new(text, self.part_in(text.as_bytes()))
+    }
+
+    /// Returns bytes that need not be UTF-8 with a mark under each byte of the part that is wrong.
+    ///
+    /// The bytes must be those that [`in_text`](LocatedError::in_text) asks for. The result shows the characters before the first
+    /// byte that is not UTF-8. All code units before an error are from 1 to 126, so these characters go at least up to the part
+    /// that is wrong.
+    ///
+    /// # Examples
+    ///
+    /// ```rust
+    /// use ixdtf::parsers::IxdtfParser;
+    ///
+    /// let bytes = b"2020-1\xE9-01";
+    /// let error = IxdtfParser::from_utf8(bytes).parse_located().unwrap_err();
+    /// assert_eq!(error.in_bytes(bytes).to_string(), "2020-1\n      ^");
+    /// ```
+    pub fn in_bytes<'a>(&self, bytes: &'a [u8]) -> PointedText<'a>
+        ensures text { result.text.now ≡ take (utf8_valid_len bytes.now) bytes.now }
+        ensures part { IsPart (extent_of self.now.reason) bytes.now (min self.now.at (length bytes.now)) result.part }
+    {
+        PointedText::new(valid_front(bytes), self.part_in(bytes))
+    }
+}
+
+/// Returns the characters before the first byte that is not UTF-8.
+pub(crate) fn valid_front(bytes: &[u8]) -> &str
+    ensures { result.now ≡ take (utf8_valid_len bytes.now) bytes.now }
+{
+    match from_utf8(bytes) {
+        Ok(text) => text,
+        Err(error) => from_utf8(&bytes[..error.valid_up_to().min(bytes.len())]).unwrap_or(""),
     }
 }
 

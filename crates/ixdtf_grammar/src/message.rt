@@ -7,7 +7,7 @@ ghost use Rattle.ixdtf_grammar.specs.Messages.{IsContext, IsMessage, ShowsCharac
 ghost use Rattle.ixdtf_grammar.specs.Messages.{begins_with_offset, is_of_clock, last_day_before, without_hyphen, two_digits, four_digits, digit_of};
 ghost use Rattle.ixdtf_grammar.specs.Messages.{first_character, shown_text, character_text, look_alike, hex_text};
 
-use crate::located::LocatedError;
+use crate::located::{LocatedError, valid_front};
 use crate::reason::Reason;
 use std::fmt;
 use std::str::from_utf8;
@@ -85,7 +85,8 @@ impl LocatedError {
     /// Returns a message that says what stands in the text at the position of the error, and what was expected there.
     ///
     /// `text` must be the complete source of the parser that returned this error, as for [`in_text`](LocatedError::in_text). If the
-    /// source has 16-bit code units, `text` must be this source, converted to UTF-8. The bytes need not be UTF-8.
+    /// source has 8-bit code units, `text` is the source itself, which need not be valid UTF-8. If the source has 16-bit code units,
+    /// `text` must be this source, converted to UTF-8.
     ///
     /// # Examples
     ///
@@ -796,13 +797,7 @@ fn shown_first(rest: &[u8]) -> Shown<'static>
 fn first_character(bytes: &[u8]) -> Option<char>
     ensures { result ≡ first_character bytes.now }
 {
-    match from_utf8(bytes) {
-        Ok(text) => text.chars().next(),
-        Err(error) => match from_utf8(&bytes[..error.valid_up_to().min(bytes.len())]) {
-            Ok(text) => text.chars().next(),
-            Err(_) => None,
-        },
-    }
+    valid_front(bytes).chars().next()
 }
 
 /// Writes what a message shows of the text.

@@ -1,30 +1,32 @@
-//! A text with a mark under one of its characters.
+//! A text with marks under one of its parts.
 
 ghost use Rattle.std.specs.Prelude.{◌≡◌, ◌≤◌, length, map, take, drop, replicate};
 ghost use Rattle.std.specs.Str.{chars, encode_utf8_all};
 ghost use Rattle.std.specs.Char.{encode_utf8};
 ghost use Rattle.std.specs.Fmt.{WritesStyledOnOk};
-ghost use Rattle.ixdtf_grammar.specs.LocatedTexts.{shown, column_of, cut_mark, line_of, indent_of};
+ghost use Rattle.ixdtf_grammar.specs.LocatedTexts.{shown, column_of, cut_mark, line_of, indent_of, marks_of};
 
+use crate::part::WrongPart;
 use std::fmt;
 
-/// The greatest number of characters that are written before the position.
+/// The greatest number of characters that are written before the marks.
 const BEFORE_PLACE: usize = 48;
 
-/// The greatest number of characters that are written from the position on.
+/// The greatest number of characters that are written from the first mark on, and the greatest number of marks.
 const FROM_PLACE: usize = 24;
 
-/// A text with a mark under the position of an error, as [`LocatedError::in_text`](crate::LocatedError::in_text)
-/// returns it.
+/// A text with marks under the part that is wrong, as [`LocatedError::in_text`](crate::LocatedError::in_text) and
+/// [`LocatedError::in_bytes`](crate::LocatedError::in_bytes) return it.
 ///
-/// `Display` writes two lines: the text, and a `^` under the position, after spaces. There is a newline between the two
-/// lines, and none at the end. `Display` does not allocate.
+/// `Display` writes two lines: the text, and a `^` for each byte of the part that is wrong, after spaces. There is a newline between
+/// the two lines, and none at the end. `Display` does not allocate.
 ///
-/// - The mark is under the character that contains the byte at the position. If the position is the end of the text or
+/// - The first mark is under the character that contains the first byte of the part. If the part begins at the end of the text or
 ///   after it, the mark is one column after the last character. A column is one code point.
+/// - There is at least one mark, and there are at most 24.
 /// - A control character, U+0000 to U+001F or U+007F to U+009F, is written as `.`.
-/// - At most 48 characters before the position are written, and at most 24 characters from the position on. If there
-///   are more, `..` is written instead of them. So a line has at most 76 columns.
+/// - At most 48 characters before the first mark are written, and at most 24 characters from it on. If there are more, `..` is
+///   written instead of them. So a line has at most 76 columns.
 ///
 /// # Examples
 ///
@@ -41,16 +43,16 @@ const FROM_PLACE: usize = 24;
 #[derive(Clone, Copy, Debug)]
 pub struct PointedText<'a> {
     text: &'a str,
-    at: usize,
+    part: WrongPart,
 }
 
 impl<'a> PointedText<'a> {
-    /// Creates a text with a mark at the byte `at`.
-    pub(crate) fn new(text: &'a str, at: usize) -> PointedText<'a>
+    /// Creates a text with marks under this part.
+    pub(crate) fn new(text: &'a str, part: WrongPart) -> PointedText<'a>
         ensures text { result.text.now ≡ text.now }
-        ensures place { result.at ≡ at }
+        ensures part { result.part ≡ part }
     {
-        PointedText { text, at }
+        PointedText { text, part }
     }
 }
 
@@ -59,16 +61,16 @@ impl<'a> fmt::Display for PointedText<'a> {
     ghost use Rattle.std.specs.Prelude.{Some};
     ghost use Rattle.ixdtf_grammar.specs.LocatedTexts.{pointed_text};
 
-    ghost output = { λ p. Some (pointed_text p.text.now p.at) };
+    ghost output = { λ p. Some (pointed_text p.text.now p.part.begin p.part.end) };
 
-    ghost styled_output = { λ p _. Some (pointed_text p.text.now p.at) };
+    ghost styled_output = { λ p _. Some (pointed_text p.text.now p.part.begin p.part.end) };
 
     fn fmt<W: fmt::Write>(&self, f: &mut fmt::Formatter<W>) -> fmt::Result {
-        let column = column_of(self.text, self.at);
+        let column = column_of(self.text, self.part.begin);
         write_line(f, self.text, column)?;
         f.write_str("\n")?;
         write_spaces(f, indent_of(column))?;
-        f.write_str("^")
+        write_marks(f, marks_of(self.part))
     }
 }
 
@@ -99,6 +101,16 @@ fn indent_of(column: usize) -> usize
     } else {
         column
     }
+}
+
+/// Returns the number of marks under a part.
+fn marks_of(part: WrongPart) -> usize
+    ensures { result ≡ marks_of part.begin part.end }
+{
+    if part.end <= part.begin {
+        return 1;
+    }
+    FROM_PLACE.min(part.end - part.begin)
 }
 
 /// Returns `..` if something is cut, and otherwise the empty string.
@@ -154,6 +166,16 @@ fn write_spaces<W: fmt::Write>(f: &mut fmt::Formatter<W>, count: usize) -> fmt::
 {
     for _ in 0..count {
         f.write_str(" ")?;
+    }
+    Ok(())
+}
+
+/// Writes `count` marks.
+fn write_marks<W: fmt::Write>(f: &mut fmt::Formatter<W>, count: usize) -> fmt::Result
+    ensures { WritesStyledOnOk W.write_str_gives f.old result (replicate count 94) f.new }
+{
+    for _ in 0..count {
+        f.write_str("^")?;
     }
     Ok(())
 }

@@ -10,7 +10,7 @@
 /// A line of the table is for one place in a text. If the name of a line has two words, as `field_digits month_field`, the second
 /// word is the part of the text. Some lines have the same name for times, for offsets, and for offsets that are time zones: each
 /// has
-/// its own variant.
+/// its own variant. In the comments of the variants, *has to begin* and *has to follow* mean: at the position of the error.
 ///
 /// # Examples
 ///
@@ -242,7 +242,7 @@ pub enum Reason {
     /// unit.
     FirstBracketScan,
     /// Lines `first_dots_form` and `first_name_form`: the grammar of RFC 9557, section 4.1, does not allow this name of a time
-    /// zone. A part of it does not begin with a letter, `.` or `_`, or is `.` or `..`.
+    /// zone. Either a part of the name begins with another character than a letter, `.` or `_`, or a complete part is `.` or `..`.
     FirstNameForm,
     /// Line `first_offset_form`: the offset in the first bracket has no minutes, or no `:` before them.
     FirstOffsetForm,

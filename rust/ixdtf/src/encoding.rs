@@ -53,7 +53,7 @@ pub trait EncodingType: private::Sealed {
 /// The encoding of sources with 8-bit code units, such as UTF-8.
 ///
 /// Each code unit stands for the byte with its number, also 0 and the numbers of 127 or more. So `get_ascii` returns no error.
-/// The readers refuse these bytes. It is not checked that the source is UTF-8.
+/// The readers refuse the bytes 0 and 127 or more. It is not checked that the source is UTF-8.
 #[derive(Clone, Copy, Debug, PartialEq, Eq, Hash)]
 pub struct Utf8;
 

@@ -2,7 +2,7 @@
 
 //! Messages: what stands in a text that a reader refused, and what was expected there.
 
-use crate::located::LocatedError;
+use crate::located::{LocatedError, valid_front};
 use crate::reason::Reason;
 use core::fmt;
 use core::str::from_utf8;
@@ -80,7 +80,8 @@ impl LocatedError {
     /// Returns a message that says what stands in the text at the position of the error, and what was expected there.
     ///
     /// `text` must be the complete source of the parser that returned this error, as for [`in_text`](LocatedError::in_text). If the
-    /// source has 16-bit code units, `text` must be this source, converted to UTF-8. The bytes need not be UTF-8.
+    /// source has 8-bit code units, `text` is the source itself, which need not be valid UTF-8. If the source has 16-bit code units,
+    /// `text` must be this source, converted to UTF-8.
     ///
     /// # Examples
     ///
@@ -745,13 +746,7 @@ fn shown_first(rest: &[u8]) -> Shown<'static> {
 
 /// Returns the first character, if the bytes begin with one.
 fn first_character(bytes: &[u8]) -> Option<char> {
-    match from_utf8(bytes) {
-        Ok(text) => text.chars().next(),
-        Err(error) => match from_utf8(&bytes[..error.valid_up_to().min(bytes.len())]) {
-            Ok(text) => text.chars().next(),
-            Err(_) => None,
-        },
-    }
+    valid_front(bytes).chars().next()
 }
 
 /// Writes what a message shows of the text.

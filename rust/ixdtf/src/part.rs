@@ -37,7 +37,8 @@ impl LocatedError {
     /// Returns the part of the text that is wrong.
     ///
     /// `text` must be the complete source of the parser that returned this error, as for [`in_text`](LocatedError::in_text). If the
-    /// source has 16-bit code units, `text` must be this source, converted to UTF-8.
+    /// source has 8-bit code units, `text` is the source itself, which need not be valid UTF-8. If the source has 16-bit code units,
+    /// `text` must be this source, converted to UTF-8.
     ///
     /// - If a code unit does not fit, the part is one byte: the one at the position of the error.
     /// - If the text ends too early, the part is empty, and is at the end of the text.
@@ -46,7 +47,8 @@ impl LocatedError {
     /// - If the year is `-000000`, the part is the year with its sign.
     /// - If a unit of a duration is not in order, the part is the unit with its number.
     /// - If a time is ambiguous, the part is the month and the day, or the year and the month, with which it begins.
-    /// - If an annotation is refused, or a time zone that has to have the form of RFC 9557, the part is the bracket.
+    /// - If an annotation is refused because of its key or its value, the part is its bracket. The same holds if `parse_rfc9557` refuses
+    ///   a time zone in a bracket because it does not have the form that RFC 9557 requires.
     ///
     /// # Examples
     ///

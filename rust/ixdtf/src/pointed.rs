@@ -1,26 +1,28 @@
 // Made by tools/to_rust.py of crates/ixdtf_grammar/src/pointed.rt. Do not edit.
 
-//! A text with a mark under one of its characters.
+//! A text with marks under one of its parts.
 
+use crate::part::WrongPart;
 use core::fmt;
 
-/// The greatest number of characters that are written before the position.
+/// The greatest number of characters that are written before the marks.
 const BEFORE_PLACE: usize = 48;
 
-/// The greatest number of characters that are written from the position on.
+/// The greatest number of characters that are written from the first mark on, and the greatest number of marks.
 const FROM_PLACE: usize = 24;
 
-/// A text with a mark under the position of an error, as [`LocatedError::in_text`](crate::LocatedError::in_text)
-/// returns it.
+/// A text with marks under the part that is wrong, as [`LocatedError::in_text`](crate::LocatedError::in_text) and
+/// [`LocatedError::in_bytes`](crate::LocatedError::in_bytes) return it.
 ///
-/// `Display` writes two lines: the text, and a `^` under the position, after spaces. There is a newline between the two
-/// lines, and none at the end. `Display` does not allocate.
+/// `Display` writes two lines: the text, and a `^` for each byte of the part that is wrong, after spaces. There is a newline between
+/// the two lines, and none at the end. `Display` does not allocate.
 ///
-/// - The mark is under the character that contains the byte at the position. If the position is the end of the text or
+/// - The first mark is under the character that contains the first byte of the part. If the part begins at the end of the text or
 ///   after it, the mark is one column after the last character. A column is one code point.
+/// - There is at least one mark, and there are at most 24.
 /// - A control character, U+0000 to U+001F or U+007F to U+009F, is written as `.`.
-/// - At most 48 characters before the position are written, and at most 24 characters from the position on. If there
-///   are more, `..` is written instead of them. So a line has at most 76 columns.
+/// - At most 48 characters before the first mark are written, and at most 24 characters from it on. If there are more, `..` is
+///   written instead of them. So a line has at most 76 columns.
 ///
 /// # Examples
 ///
@@ -37,24 +39,24 @@ const FROM_PLACE: usize = 24;
 #[derive(Clone, Copy, Debug)]
 pub struct PointedText<'a> {
     text: &'a str,
-    at: usize,
+    part: WrongPart,
 }
 
 impl<'a> PointedText<'a> {
-    /// Creates a text with a mark at the byte `at`.
-    pub(crate) fn new(text: &'a str, at: usize) -> PointedText<'a> {
-        PointedText { text, at }
+    /// Creates a text with marks under this part.
+    pub(crate) fn new(text: &'a str, part: WrongPart) -> PointedText<'a> {
+        PointedText { text, part }
     }
 }
 
 // `Display` ignores width and fill.
 impl<'a> fmt::Display for PointedText<'a> {
     fn fmt(&self, f: &mut fmt::Formatter<'_>) -> fmt::Result {
-        let column = column_of(self.text, self.at);
+        let column = column_of(self.text, self.part.begin);
         write_line(f, self.text, column)?;
         f.write_str("\n")?;
         write_spaces(f, indent_of(column))?;
-        f.write_str("^")
+        write_marks(f, marks_of(self.part))
     }
 }
 
@@ -80,6 +82,14 @@ fn indent_of(column: usize) -> usize {
     } else {
         column
     }
+}
+
+/// Returns the number of marks under a part.
+fn marks_of(part: WrongPart) -> usize {
+    if part.end <= part.begin {
+        return 1;
+    }
+    FROM_PLACE.min(part.end - part.begin)
 }
 
 /// Returns `..` if something is cut, and otherwise the empty string.
@@ -123,6 +133,14 @@ fn write_character(f: &mut fmt::Formatter<'_>, character: char) -> fmt::Result {
 fn write_spaces(f: &mut fmt::Formatter<'_>, count: usize) -> fmt::Result {
     for _ in 0..count {
         f.write_str(" ")?;
+    }
+    Ok(())
+}
+
+/// Writes `count` marks.
+fn write_marks(f: &mut fmt::Formatter<'_>, count: usize) -> fmt::Result {
+    for _ in 0..count {
+        f.write_str("^")?;
     }
     Ok(())
 }

@@ -1,6 +1,6 @@
 //! Tests of the texts of errors with their positions, and of texts with a mark under the position.
 
-ghost use Rattle.std.specs.Prelude.{◌≡◌, IfOk};
+ghost use Rattle.std.specs.Prelude.{◌≡◌, ◌+◌, IfOk, length, min};
 ghost use Rattle.std.specs.String.{string_bytes};
 ghost use Rattle.ixdtf.specs.LocatedTexts.{pointed_text};
 
@@ -130,7 +130,8 @@ fn gives_its_error(rt: HostRuntime) {
 
 // Returns the two lines for a text and a position in it.
 fn pointed(alloc: Global, text: &str, at: usize) -> Result<String, AllocError>
-    ensures { IfOk result (λ lines. string_bytes lines ≡ pointed_text text.now at) }
+    ensures { IfOk result (λ lines. string_bytes lines ≡
+        pointed_text text.now (min at (length text.now)) (min (min at (length text.now) + 1) (length text.now))) }
 {
     let error = LocatedError {
         error: InvalidEnd,
@@ -189,6 +190,20 @@ fn check_marks(
 #[test]
 fn marks_the_place(rt: HostRuntime) -> Result<(), Fail> {
     check_marks(&rt, rt.alloc(), MARKS)
+}
+
+#[test]
+fn marks_each_byte_of_the_part(rt: HostRuntime) -> Result<(), Fail> {
+    let month = LocatedError {
+        error: InvalidMonthRange,
+        at: 7,
+        reason: Reason::MonthRange,
+    };
+    let lines = "2020-13-01\n     ^^";
+    check_displayed(&rt, rt.alloc(), &month.in_text("2020-13-01"), lines)?;
+    check_displayed(&rt, rt.alloc(), &month.in_bytes(b"2020-13-01"), lines)?;
+    let front = "2020-13\n     ^^";
+    check_displayed(&rt, rt.alloc(), &month.in_bytes(b"2020-13\xE9"), front)
 }
 
 // Returns the ten digits, thirty times.

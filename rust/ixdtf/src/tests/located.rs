@@ -195,6 +195,21 @@ fn marks_the_place() -> Result<(), Fail> {
     check_marks(&rt, rt.alloc(), MARKS)
 }
 
+#[test]
+fn marks_each_byte_of_the_part() -> Result<(), Fail> {
+    let rt = HostRuntime;
+    let month = LocatedError {
+        error: InvalidMonthRange,
+        at: 7,
+        reason: Reason::MonthRange,
+    };
+    let lines = "2020-13-01\n     ^^";
+    check_displayed(&rt, rt.alloc(), &month.in_text("2020-13-01"), lines)?;
+    check_displayed(&rt, rt.alloc(), &month.in_bytes(b"2020-13-01"), lines)?;
+    let front = "2020-13\n     ^^";
+    check_displayed(&rt, rt.alloc(), &month.in_bytes(b"2020-13\xE9"), front)
+}
+
 // Returns the ten digits, thirty times.
 fn long_text(alloc: Global) -> Result<String, AllocError> {
     let mut text = String::new(alloc);
