@@ -27,10 +27,10 @@ encoded : (x y : Bool) (m : List ℕ) → encode_utf8_all (cut_mark x ++ (m ++ c
 encoded x y m = rw (encodes-append (cut_mark x) (m ++ cut_mark y), encodes-append m (cut_mark y), cut_text x, cut_text y) refl
 
 -- There is one mark under an empty part.
-one_mark : (at : ℕ) → replicate (marks_of at at) 94 ≡ 94 ∷ []
+one_mark : (at : ℕ) → replicate {A = ℕ} (marks_of at at) 94 ≡ 94 ∷ []
 one_mark at =
     let none : marks_of at at ≡ 1 = omega arith in
-    ap (λ n. replicate n 94) none
+    ap (λ n. replicate {A = ℕ} n 94) none
 
 -- The lines under a message are those of the window that is shown.
 pub window_shown : (bs : List ℕ) (at : ℕ) (w : Window) → IsWindow bs at w
