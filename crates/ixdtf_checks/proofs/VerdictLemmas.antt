@@ -55,7 +55,7 @@ text_short reader bytes fault at has = fault_short reader (byte_text bytes) faul
 pub shows_place : (bytes : List ℕ) (at : ℕ) → ShowsPlace bytes at (lines_at at bytes)
 shows_place bytes at = go (is_utf8 bytes) refl
   where
-    go : (test : Bool) → is_utf8 bytes ≡ test → ShowsPlace bytes at (if test then pointed_text bytes at ++ newline ∷ [] else [])
+    go : (test : Bool) → is_utf8 bytes ≡ test → ShowsPlace bytes at (if test then pointed_text bytes at at ++ newline ∷ [] else [])
     go true is = inl (IsUtf8-from_is_utf8 bytes is, refl)
     go false is = inr ((λ good. true≢false (sym (is_utf8-from_IsUtf8 bytes good) ∙ is)), refl)
 

@@ -29,7 +29,7 @@ IsRead reader bytes = (found : Found) × HasUnhandledOutcome reader (byte_text b
 
 -- These lines show a position: the text, and a mark under the position. There are no lines if the text is not UTF-8.
 abbrev pub ShowsPlace : List ℕ → ℕ → List ℕ → Type 0
-ShowsPlace bytes at lines = (IsUtf8 bytes × (lines ≡ pointed_text bytes at ++ newline ∷ [])) ⊎ (¬ (IsUtf8 bytes) × (lines ≡ []))
+ShowsPlace bytes at lines = (IsUtf8 bytes × (lines ≡ pointed_text bytes at at ++ newline ∷ [])) ⊎ (¬ (IsUtf8 bytes) × (lines ≡ []))
 
 -- The reader refuses the text. This is the column in the line, the message, and the lines under it.
 abbrev pub IsRefused : Bool → Reader → Text → ℕ → List ℕ → List ℕ → Type 0
