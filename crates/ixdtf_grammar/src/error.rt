@@ -64,8 +64,8 @@ pub enum ParseError {
     /// - `Duration`: a duration ends after its `P`.
     /// - `DateDurationDesignator`: in the date part of a duration, the text ends after a number, or another character than
     ///   the letter of a date unit follows the number.
-    /// - `TimeDurationDesignator`: in the time part of a duration, the text ends after a number or its fraction, or another
-    ///   character than the letter of a time unit follows.
+    /// - `TimeDurationDesignator`: in the time part of a duration, a number, with or without a fraction, is followed by the end of
+    ///   the text, or by a character that is not the letter of a time unit.
     AbruptEnd {
         /// What was being parsed.
         location: &'static str,
@@ -133,7 +133,7 @@ pub enum ParseError {
     /// In a bracket that is not the first one, the key begins with a character that cannot begin a key. This is also
     /// the error if the text ends there.
     AnnotationKeyLeadingChar,
-    /// The key of an annotation contains a character that a key cannot contain, and that is not the `=` after it.
+    /// After the beginning of a key, there is a character that is neither a key character nor the `=` that ends the key.
     AnnotationKeyChar,
     /// In the value of an annotation, no ASCII letter or digit follows a hyphen. This is also the error if the text
     /// ends there.
@@ -182,12 +182,12 @@ pub enum ParseError {
     TimeDurationPartOrder,
     /// No digit follows the `T` of a duration. This is also the error if the text ends there.
     TimeDurationDesignator,
-    /// The text for `parse_time` is ambiguous: the part before its first `[` is a time, but this part also begins like a month-day. For
+    /// The text for `parse_time` is ambiguous: without its brackets, it is a time, but it also begins like a month-day. For
     /// example, `1200` is the time 12:00, and also the month 12 with the day 00, which
     /// [`Profile::Crate`](crate::parsers::Profile::Crate) allows.
     AmbiguousTimeMonthDay,
-    /// The text for `parse_time` is ambiguous: the part before its first `[` is a time, but this part also begins like a year-month,
-    /// and not like a month-day, as in `200112`.
+    /// The text for `parse_time` is ambiguous: without its brackets, it is a time, but it also begins like a year-month, and not like
+    /// a month-day, as in `200112`.
     AmbiguousTimeYearMonth,
     /// In the text for `parse_month_day`, the day is after the last day of the month. February has 29 days here. Under the strict
     /// profile, this is also the error of the day 00.

@@ -18,9 +18,8 @@ impl<'a, T: EncodingType> IxdtfParseRecord<'a, T> {
     /// For a record that a reader returned, the result is `Some` exactly if the record has a date, a time, and an offset
     /// or `Z`.
     ///
-    /// - The nanoseconds are the first nine digits of the fraction of the time, unless the offset has a fraction.
-    ///   The first nine digits of the fraction of the offset count as a part of the offset, with its sign. So they also
-    ///   change the nanoseconds.
+    /// - The nanoseconds are the first nine digits of the fraction of the time. If the offset has a fraction, its first nine
+    ///   digits are also subtracted, or added if the offset is negative. So they change the nanoseconds.
     /// - The second 60 counts as the second 59, as in `ParseISODateTime` of the Temporal proposal. So, on one date and at
     ///   one offset, `23:59:60.5` and `23:59:59.5` are the same instant.
     /// - No time zone is looked up: the zone in brackets and the calendar do not change the instant. If the text has an offset

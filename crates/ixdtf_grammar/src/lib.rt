@@ -20,9 +20,8 @@
 //! - No row of the fault table fits a text that the grammar derives.
 //! - Under one profile, a text is in the grammar of at most one text reader.
 //! - Suppose that a row of a line fits a text with a bad code unit. There are two cases. In the first case, the error
-//!   of the row is `NonAsciiCodePoint`, and its position is the first bad code unit. In the second case, the code units
-//!   before the first bad one decide the error: for each text that begins with these code units, some row of the same
-//!   line fits, and it has the same error.
+//!   of the row is `NonAsciiCodePoint`, and its position is the first bad code unit. In the second case, the bad code unit
+//!   does not matter: every text that begins with the code units before it has the same error, by a row of the same line.
 #![tactic(auto)]
 
 pub mod encoding;

@@ -63,9 +63,10 @@ impl LocatedError {
         PointedText::new(text, self.part_in(text.as_bytes()))
     }
 
-    /// Returns bytes that need not be UTF-8 with a mark under each byte of the part that is wrong.
+    /// Does the same as [`in_text`](LocatedError::in_text), for a source that need not be valid UTF-8.
     ///
-    /// The bytes must be those that [`in_text`](LocatedError::in_text) asks for. The result shows the characters before the first
+    /// `bytes` must be the complete source of the parser, under the same conditions as `text` in `in_text`. The result shows the
+    /// characters before the first
     /// byte that is not UTF-8. All code units before an error are from 1 to 126, so these characters go at least up to the part
     /// that is wrong.
     ///

@@ -17,8 +17,8 @@ use std::str::from_utf8;
 /// `Display` writes one line of plain English, without a newline and without a full stop. It says what stands in the text, and what
 /// was expected there. `docs/FAULTS.md` has the message for each line of the fault table.
 ///
-/// A character that does not fit is written in backticks, as `` `x` ``. Other characters than those from U+0021 to U+007E have a
-/// name, such as `a space`, or are written by their number, as `U+00E3`.
+/// A character from U+0021 to U+007E that does not fit is written in backticks, as `` `x` ``. Any other character is written by its
+/// name, such as `a space`, or by its number, such as `U+00E3`.
 ///
 /// # Examples
 ///

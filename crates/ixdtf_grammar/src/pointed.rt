@@ -21,8 +21,8 @@ const FROM_PLACE: usize = 24;
 /// `Display` writes two lines: the text, and a `^` for each byte of the part that is wrong, after spaces. There is a newline between
 /// the two lines, and none at the end. `Display` does not allocate.
 ///
-/// - The first mark is under the character that contains the first byte of the part. If the part begins at the end of the text or
-///   after it, the mark is one column after the last character. A column is one code point.
+/// - The first mark is under the character that contains the first byte of the part. If the part begins at the end of the text, or
+///   after it because the caller passed another text, the mark is one column after the last character. A column is one code point.
 /// - There is at least one mark, and there are at most 24.
 /// - A control character, U+0000 to U+001F or U+007F to U+009F, is written as `.`.
 /// - At most 48 characters before the first mark are written, and at most 24 characters from it on. If there are more, `..` is

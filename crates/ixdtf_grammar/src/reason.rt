@@ -8,7 +8,8 @@
 /// depend on the code unit at the position.
 ///
 /// A line of the table is for one place in a text. If the name of a line has two words, as `field_digits month_field`, the second
-/// word is the part of the text. Some lines have the same name for times, for offsets, and for offsets that are time zones: each
+/// word names the part of the text that the line is about. Some lines have the same name for times, for offsets, and for offsets
+/// that are time zones: each
 /// has
 /// its own variant. In the comments of the variants, *has to begin* and *has to follow* mean: at the position of the error.
 ///
@@ -229,7 +230,7 @@ pub enum Reason {
     IdentifierStart,
     /// Line `zone_name_start`: the name of a time zone has to begin.
     ZoneNameStart,
-    /// Line `in_zone_name`: what follows a part of the name of a time zone does not fit.
+    /// Line `in_zone_name`: a character after the beginning of the name of a time zone does not fit.
     InZoneName,
     /// Line `after_zone_slash`: a character of a name has to follow the `/` in the name of a time zone.
     AfterZoneSlash,
@@ -238,11 +239,13 @@ pub enum Reason {
     FirstBracketStart,
     /// Line `first_critical_start`: what follows the `[!` of the first bracket does not fit.
     FirstCriticalStart,
-    /// Line `first_bracket_scan`: the first bracket has neither a `=` nor a `]` before the end of the text or before a bad code
-    /// unit.
+    /// Line `first_bracket_scan`: in the first bracket, the text ends, or has a code unit outside of 1 to 126, before there is a
+    /// `=` or
+    /// a `]`.
     FirstBracketScan,
     /// Lines `first_dots_form` and `first_name_form`: the grammar of RFC 9557, section 4.1, does not allow this name of a time
-    /// zone. Either a part of the name begins with another character than a letter, `.` or `_`, or a complete part is `.` or `..`.
+    /// zone. The name has a part between slashes that begins with a character that is not a letter, `.` or `_`, or that
+    /// is exactly `.` or `..`.
     FirstNameForm,
     /// Line `first_offset_form`: the offset in the first bracket has no minutes, or no `:` before them.
     FirstOffsetForm,
@@ -253,11 +256,11 @@ pub enum Reason {
     KeyStart,
     /// Line `critical_key_start`: a key has to follow the `[!`.
     CriticalKeyStart,
-    /// Line `in_key`: what follows a part of the key does not fit.
+    /// Line `in_key`: a character after the beginning of the key does not fit: it is neither a key character nor `=`.
     InKey,
     /// Line `value_start`: a value has to follow the `=`.
     ValueStart,
-    /// Line `in_value`: what follows a part of the value does not fit.
+    /// Line `in_value`: a character after the beginning of the value does not fit: it is neither a value character nor `]`.
     InValue,
     /// Line `after_value_hyphen`: a letter or a digit has to follow the `-` in the value.
     AfterValueHyphen,
