@@ -11,7 +11,7 @@ must be those with the contracts of its tables. Each line of a table must begin 
 (b) Examples. The lines of docs/FAULTS.md must be those of the model places.py: their names, what can follow, and their errors. Each
 example is a text with the position of its error (`place` in this file). It must have this error at this position in the model, and in
 places.tsv, in which a person counted the positions. The errors must have the texts that they have in the code and in the model, and the
-readers that they have in the model. Each reason must have one row with its messages, and these must be the messages that message.rt has.
+readers that they have in the model. Each reason must have one row with its messages, and these must be the messages that wording.rt has.
 
 (c) Snippets. Each block of Rattle or Rust in README.md and docs/CALLING.md must be in a crate of tests or in an example of rust/ixdtf,
 which are compiled: all of its items, word by word, and all of its imports. The blocks in the READMEs of `rust/` are tests of their crates.
@@ -846,24 +846,25 @@ MAY_END, WHATEVER, OTHERWISE = 'ok', 'Whatever follows', 'Otherwise'
 # the guards of arms, and the conditions of the table
 GUARDS = {
     '': '',
-    'place.is_first': 'At the beginning of the text',
-    'place.is_in_bracket': 'In a bracket',
-    'place.is_lone_offset': 'In a lone offset',
+    'place.is_first()': 'At the beginning of the text',
+    'place.is_in_bracket()': 'In a bracket',
+    'place.is_lone_offset()': 'In a lone offset',
     "place.is_next(b'-')": 'At `-`',
     "place.is_next(b':')": 'At `:`',
     "place.is_next(b']')": 'At `]`',
     'place.is_digit_next()': 'At a digit',
+    'place.is_time_unit_next()': 'At `H` or `S`',
     'place.has_seconds()': 'At `:` or a digit',
-    'place.has_seconds() && place.is_in_bracket': 'In a bracket, at `:` or a digit',
+    'place.has_seconds() && place.is_in_bracket()': 'In a bracket, at `:` or a digit',
 }
-AT_A_CHARACTER = re.compile('is_next|is_digit_next|has_seconds')
+AT_A_CHARACTER = re.compile('is_next|is_digit_next|is_time_unit_next|has_seconds')
 OPENING, CLOSING = {'(', '[', '{'}, {')', ']', '}'}
 TOKEN = re.compile(r"""//[^\n]*|"(?:[^"\\]|\\.)*"|b?'(?:[^'\\]|\\.)'|\w+|=>|\s+|.""", re.S)
 PATTERN = re.compile(r'Reason::\w+(?: \| Reason::\w+)*')
 # the last day of a month is an argument of `to_day`, and all other words are string literals without escapes
 STRING = r'"([^"\\]*)"'
 WORDING = re.compile(rf'\{{?\s*(expected|Wording::\w+)\(\s*(?:place,\s*)?{STRING}'
-                     rf'(?:,\s*(?:{STRING}|(to_day\(place\.last_day\))))?,?\s*\)\s*\}}?')
+                     rf'(?:,\s*(?:{STRING}|(to_day\(place\.last_day\(\)\))))?,?\s*\)\s*\}}?')
 LAST_DAY = re.compile(r'"([^"\\]*) (?:28|29|30|31)"')
 Message = tuple[str, str]  # a condition, and what the cell has if it is true
 Cells = dict[str, list[Message]]
@@ -918,7 +919,7 @@ def shows_front(tree: Tree) -> set[str]:
 
 def last_day_words(tree: Tree) -> str:
     """The words about the last day of the month. Raises ValueError if they differ in more than the day."""
-    words = {words[1] if words else arm.body for arm in arms_of(tree.read(GRAMMAR + 'message.rt'), 'to_day')
+    words = {words[1] if words else arm.body for arm in arms_of(tree.read(GRAMMAR + 'wording.rt'), 'to_day')
              for words in [LAST_DAY.fullmatch(arm.body)]}
     if len(words) != 1:
         raise ValueError(f'`to_day` has different words: {"; ".join(sorted(words))}')
@@ -943,7 +944,7 @@ def texts_of(arm: Arm, part: str, last_day: str) -> tuple[str, str]:
 def messages_in_code(tree: Tree) -> dict[str, Cells]:
     """The cells that the code has for each reason. Raises ValueError or KeyError if the code is not written in the right form."""
     fronts, last_day, found = shows_front(tree), last_day_words(tree), {}
-    for arm in arms_of(tree.read(GRAMMAR + 'message.rt'), 'wording_of'):
+    for arm in arms_of(tree.read(GRAMMAR + 'wording.rt'), 'wording_of'):
         for reason in arm.reasons() or [arm.pattern]:
             at_end, at_another = texts_of(arm, '{front}' if reason in fronts else '{number}', last_day)
             cells = found.setdefault(reason, {AT_END: [], AT_ANOTHER: []})

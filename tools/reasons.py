@@ -208,16 +208,16 @@ ZONES = {
     'zone_name_start': Texts("the text is empty; expected a time zone's name",
                              "expected a letter at the start of the time zone's name, found {char}"),
     'after_zone_slash': Texts("the text ends after `/`; expected more of the time zone's name",
-                              "expected more of the time zone's name after `/`, found {char}"),
+                              "expected a letter of the time zone's name after `/`, found {char}"),
     'first_dots_form': NAME_FORM,
     'first_name_form': NAME_FORM,
     'first_offset_form': Texts(whole="the time zone's offset has no `:`, and has to be like `+05:30`"),
 }
 BRACKETS = {
     'first_bracket_start': Texts('the text ends after `[`; expected a time zone or an annotation',
-                                 'expected a time zone or an annotation after `[`, found {char}'),
+                                 'expected a letter, `+` or `-` after `[`, found {char}'),
     'first_critical_start': Texts('the text ends after `[!`; expected a time zone or an annotation',
-                                  'expected a time zone or an annotation after `[!`, found {char}'),
+                                  'expected a letter, `+` or `-` after `[!`, found {char}'),
     'first_bracket_scan': Texts('the text ends in the first bracket; expected `=` or `]`',
                                 'expected `=`, `]` or more of the first bracket, found {char}'),
     'after_bracket': after_part('`]`', '`[`', 'the end'),
@@ -225,7 +225,8 @@ BRACKETS = {
                        "expected a lower-case letter of the annotation's key, found {char}"),
     'critical_key_start': Texts("the text ends after `[!`; expected the annotation's key",
                                 "expected a lower-case letter of the annotation's key, found {char}"),
-    'in_key': Texts("the text ends in the annotation's key; expected `=`", "expected `=` or more of the annotation's key, found {char}"),
+    'in_key': Texts("the text ends in the annotation's key; expected `=`",
+                    "expected `=`, a lower-case letter, a digit, `-` or `_` in the key, found {char}"),
     'value_start': Texts("the text ends after `=`; expected the annotation's value",
                          "expected a letter or digit of the annotation's value, found {char}"),
     'in_value': Texts("the text ends in the annotation's value; expected `]`",
@@ -234,7 +235,7 @@ BRACKETS = {
                                 "expected more of the annotation's value after `-`, found {char}"),
 }
 REFUSED_ANNOTATIONS = {
-    'UnrecognizedCritical': Texts(whole='the annotation is critical (`!`), and its key is not known'),
+    'UnrecognizedCritical': Texts(whole="the annotation's key is not known; without `!`, the annotation would be ignored"),
     'CriticalDuplicateCalendar': Texts(whole='a later calendar differs from the first, and one is critical (`!`)'),
 }
 
@@ -259,7 +260,8 @@ DURATIONS = {
     'after_date_groups': after_part('the unit', 'a number', '`T`', 'the end'),
     'after_time_designator': Texts('the text ends after `T`; expected a number', 'expected a number after `T`, found {char}'),
     'group_digits date': Texts('the text ends after the number; expected `Y`, `M`, `W` or `D`',
-                               'expected a digit, `Y`, `M`, `W` or `D` after the number, found {char}'),
+                               'expected a digit, `Y`, `M`, `W` or `D` after the number, found {char}',
+                               at=(('HhSs', 'a number of hours or seconds has to follow `T`, found {char}'),)),
     'group_digits time': Texts('the text ends after the number; expected `H`, `M` or `S`',
                                'expected a digit, `.`, `H`, `M` or `S` after the number, found {char}'),
     'group_value_range date': Texts(whole='the number is too great, and has to be at most 18446744073709551615'),

@@ -217,15 +217,15 @@ fn wording_of(reason: Reason, place: Context) -> Wording
         | Reason::ZoneHour => Wording::AroundPart("the hour is ", ", and has to be 00 to 23"),
         Reason::Day => Wording::AroundPart(
             "the day is ",
-            to_day(place.last_day),
+            to_day(place.last_day()),
         ),
         Reason::Front => { Wording::AroundPart("`", "` is not a time") }
         Reason::After if place.is_next(b':') => Wording::Fixed("found `:`"),
         Reason::After | Reason::Behind
-            if place.has_seconds() && place.is_in_bracket => Wording::Found(
+            if place.has_seconds() && place.is_in_bracket() => Wording::Found(
             "expected `]`, found ",
         ),
-        Reason::After | Reason::Behind if place.is_in_bracket => expected(place, "the text ends", "expected `]`, found "),
+        Reason::After | Reason::Behind if place.is_in_bracket() => expected(place, "the text ends", "expected `]`, found "),
         Reason::After | Reason::Behind => Wording::Found("expected the end, found "),
         Reason::Unit => Wording::AroundUnit("the unit ", " stands too late")
     }
@@ -274,7 +274,7 @@ class Messages(InATree):
 
     def write_code(self, message: str, reasons: str = 'Start, Hour, OffsetHour, ZoneHour, Day, Front, After, Behind, Unit'):
         """Writes the code of the messages, and the reasons."""
-        self.write(check.GRAMMAR + 'message.rt', message)
+        self.write(check.GRAMMAR + 'wording.rt', message)
         self.write(check.GRAMMAR + 'reason.rt', 'pub enum Reason {\n' + ''.join(f'    {it},\n' for it in reasons.split(', ')) + '}\n')
 
     def found(self, old: str = '', new: str = '') -> list[str]:
@@ -292,7 +292,7 @@ class Messages(InATree):
         arms = check.arms_of(MESSAGE, 'wording_of')
         self.assertEqual([(it.reasons(), it.guard) for it in arms[1:6]],
                          [(['Hour', 'OffsetHour', 'ZoneHour'], ''), (['Day'], ''), (['Front'], ''), (['After'], "place.is_next(b':')"),
-                          (['After', 'Behind'], 'place.has_seconds() && place.is_in_bracket')])
+                          (['After', 'Behind'], 'place.has_seconds() && place.is_in_bracket()')])
         self.assertEqual((len(arms), arms[-1].body), (9, 'Wording::AroundUnit("the unit ", " stands too late")'))
         self.assertEqual([it.pattern for it in check.arms_of(MESSAGE, 'to_day')], ['28', '_'])
 

@@ -336,7 +336,7 @@ expected `]` or more of the annotation's value, found `_`
                                                   ^
 hint: an annotation's value has only letters, digits and single hyphens
 $ parse 2024-03-02[!knort=blue]
-the annotation is critical (`!`), and its key is not known
+the annotation's key is not known; without `!`, the annotation would be ignored
 2024-03-02[!knort=blue]
           ^^^^^^^^^^^^^
 hint: remove `!` if the annotation may be ignored

@@ -35,11 +35,12 @@ mod pointed;
 pub mod profile;
 mod reason;
 pub mod records;
+mod wording;
 
 pub use error::ParseError;
 pub use ixdtf_instants::Instant;
 pub use located::LocatedError;
-pub use message::Message;
+pub use message::{Message, Shown};
 pub use part::WrongPart;
 pub use pointed::PointedText;
 pub use reason::Reason;
