@@ -1,7 +1,7 @@
 //! The encodings that a source can have.
 //!
-//! The readers are generic in the encoding. The encoding says which byte a code unit stands for, or that the code unit
-//! stands for no character. The readers see only the bytes.
+//! The readers are generic in the encoding. For each code unit, the encoding gives a byte, or says that the code unit
+//! stands for no character. The readers use only these bytes.
 
 ghost use Rattle.std.specs.Prelude.{◌≡◌, ℕ, ◌<◌, ◌≤◌, ◌↔◌, ◌^◌, map, length, All, IsTrue, IsSome, IfSome, slice_range, codes};
 ghost use Rattle.std.specs.Cmp.{unsigned_Decides};
@@ -18,8 +18,8 @@ mod private {
 
 /// An encoding of a text in code units: [`Utf8`] or [`Utf16`].
 ///
-/// Each code unit is a number. A code unit from 1 to 126 stands for the ASCII character with this number. No reader
-/// accepts a text with another code unit. No other crate can implement this trait.
+/// Each code unit is a number. A code unit from 1 to 126 stands for the ASCII character with this number. No reader accepts
+/// a text that contains 0 or a code unit of 127 or more. No other crate can implement this trait.
 ///
 /// # Examples
 ///
@@ -50,14 +50,15 @@ pub trait EncodingType: private::Sealed {
         ensures within { IsSome result ↔ ((start ≤ end) × (end ≤ length source.now)) }
         ensures units { IfSome result (λ units. units.now ≡ slice_range source.now start end) };
 
-    /// Returns the code unit at an index of the source, as a byte. Returns `None` after the end of the source.
+    /// Returns the code unit at an index of the source, as a byte. Returns `None` if the index is not less than the length
+    /// of the source.
     ///
     /// For [`Utf8`], this can be a byte of 128 or more, which is not ASCII. No reader accepts such a byte.
     ///
     /// # Errors
     ///
-    /// - `NonAsciiCodePoint`: the code unit at the index stands for no character. For [`Utf16`], these are 0 and the
-    ///   code units of 127 or more. [`Utf8`] never returns this error.
+    /// - `NonAsciiCodePoint`: the code unit at the index stands for no character. In [`Utf16`], 0 and the code units of 127
+    ///   or more stand for no character. [`Utf8`] never returns this error.
     fn get_ascii(source: &[Self::CodeUnit], index: usize) -> ParserResult<Option<u8>>
         ensures letter { Returns (λ found. found) result
             (ascii_at letter index (map number source.now)) }
@@ -80,8 +81,8 @@ pub trait EncodingType: private::Sealed {
 
 /// The encoding of sources with 8-bit code units, such as UTF-8.
 ///
-/// Each code unit stands for the byte with its number, also 0 and the numbers of 127 or more. So `get_ascii` returns no error.
-/// The readers refuse the bytes 0 and 127 or more. It is not checked that the source is UTF-8.
+/// Each code unit is a byte, so `get_ascii` returns no error. The readers refuse a text that contains the byte 0 or a byte
+/// of 127 or more. The readers do not check that the source is UTF-8.
 #[derive(Clone, Copy, Debug, PartialEq, Eq, Hash)]
 pub struct Utf8;
 
@@ -119,8 +120,8 @@ impl EncodingType for Utf8 {
 
 /// The encoding of sources with 16-bit code units, such as UTF-16.
 ///
-/// The code units from 1 to 126 stand for themselves. All others, including 0 and 127, stand for no character. It is
-/// not checked that the source is UTF-16.
+/// A code unit from 1 to 126 stands for the ASCII character with this number. Every other code unit, including 0 and 127,
+/// stands for no character. The readers do not check that the source is UTF-16.
 #[derive(Clone, Copy, Debug, PartialEq, Eq, Hash)]
 pub struct Utf16;
 

@@ -11,12 +11,12 @@ use std::fmt;
 /// The error that a reader returns when it refuses a text, such as `InvalidMonthRange` for `2021-13-01`.
 ///
 /// A caller can pass a *handler* to a reader: a function that gets each annotation, and returns an annotation or `None`.
-/// `CriticalDuplicateCalendar` and `UnrecognizedCritical` are about the annotations that the handler returned. Without a handler,
-/// they are about all annotations of the text. Each other error that a reader returns is in the fault table, `docs/FAULTS.md` of
-/// the repository, with its position in the text.
+/// The errors `CriticalDuplicateCalendar` and `UnrecognizedCritical` are about the annotations that the handler returned.
+/// Without a handler, these two errors are about all annotations of the text. The fault table, `docs/FAULTS.md` of the
+/// repository, has every other error that a reader returns, and its position in the text.
 ///
-/// The names and the messages are those of another crate, `ixdtf` 0.6.7 of the project ICU4X. Its spelling mistakes, such as
-/// `DurationDisgnator`, are kept.
+/// The names of the errors and their messages are those of another crate, `ixdtf` 0.6.7 of the project ICU4X. They keep the
+/// spelling mistakes of that crate, such as `DurationDisgnator`.
 ///
 /// # Examples
 ///
@@ -45,16 +45,14 @@ pub enum ParseError {
     NonAsciiCodePoint,
     /// No reader returns this error.
     ParseFloat,
-    /// The text ends too early. If `location` is `DateDurationDesignator` or `TimeDurationDesignator`, there is another
-    /// possible reason: a wrong character follows a number or its fraction (see below). `location` says what was being
-    /// parsed:
+    /// The text ends too early. In a duration, this is also the error if a wrong character follows a number or its
+    /// fraction. `location` says what was being parsed:
     ///
     /// - `digit`: a digit must follow, as in `2020-1`.
     /// - `Date`: the text ends after the year of a date, as in `2020`.
-    /// - `AmbiguousAnnotation`: the first bracket is not closed, and it is not known whether it is a zone or an
-    ///   annotation. There are two cases. In the first case, the text ends after `[` or `[!`. In the second case, a
-    ///   lowercase letter or `_` follows the `[` or `[!`, and the text ends before the first `=` or `]`, as in
-    ///   `2020-01-01[cet`.
+    /// - `AmbiguousAnnotation`: the first bracket is not closed, and it can be a zone or an annotation. There are two
+    ///   cases. In the first case, the text ends after `[` or `[!`. In the second case, a lowercase letter or `_` follows
+    ///   the `[` or `[!`, and the text ends before the first `=` or `]`, as in `2020-01-01[cet`.
     /// - `MonthDay`: the text for `parse_month_day` is empty, or is one hyphen.
     /// - `time-numoffset`: the text for `parse_offset` is empty, or the text for `parse_rfc3339` or `parse_rfc9557`
     ///   ends where the offset must begin.
@@ -62,23 +60,23 @@ pub enum ParseError {
     /// - `DurationStart`: the text for a duration is empty.
     /// - `DurationDesignator`: a duration ends after its sign.
     /// - `Duration`: a duration ends after its `P`.
-    /// - `DateDurationDesignator`: in the date part of a duration, the text ends after a number, or another character than
-    ///   the letter of a date unit follows the number.
-    /// - `TimeDurationDesignator`: in the time part of a duration, a number, with or without a fraction, is followed by the end of
-    ///   the text, or by a character that is not the letter of a time unit.
+    /// - `DateDurationDesignator`: in the date part of a duration, the text ends after a number, or the character after the
+    ///   number is not the letter of a date unit.
+    /// - `TimeDurationDesignator`: in the time part of a duration, the text ends after a number or after its fraction, or
+    ///   the character there is not the letter of a time unit. A `.` or `,` after the number begins its fraction.
     AbruptEnd {
         /// What was being parsed.
         location: &'static str,
     },
-    /// A complete part is followed by a character that must not follow it. The part is a date, a year-month such as
-    /// `2020-11`, a month-day such as `11-07`, a time, an offset, a bracket or a duration.
+    /// A complete part of the text is followed by a character that must not follow this part. The part is a date, a
+    /// year-month such as `2020-11`, a month-day such as `11-07`, a time, an offset, a bracket or a duration.
     ///
-    /// In `parse_identifier` and `parse_iana_identifier`, a `]` after a name has this error. In a duration, a character
-    /// directly after the `P` that is neither a digit nor `T` or `t` has this error.
+    /// In `parse_identifier` and `parse_iana_identifier`, this is also the error if a `]` follows a name. In a duration,
+    /// this is also the error if the character after the `P` is neither a digit nor `T` or `t`.
     InvalidEnd,
     /// The month is not 01 to 12.
     InvalidMonthRange,
-    /// The day of a date is 00, or is after the last day of this month in this year.
+    /// The day of a date is 00, or is greater than the number of days in its month.
     InvalidDayRange,
     /// The text must begin with a year, but its first character is neither a digit nor a sign. Or one of the four
     /// characters of a year without a sign is not a digit. In `parse_rfc3339` and `parse_rfc9557`, this is also the error if
@@ -108,9 +106,9 @@ pub enum ParseError {
     /// No digit follows the `.` or `,` of a fraction. This is also the error if the text ends there. In `parse_rfc3339`
     /// and `parse_rfc9557`, this is also the error if a comma follows the second.
     FractionPart,
-    /// A date has only one of its two hyphens: no hyphen follows `2020-01`, or a hyphen follows `202001`. This is also
-    /// the error if the text ends after `2020-01`. In `parse_rfc3339` and `parse_rfc9557`, it is the error if another
-    /// character than a hyphen follows the year, or if no hyphen follows the month.
+    /// A date has only one of its two hyphens: no hyphen follows `2020-01`, or a hyphen follows `202001`. This is also the
+    /// error if the text ends after `2020-01`. In `parse_rfc3339` and `parse_rfc9557`, this is the error if the character
+    /// after the year is not a hyphen, or if no hyphen follows the month.
     DateSeparator,
     /// A time has only one of its two colons: a digit follows `12:00`, or a colon follows `1200`. In `parse_rfc3339` and
     /// `parse_rfc9557`, this is the error if no `T` or `t` follows the date, or if no colon follows the hour or the
@@ -122,9 +120,10 @@ pub enum ParseError {
     InvalidAnnotation,
     /// No reader returns this error.
     AnnotationOpen,
-    /// A bracket is not closed. This is the error if the text ends after the value in a bracket or after the offset in
-    /// a bracket, or if this offset is followed by a character that is neither `]` nor a colon nor a digit. This is also the error if
-    /// the text ends after the name of a zone, and the name does not begin with a lowercase letter or `_`.
+    /// A bracket is not closed. This is the error if the text ends after the value of an annotation, after an offset in
+    /// brackets, or after the name of a zone in brackets. For a name that begins with a lowercase letter or `_`, the error
+    /// is `AbruptEnd` instead. This is also the error if the character after an offset in brackets is not a `]`, a colon or
+    /// a digit.
     AnnotationClose,
     /// No reader returns this error.
     AnnotationChar,
@@ -133,46 +132,48 @@ pub enum ParseError {
     /// In a bracket that is not the first one, the key begins with a character that cannot begin a key. This is also
     /// the error if the text ends there.
     AnnotationKeyLeadingChar,
-    /// After the beginning of a key, there is a character that is neither a key character nor the `=` that ends the key.
+    /// A key is followed by a character other than `=`. A key can contain lowercase letters, digits, `_` and `-`.
     AnnotationKeyChar,
     /// In the value of an annotation, no ASCII letter or digit follows a hyphen. This is also the error if the text
     /// ends there.
     AnnotationValueCharPostHyphen,
-    /// The value of an annotation contains a character that a value cannot contain, and that is not the `]` after it.
-    /// This is also the error if no ASCII letter or digit follows the `=`, or if the text ends after the `=`.
+    /// The value of an annotation is followed by a character other than `]`. A value can contain ASCII letters, digits and
+    /// hyphens. This is also the error if no ASCII letter or digit follows the `=`, or if the text ends after the `=`.
     AnnotationValueChar,
-    /// A colon or a digit follows the minute of an offset that must not have seconds. An offset in brackets must not have
-    /// seconds, and an offset that `parse_identifier` reads must not have them either. In `parse_rfc9557`, this is
-    /// also the error of an offset in brackets that does not have the form `+05:30`.
+    /// A colon or a digit follows the minute of an offset that must not have seconds. Offsets in brackets, and offsets that
+    /// `parse_identifier` reads, must not have seconds. In `parse_rfc9557`, this is also the error if an offset in brackets
+    /// does not have the form `+05:30`.
     InvalidMinutePrecisionOffset,
     /// An annotation with the key `u-ca` has another value than the first annotation with this key, and at least one of
-    /// the two is critical. With a handler, this is about the annotations that the handler returned.
+    /// these two annotations is critical. With a handler, this error is about the annotations that the handler returned.
     CriticalDuplicateCalendar,
-    /// An annotation is critical, and its key is not `u-ca`. With a handler, this is about the annotations that the
+    /// An annotation is critical, and its key is not `u-ca`. With a handler, this error is about the annotations that the
     /// handler returned.
     UnrecognizedCritical,
-    /// A time zone begins with a character that cannot begin a time zone. For `parse_iana_identifier`, this is also the
-    /// error of the empty text.
+    /// A time zone begins with a character that cannot begin a time zone. This is also the error if the content of the
+    /// first bracket, after its `!` if it has one, begins with such a character. For `parse_iana_identifier`, this is also
+    /// the error if the text is empty.
     TzLeadingChar,
     /// In the name of a time zone, a `/` is followed by another `/`, by a character that a name cannot contain, or by the
     /// end of the text.
     IanaCharPostSeparator,
-    /// The name of a time zone contains a character that a name cannot contain, and that is not the `]` of its bracket.
-    /// In `parse_rfc9557`, this is also the error of a name that RFC 9557 does not allow, such as `a/1` or `..`.
+    /// The name of a time zone is followed by a character that a name cannot contain, and that is not a `]`. In
+    /// `parse_rfc9557`, this is also the error if RFC 9557 does not allow the name, as for `a/1` or `..`.
     IanaChar,
     /// An offset that can have seconds has only one of its two colons: a digit follows `+05:00`, or a colon follows
     /// `+0500`. In `parse_rfc3339` and `parse_rfc9557`, this is the error if no colon follows the hour of the offset.
     UtcTimeSeparator,
-    /// The text for `parse_offset` begins with a character that is not a sign. In `parse_rfc3339` and `parse_rfc9557`,
-    /// this is the error if another character than a sign, `Z` or `z` is where the offset must begin.
+    /// The text for `parse_offset` begins with a character that is not a sign. In `parse_rfc3339` and `parse_rfc9557`, this
+    /// is the error if the offset is missing, and another character follows the second or its fraction. If this character
+    /// is a comma directly after the second, the error is `FractionPart`.
     OffsetNeedsSign,
     /// A month-day begins with a hyphen, and the next character is not a hyphen. A month-day can begin with two hyphens
     /// or with none.
     MonthDayHyphen,
-    /// A duration begins with a character that is neither a sign nor `P` or `p`, or its sign is followed by
-    /// another character than `P` or `p`.
+    /// A duration begins with a character other than a sign, `P` or `p`. This is also the error if the character after the
+    /// sign is not `P` or `p`.
     DurationDisgnator,
-    /// A number of a duration is `2^64` or more, or the number of its years, months or weeks is `2^32` or more.
+    /// A number of a duration is 2^64 or more, or its number of years, months or weeks is 2^32 or more.
     DurationValueExceededRange,
     /// The years, months, weeks and days of a duration are not in this order. Under the strict profile, this is also
     /// the error if one of these units occurs twice.
@@ -182,15 +183,16 @@ pub enum ParseError {
     TimeDurationPartOrder,
     /// No digit follows the `T` of a duration. This is also the error if the text ends there.
     TimeDurationDesignator,
-    /// The text for `parse_time` is ambiguous: without its brackets, it is a time, but it also begins like a month-day. For
-    /// example, `1200` is the time 12:00, and also the month 12 with the day 00, which
-    /// [`Profile::Crate`](crate::parsers::Profile::Crate) allows.
+    /// The text for `parse_time` is ambiguous: without its brackets, the text is a time, but it also begins with a
+    /// month-day. For example, `1200` is the time 12:00. It is also the month 12 with the day 00, and
+    /// [`Profile::Crate`](crate::parsers::Profile::Crate) allows the day 00.
     AmbiguousTimeMonthDay,
-    /// The text for `parse_time` is ambiguous: without its brackets, it is a time, but it also begins like a year-month, and not like
-    /// a month-day, as in `200112`.
+    /// The text for `parse_time` is ambiguous: without its brackets, the text is a time, but it also begins with a
+    /// year-month. For example, `200112` is the time 20:01:12, and also the year 2001 with the month 12. If the text also
+    /// begins with a month-day, the error is `AmbiguousTimeMonthDay`.
     AmbiguousTimeYearMonth,
-    /// In the text for `parse_month_day`, the day is after the last day of the month. February has 29 days here. Under the strict
-    /// profile, this is also the error of the day 00.
+    /// In the text for `parse_month_day`, the day is greater than the number of days in the month. February has 29 days
+    /// here. Under the strict profile, this is also the error if the day is 00.
     InvalidMonthDay,
 }
 

@@ -1,27 +1,30 @@
-//! Definitions of the grammar of the Extended Date/Time Format and of the *fault table*, and the types that they use:
-//! encodings, records, errors and profiles. The fault table says which error a reader returns for a text that is not in its
-//! grammar.
+//! The definitions of the grammar of the Internet Extended Date/Time Format (RFC 9557) and of the *fault table*. This crate
+//! also has the types that these definitions use: encodings, records, errors and profiles. A *reader* is a parsing method
+//! of the library, such as `IxdtfParser::parse`. The fault table says which error a reader returns for a text that is not
+//! in the grammar of the reader.
 //!
-//! This is a layer of the library `ixdtf`. Only the layer `ixdtf_instants` is below it. Callers use the crate `ixdtf`,
-//! which re-exports the items that they need.
+//! The library `ixdtf` consists of crates, which are called *layers*. This crate is the second layer from below. The only
+//! layer below it is `ixdtf_instants`. Callers use the crate `ixdtf`, which re-exports the items that callers need.
 //!
 //! - `specs/language` has the grammar (RFC 3339, section 5.6; RFC 9557, section 4.1; ISO 8601; the Temporal grammar).
 //! - `specs/table` has the fault table.
-//! - `specs/Handlers` says how the replies of a handler change the result. A reply is what a handler returns for one
-//!   annotation.
+//! - `specs/Handlers` says how the replies of a handler change the result of a reader. A *handler* is a function of the
+//!   caller that gets each annotation of a text. A *reply* is what the handler returns for one annotation.
 //!
 //! The *text readers* are five of the readers: `parse`, `parse_year_month`, `parse_month_day` and `parse_time` of
-//! `IxdtfParser`, and `parse` of `IsoDurationParser`. They read dates, times and durations. The rows of the fault table
-//! are in groups, which are called *lines*. A line is about one kind of prefix of a text. Its rows have the errors for
-//! what comes after the prefix. A *bad code unit* is a 16-bit code unit outside 1 to 126.
+//! `IxdtfParser`, and `parse` of `IsoDurationParser`. They read dates, times and durations. The rows of the fault table are
+//! in groups, which are called *lines*. Each line is about one kind of prefix of a text. Each row of the line has an error:
+//! for what follows the prefix, such as the end of the text, or for the prefix itself, such as one with the month 13. A
+//! *bad code unit* is a 16-bit code unit outside 1 to 126.
 //!
 //! For the layers above, this crate also proves three facts about the definitions:
 //!
-//! - No row of the fault table fits a text that the grammar derives.
+//! - If a text is in the grammar of a reader, no row of the fault table for this reader fits the text.
 //! - Under one profile, a text is in the grammar of at most one text reader.
-//! - Suppose that a row of a line fits a text with a bad code unit. There are two cases. In the first case, the error
-//!   of the row is `NonAsciiCodePoint`, and its position is the first bad code unit. In the second case, the bad code unit
-//!   does not matter: every text that begins with the code units before it has the same error, by a row of the same line.
+//! - Suppose that a row of a line fits a text with a bad code unit. There are two cases. In the first case, the error of
+//!   the row is `NonAsciiCodePoint`, at the position of the first bad code unit. In the second case, the error does not
+//!   depend on the bad code unit. Every text that begins with the code units before the bad code unit has the same error,
+//!   because a row of the same line fits every such text.
 #![tactic(auto)]
 
 pub mod encoding;

@@ -25,14 +25,14 @@ pub struct IxdtfParseRecord<'a, T: EncodingType> {
     pub date: Option<DateRecord>,
     /// The time of day (`partial-time` of RFC 3339, section 5.6, or a shorter form of ISO 8601).
     pub time: Option<TimeRecord>,
-    /// The offset from UTC (`time-offset` of RFC 3339, section 5.6).
+    /// The offset from UTC (`time-offset` of RFC 3339, section 5.6, or a shorter or longer form).
     pub offset: Option<UtcOffsetRecordOrZ>,
     /// The time zone in brackets (`time-zone` of RFC 9557, section 4.1).
     pub tz: Option<TimeZoneAnnotation<'a, T>>,
     /// The calendar: the value of the first annotation with the key `u-ca` (`suffix-tag` of RFC 9557, section 4.1).
     ///
-    /// With a handler, this is the value of the first such annotation that the handler returned. It is not checked that
-    /// such a calendar exists.
+    /// With a handler, this field is the value of the first annotation with this key that the handler returned. The readers
+    /// do not check that the calendar exists.
     pub calendar: Option<&'a [T::CodeUnit]>,
 }
 
@@ -74,7 +74,7 @@ pub struct TimeRecord {
     pub hour: u8,
     /// The minute, 0 to 59.
     pub minute: u8,
-    /// The second, 0 to 60. 60 is a leap second. It is not changed to 59.
+    /// The second, 0 to 60. The second 60 is a leap second. The readers do not change it to 59.
     pub second: u8,
     /// The fraction of a second (`time-secfrac` of RFC 3339, section 5.6), or `None` if the text has no fraction.
     pub fraction: Option<Fraction>,
@@ -96,8 +96,8 @@ pub struct TimeRecord {
 #[derive(Drop)]
 #[derive_where(Clone, Copy, Debug, PartialEq, Eq, Hash)]
 pub struct TimeZoneAnnotation<'a, T: EncodingType> {
-    /// Whether a `!` follows the opening bracket (`critical-flag`). If it does, an application must process the zone,
-    /// or reject the text.
+    /// Whether a `!` follows the opening bracket (`critical-flag`). If this field is `true`, an application must process
+    /// the zone, or reject the text.
     pub critical: bool,
     /// The zone: a name or an offset.
     pub tz: TimeZoneRecord<'a, T>,
@@ -125,8 +125,8 @@ pub struct TimeZoneAnnotation<'a, T: EncodingType> {
 #[derive(Drop)]
 #[derive_where(Clone, Copy, Debug, PartialEq, Eq, Hash)]
 pub struct Annotation<'a, T: EncodingType> {
-    /// Whether a `!` follows the opening bracket (`critical-flag`). If it does, an application must process the
-    /// annotation, or reject the text.
+    /// Whether a `!` follows the opening bracket (`critical-flag`). If this field is `true`, an application must process
+    /// the annotation, or reject the text.
     pub critical: bool,
     /// The code units of the key (`suffix-key`): a slice of the text.
     pub key: &'a [T::CodeUnit],
@@ -138,8 +138,8 @@ pub struct Annotation<'a, T: EncodingType> {
 #[derive(Drop)]
 #[derive_where(Clone, Copy, Debug, PartialEq, Eq, Hash)]
 pub enum TimeZoneRecord<'a, T: EncodingType> {
-    /// The code units of a name (`time-zone-name` of RFC 9557, section 4.1): a slice of the text. It is not checked
-    /// that such a zone exists.
+    /// The code units of a name (`time-zone-name` of RFC 9557, section 4.1): a slice of the text. The readers do not check
+    /// that a zone with this name exists.
     Name(&'a [T::CodeUnit]),
     /// A fixed offset (`time-numoffset` of RFC 3339, section 5.6).
     Offset(MinutePrecisionOffset),
@@ -148,10 +148,10 @@ pub enum TimeZoneRecord<'a, T: EncodingType> {
 impl<'a> TimeZoneRecord<'a, Utf8> {
     ghost use Rattle.ixdtf_grammar.specs.Views.{name_of};
 
-    /// Returns the name of the zone as a string. It is a part of the text.
+    /// Returns the name of the zone as a string, which is a slice of the text.
     ///
-    /// The result is `None` if the zone is an offset, or if the name is not UTF-8. A name that a reader returned
-    /// contains only ASCII characters, so its result is never `None`.
+    /// The result is `None` if the zone is an offset, or if the name is not UTF-8. A name that a reader returned contains
+    /// only ASCII characters. So the result for such a name is never `None`.
     ///
     /// # Examples
     ///
@@ -181,7 +181,7 @@ pub enum Sign {
     /// The text has a `-`. This is also the sign of the `-00:00` that
     /// [`resolve_rfc_9557`](UtcOffsetRecordOrZ::resolve_rfc_9557) returns for `Z`.
     Negative = -1,
-    /// The text has a `+`, or has no sign and needs none.
+    /// The text has a `+`, or is a duration without a sign.
     Positive = 1,
 }
 
@@ -205,8 +205,8 @@ impl From<bool> for Sign {
 /// Local time is UTC plus the offset.
 #[derive(Clone, Copy, Debug, PartialEq, Eq, Hash)]
 pub struct MinutePrecisionOffset {
-    /// The sign. It is `Positive` if local time is ahead of UTC. For `-00:00` it is `Negative`: this offset means that
-    /// UTC is known, and the local offset is not.
+    /// The sign. It is `Positive` if local time is ahead of UTC. For `-00:00`, the sign is `Negative`. The offset `-00:00`
+    /// means that the time in UTC is known, and that the local offset is not known.
     pub sign: Sign,
     /// The hours, 0 to 23.
     pub hour: u8,
@@ -232,7 +232,7 @@ impl MinutePrecisionOffset {
 /// An offset from UTC with seconds, such as `-05:00:30.5`.
 ///
 /// `time-numoffset` of RFC 3339, section 5.6, has no seconds. `parse`, `parse_time` and `parse_offset` also accept this
-/// longer form. A zone in brackets cannot have it.
+/// longer form. A zone in brackets cannot have seconds.
 #[derive(Clone, Copy, Debug, PartialEq, Eq, Hash)]
 pub struct FullPrecisionOffset {
     /// The sign, the hours and the minutes. The sign is that of the complete offset.
@@ -246,9 +246,9 @@ pub struct FullPrecisionOffset {
 /// An offset from UTC, with or without seconds. `+01:00` and `+01:00:00` give different values.
 #[derive(Clone, Copy, Debug, PartialEq, Eq, Hash)]
 pub enum UtcOffsetRecord {
-    /// Written without seconds.
+    /// The offset was written without seconds.
     MinutePrecision(MinutePrecisionOffset),
-    /// Written with seconds.
+    /// The offset was written with seconds.
     FullPrecisionOffset(FullPrecisionOffset),
 }
 
@@ -321,7 +321,7 @@ impl UtcOffsetRecord {
     }
 }
 
-/// The offset of a time: a number such as `-05:30`, or `Z` (`time-offset` of RFC 3339, section 5.6).
+/// The offset of a time: numbers such as `-05:30`, or `Z` (`time-offset` of RFC 3339, section 5.6).
 ///
 /// # Examples
 ///
@@ -357,7 +357,8 @@ impl UtcOffsetRecordOrZ {
 
     /// Returns the offset as numbers. Returns `-00:00` for `Z`.
     ///
-    /// `Z` and `-00:00` have the same meaning: UTC is known, and the local offset is not (RFC 9557, section 2).
+    /// `Z` and `-00:00` have the same meaning: the time in UTC is known, and the local offset is not known (RFC 9557,
+    /// section 2).
     ///
     /// # Examples
     ///
@@ -385,7 +386,7 @@ impl UtcOffsetRecordOrZ {
 
 /// A duration, such as `P1Y2M3DT4H` (ISO 8601, section 5.5.2; `Duration` of the Temporal grammar).
 ///
-/// It keeps the units of the text: no unit is converted to another.
+/// The record keeps the units of the text: no unit is converted to another one.
 #[derive(Clone, Copy, Debug, PartialEq, Eq, Hash)]
 pub struct DurationParseRecord {
     /// The sign of the complete duration. It is `Negative` exactly if the text begins with a `-`.
@@ -398,7 +399,7 @@ pub struct DurationParseRecord {
 
 /// The years, months, weeks and days of a duration (`DurationDate` of the Temporal grammar; ISO 8601, section 5.5.2).
 ///
-/// A unit that the text does not have is 0. If the text repeats a unit, its last number counts.
+/// A unit that the text does not have is 0. If the text repeats a unit, the record has the last number of this unit.
 #[derive(Clone, Copy, Debug, Default, PartialEq, Eq, Hash)]
 pub struct DateDurationRecord {
     /// The years (`Y`).
@@ -413,8 +414,8 @@ pub struct DateDurationRecord {
 
 /// The hours, minutes and seconds of a duration (`DurationTime` of the Temporal grammar; ISO 8601, section 5.5.2).
 ///
-/// The variant is the last unit of the text. A unit that the text does not have is 0. If the text repeats a unit, its
-/// last number counts.
+/// Each variant has the name of the last unit of the text. A unit that the text does not have is 0. If the text repeats a
+/// unit, the record has the last number of this unit.
 ///
 /// # Examples
 ///
@@ -478,10 +479,9 @@ pub enum TimeDurationRecord {
 /// The first digits of a fraction, at most 18. This type is only for crates of this repository, and not a part of the
 /// public interface.
 ///
-/// While digits are read one by one, their value is an ordinary number. A [`Fraction`] stores its value in a packed
-/// form, as eight bytes. This crate is written in Rattle, which is Rust with
-/// contracts. The code that Rattle's compiler produces needs about 50 instructions to pack a value. So the
-/// value is packed only once, after the last of these digits.
+/// While digits are read one by one, their value is an ordinary number. A [`Fraction`] stores its value in a packed form,
+/// as eight bytes. This crate is written in Rattle, which is Rust with contracts. The code that Rattle's compiler produces
+/// needs about 50 instructions to pack a value. So the value is packed only once, after the last of these digits.
 #[doc(hidden)]
 #[derive(Clone, Copy, Debug)]
 pub struct LeadingDigits {
@@ -552,9 +552,9 @@ impl LeadingDigits {
 
 /// A fraction: the digits after a `.` or a `,`.
 ///
-/// It is a fraction of a second (`time-secfrac` of RFC 3339, section 5.6), or of the last unit of a duration. If it is
-/// a fraction of an hour or of a minute, the nanoseconds that its methods return are billionths of an hour or of a
-/// minute.
+/// A fraction belongs to a second (`time-secfrac` of RFC 3339, section 5.6), or to the last unit of a duration. For a
+/// fraction of an hour, the methods for nanoseconds return billionths of an hour. For a fraction of a minute, they return
+/// billionths of a minute.
 ///
 /// A fraction stores the number of its digits, up to 255, and the value of the first 18 digits. So `.1` and `.10` are
 /// different fractions. Digits after the first 18 are only counted.
@@ -633,7 +633,7 @@ impl Fraction {
         digits
     }
 
-    /// Returns the value of the first 18 digits, or of all digits if there are fewer. For `.10` it is 10.
+    /// Returns the value of the first 18 digits, or of all digits if there are fewer. For `.10`, the value is 10.
     pub fn leading_value(&self) -> u64
         ensures value { result ≡ self.now.value }
         ensures fits { result < 10 ^ min self.now.count 18 }
@@ -644,8 +644,8 @@ impl Fraction {
 
     /// Returns the nanoseconds of the fraction, or `None` if it has more than nine digits.
     ///
-    /// A zero after the ninth digit counts as a digit. If the result is `Some`, it has the number that
-    /// [`to_truncated_nanoseconds`](Self::to_truncated_nanoseconds) returns.
+    /// A zero after the ninth digit counts as a digit. If the fraction has at most nine digits,
+    /// [`to_truncated_nanoseconds`](Self::to_truncated_nanoseconds) returns the same number.
     ///
     /// # Examples
     ///

@@ -18,13 +18,12 @@ const BILLION: u32 = 1_000_000_000;
 /// year has a sign and twelve digits, and no reader accepts this text. The fraction has no zeros at its end. If the
 /// nanoseconds are 0, no fraction is written. `Display` ignores width and fill.
 ///
-/// A year of more than six digits can come from the offset of a record: in UTC, `+999999-12-31T23:59:59-23:59` is in
-/// the year 1000000. Such a year can also come from a program, because the fields are public. A program can also make
-/// an instant with 1,000,000,000 nanoseconds or more. `Display` adds the complete seconds in these nanoseconds to the
-/// seconds.
+/// The offset of a record can lead to a year of more than six digits: in UTC, `+999999-12-31T23:59:59-23:59` is in the year
+/// 1000000. A program can also make an instant with such a year, because the fields are public. A program can also make an
+/// instant with 1,000,000,000 nanoseconds or more. `Display` adds the complete seconds in these nanoseconds to the seconds.
 #[derive(Clone, Copy, Debug, PartialEq, Eq, PartialOrd, Ord, Hash)]
 pub struct Instant {
-    /// The complete seconds since 1970-01-01T00:00:00Z, rounded down. The number is below zero for an instant before 1970.
+    /// The number of seconds since 1970-01-01T00:00:00Z, rounded down. It is below zero for an instant before 1970.
     pub seconds: i64,
     /// The nanoseconds after these seconds. In the instant of a record, they are 0 to 999,999,999.
     pub nanoseconds: u32,

@@ -20,9 +20,9 @@ pub struct CivilDate {
     pub day: u8,
 }
 
-/// Returns the date with a day number: day 0 is 1970-01-01, and day -1 is 1969-12-31.
+/// Returns the date that has the day number `days`: day 0 is 1970-01-01, and day -1 is 1969-12-31.
 ///
-/// The day number of every instant is within the bounds that the contract requires.
+/// `days` must be from -110,000,000,000,000 to 110,000,000,000,000. The day number of every instant is in this range.
 pub fn date_of(days: i64) -> CivilDate {
     let count = days_from_first(days);
     let year = march_year_of(count);

@@ -15,14 +15,14 @@ impl<'a, T: EncodingType> IxdtfParseRecord<'a, T> {
     /// For a record that a reader returned, the result is `Some` exactly if the record has a date, a time, and an offset
     /// or `Z`.
     ///
-    /// - The nanoseconds are the first nine digits of the fraction of the time, unless the offset has a fraction.
-    ///   The first nine digits of the fraction of the offset count as a part of the offset, with its sign. So they also
-    ///   change the nanoseconds.
-    /// - The second 60 counts as the second 59, as in `ParseISODateTime` of the Temporal proposal. So, on one date and at
-    ///   one offset, `23:59:60.5` and `23:59:59.5` are the same instant.
-    /// - No time zone is looked up: the zone in brackets and the calendar do not change the instant. If the text has an offset
-    ///   and a zone, this method does not check that the zone has this offset at this time. If the zone is critical, the
-    ///   caller must check it (RFC 9557, section 3.4).
+    /// - The nanoseconds of the local time are the first nine digits of the fraction of the time. If the offset has a
+    ///   fraction, the nanoseconds of the offset are the first nine digits of this fraction. They are subtracted if the
+    ///   offset is positive, and added if the offset is negative.
+    /// - The second 60 counts as the second 59, as in `ParseISODateTime` of the Temporal proposal. So, for the same date
+    ///   and the same offset, `23:59:60.5` and `23:59:59.5` are the same instant.
+    /// - The time zone in brackets and the calendar do not change the instant. If the record has an offset and a zone, this
+    ///   method does not check that the zone has this offset at this time. If the zone is critical, the caller must check
+    ///   it (RFC 9557, section 3.4).
     /// - A program can also make a record that no reader returns. If the month is not from 1 to 12, the result is `None`. If
     ///   the month does not have the day, the days are counted from the first day of the month: 31 February is 30 days
     ///   after 1 February, so it counts as 3 March, or as 2 March in a leap year. In the same way, hours above 23 are

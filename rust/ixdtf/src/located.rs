@@ -9,7 +9,7 @@ use core::error::Error;
 use core::fmt;
 use core::str::from_utf8;
 
-/// An error and its position in the text, as the `*_located` readers return it.
+/// An error, its position in the text and its reason. The `*_located` readers return a `LocatedError`.
 ///
 /// `Display` writes the message of the error, ` at ` and the position, as in
 /// `Invalid character while parsing month value. at 5`.
@@ -27,21 +27,23 @@ use core::str::from_utf8;
 pub struct LocatedError {
     /// The error.
     pub error: ParseError,
-    /// The position of the error: the number of code units before it in the input of the reader. If a number is out of range, the
-    /// position is after the number: for the day of `2024-02-30`, it is 10.
+    /// The position of the error: the number of code units of the input that come before the error. If a month, day, hour,
+    /// minute or second is out of range, the position is after its two digits, such as 10 for the day of `2024-02-30`.
     pub at: usize,
     /// The reason: the line of the fault table that fits the text, or the refusal of an annotation.
     pub reason: Reason,
 }
 
 impl LocatedError {
-    /// Returns the text with a mark under each byte of the part that is wrong, so that people can see it.
+    /// Returns the text with a mark under each byte of the part that is wrong, so that people can see this part.
     ///
-    /// `text` must be the complete source of the parser that returned this error. An earlier call on this parser must
-    /// not have returned `Ok`: such a call consumes the source, so the position of this error would not be counted from
-    /// the beginning of `text`. If the source has 16-bit code units, `text` must be this source, converted to a `str`.
-    /// All code units before an error of a reader are from 1 to 126, so the position is also a number of bytes in
-    /// `text`.
+    /// `text` must be the complete source of the parser that returned this error. No earlier call on this parser may have
+    /// returned `Ok`. A call that returns `Ok` consumes the source, and a later call does not count positions from the
+    /// beginning of the source.
+    ///
+    /// If the source has 16-bit code units, `text` must be this source, converted to a `str`. In such a source, all code
+    /// units before the error are from 1 to 126, and each of them is one byte of `text`. So the position is also a number
+    /// of bytes in `text`.
     ///
     /// The `Display` of the result writes two lines, without a newline at the end. [`PointedText`] describes what it
     /// writes for a long text, and for control characters.
@@ -60,11 +62,11 @@ impl LocatedError {
         PointedText::new(text, self.part_in(text.as_bytes()))
     }
 
-    /// Returns bytes that need not be UTF-8 with a mark under each byte of the part that is wrong.
+    /// Returns the text with marks, as [`in_text`](LocatedError::in_text) does, for a source that need not be valid UTF-8.
     ///
-    /// The bytes must be those that [`in_text`](LocatedError::in_text) asks for. The result shows the characters before the first
-    /// byte that is not UTF-8. All code units before an error are from 1 to 126, so these characters go at least up to the part
-    /// that is wrong.
+    /// `bytes` must be the complete source of the parser, under the same conditions as `text` in `in_text`. The result
+    /// shows only the characters before the first byte that is not UTF-8. If the part that is wrong begins at or after this
+    /// byte, the first mark is one column after the last of these characters.
     ///
     /// # Examples
     ///

@@ -1,6 +1,6 @@
 // Made by tools/to_rust.py of crates/ixdtf_grammar/src/message.rt. Do not edit.
 
-//! Messages: what stands in a text that a reader refused, and what was expected there.
+//! Messages that say what is wrong in a text that a reader refused.
 
 use crate::located::{LocatedError, valid_front};
 use crate::reason::Reason;
@@ -9,11 +9,12 @@ use core::str::from_utf8;
 
 /// A message that says why a reader refused a text, as [`LocatedError::message_in`] returns it.
 ///
-/// `Display` writes one line of plain English, without a newline and without a full stop. It says what stands in the text, and what
-/// was expected there. `docs/FAULTS.md` has the message for each line of the fault table.
+/// `Display` writes one line of plain English, without a newline and without a full stop. The line says what the reader
+/// found in the text, and what it expected. `docs/FAULTS.md` has the message for each line of the fault table.
 ///
-/// A character that does not fit is written in backticks, as `` `x` ``. Other characters than those from U+0021 to U+007E have a
-/// name, such as `a space`, or are written by their number, as `U+00E3`.
+/// A message can show one character of the text. A character from U+0021 to U+007E, except the backtick, is written in
+/// backticks, as `` `x` ``. Any other character is written by its name, such as `a space`, or by its number, such as
+/// `U+00E3`. A byte with which no UTF-8 character begins is written as a number, such as `the byte 0xE3`.
 ///
 /// # Examples
 ///
@@ -77,11 +78,12 @@ struct Context {
 }
 
 impl LocatedError {
-    /// Returns a message that says what stands in the text at the position of the error, and what was expected there.
+    /// Returns a message that says what the reader found in the text, and what it expected.
     ///
-    /// `text` must be the complete source of the parser that returned this error, as for [`in_text`](LocatedError::in_text). If the
-    /// source has 8-bit code units, `text` is the source itself, which need not be valid UTF-8. If the source has 16-bit code units,
-    /// `text` must be this source, converted to UTF-8.
+    /// `text` must be the complete source of the parser that returned this error, and no earlier call on this parser may
+    /// have returned `Ok`. [`in_text`](LocatedError::in_text) has the same two conditions. If the source has 8-bit code
+    /// units, `text` is the source itself, which need not be valid UTF-8. If the source has 16-bit code units, `text` must
+    /// be this source, converted to UTF-8.
     ///
     /// # Examples
     ///
@@ -669,8 +671,8 @@ fn is_of_clock(byte: u8) -> bool {
     byte.is_ascii_digit() || byte == b':' || byte == b'.' || byte == b','
 }
 
-/// Returns the last day of the month before the two digits of a day, with which the text ends. If there is no year before the month,
-/// it is the last day of the month in a leap year.
+/// Returns the last day of the month before the two digits of a day, with which the text ends. If there is no year before
+/// the month, it is the last day of the month in a leap year.
 fn last_day_before(front: &[u8]) -> u8 {
     let month = without_hyphen(without_two(front));
     let year = four_digits(without_hyphen(without_two(month)));

@@ -7,7 +7,7 @@ use core::hash::{Hash, Hasher};
 
 /// A number below 2^64, stored as its eight bytes, the lowest byte first.
 ///
-/// It needs no alignment. So a record that contains it has no padding before it.
+/// A packed number needs no alignment. So a record has no padding before a packed number.
 #[derive(Clone, Copy)]
 pub struct PackedNumber {
     bytes: [u8; 8],

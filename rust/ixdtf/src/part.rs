@@ -36,19 +36,21 @@ enum Extent {
 impl LocatedError {
     /// Returns the part of the text that is wrong.
     ///
-    /// `text` must be the complete source of the parser that returned this error, as for [`in_text`](LocatedError::in_text). If the
-    /// source has 8-bit code units, `text` is the source itself, which need not be valid UTF-8. If the source has 16-bit code units,
-    /// `text` must be this source, converted to UTF-8.
+    /// `text` must be the complete source of the parser that returned this error, and no earlier call on this parser may
+    /// have returned `Ok`. [`in_text`](LocatedError::in_text) has the same two conditions. If the source has 8-bit code
+    /// units, `text` is the source itself, which need not be valid UTF-8. If the source has 16-bit code units, `text` must
+    /// be this source, converted to UTF-8.
     ///
     /// - If a code unit does not fit, the part is one byte: the one at the position of the error.
     /// - If the text ends too early, the part is empty, and is at the end of the text.
-    /// - If a number is out of range, the part is the number. If it is a number of a duration, the part has its fraction, but not its
-    ///   unit.
+    /// - If a number is out of range, the part is the digits of this number. In a duration, the part contains neither the
+    ///   fraction nor the unit that follows the number.
     /// - If the year is `-000000`, the part is the year with its sign.
-    /// - If a unit of a duration is not in order, the part is the unit with its number.
-    /// - If a time is ambiguous, the part is the month and the day, or the year and the month, with which it begins.
-    /// - If an annotation is refused because of its key or its value, the part is its bracket. The same holds if `parse_rfc9557` refuses
-    ///   a time zone in a bracket because it does not have the form that RFC 9557 requires.
+    /// - If a unit of a duration is not in order, the part is the number, its fraction if there is one, and the unit.
+    /// - If a time is ambiguous, the part is the beginning of the text that is also a month-day or a year-month.
+    /// - If an annotation is refused because of its key or its value, the part is the bracket of the annotation. If
+    ///   `parse_rfc9557` refuses a time zone that does not have the form of RFC 9557, the part is the bracket of the time
+    ///   zone.
     ///
     /// # Examples
     ///

@@ -11,18 +11,18 @@ const BEFORE_PLACE: usize = 48;
 /// The greatest number of characters that are written from the first mark on, and the greatest number of marks.
 const FROM_PLACE: usize = 24;
 
-/// A text with marks under the part that is wrong, as [`LocatedError::in_text`](crate::LocatedError::in_text) and
+/// A text with marks under the part that is wrong. [`LocatedError::in_text`](crate::LocatedError::in_text) and
 /// [`LocatedError::in_bytes`](crate::LocatedError::in_bytes) return it.
 ///
-/// `Display` writes two lines: the text, and a `^` for each byte of the part that is wrong, after spaces. There is a newline between
-/// the two lines, and none at the end. `Display` does not allocate.
+/// `Display` writes two lines. The first line is the text. The second line has spaces, and then a `^` for each byte of the
+/// part that is wrong. There is a newline between the two lines, and none at the end. `Display` does not allocate.
 ///
-/// - The first mark is under the character that contains the first byte of the part. If the part begins at the end of the text or
-///   after it, the mark is one column after the last character. A column is one code point.
+/// - The first mark is under the character that contains the first byte of the part. If the part begins at or after the end
+///   of the shown text, the first mark is one column after the last character. A column is one code point.
 /// - There is at least one mark, and there are at most 24.
 /// - A control character, U+0000 to U+001F or U+007F to U+009F, is written as `.`.
-/// - At most 48 characters before the first mark are written, and at most 24 characters from it on. If there are more, `..` is
-///   written instead of them. So a line has at most 76 columns.
+/// - At most 48 characters before the first mark are written, and at most 24 characters from the first mark on. If
+///   characters are left out on one of these two sides, `..` is written instead of them. So a line has at most 76 columns.
 ///
 /// # Examples
 ///

@@ -4,15 +4,15 @@
 
 /// The reason why a reader refused a text: a line of the fault table, or the refusal of an annotation.
 ///
-/// The fault table is in `docs/FAULTS.md` of the repository. Each variant names the line of the table that fits the text. The line
-/// says what the text has before the position of the error, and what may follow there. Several reasons can have the same
-/// [`ParseError`](crate::ParseError), and one reason can have several errors: one if the text ends at the position, and others that
-/// depend on the code unit at the position.
+/// The fault table is in `docs/FAULTS.md` of the repository. A line of the table says what the text has before the position
+/// of the error, and what may follow there. The comment of each variant names its line, if the variant has one. Several
+/// reasons can have the same [`ParseError`](crate::ParseError). One reason can have several errors: one if the text ends at
+/// the position, and others that depend on the code unit at the position.
 ///
-/// A line of the table is for one place in a text. If the name of a line has two words, as `field_digits month_field`, the second
-/// word is the part of the text. Some lines have the same name for times, for offsets, and for offsets that are time zones: each
-/// has
-/// its own variant. In the comments of the variants, *has to begin* and *has to follow* mean: at the position of the error.
+/// If the name of a line has two words, such as `field_digits month_field`, the second word names the part of the text that
+/// the line is about. Times, offsets, and offsets that are time zones have lines with the same names. Each of these three
+/// has its own variants. In the comments of the variants, *has to begin* and *has to follow* are about the position of the
+/// error: the required part is missing there.
 ///
 /// # Examples
 ///
@@ -42,7 +42,7 @@ pub enum Reason {
     MonthDigits,
     /// Line `month_range`: the month is not 01 to 12.
     MonthRange,
-    /// Line `after_hyphened_month`: a `-` has to follow the month, because there is one before the month.
+    /// Line `after_hyphened_month`: a `-` has to follow the month, because there is a `-` before the month.
     AfterHyphenedMonth,
     /// Line `after_basic_month`: a digit of the day has to follow the month, because there is no `-` before the month.
     AfterBasicMonth,
@@ -170,7 +170,7 @@ pub enum Reason {
     /// Line `after_zulu`: what follows the `Z` does not fit.
     AfterZulu,
     // Date-times of RFC 3339
-    /// Line `four_digits`, in `parse_rfc3339` and `parse_rfc9557`: a digit of the year, which has four digits, has to follow.
+    /// Line `four_digits`, in `parse_rfc3339` and `parse_rfc9557`: one of the four digits of the year has to follow.
     FourDigits,
     /// Line `after_four_digits`, in `parse_rfc3339` and `parse_rfc9557`: a `-` has to follow the year.
     AfterFourDigits,
@@ -187,8 +187,8 @@ pub enum Reason {
     /// Line `field_digits offset_hour_field`, in `parse_rfc3339` and `parse_rfc9557`: a digit of the hour of the offset has to
     /// follow.
     OffsetHourFieldDigits,
-    /// Line `field_digits offset_minute_field`, in `parse_rfc3339` and `parse_rfc9557`: a digit of the minute of the offset has to
-    /// follow.
+    /// Line `field_digits offset_minute_field`, in `parse_rfc3339` and `parse_rfc9557`: a digit of the minute of the offset
+    /// has to follow.
     OffsetMinuteFieldDigits,
     /// Line `field_range month_field`, in `parse_rfc3339` and `parse_rfc9557`: the month is not 01 to 12.
     MonthFieldRange,
@@ -202,7 +202,8 @@ pub enum Reason {
     SecondFieldRange,
     /// Line `field_range offset_hour_field`, in `parse_rfc3339` and `parse_rfc9557`: the hour of the offset is greater than 23.
     OffsetHourFieldRange,
-    /// Line `field_range offset_minute_field`, in `parse_rfc3339` and `parse_rfc9557`: the minute of the offset is greater than 59.
+    /// Line `field_range offset_minute_field`, in `parse_rfc3339` and `parse_rfc9557`: the minute of the offset is greater
+    /// than 59.
     OffsetMinuteFieldRange,
     /// Line `after_field month_field`, in `parse_rfc3339` and `parse_rfc9557`: a `-` has to follow the month.
     AfterMonthField,
@@ -231,7 +232,7 @@ pub enum Reason {
     IdentifierStart,
     /// Line `zone_name_start`: the name of a time zone has to begin.
     ZoneNameStart,
-    /// Line `in_zone_name`: what follows a part of the name of a time zone does not fit.
+    /// Line `in_zone_name`: what follows the beginning of the name of a time zone does not fit.
     InZoneName,
     /// Line `after_zone_slash`: a character of a name has to follow the `/` in the name of a time zone.
     AfterZoneSlash,
@@ -240,11 +241,12 @@ pub enum Reason {
     FirstBracketStart,
     /// Line `first_critical_start`: what follows the `[!` of the first bracket does not fit.
     FirstCriticalStart,
-    /// Line `first_bracket_scan`: the first bracket has neither a `=` nor a `]` before the end of the text or before a bad code
-    /// unit.
+    /// Line `first_bracket_scan`: the content of the first bracket begins with a lowercase letter or `_`. Before its first
+    /// `=` or `]`, the text ends, or there is a 16-bit code unit outside 1 to 126.
     FirstBracketScan,
-    /// Lines `first_dots_form` and `first_name_form`: the grammar of RFC 9557, section 4.1, does not allow this name of a time
-    /// zone. Either a part of the name begins with another character than a letter, `.` or `_`, or a complete part is `.` or `..`.
+    /// Lines `first_dots_form` and `first_name_form`: the grammar of RFC 9557, section 4.1, does not allow this name of a
+    /// time zone. Slashes divide the name into parts. One of the parts does not begin with an ASCII letter, `.` or `_`, or
+    /// one of them is exactly `.` or `..`.
     FirstNameForm,
     /// Line `first_offset_form`: the offset in the first bracket has no minutes, or no `:` before them.
     FirstOffsetForm,
@@ -255,11 +257,11 @@ pub enum Reason {
     KeyStart,
     /// Line `critical_key_start`: a key has to follow the `[!`.
     CriticalKeyStart,
-    /// Line `in_key`: what follows a part of the key does not fit.
+    /// Line `in_key`: after the beginning of the key, a key character or `=` has to follow.
     InKey,
     /// Line `value_start`: a value has to follow the `=`.
     ValueStart,
-    /// Line `in_value`: what follows a part of the value does not fit.
+    /// Line `in_value`: after the beginning of the value, a letter, a digit, a `-` or `]` has to follow.
     InValue,
     /// Line `after_value_hyphen`: a letter or a digit has to follow the `-` in the value.
     AfterValueHyphen,
@@ -286,9 +288,11 @@ pub enum Reason {
     DateGroupRange,
     /// Line `group_value_range time`: the number of hours, minutes or seconds is 2^64 or greater.
     TimeGroupRange,
-    /// Line `unit_order date`: the units of years, months, weeks and days are not in their order.
+    /// Line `unit_order date`: the years, months, weeks and days are not in this order. Under the strict profile, a
+    /// repeated unit also has this reason.
     DateUnitOrder,
-    /// Line `unit_order time`: the units of hours, minutes and seconds are not in their order.
+    /// Line `unit_order time`: the hours, minutes and seconds are not in this order. Under the strict profile, a repeated
+    /// unit also has this reason.
     TimeUnitOrder,
     /// Line `date_unit_range`: the number of years, months or weeks is 2^32 or greater.
     DateUnitRange,
@@ -297,9 +301,10 @@ pub enum Reason {
     /// Line `group_fraction_digits`: another digit or a unit has to follow the fraction.
     GroupFractionDigits,
     // Refused annotations
-    /// An annotation is critical, and its key is not known. There is no line for this.
+    /// An annotation is critical, and its key is not `u-ca`. This variant has no line.
     UnrecognizedCritical,
-    /// A later calendar is different from the first one, and one of the two is critical. There is no line for this.
+    /// The first annotation with the key `u-ca` and a later one have different values, and at least one of the two is
+    /// critical. This variant has no line.
     CriticalDuplicateCalendar,
 }
 

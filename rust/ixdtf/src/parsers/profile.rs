@@ -28,8 +28,8 @@
 pub enum Profile {
     /// The rules of `ixdtf` 0.6.7 of ICU4X: a month-day may have the day 0, and a unit of a duration may be repeated.
     Crate,
-    /// Stricter rules: the day of a month-day must be at least 1, and each unit of a duration must be shorter than the
-    /// unit before it. `parse_time` then accepts some texts that are ambiguous under [`Profile::Crate`], such as
+    /// Stricter rules: the day of a month-day must be at least 1, and each unit of a duration must be shorter than the unit
+    /// before it. Under this profile, `parse_time` accepts some texts that are ambiguous under [`Profile::Crate`], such as
     /// `1200`.
     Strict,
 }
