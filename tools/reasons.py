@@ -261,7 +261,7 @@ DURATIONS = {
     'after_time_designator': Texts('the text ends after `T`; expected a number', 'expected a number after `T`, found {char}'),
     'group_digits date': Texts('the text ends after the number; expected `Y`, `M`, `W` or `D`',
                                'expected a digit, `Y`, `M`, `W` or `D` after the number, found {char}',
-                               at=(('HhSs', 'a number of hours or seconds has to follow `T`, found {char}'),)),
+                               at=(('HhSs', 'expected `T` before a number of hours or seconds, found {char}'),)),
     'group_digits time': Texts('the text ends after the number; expected `H`, `M` or `S`',
                                'expected a digit, `.`, `H`, `M` or `S` after the number, found {char}'),
     'group_value_range date': Texts(whole='the number is too great, and has to be at most 18446744073709551615'),

@@ -73,7 +73,7 @@ FOR_C = ('#![cfg_attr(not(test), no_std)]\n', '\n#[cfg(not(test))]\nmod abort;\n
 # the layers of the library, and where their modules go in the crate that is made from all of them
 LAYERS = {
     'ixdtf_instants': 'civil days display instant'.split(),
-    'ixdtf_grammar': 'encoding error instants located message packed part pointed reason records parsers/profile'.split(),
+    'ixdtf_grammar': 'encoding error instants located message packed part pointed reason records parsers/profile wording'.split(),
     'ixdtf_reading': 'cursor classes stop parsers/annotations parsers/letters'.split(),
     'ixdtf_times': 'parsers/date_times parsers/dates parsers/months parsers/offsets parsers/rfc3339 parsers/time'.split(),
     'ixdtf_brackets': 'parsers/brackets parsers/exact_zones parsers/zone'.split(),
@@ -512,6 +512,9 @@ def of_layers(module, plain, roots):
 def of_root(name, roots):
     """The item with this name in the root of a layer."""
     found = [m[0] for text in roots for m in re.finditer(rf'pub use (?!ixdtf_)[a-z_]+::{name};\n|\n(?:///[^\n]*\n)*pub type {name}[^\n]*\n', text)]
+    # an item that the layer re-exports together with others of its module
+    found += [f'pub use {m[1]}::{name};\n' for text in roots for m in re.finditer(r'pub use (?!ixdtf_)([a-z_]+)::\{([A-Za-z,\s]+)\};\n', text)
+              if name in re.findall(r'\w+', m[2])]
     if len(found) != 1:
         raise Refused(f'expected one item {name} in the layers, found {len(found)}')
     return found[0]

@@ -41,6 +41,6 @@ pub mod laws;
 pub mod parsers;
 
 pub use ixdtf_grammar::{
-    Instant, LocatedError, Message, ParseError, ParserResult, PointedText, Reason, WrongPart,
-    encoding, records,
+    Instant, LocatedError, Message, ParseError, ParserResult, PointedText, Reason, Shown,
+    WrongPart, encoding, records,
 };

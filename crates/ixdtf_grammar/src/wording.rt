@@ -456,7 +456,7 @@ pub(crate) fn wording_of(reason: Reason, place: Context<'_>) -> Wording
             "expected the end after the unit with a fraction, found ",
         ),
         Reason::DateGroupDigits if place.is_time_unit_next() => Wording::Found(
-            "a number of hours or seconds has to follow `T`, found ",
+            "expected `T` before a number of hours or seconds, found ",
         ),
         Reason::DateGroupDigits => expected(
             place,

@@ -26,11 +26,13 @@ mod pointed;
 mod reason;
 pub mod records;
 mod stop;
+mod wording;
 
 pub use error::ParseError;
 pub use instant::Instant;
 pub use located::LocatedError;
 pub use message::Message;
+pub use message::Shown;
 pub use part::WrongPart;
 pub use pointed::PointedText;
 pub use reason::Reason;
