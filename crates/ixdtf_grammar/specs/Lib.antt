@@ -8,6 +8,7 @@ pub mod Messages
 pub mod Parts
 pub mod Places
 pub mod Promises
+pub mod ReasonNames
 pub mod Rfc3339Laws
 pub mod Rfc9557Laws
 pub mod Views

@@ -229,8 +229,8 @@ wording reasons.CriticalDuplicateCalendar place = fixed (codes "a later calendar
 
 -- What stands around a position, which is between these two parts of a text.
 pub record IsContext (front rest : List ℕ) (place : Context) : Type 0 where
-  pub front : place.front.now ≡ front
-  pub next : place.next ≡ slice_get rest 0
+  pub before : place.front.now ≡ front
+  pub following : place.next ≡ slice_get rest 0
 
 -- The first character, if the bytes begin with one.
 abbrev pub first_character : List ℕ → Option ℕ

@@ -1,5 +1,8 @@
 //! The reasons why a reader refuses a text.
 
+ghost use Rattle.std.specs.Prelude.{◌≡◌};
+ghost use Rattle.ixdtf_grammar.specs.ReasonNames.{reason_name};
+
 /// The reason why a reader refused a text: a line of the fault table, or the refusal of an annotation.
 ///
 /// The fault table is in `docs/FAULTS.md` of the repository. A line of the table says what the text has before the position
@@ -307,3 +310,152 @@ pub enum Reason {
 }
 
 const _: () = prove!(size_of::<Reason>() == 1);
+
+impl Reason {
+    /// Returns the name of the reason, such as `month_range`.
+    ///
+    /// It is the name of the variant in lowercase letters, with a `_` between two words. No two reasons have the same name. A program
+    /// can write the name into a report, so that other programs can read it. `docs/FAULTS.md` of the repository lists the reasons by
+    /// the names of their variants.
+    ///
+    /// # Examples
+    ///
+    /// ```rust
+    /// use ixdtf::parsers::IxdtfParser;
+    ///
+    /// let error = IxdtfParser::from_str("2024-13-01").parse_located().unwrap_err();
+    /// assert_eq!(error.reason.name(), "month_range");
+    /// ```
+    pub fn name(self) -> &'static str
+        ensures { result.now ≡ reason_name self }
+    {
+        match self {
+            Reason::YearStart => "year_start",
+            Reason::YearDigits => "year_digits",
+            Reason::ExtendedYearDigits => "extended_year_digits",
+            Reason::MinusZeroYear => "minus_zero_year",
+            Reason::AfterYear => "after_year",
+            Reason::MonthDigits => "month_digits",
+            Reason::MonthRange => "month_range",
+            Reason::AfterHyphenedMonth => "after_hyphened_month",
+            Reason::AfterBasicMonth => "after_basic_month",
+            Reason::DayDigits => "day_digits",
+            Reason::DayRange => "day_range",
+            Reason::AfterDate => "after_date",
+            Reason::AfterYearInYearMonth => "after_year_in_year_month",
+            Reason::AfterYearMonth => "after_year_month",
+            Reason::MonthDayStart => "month_day_start",
+            Reason::MonthDayHyphen => "month_day_hyphen",
+            Reason::MonthDayMonthDigits => "month_day_month_digits",
+            Reason::MonthDayMonthRange => "month_day_month_range",
+            Reason::AfterMonthDayMonth => "after_month_day_month",
+            Reason::MonthDayDayDigits => "month_day_day_digits",
+            Reason::MonthDayRange => "month_day_range",
+            Reason::AfterMonthDay => "after_month_day",
+            Reason::TimeStart => "time_start",
+            Reason::TimeReadsAsMonthDay => "time_reads_as_month_day",
+            Reason::TimeReadsAsYearMonth => "time_reads_as_year_month",
+            Reason::HourStart => "hour_start",
+            Reason::HourDigit => "hour_digit",
+            Reason::HourRange => "hour_range",
+            Reason::AfterHour => "after_hour",
+            Reason::MinuteDigits => "minute_digits",
+            Reason::MinuteRange => "minute_range",
+            Reason::AfterBasicMinute => "after_basic_minute",
+            Reason::AfterColonMinute => "after_colon_minute",
+            Reason::SecondDigits => "second_digits",
+            Reason::SecondRange => "second_range",
+            Reason::AfterSecond => "after_second",
+            Reason::FractionStart => "fraction_start",
+            Reason::AfterFraction => "after_fraction",
+            Reason::OffsetHourStart => "offset_hour_start",
+            Reason::OffsetHourDigit => "offset_hour_digit",
+            Reason::OffsetHourRange => "offset_hour_range",
+            Reason::OffsetAfterHour => "offset_after_hour",
+            Reason::OffsetMinuteDigits => "offset_minute_digits",
+            Reason::OffsetMinuteRange => "offset_minute_range",
+            Reason::OffsetAfterBasicMinute => "offset_after_basic_minute",
+            Reason::OffsetAfterColonMinute => "offset_after_colon_minute",
+            Reason::OffsetSecondDigits => "offset_second_digits",
+            Reason::OffsetSecondRange => "offset_second_range",
+            Reason::OffsetAfterSecond => "offset_after_second",
+            Reason::OffsetFractionStart => "offset_fraction_start",
+            Reason::OffsetAfterFraction => "offset_after_fraction",
+            Reason::ZoneOffsetHourStart => "zone_offset_hour_start",
+            Reason::ZoneOffsetHourDigit => "zone_offset_hour_digit",
+            Reason::ZoneOffsetHourRange => "zone_offset_hour_range",
+            Reason::ZoneOffsetAfterHour => "zone_offset_after_hour",
+            Reason::ZoneOffsetMinuteDigits => "zone_offset_minute_digits",
+            Reason::ZoneOffsetMinuteRange => "zone_offset_minute_range",
+            Reason::ZoneOffsetAfterBasicMinute => "zone_offset_after_basic_minute",
+            Reason::ZoneOffsetAfterColonMinute => "zone_offset_after_colon_minute",
+            Reason::ZoneOffsetSecondDigits => "zone_offset_second_digits",
+            Reason::ZoneOffsetSecondRange => "zone_offset_second_range",
+            Reason::ZoneOffsetAfterSecond => "zone_offset_after_second",
+            Reason::ZoneOffsetFractionStart => "zone_offset_fraction_start",
+            Reason::ZoneOffsetAfterFraction => "zone_offset_after_fraction",
+            Reason::OffsetStart => "offset_start",
+            Reason::AfterZulu => "after_zulu",
+            Reason::FourDigits => "four_digits",
+            Reason::AfterFourDigits => "after_four_digits",
+            Reason::MonthFieldDigits => "month_field_digits",
+            Reason::DayFieldDigits => "day_field_digits",
+            Reason::HourFieldDigits => "hour_field_digits",
+            Reason::MinuteFieldDigits => "minute_field_digits",
+            Reason::SecondFieldDigits => "second_field_digits",
+            Reason::OffsetHourFieldDigits => "offset_hour_field_digits",
+            Reason::OffsetMinuteFieldDigits => "offset_minute_field_digits",
+            Reason::MonthFieldRange => "month_field_range",
+            Reason::DayFieldRange => "day_field_range",
+            Reason::HourFieldRange => "hour_field_range",
+            Reason::MinuteFieldRange => "minute_field_range",
+            Reason::SecondFieldRange => "second_field_range",
+            Reason::OffsetHourFieldRange => "offset_hour_field_range",
+            Reason::OffsetMinuteFieldRange => "offset_minute_field_range",
+            Reason::AfterMonthField => "after_month_field",
+            Reason::AfterDayField => "after_day_field",
+            Reason::AfterHourField => "after_hour_field",
+            Reason::AfterMinuteField => "after_minute_field",
+            Reason::AfterSecondField => "after_second_field",
+            Reason::AfterOffsetHourField => "after_offset_hour_field",
+            Reason::AfterOffsetMinuteField => "after_offset_minute_field",
+            Reason::AfterPoint => "after_point",
+            Reason::AfterSecfrac => "after_secfrac",
+            Reason::AfterUtc => "after_utc",
+            Reason::IdentifierStart => "identifier_start",
+            Reason::ZoneNameStart => "zone_name_start",
+            Reason::InZoneName => "in_zone_name",
+            Reason::AfterZoneSlash => "after_zone_slash",
+            Reason::FirstBracketStart => "first_bracket_start",
+            Reason::FirstCriticalStart => "first_critical_start",
+            Reason::FirstBracketScan => "first_bracket_scan",
+            Reason::FirstNameForm => "first_name_form",
+            Reason::FirstOffsetForm => "first_offset_form",
+            Reason::AfterBracket => "after_bracket",
+            Reason::KeyStart => "key_start",
+            Reason::CriticalKeyStart => "critical_key_start",
+            Reason::InKey => "in_key",
+            Reason::ValueStart => "value_start",
+            Reason::InValue => "in_value",
+            Reason::AfterValueHyphen => "after_value_hyphen",
+            Reason::DurationStart => "duration_start",
+            Reason::AfterDurationSign => "after_duration_sign",
+            Reason::AfterDurationDesignator => "after_duration_designator",
+            Reason::AfterDateGroups => "after_date_groups",
+            Reason::AfterTimeDesignator => "after_time_designator",
+            Reason::AfterTimeGroups => "after_time_groups",
+            Reason::AfterFractionGroup => "after_fraction_group",
+            Reason::DateGroupDigits => "date_group_digits",
+            Reason::TimeGroupDigits => "time_group_digits",
+            Reason::DateGroupRange => "date_group_range",
+            Reason::TimeGroupRange => "time_group_range",
+            Reason::DateUnitOrder => "date_unit_order",
+            Reason::TimeUnitOrder => "time_unit_order",
+            Reason::DateUnitRange => "date_unit_range",
+            Reason::GroupFractionStart => "group_fraction_start",
+            Reason::GroupFractionDigits => "group_fraction_digits",
+            Reason::UnrecognizedCritical => "unrecognized_critical",
+            Reason::CriticalDuplicateCalendar => "critical_duplicate_calendar",
+        }
+    }
+}
