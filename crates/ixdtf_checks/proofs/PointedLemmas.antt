@@ -1,5 +1,5 @@
 -- Proves which bytes the lines under a message have.
-use Rattle.std.proofs.Common.{◌≡◌, ℕ, ◌+◌, ◌-◌, ◌*◌, ◌<◌, ◌≤◌, ⊎_elim, Bool, false, true, if◌then◌else◌, List, [], ◌∷◌, ◌++◌, map, length, take, drop, get_or, replicate, sym, refl, ap, subst, ◌∙◌, arith, append_assoc, length-append, length-drop}
+use Rattle.std.proofs.Common.{◌≡◌, ℕ, suc, zero, ◌+◌, ◌-◌, ◌*◌, ◌<◌, ◌≤◌, ⊎_elim, Bool, false, true, if◌then◌else◌, List, [], ◌∷◌, ◌++◌, map, length, take, drop, get_or, replicate, sym, refl, ap, subst, ◌∙◌, arith, append_assoc, length-append, length-drop}
 use Rattle.std.proofs.Math.Seq.{take-append-add, drop-append_seam, take-append_seam}
 use Rattle.std.proofs.lemmas.{Bool.{cases_lt, lt-ltb, le-ltb}, List.{append-nil, length-take-le, take-append-drop, drop-drop, drop-take, take-take, take_all, get_or-take, get_or-drop}}
 use Rattle.std.proofs.lemmas.Str.{encodes-IsAscii, encodes-append, chars-append, chars-IsAscii, encodes-chars, length-le-encodes, IsUtf8-append, IsUtf8-take, IsUtf8-drop, IsUtf8-from_ascii, IsUtf8-from_is_utf8, is_utf8-from_IsUtf8}
@@ -20,28 +20,22 @@ ascii_cut false = IsAscii-nil
 cut_text : (is_cut : Bool) → encode_utf8_all (cut_mark is_cut) ≡ cut_mark is_cut
 cut_text is_cut = encodes-IsAscii (cut_mark is_cut) (ascii_cut is_cut)
 
-regroup : (l m : ℕ) (a b c s : List ℕ) → ((a ++ (b ++ c)) ++ (l ∷ (s ++ m ∷ []))) ++ l ∷ [] ≡ a ++ (b ++ (c ++ ((l ∷ s) ++ m ∷ l ∷ [])))
-regroup l m a b c s = simp append_assoc refl
+regroup : (l : ℕ) (a b c s ms : List ℕ) → ((a ++ (b ++ c)) ++ (l ∷ (s ++ ms))) ++ l ∷ [] ≡ a ++ (b ++ (c ++ ((l ∷ s) ++ (ms ++ l ∷ []))))
+regroup l a b c s ms = simp append_assoc refl
 
 encoded : (x y : Bool) (m : List ℕ) → encode_utf8_all (cut_mark x ++ (m ++ cut_mark y)) ≡ cut_mark x ++ (encode_utf8_all m ++ cut_mark y)
 encoded x y m = rw (encodes-append (cut_mark x) (m ++ cut_mark y), encodes-append m (cut_mark y), cut_text x, cut_text y) refl
 
--- There is one mark under an empty part.
-one_mark : (at : ℕ) → replicate {A = ℕ} (marks_of at at) 94 ≡ 94 ∷ []
-one_mark at =
-    let none : marks_of at at ≡ 1 = omega arith in
-    ap (λ n. replicate {A = ℕ} n 94) none
-
 -- The lines under a message are those of the window that is shown.
-pub window_shown : (bs : List ℕ) (at : ℕ) (w : Window) → IsWindow bs at w
-    → pointed_text bs at at ++ newline ∷ [] ≡ window_lines bs w (encode_utf8_all (map shown (chars (bytes_in w bs))))
-window_shown bs at w p =
+pub window_shown : (bs : List ℕ) (at to : ℕ) (w : Window) → IsWindow bs at w
+    → pointed_text bs at to ++ newline ∷ [] ≡ window_lines bs w (marks_of at to) (encode_utf8_all (map shown (chars (bytes_in w bs))))
+window_shown bs at to w p =
     let col = column_of (chars bs) at in
     let part = map shown (drop (col - 48) (take (col + 24) (chars bs))) in
     let before = nat_lt 48 col in
     let behind = nat_lt (col + 24) (length (chars bs)) in
-    rw (p.before, p.behind, p.indent, p.characters, encoded before behind part, one_mark at)
-    (regroup 10 94 (cut_mark before) (encode_utf8_all part) (cut_mark behind) (replicate (indent_of col) 32))
+    rw (p.before, p.behind, p.indent, p.characters, encoded before behind part)
+    (regroup 10 (cut_mark before) (encode_utf8_all part) (cut_mark behind) (replicate (indent_of col) 32) (replicate (marks_of at to) 94))
 
 none_encoded : (cs : List ℕ) → length cs ≡ 0 → length (encode_utf8_all cs) ≡ 0
 none_encoded [] none = refl
@@ -329,22 +323,29 @@ module _ (bs : List ℕ) (at : ℕ) (w : Window) (good : IsUtf8 bs) (fits : Fits
       (λ none. omega (arith, indent_whole_near none, length_front, none))
 
 -- If the bytes are UTF-8, these are the lines under the message.
-lines_shown : (bs : List ℕ) (at : ℕ) → IsUtf8 bs → lines_at at bs ≡ pointed_text bs at at ++ newline ∷ []
-lines_shown bs at good = rw (is_utf8-from_IsUtf8 bs good) refl
+lines_shown : (bs : List ℕ) (at to : ℕ) → IsUtf8 bs → lines_at at to bs ≡ pointed_text bs at to ++ newline ∷ []
+lines_shown bs at to good = rw (is_utf8-from_IsUtf8 bs good) refl
 
 -- The lines of a window with masked bytes are the lines under the message.
-pub lines_masked : (bs : List ℕ) (at : ℕ) (w : Window) → IsUtf8 bs → IsWindow bs at w → window_lines bs w (masked (bytes_in w bs)) ≡ lines_at at bs
-lines_masked bs at w good p =
-    sym (lines_shown bs at good ∙ window_shown bs at w p ∙ ap (λ t. window_lines bs w t) (sym (masked_shown (bytes_in w bs) p.valid)))
+pub lines_masked : (bs : List ℕ) (at to : ℕ) (w : Window) → IsUtf8 bs → IsWindow bs at w
+    → window_lines bs w (marks_of at to) (masked (bytes_in w bs)) ≡ lines_at at to bs
+lines_masked bs at to w good p =
+    sym (lines_shown bs at to good ∙ window_shown bs at to w p ∙ ap (λ t. window_lines bs w (marks_of at to) t) (sym (masked_shown (bytes_in w bs) p.valid)))
 
 -- There are no lines if the bytes are not UTF-8.
-pub lines_hidden : (bs : List ℕ) (at : ℕ) → ¬ (IsUtf8 bs) → lines_at at bs ≡ []
-lines_hidden bs at bad = go (is_utf8 bs) refl
+pub lines_hidden : (bs : List ℕ) (at to : ℕ) → ¬ (IsUtf8 bs) → lines_at at to bs ≡ []
+lines_hidden bs at to bad = go (is_utf8 bs) refl
   where
-    go : (test : Bool) → is_utf8 bs ≡ test → (if test then pointed_text bs at at ++ newline ∷ [] else []) ≡ []
+    go : (test : Bool) → is_utf8 bs ≡ test → (if test then pointed_text bs at to ++ newline ∷ [] else []) ≡ []
     go true is = absurd (bad (IsUtf8-from_is_utf8 bs is))
     go false is = refl
 
 -- No bytes were added.
 pub adds_none : (a : List ℕ) (i : ℕ) → Adds a a i i []
 adds_none a i = record { is = sym (append-nil (take i a)) }
+
+-- The first of many equal bytes.
+pub front_of_many : (m n c : ℕ) → m ≤ n → take m (replicate n c) ≡ replicate m c
+front_of_many zero n c within = refl
+front_of_many (suc m) zero c within = absurd (omega (arith, within))
+front_of_many (suc m) (suc n) c within = ap (λ t. c ∷ t) (front_of_many m n c (omega (arith, within)))

@@ -4,15 +4,14 @@ use Rattle.std.proofs.lemmas.{List.{length-map}, Str.{IsUtf8-from_is_utf8, is_ut
 use Rattle.std.specs.Str.{is_utf8}
 use Rattle.ixdtf_grammar.specs.LocatedTexts.{pointed_text}
 use Rattle.ixdtf_buffers.specs.Lines.{newline}
-use Rattle.ixdtf_grammar.specs.{declared.profile.Profile.Profile, Places.HasUnhandledFaultAt}
+use Rattle.ixdtf_grammar.specs.{declared.{profile.Profile.Profile, located.LocatedError.LocatedError, part.WrongPart.WrongPart}, Places.HasUnhandledFaultAt}
 use Rattle.ixdtf_grammar.specs.Widths.{byte_text}
 use Rattle.ixdtf_grammar.specs.language.{Letters.{Text, Letter, byte_letter}, Readers.{Reader}}
 use Rattle.ixdtf_grammar.specs.language.Readers.Reader.{bracketed, parse_rfc3339, parse_offset, parse_identifier, parse_iana_identifier, parse_duration}
-use Rattle.ixdtf_grammar.specs.table.{ErrorTexts.message_of, Faults.Fault}
+use Rattle.ixdtf_grammar.specs.table.{Faults.{Fault, fault_of_located}}
 use Rattle.ixdtf_instants.specs.declared.instant.Instant.{Instant}
-use Rattle.ixdtf_print.proofs.theorems.ShortErrors.{message_short}
-use Rattle.ixdtf_checks.specs.{Seen.lines_at, Kinds.{has_offset, reader_of}, Parts.{Text as Part, line_in}, Refusals.IsRefusal}
-use Rattle.ixdtf_checks.specs.{Verdicts.{Verdict, ShowsPlace, IsOrderVerdict, IsShortVerdict, IsTextVerdict, IsVerdict, Verdict.{accepted, printed, skipped, refused}}, declared.kind.Kind.Kind}
+use Rattle.ixdtf_checks.specs.{Errors.HasError, Seen.lines_at, Kinds.{has_offset, reader_of}, Parts.{Text as Part, line_in}, Refusals.IsRefusal}
+use Rattle.ixdtf_checks.specs.{Verdicts.{Verdict, ShowsPart, IsOrderVerdict, IsShortVerdict, IsTextVerdict, IsVerdict, Verdict.{accepted, printed, skipped, refused}}, declared.kind.Kind.Kind}
 use Rattle.ixdtf_checks.specs.declared.request.{Request.Request, Task.TheVariants.{Check, Print}}
 
 -- The position of an error is at most the length of the text.
@@ -27,35 +26,16 @@ at_most parse_identifier text fault at (row, fits, error, sum) = omega (arith, s
 at_most parse_iana_identifier text fault at (row, fits, error, sum) = omega (arith, sum)
 at_most (parse_duration profile) text fault at (row, fits, error, sum) = omega (arith, sum)
 
-pub at_within : (reader : Reader) (bytes : List ℕ) (fault : Fault) (at : ℕ) → HasUnhandledFaultAt reader (byte_text bytes) fault at → at ≤ length bytes
-at_within reader bytes fault at has =
+pub at_within : (reader : Reader) (bytes : List ℕ) (error : LocatedError) → HasError reader (byte_text bytes) error → error.at ≤ length bytes
+at_within reader bytes error has =
     let spell : ℕ → Letter = λ n. byte_letter n in
-    omega (arith, at_most reader (byte_text bytes) fault at has, length-map bytes spell)
-
--- The message of an error that a text has at some position is short.
-fault_short : (reader : Reader) (text : Text) (fault : Fault) (at : ℕ) → HasUnhandledFaultAt reader text fault at → length (message_of fault) ≤ 69
-fault_short (bracketed kind) text fault at (pairs, given) = message_short (bracketed kind) text fault (
-  pairs,
-  elim given [
-    | inl p ↦ (let ((front, rest, whole, is, read, derived), last) = p in inl ((front, rest, whole, read, derived), last))
-    | inr p ↦ (let ((row, fits, error, sum), none) = p in inr ((row, fits, error), none))
-  ],
-)
-fault_short parse_rfc3339 text fault at (row, fits, error, sum) = message_short parse_rfc3339 text fault (row, fits, error)
-fault_short parse_offset text fault at (row, fits, error, sum) = message_short parse_offset text fault (row, fits, error)
-fault_short parse_identifier text fault at (row, fits, error, sum) = message_short parse_identifier text fault (row, fits, error)
-fault_short parse_iana_identifier text fault at (row, fits, error, sum) = message_short parse_iana_identifier text fault (row, fits, error)
-fault_short (parse_duration profile) text fault at (row, fits, error, sum) = message_short (parse_duration profile) text fault (row, fits, error)
-
-pub text_short : (reader : Reader) (bytes : List ℕ) (fault : Fault) (at : ℕ) → HasUnhandledFaultAt reader (byte_text bytes) fault at
-    → length (message_of fault) ≤ 69
-text_short reader bytes fault at has = fault_short reader (byte_text bytes) fault at has
+    omega (arith, at_most reader (byte_text bytes) (fault_of_located error) error.at has.0, length-map bytes spell)
 
 -- These are the lines under the message.
-pub shows_place : (bytes : List ℕ) (at : ℕ) → ShowsPlace bytes at (lines_at at bytes)
-shows_place bytes at = go (is_utf8 bytes) refl
+pub shows_part : (bytes : List ℕ) (part : WrongPart) → ShowsPart bytes part (lines_at part.begin part.end bytes)
+shows_part bytes part = go (is_utf8 bytes) refl
   where
-    go : (test : Bool) → is_utf8 bytes ≡ test → ShowsPlace bytes at (if test then pointed_text bytes at at ++ newline ∷ [] else [])
+    go : (test : Bool) → is_utf8 bytes ≡ test → ShowsPart bytes part (if test then pointed_text bytes part.begin part.end ++ newline ∷ [] else [])
     go true is = inl (IsUtf8-from_is_utf8 bytes is, refl)
     go false is = inr ((λ good. true≢false (sym (is_utf8-from_IsUtf8 bytes good) ∙ is)), refl)
 

@@ -1,8 +1,9 @@
 -- Defines the canonical texts of each kind.
 use Rattle.std.specs.Prelude.{◌≡◌, ℕ, List, [], map, Result, OnOk, IfErr}
-use Rattle.ixdtf_grammar.specs.{declared.{profile.Profile.Profile, located.LocatedError.LocatedError}, Handlers.UnhandledRecord, Places.HasUnhandledFaultAt, Widths.byte_text}
+use Rattle.ixdtf_grammar.specs.{declared.{profile.Profile.Profile, located.LocatedError.LocatedError}, Handlers.UnhandledRecord, Widths.byte_text}
 use Rattle.ixdtf_grammar.specs.language.{Letters.{Text, byte_letter}, Languages.{Parsed, Derives, Found.{dated, named}}, ZoneNames.Zone.Name}
-use Rattle.ixdtf_grammar.specs.{language.Readers.{Reader, parse, parse_rfc9557, Reader.{parse_rfc3339, parse_iana_identifier}}, table.Faults.fault_of_located}
+use Rattle.ixdtf_grammar.specs.language.Readers.{Reader, parse, parse_rfc9557, Reader.{parse_rfc3339, parse_iana_identifier}}
+use Rattle.ixdtf_checks.specs.Errors.{HasError}
 use Rattle.ixdtf_print.specs.{Canonical.{canonical_text, zone_text}, Durations.{IsDurationText, duration_text}, MonthDays.{IsMonthDayText, month_day_text}}
 use Rattle.ixdtf_print.specs.{Offsets.{IsOffsetText, utc_offset_text}, Times.{IsTimeText, lone_time_text}, YearMonths.{IsYearMonthText, year_month_text}, Zones.IsIdentifier}
 use Rattle.ixdtf_checks.specs.declared.kind.Kind.{Kind, TheVariants.{DateTime, YearMonth, MonthDay, Time, Offset, Zone, ZoneName, Duration, Rfc3339, Iana, Rfc9557}}
@@ -41,4 +42,4 @@ IsCanonical Rfc9557 profile bytes canonical = HasCanonical (UnhandledRecord pars
 pub record PrintsCanonical {R : Type 0} (reader : Reader) (stands : Text → R → Type 0) (text_of : R → Text) (bytes : List ℕ)
     (result : Result (Unit {0}) LocatedError) (canonical : List ℕ) : Type 0 where
   pub ok : OnOk result (HasCanonical stands text_of bytes canonical)
-  pub err : IfErr result (λ error. HasUnhandledFaultAt reader (byte_text bytes) (fault_of_located error) error.at)
+  pub err : IfErr result (λ error. HasError reader (byte_text bytes) error)

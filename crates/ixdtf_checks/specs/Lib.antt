@@ -2,6 +2,7 @@ pub mod Canonicals
 pub mod Checks
 pub mod Columns
 pub mod Csv
+pub mod Errors
 pub mod Kept
 pub mod Kinds
 pub mod Order

@@ -1,5 +1,5 @@
 -- Defines the lines under a message in the way in which the code makes them. No clause of `check` cites this module.
-use Rattle.std.specs.Prelude.{◌≡◌, ℕ, Bool, true, ◌+◌, ◌-◌, ◌≤◌, ◌==◌, ◌&&◌, min, if◌then◌else◌, List, [], ◌∷◌, ◌++◌, length, take, drop, replicate, codes, nat_lt, IsUtf8}
+use Rattle.std.specs.Prelude.{◌≡◌, ℕ, Bool, true, ◌+◌, ◌-◌, ◌≤◌, ◌==◌, ◌&&◌, min, if◌then◌else◌, List, [], ◌∷◌, ◌++◌, length, take, drop, replicate, nat_lt, IsUtf8}
 use Rattle.std.specs.Str.{chars}
 use Rattle.ixdtf_grammar.specs.LocatedTexts.{shown, column_of, cut_mark, indent_of}
 use Rattle.ixdtf_buffers.specs.Lines.{newline}
@@ -58,11 +58,11 @@ pub record IsWindow (bytes : List ℕ) (place : ℕ) (window : Window) : Type 0 
   pub characters : chars (bytes_in window bytes)
       ≡ drop (column_of (chars bytes) place - 48) (take (column_of (chars bytes) place + 24) (chars bytes))
 
--- These bytes follow the part of a text that is shown.
-abbrev pub behind_shown : List ℕ → Window → List ℕ
-behind_shown bytes window =
-    cut_mark (nat_lt window.end (length bytes)) ++ ((newline ∷ replicate window.indent 32) ++ (codes "^" ++ newline ∷ []))
+-- These bytes follow the part of a text that is shown. `marks` is the number of marks.
+abbrev pub behind_shown : List ℕ → Window → ℕ → List ℕ
+behind_shown bytes window marks =
+    cut_mark (nat_lt window.end (length bytes)) ++ ((newline ∷ replicate window.indent 32) ++ (replicate marks 94 ++ newline ∷ []))
 
 -- These are the lines of a window. `part` is what is shown of its bytes.
-abbrev pub window_lines : List ℕ → Window → List ℕ → List ℕ
-window_lines bytes window part = cut_mark (nat_lt 0 window.start) ++ (part ++ behind_shown bytes window)
+abbrev pub window_lines : List ℕ → Window → ℕ → List ℕ → List ℕ
+window_lines bytes window marks part = cut_mark (nat_lt 0 window.start) ++ (part ++ behind_shown bytes window marks)

@@ -1,6 +1,6 @@
--- Defines the message about a space before an offset, because some programs write one.
-use Rattle.std.specs.Prelude.{ℕ, Bool, false, ◌==◌, ◌&&◌, ◌||◌, nat_le, if◌then◌else◌, List, [], ◌∷◌, drop, codes}
-use Rattle.ixdtf_grammar.specs.table.{ErrorTexts.message_of, Faults.Fault}
+-- Defines the message about a text that a reader refuses. There is a message about a space before an offset, because some programs write one.
+use Rattle.std.specs.{Prelude.{◌≡◌, ℕ, Bool, false, ◌==◌, ◌&&◌, ◌||◌, nat_le, List, [], ◌∷◌, drop, codes}, Bool.MatchBool}
+use Rattle.ixdtf_grammar.specs.{declared.{located.LocatedError.LocatedError, message.Message.Message}, Messages.{IsMessage, message_text}}
 
 abbrev pub is_sign : ℕ → Bool
 is_sign byte = (byte == 43) || (byte == 45)
@@ -19,7 +19,8 @@ abbrev pub is_spaced : List ℕ → Bool
 is_spaced [] = false
 is_spaced (byte ∷ bytes) = (byte == 32) && begins_offset bytes
 
--- This is the message about a text with this error at this position. `has_offset` says whether an offset may follow a time in the
--- text.
-abbrev pub message_at : Bool → List ℕ → Fault → ℕ → List ℕ
-message_at has_offset bytes fault at = if has_offset && is_spaced (drop at bytes) then codes "a space stands before the offset" else message_of fault
+-- These are the words of the message about a text with this error. `has_offset` says whether an offset may follow a time in the text.
+abbrev pub SaysWhy : Bool → List ℕ → LocatedError → List ℕ → Type 0
+SaysWhy has_offset bytes error words = MatchBool (has_offset && is_spaced (drop error.at bytes))
+    (words ≡ codes "a space stands before the offset")
+    ((message : Message) × IsMessage error.reason bytes error.at message × (words ≡ message_text message))

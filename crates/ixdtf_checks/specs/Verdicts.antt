@@ -1,12 +1,12 @@
 -- Defines the verdict on a line.
 use Rattle.std.specs.{Prelude.{◌≡◌, ◌⊎◌, ℕ, Bool, true, ◌+◌, List, [], ◌∷◌, ◌++◌, length, nat_lt, codes, IsUtf8, Option, Some, None}, Bool.MatchBool}
-use Rattle.ixdtf_grammar.specs.{declared.profile.Profile.Profile, LocatedTexts.pointed_text, Places.HasUnhandledFaultAt}
+use Rattle.ixdtf_grammar.specs.{declared.{profile.Profile.Profile, located.LocatedError.LocatedError, part.WrongPart.WrongPart}, LocatedTexts.pointed_text, Parts.{IsPart, extent_of}}
 use Rattle.ixdtf_grammar.specs.{Widths.{HasUnhandledOutcome, byte_text, UnhandledOutcome.read_as}, language.{Languages.{Found}}}
-use Rattle.ixdtf_grammar.specs.{language.Readers.{Reader}, table.{Faults.Fault}}
+use Rattle.ixdtf_grammar.specs.{language.Readers.{Reader}}
 use Rattle.ixdtf_buffers.specs.Lines.{newline}
 use Rattle.ixdtf_checks.specs.{declared.{part.Lost.{Lost, TheVariants.{NoField, Broken}}, request.{Request.Request, Task.{Task, TheVariants.{Check, Print, Order}}}}, Kinds.{has_offset, reader_of, instant_reader_of}}
 use Rattle.ixdtf_instants.specs.declared.instant.Instant.{Instant}
-use Rattle.ixdtf_checks.specs.{Canonicals.IsCanonical, Order.{IsTimed, IsUntimed, IsTooEarly}, Csv.quoting_message, Parts.{Text, HasText, IsLost, line_in, width_of}, Skipped.is_skipped, Spaced.message_at}
+use Rattle.ixdtf_checks.specs.{Canonicals.IsCanonical, Order.{IsTimed, IsUntimed, IsTooEarly}, Csv.quoting_message, Parts.{Text, HasText, IsLost, line_in, width_of}, Skipped.is_skipped, Spaced.SaysWhy, Errors.HasError}
 
 -- `accepted`: the text of the line is accepted, and has this instant if it was read for its instant.
 -- `printed`: the text is accepted, and this is its canonical text.
@@ -27,19 +27,24 @@ line_limit = 65536
 abbrev pub IsRead : Reader → List ℕ → Type 0
 IsRead reader bytes = (found : Found) × HasUnhandledOutcome reader (byte_text bytes) (read_as found)
 
--- These lines show a position: the text, and a mark under the position. There are no lines if the text is not UTF-8.
-abbrev pub ShowsPlace : List ℕ → ℕ → List ℕ → Type 0
-ShowsPlace bytes at lines = (IsUtf8 bytes × (lines ≡ pointed_text bytes at at ++ newline ∷ [])) ⊎ (¬ (IsUtf8 bytes) × (lines ≡ []))
+-- These lines show a part of a text: the text, and marks under the part. There are no lines if the text is not UTF-8.
+abbrev pub ShowsPart : List ℕ → WrongPart → List ℕ → Type 0
+ShowsPart bytes part lines =
+    (IsUtf8 bytes × (lines ≡ pointed_text bytes part.begin part.end ++ newline ∷ [])) ⊎ (¬ (IsUtf8 bytes) × (lines ≡ []))
 
 -- The reader refuses the text. This is the column in the line, the message, and the lines under it.
-abbrev pub IsRefused : Bool → Reader → Text → ℕ → List ℕ → List ℕ → Type 0
-IsRefused has_offset reader text column message lines =
-    (fault : Fault) × (at : ℕ) × HasUnhandledFaultAt reader (byte_text text.bytes) fault at
-    × (column ≡ text.start + width_of text at + 1) × (message ≡ message_at has_offset text.bytes fault at) × ShowsPlace text.bytes at lines
+pub record IsRefused (has_offset : Bool) (reader : Reader) (text : Text) (column : ℕ) (message lines : List ℕ) : Type 0 where
+  pub error : LocatedError
+  pub part : WrongPart
+  pub has : HasError reader (byte_text text.bytes) error
+  pub is_part : IsPart (extent_of error.reason) text.bytes error.at part
+  pub place : column ≡ text.start + width_of text part.begin + 1
+  pub says : SaysWhy has_offset text.bytes error message
+  pub shows : ShowsPart text.bytes part lines
 
 -- The complete text is refused with this message. The column is that of the first byte of the text in the line.
 abbrev pub IsMarked : Text → List ℕ → ℕ → List ℕ → List ℕ → Type 0
-IsMarked text why column message lines = (column ≡ text.start + 1) × (message ≡ why) × ShowsPlace text.bytes 0 lines
+IsMarked text why column message lines = (column ≡ text.start + 1) × (message ≡ why) × ShowsPart text.bytes (record { begin = 0; end = 0 }) lines
 
 -- This is the verdict on a text that has to name an instant. The text is accepted if the reader accepts it, and if it names an
 -- instant that is not before `last`.

@@ -1,8 +1,7 @@
 //! Reads the instant that a text names.
 ghost use Rattle.std.specs.Prelude.{IfErr, IfOk};
-ghost use Rattle.ixdtf_grammar.specs.Places.{HasUnhandledFaultAt};
 ghost use Rattle.ixdtf_grammar.specs.Widths.{byte_text};
-ghost use Rattle.ixdtf_grammar.specs.table.Faults.{fault_of_located};
+ghost use Rattle.ixdtf_checks.specs.Errors.{HasError};
 ghost use Rattle.ixdtf_checks.specs.Kinds.{instant_reader_of};
 ghost use Rattle.ixdtf_checks.specs.Order.{HasInstant};
 
@@ -14,8 +13,7 @@ use ixdtf::{Instant, LocatedError};
 /// date, no time, or neither an offset nor `Z`. Returns the error with its position, if the text is refused.
 pub fn read_instant(kind: InstantKind, text: &[u8]) -> Result<Option<Instant>, LocatedError>
     ensures ok { IfOk result (λ instant. HasInstant (instant_reader_of kind) text.now instant) }
-    ensures err { IfErr result (λ error. HasUnhandledFaultAt (instant_reader_of kind)
-        (byte_text text.now) (fault_of_located error) error.at) }
+    ensures err { IfErr result (λ error. HasError (instant_reader_of kind) (byte_text text.now) error) }
 {
     match kind {
         InstantKind::DateTime => match IxdtfParser::from_utf8(text).parse_located() {

@@ -1,21 +1,20 @@
 //! Decides the verdict on a line.
 ghost use Rattle.std.specs.Prelude.{◌≡◌, ◌≤◌, ◌+◌, ℕ, List, [], length, IfSome, Option, Some, None};
-ghost use Rattle.ixdtf_grammar.specs.Places.{HasUnhandledFaultAt};
+ghost use Rattle.ixdtf_grammar.specs.Messages.{message_text};
 ghost use Rattle.ixdtf_grammar.specs.Widths.{byte_text};
 ghost use Rattle.ixdtf_grammar.specs.language.Readers.{Reader};
 ghost use Rattle.ixdtf_instants.specs.declared.instant.Instant.{Instant};
-ghost use Rattle.ixdtf_grammar.specs.table.ErrorTexts.{message_of};
-ghost use Rattle.ixdtf_grammar.specs.table.Faults.{fault_of_located};
 ghost use Rattle.ixdtf_buffers.specs.Line.{IsLine};
 ghost use Rattle.ixdtf_checks.specs.Csv.{quoting_message};
+ghost use Rattle.ixdtf_checks.specs.Errors.{HasError};
 ghost use Rattle.ixdtf_checks.specs.Kinds.{instant_reader_of};
 ghost use Rattle.ixdtf_checks.specs.Order.{IsTimed, latest};
 ghost use Rattle.ixdtf_checks.specs.Parts.{line_in, seen_part};
-ghost use Rattle.ixdtf_checks.specs.Seen.{instant_of, lines_at, lines_in, message_in, seen};
-ghost use Rattle.ixdtf_checks.specs.Verdicts.{IsVerdict, IsShortVerdict, IsLineVerdict, IsOrderVerdict, IsTextVerdict};
+ghost use Rattle.ixdtf_checks.specs.Seen.{seen};
+ghost use Rattle.ixdtf_checks.specs.Verdicts.{IsVerdict, IsShortVerdict, IsLineVerdict, IsOrderVerdict, IsTextVerdict, Verdict.{refused}};
 ghost use Rattle.ixdtf_checks.specs.Reports.{instant_in};
 ghost use Rattle.ixdtf_checks.specs.Refusals.{IsRefusal};
-ghost use Rattle.ixdtf_checks.specs.Spaced.{is_spaced, message_at};
+ghost use Rattle.ixdtf_checks.specs.Spaced.{is_spaced, SaysWhy};
 
 use crate::csv::Quoting;
 use crate::instants::read_instant;
@@ -26,9 +25,9 @@ use crate::printing::read_to_print;
 use crate::reading::{read, read_date_time};
 use crate::request::{Field, Request, Task};
 use crate::skipped::kept_line;
-use crate::verdict::{Early, LINE_LIMIT, Reason, Refusal, Unread, Verdict};
+use crate::verdict::{LINE_LIMIT, Marked, Refusal, Verdict, words};
 use ixdtf::parsers::Profile;
-use ixdtf::{Instant, LocatedError};
+use ixdtf::{Instant, LocatedError, Message};
 
 /// Writes the verdict on the line to `verdict`. The line is `None` if it is too long. `last` is the instant of the nearest
 /// preceding line whose text names an instant. If the task is `Task::Order` and the text of this line names an instant, `last`
@@ -54,10 +53,7 @@ pub fn judge<'a>(
 {
     match line {
         None => {
-            *verdict = Verdict::Refused(Refusal {
-                column: LINE_LIMIT + 1,
-                reason: Reason::TooLong,
-            });
+            *verdict = refused_whole(LINE_LIMIT + 1, "line too long");
         }
         Some(bytes) => judge_short(request, is_first, last, bytes, printed, unquoted, verdict),
     }
@@ -132,31 +128,35 @@ fn judge_field<'a>(
 {
     match part_of(field, line, unquoted) {
         Err(Lost::NoField) => {
-            *verdict = Verdict::Refused(Refusal {
-                column: line.len() + 1,
-                reason: Reason::NoField,
-            });
+            *verdict = refused_whole(line.len() + 1, "no such field");
         }
         Err(Lost::Broken(broken)) => {
-            *verdict = Verdict::Refused(Refusal {
-                column: broken.at + 1,
-                reason: reason_of_quoting(broken.quoting),
-            });
+            *verdict = refused_whole(broken.at + 1, message_of_quoting(broken.quoting));
         }
         Ok(part) => judge_text(request, last, part, printed, verdict),
     }
 }
 
-/// Returns the reason for a line that is no record of RFC 4180.
-fn reason_of_quoting<'a>(quoting: Quoting) -> Reason<'a>
-    ensures message { message_in result ≡ quoting_message quoting }
-    ensures lines { lines_in result ≡ [] }
-    ensures instant { instant_of result ≡ None }
+/// Returns the verdict on a line that has no text.
+fn refused_whole<'a>(column: usize, message: &'static str) -> Verdict<'a>
+    ensures { (printed : List ℕ) → seen printed result ≡ refused None column message.now [] }
+{
+    Verdict::Refused(Refusal {
+        column,
+        message: words(message),
+        marked: None,
+        instant: None,
+    })
+}
+
+/// Returns the message about a line that is no record of RFC 4180.
+fn message_of_quoting(quoting: Quoting) -> &'static str
+    ensures { result.now ≡ quoting_message quoting }
 {
     match quoting {
-        Quoting::NotClosed => Reason::NotClosed,
-        Quoting::TextAfter => Reason::TextAfter,
-        Quoting::Stray => Reason::Stray,
+        Quoting::NotClosed => "a quote is not closed in this line",
+        Quoting::TextAfter => "text after a closing quote",
+        Quoting::Stray => "a quote in a field without quotes",
     }
 }
 
@@ -264,7 +264,9 @@ fn judge_instant<'a>(
         Ok(None) => {
             *verdict = Verdict::Refused(Refusal {
                 column: part.start + 1,
-                reason: Reason::NoInstant(part.text),
+                message: words("no instant"),
+                marked: Some(Marked::first(part.text)),
+                instant: None,
             });
         }
         Err(error) => refuse(verdict, true, error, part),
@@ -280,10 +282,9 @@ fn order(instant: Instant, last: Option<Instant>, part: Part<'_>) -> Verdict<'_>
     match last {
         Some(last) if instant < last => Verdict::Refused(Refusal {
             column: part.start + 1,
-            reason: Reason::Early(Early {
-                instant,
-                text: part.text,
-            }),
+            message: words("earlier than the line before"),
+            marked: Some(Marked::first(part.text)),
+            instant: Some(instant),
         }),
         _ => Verdict::Timed(instant),
     }
@@ -297,37 +298,33 @@ fn order(instant: Instant, last: Option<Instant>, part: Part<'_>) -> Verdict<'_>
 fn refuse<'a>(verdict: &mut Verdict<'a>, has_offset: bool, error: LocatedError, part: Part<'a>)
     requires line { part.start + length part.text.now ≤ 65536 }
     requires within { error.at ≤ length part.text.now }
-    requires short { length (message_of (fault_of_located error)) ≤ 69 }
     ensures verdict { (reader : Reader)
-        → HasUnhandledFaultAt reader (byte_text part.entry.text.now) (fault_of_located error) error.at
+        → HasError reader (byte_text part.entry.text.now) error
         → (printed : List ℕ) → IsRefusal has_offset reader (seen_part part.entry) (seen printed verdict.new) }
     ensures instant { (printed : List ℕ) → instant_in (seen printed verdict.new) ≡ None }
 {
+    let wrong = error.part_in(part.text);
     *verdict = Verdict::Refused(Refusal {
-        column: part.start + part.width_of(error.at) + 1,
-        reason: reason_of(
-            has_offset,
-            Unread {
-                error,
-                text: part.text,
-            },
-        ),
+        column: part.start + part.width_of(wrong.begin) + 1,
+        message: message_about(has_offset, error, part.text),
+        marked: Some(Marked {
+            text: part.text,
+            part: wrong,
+        }),
+        instant: None,
     });
 }
 
-/// Returns the reason for the refusal of a text. `unread` has the text, and the error that a reader returned for it. The reason
-/// is `Spaced` if `has_offset` is `true` and the error is at a space before an offset. Otherwise the reason is `Unread`.
-fn reason_of(has_offset: bool, unread: Unread<'_>) -> Reason<'_>
-    requires { unread.error.at ≤ length unread.text.now }
-    ensures message { message_in result
-        ≡ message_at has_offset unread.entry.text.now (fault_of_located unread.entry.error) unread.entry.error.at }
-    ensures lines { lines_in result ≡ lines_at unread.entry.error.at unread.entry.text.now }
-    ensures instant { instant_of result ≡ None }
+/// Returns the message about a text that a reader refuses with this error. If `has_offset` is `true` and the error is at a space
+/// before an offset, the message is about this space. Otherwise it is the message of the error.
+fn message_about(has_offset: bool, error: LocatedError, text: &[u8]) -> Message<'_>
+    requires { error.at ≤ length text.now }
+    ensures { SaysWhy has_offset text.entry.now error (message_text result) }
 {
-    if has_offset && is_spaced(&unread.text[unread.error.at..]) {
-        Reason::Spaced(unread)
+    if has_offset && is_spaced(&text[error.at..]) {
+        words("a space stands before the offset")
     } else {
-        Reason::Unread(unread)
+        error.message_in(text)
     }
 }
 

@@ -1,15 +1,16 @@
-//! Makes the lines under a message: a text, and a mark under the position of the error.
+//! Makes the lines under a message: a text, and marks under the part that is wrong.
 //!
 //! The complete text is tested for UTF-8. Apart from this test, only the part that is shown is read: at most 48 characters before
 //! the position, and at most 24 from it on. Each character has at most four bytes.
 ghost use Rattle.std.specs.Prelude.{◌≡◌, ◌<◌, ◌≤◌, ◌+◌, ◌∷◌, length, map, take, drop, replicate, slice_index, IsTrue, IsUtf8, false};
 ghost use Rattle.std.specs.Str.{IsAscii, chars};
-ghost use Rattle.ixdtf_grammar.specs.LocatedTexts.{column_of, cut_mark};
+ghost use Rattle.ixdtf_grammar.specs.LocatedTexts.{column_of, cut_mark, marks_of};
 ghost use Rattle.ixdtf_buffers.specs.Adding.{Adds};
 ghost use Rattle.ixdtf_buffers.specs.Lines.{newline};
 ghost use Rattle.ixdtf_checks.specs.Pointed.{Fits, IsNear, IsWindow, begins_character, behind_shown, bytes_in, mask, masked, starts, window_lines};
 ghost use Rattle.ixdtf_checks.specs.Seen.{lines_at};
 
+use ixdtf::WrongPart;
 use ixdtf_buffers::adding::{add_byte, add_bytes};
 use ixdtf_buffers::place::place_of;
 
@@ -21,10 +22,13 @@ const FROM_PLACE: usize = 24;
 
 /// The greatest number of bytes of a report after the name of the file.
 ///
-/// The numbers of the line and of the column have at most 44 bytes, with the colons and the space. A message has at most 70
-/// bytes with its newline. The two lines under the message have at most 345 bytes: `..`, 72 characters of four bytes, `..`, a
-/// newline, 50 spaces, `^` and a newline.
-pub const ROOM: usize = 459;
+/// The numbers of the line and of the column have at most 44 bytes, with the colons and the space. A message that is written into
+/// the same array has at most 160 bytes, and a newline follows it. The two lines under the message have at most 368 bytes: `..`, 72
+/// characters of four bytes, `..`, a newline, 50 spaces, 24 marks and a newline.
+pub const ROOM: usize = 573;
+
+/// The greatest number of marks.
+const MARKS: &[u8; 24] = b"^^^^^^^^^^^^^^^^^^^^^^^^";
 
 /// A newline, and the greatest number of spaces before a mark.
 const SPACES: &[u8; 51] = b"\n                                                  ";
@@ -48,16 +52,16 @@ const LEAD: u8 = 0xC2;
 ///
 /// First tests whether the bytes near the position are ASCII: at most 48 bytes before it, and at most 24 bytes from it on.
 /// If they are all ASCII, they are the part that is shown.
-pub fn add_lines(room: &mut [u8; ROOM], at: usize, bytes: &[u8], place: usize) -> usize
-    requires { at + 345 ≤ 459 }
-    ensures place { result ≤ 459 }
-    ensures text { Adds room.old room.new at result (lines_at place bytes.now) }
+pub fn add_lines(room: &mut [u8; ROOM], at: usize, bytes: &[u8], part: WrongPart) -> usize
+    requires { at + 368 ≤ 573 }
+    ensures place { result ≤ 573 }
+    ensures text { Adds room.old room.new at result (lines_at part.begin part.end bytes.now) }
 {
-    let near = near_window(bytes, place);
+    let near = near_window(bytes, part.begin);
     if !bytes[near.start..near.end].is_ascii() {
-        add_any(room, at, bytes, place)
+        add_any(room, at, bytes, part)
     } else if is_text(bytes, near) {
-        add_shown(room, at, bytes, near, true)
+        add_shown(room, at, bytes, near, marks_of(part), true)
     } else {
         at
     }
@@ -102,13 +106,20 @@ fn is_text(bytes: &[u8], window: Window) -> bool
 }
 
 /// Adds the lines for bytes that can contain non-ASCII bytes near the position. Adds nothing if the bytes are not UTF-8.
-fn add_any(room: &mut [u8; ROOM], at: usize, bytes: &[u8], place: usize) -> usize
-    requires { at + 345 ≤ 459 }
-    ensures place { result ≤ 459 }
-    ensures text { Adds room.old room.new at result (lines_at place bytes.now) }
+fn add_any(room: &mut [u8; ROOM], at: usize, bytes: &[u8], part: WrongPart) -> usize
+    requires { at + 368 ≤ 573 }
+    ensures place { result ≤ 573 }
+    ensures text { Adds room.old room.new at result (lines_at part.begin part.end bytes.now) }
 {
     match str::from_utf8(bytes) {
-        Ok(_) => add_shown(room, at, bytes, window_of(bytes, place), false),
+        Ok(_) => add_shown(
+            room,
+            at,
+            bytes,
+            window_of(bytes, part.begin),
+            marks_of(part),
+            false,
+        ),
         Err(_) => at,
     }
 }
@@ -120,14 +131,16 @@ fn add_shown(
     at: usize,
     bytes: &[u8],
     window: Window,
+    marks: usize,
     is_ascii: bool,
 ) -> usize
-    requires room { at + 345 ≤ 459 }
+    requires room { at + 368 ≤ 573 }
     requires fits { Fits bytes.now window }
+    requires few { marks ≤ 24 }
     requires ascii { IsTrue is_ascii → IsAscii (bytes_in window bytes.now) }
-    ensures place { result ≤ 459 }
+    ensures place { result ≤ 573 }
     ensures text { Adds room.old room.new at result
-        (window_lines bytes.now window (masked (bytes_in window bytes.now))) }
+        (window_lines bytes.now window marks (masked (bytes_in window bytes.now))) }
 {
     let first = add_cut_mark(room, at, window.start > 0);
     let part = &bytes[window.start..window.end];
@@ -136,19 +149,32 @@ fn add_shown(
     } else {
         add_masked(room, first, part)
     };
-    add_behind(room, second, bytes, window)
+    add_behind(room, second, bytes, window, marks)
 }
 
-/// Adds what follows the shown part of a text: `..` if the text continues, and the line with the mark.
-fn add_behind(room: &mut [u8; ROOM], at: usize, bytes: &[u8], window: Window) -> usize
-    requires room { at + 55 ≤ 459 }
+/// Adds what follows the shown part of a text: `..` if the text continues, and the line with the marks.
+fn add_behind(room: &mut [u8; ROOM], at: usize, bytes: &[u8], window: Window, marks: usize) -> usize
+    requires room { at + 78 ≤ 573 }
     requires narrow { window.indent ≤ 50 }
-    ensures place { result ≤ 459 }
-    ensures text { Adds room.old room.new at result (behind_shown bytes.now window) }
+    requires few { marks ≤ 24 }
+    ensures place { result ≤ 573 }
+    ensures text { Adds room.old room.new at result (behind_shown bytes.now window marks) }
 {
     let third = add_cut_mark(room, at, window.end < bytes.len());
-    let mark = add_spaces(room, third, window.indent);
-    add_bytes(room, mark, b"^\n")
+    let first = add_spaces(room, third, window.indent);
+    let last = add_marks(room, first, marks);
+    add_byte(room, last, b'\n')
+}
+
+/// Returns the number of marks under a part: one for each byte, but at least one, and at most 24.
+fn marks_of(part: WrongPart) -> usize
+    ensures marks { result ≡ marks_of part.begin part.end }
+    ensures few { result ≤ 24 }
+{
+    if part.end <= part.begin {
+        return 1;
+    }
+    FROM_PLACE.min(part.end - part.begin)
 }
 
 /// Returns the part of a text that is shown: at most 48 characters before the position, and at most 24 from it on.
@@ -257,7 +283,7 @@ fn begins_character(byte: u8) -> bool
 
 /// Adds `..` if a part of the text is left out.
 fn add_cut_mark(room: &mut [u8; ROOM], at: usize, is_cut: bool) -> usize
-    requires { at + 2 ≤ 459 }
+    requires { at + 2 ≤ 573 }
     ensures place { result ≤ at + 2 }
     ensures text { Adds room.old room.new at result (cut_mark is_cut) }
 {
@@ -271,7 +297,7 @@ fn add_cut_mark(room: &mut [u8; ROOM], at: usize, is_cut: bool) -> usize
 /// Adds the bytes of a text, with `.` instead of each control character. Control characters are U+0000 to U+001F and U+007F, which
 /// are one byte, and U+0080 to U+009F, which are two bytes.
 fn add_masked(room: &mut [u8; ROOM], at: usize, bytes: &[u8]) -> usize
-    requires { at + length bytes.now ≤ 459 }
+    requires { at + length bytes.now ≤ 573 }
     ensures place { result ≤ at + length bytes.now }
     ensures text { Adds room.old room.new at result (masked bytes.now) }
 {
@@ -292,7 +318,7 @@ fn add_masked(room: &mut [u8; ROOM], at: usize, bytes: &[u8]) -> usize
 
 /// Adds the bytes, with `.` instead of each control character of one byte.
 fn add_run(room: &mut [u8; ROOM], at: usize, bytes: &[u8]) -> usize
-    requires { at + length bytes.now ≤ 459 }
+    requires { at + length bytes.now ≤ 573 }
     ensures place { result ≡ at + length bytes.now }
     ensures text { Adds room.old room.new at result (map mask bytes.now) }
 {
@@ -340,10 +366,23 @@ fn begins_control(bytes: &[u8], place: usize) -> bool
 /// a call of another function. The next bytes overwrite the spaces after the position of the mark.
 fn add_spaces(room: &mut [u8; ROOM], at: usize, indent: usize) -> usize
     requires few { indent ≤ 50 }
-    requires room { at + 51 ≤ 459 }
+    requires room { at + 51 ≤ 573 }
     ensures place { result ≤ at + 51 }
     ensures text { Adds room.old room.new at result (newline ∷ replicate indent 32) }
 {
     let _end = add_bytes(room, at, SPACES);
     at + indent + 1
+}
+
+/// Adds the marks.
+///
+/// Like `add_spaces`, the function always writes the greatest number of them. The next bytes overwrite those that are too many.
+fn add_marks(room: &mut [u8; ROOM], at: usize, count: usize) -> usize
+    requires few { count ≤ 24 }
+    requires room { at + 24 ≤ 573 }
+    ensures place { result ≤ at + 24 }
+    ensures text { Adds room.old room.new at result (replicate count 94) }
+{
+    let _end = add_bytes(room, at, MARKS);
+    at + count
 }

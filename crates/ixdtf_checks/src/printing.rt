@@ -1,11 +1,9 @@
 //! Reads a text, and prints its canonical text.
 ghost use Rattle.std.specs.Prelude.{◌≤◌, length, IfErr, OnOk};
 ghost use Rattle.ixdtf_grammar.specs.Handlers.{UnhandledRecord};
-ghost use Rattle.ixdtf_grammar.specs.Places.{HasUnhandledFaultAt};
 ghost use Rattle.ixdtf_grammar.specs.Widths.{byte_text};
 ghost use Rattle.ixdtf_grammar.specs.language.Readers.{parse, parse_rfc9557, parse_year_month, parse_month_day, parse_time};
 ghost use Rattle.ixdtf_grammar.specs.language.Readers.Reader.{parse_rfc3339, parse_offset, parse_identifier, parse_iana_identifier, parse_duration};
-ghost use Rattle.ixdtf_grammar.specs.table.Faults.{fault_of_located};
 ghost use Rattle.ixdtf_print.specs.Canonical.{canonical_text, zone_text};
 ghost use Rattle.ixdtf_print.specs.Durations.{IsDurationText, duration_text};
 ghost use Rattle.ixdtf_print.specs.MonthDays.{IsMonthDayText, month_day_text};
@@ -14,6 +12,7 @@ ghost use Rattle.ixdtf_print.specs.Times.{IsTimeText, lone_time_text};
 ghost use Rattle.ixdtf_print.specs.YearMonths.{IsYearMonthText, year_month_text};
 ghost use Rattle.ixdtf_print.specs.Zones.{IsIdentifier};
 ghost use Rattle.ixdtf_checks.specs.Canonicals.{IsCanonical, IsDatedText, IsNameText, PrintsCanonical, name_text};
+ghost use Rattle.ixdtf_checks.specs.Errors.{HasError};
 ghost use Rattle.ixdtf_checks.specs.Kinds.{reader_of};
 
 use crate::kind::Kind;
@@ -36,8 +35,7 @@ pub fn read_to_print(
 ) -> Result<(), LocatedError>
     requires { length text.now ≤ 65536 }
     ensures ok { OnOk result (IsCanonical kind profile text.now printed.new) }
-    ensures err { IfErr result (λ error. HasUnhandledFaultAt (reader_of kind profile)
-        (byte_text text.now) (fault_of_located error) error.at) }
+    ensures err { IfErr result (λ error. HasError (reader_of kind profile) (byte_text text.now) error) }
 {
     match kind {
         Kind::DateTime => print_date_time(text, printed),
@@ -65,8 +63,7 @@ fn read_other_to_print(
 ) -> Result<(), LocatedError>
     requires { length text.now ≤ 65536 }
     ensures ok { OnOk result (IsCanonical kind profile text.now printed.new) }
-    ensures err { IfErr result (λ error. HasUnhandledFaultAt (reader_of kind profile)
-        (byte_text text.now) (fault_of_located error) error.at) }
+    ensures err { IfErr result (λ error. HasError (reader_of kind profile) (byte_text text.now) error) }
 {
     match kind {
         Kind::DateTime => print_date_time(text, printed),

@@ -1,11 +1,10 @@
 //! Reads a text to decide whether it is accepted. If it is refused, the error is returned with its position. The parts of the
 //! text are not returned.
 ghost use Rattle.std.specs.Prelude.{◌≡◌, IfErr, OnOk};
-ghost use Rattle.ixdtf_grammar.specs.Places.{HasUnhandledFaultAt};
 ghost use Rattle.ixdtf_grammar.specs.Widths.{byte_text};
 ghost use Rattle.ixdtf_grammar.specs.language.Readers.{parse, parse_rfc9557};
 ghost use Rattle.ixdtf_grammar.specs.language.Readers.Reader.{parse_iana_identifier, parse_rfc3339};
-ghost use Rattle.ixdtf_grammar.specs.table.Faults.{fault_of_located};
+ghost use Rattle.ixdtf_checks.specs.Errors.{HasError};
 ghost use Rattle.ixdtf_checks.specs.Kinds.{reader_of};
 ghost use Rattle.ixdtf_checks.specs.Verdicts.{IsRead};
 
@@ -17,8 +16,7 @@ use ixdtf::parsers::{IsoDurationParser, IxdtfParser, Profile, TimeZoneParser};
 /// Reads the text as a text of the kind. Returns the error with its position, if the text is refused.
 pub fn read(kind: Kind, profile: Profile, text: &[u8]) -> Result<(), LocatedError>
     ensures ok { OnOk result (IsRead (reader_of kind profile) text.now) }
-    ensures err { IfErr result (λ error. HasUnhandledFaultAt (reader_of kind profile)
-        (byte_text text.now) (fault_of_located error) error.at) }
+    ensures err { IfErr result (λ error. HasError (reader_of kind profile) (byte_text text.now) error) }
 {
     match kind {
         Kind::DateTime => read_date_time(text),
@@ -57,8 +55,7 @@ pub fn read(kind: Kind, profile: Profile, text: &[u8]) -> Result<(), LocatedErro
 #[inline(always)]
 pub fn read_date_time(text: &[u8]) -> Result<(), LocatedError>
     ensures ok { OnOk result (IsRead parse text.now) }
-    ensures err { IfErr result (λ error. HasUnhandledFaultAt parse
-        (byte_text text.now) (fault_of_located error) error.at) }
+    ensures err { IfErr result (λ error. HasError parse (byte_text text.now) error) }
 {
     match IxdtfParser::from_utf8(text).parse_located() {
         Ok(_record) => Ok(()),
@@ -69,8 +66,7 @@ pub fn read_date_time(text: &[u8]) -> Result<(), LocatedError>
 /// Reads the text as a date-time of RFC 3339. Returns the error with its position, if the text is refused.
 fn read_rfc3339(text: &[u8]) -> Result<(), LocatedError>
     ensures ok { OnOk result (IsRead parse_rfc3339 text.now) }
-    ensures err { IfErr result (λ error. HasUnhandledFaultAt parse_rfc3339
-        (byte_text text.now) (fault_of_located error) error.at) }
+    ensures err { IfErr result (λ error. HasError parse_rfc3339 (byte_text text.now) error) }
 {
     match IxdtfParser::from_utf8(text).parse_rfc3339_located() {
         Ok(_record) => Ok(()),
@@ -81,8 +77,7 @@ fn read_rfc3339(text: &[u8]) -> Result<(), LocatedError>
 /// Reads the text as a date-time of RFC 9557. Returns the error with its position, if the text is refused.
 fn read_rfc9557(text: &[u8]) -> Result<(), LocatedError>
     ensures ok { OnOk result (IsRead parse_rfc9557 text.now) }
-    ensures err { IfErr result (λ error. HasUnhandledFaultAt parse_rfc9557
-        (byte_text text.now) (fault_of_located error) error.at) }
+    ensures err { IfErr result (λ error. HasError parse_rfc9557 (byte_text text.now) error) }
 {
     match IxdtfParser::from_utf8(text).parse_rfc9557_located() {
         Ok(_record) => Ok(()),
@@ -93,8 +88,7 @@ fn read_rfc9557(text: &[u8]) -> Result<(), LocatedError>
 /// Reads the text as the name of a time zone. Returns the error with its position, if the text is refused.
 fn read_zone_name(text: &[u8]) -> Result<(), LocatedError>
     ensures ok { OnOk result (IsRead parse_iana_identifier text.now) }
-    ensures err { IfErr result (λ error. HasUnhandledFaultAt parse_iana_identifier
-        (byte_text text.now) (fault_of_located error) error.at) }
+    ensures err { IfErr result (λ error. HasError parse_iana_identifier (byte_text text.now) error) }
 {
     match TimeZoneParser::from_utf8(text).parse_iana_identifier_located() {
         Ok(_name) => Ok(()),

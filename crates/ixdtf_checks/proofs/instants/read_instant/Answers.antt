@@ -11,7 +11,7 @@ returns-in-Ok-clause-ok c =
     rw c.in-DateTime.is (parsed found, rw c.from_utf8.ensures.rest at ((c.in-Ok.ensures.reads.ok found).0 refl), named)
 
 pub returns-in-Err-clause-err : goal.returns-in-Err-clause-err
-returns-in-Err-clause-err c = rw (c.in-DateTime.is, ← c.from_utf8.ensures.rest) c.in-Err.ensures.reads.err
+returns-in-Err-clause-err c = rw (c.in-DateTime.is, ← c.from_utf8.ensures.rest) (c.in-Err.ensures.reads.err, c.in-Err.ensures.reads.reason)
 
 pub returns-in-Ok-parse_rfc3339_located-clause-ok : goal.returns-in-Ok-parse_rfc3339_located-clause-ok
 returns-in-Ok-parse_rfc3339_located-clause-ok c =
@@ -23,7 +23,7 @@ returns-in-Ok-parse_rfc3339_located-clause-ok c =
 
 pub returns-in-Err-parse_rfc3339_located-clause-err : goal.returns-in-Err-parse_rfc3339_located-clause-err
 returns-in-Err-parse_rfc3339_located-clause-err c =
-    rw (c.in-Rfc3339.is, ← c.from_utf8-in-Rfc3339.ensures.rest) c.in-Err-parse_rfc3339_located.ensures.reads.err
+    rw (c.in-Rfc3339.is, ← c.from_utf8-in-Rfc3339.ensures.rest) (c.in-Err-parse_rfc3339_located.ensures.reads.err, c.in-Err-parse_rfc3339_located.ensures.reads.reason)
 
 pub returns-in-Ok-parse_rfc9557_located-clause-ok : goal.returns-in-Ok-parse_rfc9557_located-clause-ok
 returns-in-Ok-parse_rfc9557_located-clause-ok c =
@@ -35,4 +35,4 @@ returns-in-Ok-parse_rfc9557_located-clause-ok c =
 
 pub returns-in-Err-parse_rfc9557_located-clause-err : goal.returns-in-Err-parse_rfc9557_located-clause-err
 returns-in-Err-parse_rfc9557_located-clause-err c =
-    rw (c.in-Rfc9557.is, ← c.from_utf8-in-Rfc9557.ensures.rest) c.in-Err-parse_rfc9557_located.ensures.reads.err
+    rw (c.in-Rfc9557.is, ← c.from_utf8-in-Rfc9557.ensures.rest) (c.in-Err-parse_rfc9557_located.ensures.reads.err, c.in-Err-parse_rfc9557_located.ensures.reads.reason)

@@ -2,15 +2,11 @@
 use Rattle.ixdtf_checks.proofs.judge.judge_instant.Goals as goal
 use Rattle.std.proofs.Common.{refl, inr}
 use Rattle.ixdtf_checks.specs.Kinds.{instant_reader_of}
-use Rattle.ixdtf_checks.proofs.VerdictLemmas.{at_within, order_refused, shows_place, text_short}
+use Rattle.ixdtf_checks.proofs.VerdictLemmas.{at_within, order_refused, shows_part}
 
 pub refuse-requires-clause-within : goal.refuse-requires-clause-within
 refuse-requires-clause-within c =
-    at_within (instant_reader_of c.args.kind) c.args.part.text.now _ c.in-Err.error.at c.in-Err.ensures.err
-
-pub refuse-requires-clause-short : goal.refuse-requires-clause-short
-refuse-requires-clause-short c =
-    text_short (instant_reader_of c.args.kind) c.args.part.text.now _ c.in-Err.error.at c.in-Err.ensures.err
+    at_within (instant_reader_of c.args.kind) c.args.part.text.now c.in-Err.error c.in-Err.ensures.err
 
 pub returns-in-Err : goal.returns-in-Err
 returns-in-Err c = λ printed.
@@ -22,4 +18,4 @@ returns-in-Ok-Some c =
 
 pub returns-in-Ok-None : goal.returns-in-Ok-None
 returns-in-Ok-None c = λ printed.
-    inr (rw c.in-Ok-None.field-0-is at c.in-Ok-None.ensures.ok, (refl, refl, shows_place c.args.part.text.now 0))
+    inr (rw c.in-Ok-None.field-0-is at c.in-Ok-None.ensures.ok, (refl, refl, shows_part c.args.part.text.now (record { begin = 0; end = 0 })))

@@ -1,15 +1,11 @@
 -- Proves the verdict on a refused text.
 use Rattle.ixdtf_checks.proofs.judge.judge_other_check.Goals as goal
 use Rattle.ixdtf_checks.specs.Kinds.{reader_of}
-use Rattle.ixdtf_checks.proofs.VerdictLemmas.{at_within, check_refused, text_short}
+use Rattle.ixdtf_checks.proofs.VerdictLemmas.{at_within, check_refused}
 
 pub refuse-requires-clause-within : goal.refuse-requires-clause-within
 refuse-requires-clause-within c =
-    at_within (reader_of c.args.kind c.args.profile) c.args.part.text.now _ c.in-Err.error.at c.in-Err.ensures.err
-
-pub refuse-requires-clause-short : goal.refuse-requires-clause-short
-refuse-requires-clause-short c =
-    text_short (reader_of c.args.kind c.args.profile) c.args.part.text.now _ c.in-Err.error.at c.in-Err.ensures.err
+    at_within (reader_of c.args.kind c.args.profile) c.args.part.text.now c.in-Err.error c.in-Err.ensures.err
 
 pub returns-in-Err-clause-verdict : goal.returns-in-Err-clause-verdict
 returns-in-Err-clause-verdict c = λ last printed.

@@ -1,12 +1,22 @@
--- Proves which lines follow the message about a refused text.
+-- Proves which message and which lines are about a refused text.
 use Rattle.ixdtf_checks.proofs.judge.refuse.Goals as goal
-use Rattle.std.proofs.Common.{◌+◌, refl, ap}
-use Rattle.ixdtf_checks.proofs.VerdictLemmas.{shows_place}
+use Rattle.std.proofs.Common.{◌≡◌, ◌+◌, ap, subst, length, refl, arith}
+use Rattle.std.specs.Prelude.{min}
+use Rattle.ixdtf_grammar.specs.Parts.{IsPart, extent_of}
+use Rattle.ixdtf_checks.proofs.VerdictLemmas.{shows_part}
 
 pub returns-clause-verdict : goal.returns-clause-verdict
 returns-clause-verdict c = λ reader has printed.
-    let reason = c.reason_of.ensures in
-    rw (reason.instant, reason.message, reason.lines) (_, _, has, ap (λ n. c.args.part.start + n + 1) c.width_of.ensures.width, refl, shows_place c.args.part.text.now c.args.error.at)
-
-pub returns-clause-instant : goal.returns-clause-instant
-returns-clause-instant c = λ printed. c.reason_of.ensures.instant
+    let bytes = c.args.part.text.now in
+    let error = c.args.error in
+    let wrong = c.part_in-wrong.result in
+    let within : min error.at (length bytes) ≡ error.at = omega (arith, c.requires.within) in
+    record {
+      error = error;
+      part = wrong;
+      has = has;
+      is_part = subst (λ at. IsPart (extent_of error.reason) bytes at wrong) within c.part_in-wrong.ensures.part;
+      place = ap (λ n. c.args.part.start + n + 1) c.width_of.ensures.width;
+      says = c.message_about.ensures;
+      shows = shows_part bytes wrong;
+    }

@@ -21,8 +21,8 @@ returns-then-is_text-clause-text c =
     let ensures = c.near_window-near.ensures in
     let ascii = subst IsAscii (part_same bs near.start near.end ensures.fits.order) (c.if-not-is_ascii.ensures.cases) in
     let good = c.if-is_text.ensures.yes refl in
-    adds_same (lines_masked bs c.args.place near good (near_is bs c.args.place near good ensures.fits ensures.near ascii)) c.add_shown.ensures.text
+    (adds_same (lines_masked bs c.args.part.begin c.args.part.end near good (near_is bs c.args.part.begin near good ensures.fits ensures.near ascii)) (rw c.marks_of.ensures.marks at c.add_shown.ensures.text))
 
 pub returns-else-is_text-clause-text : goal.returns-else-is_text-clause-text
 returns-else-is_text-clause-text c =
-    adds_same (sym (lines_hidden c.args.bytes.now c.args.place (c.if-is_text.ensures.no refl))) (adds_none c.args.room.now c.args.at)
+    adds_same (sym (lines_hidden c.args.bytes.now c.args.part.begin c.args.part.end (c.if-is_text.ensures.no refl))) (adds_none c.args.room.now c.args.at)

@@ -1,17 +1,13 @@
 -- Proves that the added bytes are the newline and the first of the spaces.
 use Rattle.ixdtf_checks.proofs.pointed.add_spaces.Goals as goal
-use Rattle.std.proofs.Common.{◌≡◌, ℕ, ◌+◌, ◌≤◌, suc, zero, List, take, replicate, refl, ap, ◌∷◌, arith}
+use Rattle.std.proofs.Common.{◌≡◌, ℕ, ◌+◌, ◌≤◌, suc, List, take, replicate, refl, ◌∷◌, arith}
 use Rattle.ixdtf_buffers.proofs.AddingLemmas.{adds_front}
-
-front_of_spaces : (m n c : ℕ) → m ≤ n → take m (replicate n c) ≡ replicate m c
-front_of_spaces zero n c within = refl
-front_of_spaces (suc m) zero c within = absurd (omega (arith, within))
-front_of_spaces (suc m) (suc n) c within = ap (λ t. c ∷ t) (front_of_spaces m n c (omega (arith, within)))
+use Rattle.ixdtf_checks.proofs.PointedLemmas.{front_of_many}
 
 behind_newline : (m n l c : ℕ) → m ≤ n → take (m + 1) (l ∷ replicate n c) ≡ l ∷ replicate m c
 behind_newline m n l c within =
     let next : m + 1 ≡ suc m = omega arith in
-    rw (next, front_of_spaces m n c within) refl
+    rw (next, front_of_many m n c within) refl
 
 pub returns-clause-text : goal.returns-clause-text
 returns-clause-text c =

@@ -17,4 +17,4 @@ returns-in-Ok c =
     record { ok = (found, given, c.print.ensures); err = tt }
 
 pub returns-in-Err : goal.returns-in-Err
-returns-in-Err c = record { ok = tt; err = rw (← c.from_utf8.ensures.rest) c.in-Err.ensures.reads.err }
+returns-in-Err c = record { ok = tt; err = rw (← c.from_utf8.ensures.rest) (c.in-Err.ensures.reads.err, c.in-Err.ensures.reads.reason) }

@@ -17,4 +17,4 @@ returns-in-Ok c =
     record { ok = (found, given, c.print_duration.ensures); err = tt }
 
 pub returns-in-Err : goal.returns-in-Err
-returns-in-Err c = record { ok = tt; err = rw (← c.duration_parser.ensures.profile, ← c.duration_parser.ensures.rest) c.in-Err.ensures.reads.err }
+returns-in-Err c = record { ok = tt; err = rw (← c.duration_parser.ensures.profile, ← c.duration_parser.ensures.rest) (c.in-Err.ensures.reads.err, c.in-Err.ensures.reads.reason) }

@@ -18,4 +18,4 @@ returns-in-Ok c =
     record { ok = (found, given, c.print_month_day.ensures); err = tt }
 
 pub returns-in-Err : goal.returns-in-Err
-returns-in-Err c = record { ok = tt; err = rw (← c.parser.ensures.profile, ← c.parser.ensures.rest) c.in-Err.ensures.reads.err }
+returns-in-Err c = record { ok = tt; err = rw (← c.parser.ensures.profile, ← c.parser.ensures.rest) (c.in-Err.ensures.reads.err, c.in-Err.ensures.reads.reason) }

@@ -9,7 +9,7 @@ returns-in-Ok-clause-ok c =
 
 pub returns-in-Err-clause-err : goal.returns-in-Err-clause-err
 returns-in-Err-clause-err c =
-    rw (c.in-YearMonth.is, ← c.from_utf8.ensures.rest) c.in-Err.ensures.reads.err
+    rw (c.in-YearMonth.is, ← c.from_utf8.ensures.rest) (c.in-Err.ensures.reads.err, c.in-Err.ensures.reads.reason)
 
 pub returns-in-Ok-parse_month_day_located-clause-ok : goal.returns-in-Ok-parse_month_day_located-clause-ok
 returns-in-Ok-parse_month_day_located-clause-ok c =
@@ -17,7 +17,7 @@ returns-in-Ok-parse_month_day_located-clause-ok c =
 
 pub returns-in-Err-parse_month_day_located-clause-err : goal.returns-in-Err-parse_month_day_located-clause-err
 returns-in-Err-parse_month_day_located-clause-err c =
-    rw (c.in-MonthDay.is, ← c.parser.ensures.profile, ← c.parser.ensures.rest) c.in-Err-parse_month_day_located.ensures.reads.err
+    rw (c.in-MonthDay.is, ← c.parser.ensures.profile, ← c.parser.ensures.rest) (c.in-Err-parse_month_day_located.ensures.reads.err, c.in-Err-parse_month_day_located.ensures.reads.reason)
 
 pub returns-in-Ok-parse_time_located-clause-ok : goal.returns-in-Ok-parse_time_located-clause-ok
 returns-in-Ok-parse_time_located-clause-ok c =
@@ -25,7 +25,7 @@ returns-in-Ok-parse_time_located-clause-ok c =
 
 pub returns-in-Err-parse_time_located-clause-err : goal.returns-in-Err-parse_time_located-clause-err
 returns-in-Err-parse_time_located-clause-err c =
-    rw (c.in-Time.is, ← c.parser-in-Time.ensures.profile, ← c.parser-in-Time.ensures.rest) c.in-Err-parse_time_located.ensures.reads.err
+    rw (c.in-Time.is, ← c.parser-in-Time.ensures.profile, ← c.parser-in-Time.ensures.rest) (c.in-Err-parse_time_located.ensures.reads.err, c.in-Err-parse_time_located.ensures.reads.reason)
 
 pub returns-in-Ok-parse_offset_located-clause-ok : goal.returns-in-Ok-parse_offset_located-clause-ok
 returns-in-Ok-parse_offset_located-clause-ok c =
@@ -33,7 +33,7 @@ returns-in-Ok-parse_offset_located-clause-ok c =
 
 pub returns-in-Err-parse_offset_located-clause-err : goal.returns-in-Err-parse_offset_located-clause-err
 returns-in-Err-parse_offset_located-clause-err c =
-    rw (c.in-Offset.is, ← c.from_utf8-in-Offset.ensures.rest) c.in-Err-parse_offset_located.ensures.reads.err
+    rw (c.in-Offset.is, ← c.from_utf8-in-Offset.ensures.rest) (c.in-Err-parse_offset_located.ensures.reads.err, c.in-Err-parse_offset_located.ensures.reads.reason)
 
 pub returns-in-Ok-parse_identifier_located-clause-ok : goal.returns-in-Ok-parse_identifier_located-clause-ok
 returns-in-Ok-parse_identifier_located-clause-ok c =
@@ -41,7 +41,7 @@ returns-in-Ok-parse_identifier_located-clause-ok c =
 
 pub returns-in-Err-parse_identifier_located-clause-err : goal.returns-in-Err-parse_identifier_located-clause-err
 returns-in-Err-parse_identifier_located-clause-err c =
-    rw (c.in-Zone.is, ← c.from_utf8-in-Zone.ensures.rest) c.in-Err-parse_identifier_located.ensures.reads.err
+    rw (c.in-Zone.is, ← c.from_utf8-in-Zone.ensures.rest) (c.in-Err-parse_identifier_located.ensures.reads.err, c.in-Err-parse_identifier_located.ensures.reads.reason)
 
 pub returns-in-Ok-parse_located-clause-ok : goal.returns-in-Ok-parse_located-clause-ok
 returns-in-Ok-parse_located-clause-ok c =
@@ -49,4 +49,4 @@ returns-in-Ok-parse_located-clause-ok c =
 
 pub returns-in-Err-parse_located-clause-err : goal.returns-in-Err-parse_located-clause-err
 returns-in-Err-parse_located-clause-err c =
-    rw (c.in-Duration.is, ← c.duration_parser.ensures.profile, ← c.duration_parser.ensures.rest) c.in-Err-parse_located.ensures.reads.err
+    rw (c.in-Duration.is, ← c.duration_parser.ensures.profile, ← c.duration_parser.ensures.rest) (c.in-Err-parse_located.ensures.reads.err, c.in-Err-parse_located.ensures.reads.reason)
