@@ -11,9 +11,9 @@ use crate::printing::read_to_print;
 use crate::reading::{read, read_date_time};
 use crate::request::{Field, Request, Task};
 use crate::skipped::kept_line;
-use crate::verdict::{Early, LINE_LIMIT, Reason, Refusal, Unread, Verdict};
+use crate::verdict::{LINE_LIMIT, Marked, Refusal, Verdict, words};
 use ixdtf::parsers::Profile;
-use ixdtf::{Instant, LocatedError};
+use ixdtf::{Instant, LocatedError, Message};
 
 /// Writes the verdict on the line to `verdict`. The line is `None` if it is too long. `last` is the instant of the nearest
 /// preceding line whose text names an instant. If the task is `Task::Order` and the text of this line names an instant, `last`
@@ -33,10 +33,7 @@ pub fn judge<'a>(
 ) {
     match line {
         None => {
-            *verdict = Verdict::Refused(Refusal {
-                column: LINE_LIMIT + 1,
-                reason: Reason::TooLong,
-            });
+            *verdict = refused_whole(LINE_LIMIT + 1, "line too long");
         }
         Some(bytes) => judge_short(request, is_first, last, bytes, printed, unquoted, verdict),
     }
@@ -95,27 +92,31 @@ fn judge_field<'a>(
 ) {
     match part_of(field, line, unquoted) {
         Err(Lost::NoField) => {
-            *verdict = Verdict::Refused(Refusal {
-                column: line.len() + 1,
-                reason: Reason::NoField,
-            });
+            *verdict = refused_whole(line.len() + 1, "no such field");
         }
         Err(Lost::Broken(broken)) => {
-            *verdict = Verdict::Refused(Refusal {
-                column: broken.at + 1,
-                reason: reason_of_quoting(broken.quoting),
-            });
+            *verdict = refused_whole(broken.at + 1, message_of_quoting(broken.quoting));
         }
         Ok(part) => judge_text(request, last, part, printed, verdict),
     }
 }
 
-/// Returns the reason for a line that is no record of RFC 4180.
-fn reason_of_quoting<'a>(quoting: Quoting) -> Reason<'a> {
+/// Returns the verdict on a line that has no text.
+fn refused_whole<'a>(column: usize, message: &'static str) -> Verdict<'a> {
+    Verdict::Refused(Refusal {
+        column,
+        message: words(message),
+        marked: None,
+        instant: None,
+    })
+}
+
+/// Returns the message about a line that is no record of RFC 4180.
+fn message_of_quoting(quoting: Quoting) -> &'static str {
     match quoting {
-        Quoting::NotClosed => Reason::NotClosed,
-        Quoting::TextAfter => Reason::TextAfter,
-        Quoting::Stray => Reason::Stray,
+        Quoting::NotClosed => "a quote is not closed in this line",
+        Quoting::TextAfter => "text after a closing quote",
+        Quoting::Stray => "a quote in a field without quotes",
     }
 }
 
@@ -196,7 +197,9 @@ fn judge_instant<'a>(
         Ok(None) => {
             *verdict = Verdict::Refused(Refusal {
                 column: part.start + 1,
-                reason: Reason::NoInstant(part.text),
+                message: words("no instant"),
+                marked: Some(Marked::first(part.text)),
+                instant: None,
             });
         }
         Err(error) => refuse(verdict, true, error, part),
@@ -208,10 +211,9 @@ fn order(instant: Instant, last: Option<Instant>, part: Part<'_>) -> Verdict<'_>
     match last {
         Some(last) if instant < last => Verdict::Refused(Refusal {
             column: part.start + 1,
-            reason: Reason::Early(Early {
-                instant,
-                text: part.text,
-            }),
+            message: words("earlier than the line before"),
+            marked: Some(Marked::first(part.text)),
+            instant: Some(instant),
         }),
         _ => Verdict::Timed(instant),
     }
@@ -223,25 +225,25 @@ fn order(instant: Instant, last: Option<Instant>, part: Part<'_>) -> Verdict<'_>
 /// The function is not inlined: otherwise its local variables would be set to zero for each line, also if the line is accepted.
 #[inline(never)]
 fn refuse<'a>(verdict: &mut Verdict<'a>, has_offset: bool, error: LocatedError, part: Part<'a>) {
+    let wrong = error.part_in(part.text);
     *verdict = Verdict::Refused(Refusal {
-        column: part.start + part.width_of(error.at) + 1,
-        reason: reason_of(
-            has_offset,
-            Unread {
-                error,
-                text: part.text,
-            },
-        ),
+        column: part.start + part.width_of(wrong.begin) + 1,
+        message: message_about(has_offset, error, part.text),
+        marked: Some(Marked {
+            text: part.text,
+            part: wrong,
+        }),
+        instant: None,
     });
 }
 
-/// Returns the reason for the refusal of a text. `unread` has the text, and the error that a reader returned for it. The reason
-/// is `Spaced` if `has_offset` is `true` and the error is at a space before an offset. Otherwise the reason is `Unread`.
-fn reason_of(has_offset: bool, unread: Unread<'_>) -> Reason<'_> {
-    if has_offset && is_spaced(&unread.text[unread.error.at..]) {
-        Reason::Spaced(unread)
+/// Returns the message about a text that a reader refuses with this error. If `has_offset` is `true` and the error is at a space
+/// before an offset, the message is about this space. Otherwise it is the message of the error.
+fn message_about(has_offset: bool, error: LocatedError, text: &[u8]) -> Message<'_> {
+    if has_offset && is_spaced(&text[error.at..]) {
+        words("a space stands before the offset")
     } else {
-        Reason::Unread(unread)
+        error.message_in(text)
     }
 }
 

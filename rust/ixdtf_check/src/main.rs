@@ -1,4 +1,4 @@
-//! Reports the lines of files that are not valid, with the position and the text of each error.
+//! Reports the lines of files that are not valid, and says where and why.
 //!
 //! A person wrote this file.
 #![forbid(unsafe_code)]
@@ -19,6 +19,7 @@ mod printing;
 mod reading;
 mod report;
 mod request;
+mod shown;
 mod skipped;
 mod status;
 mod tally;

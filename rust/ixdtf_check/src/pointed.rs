@@ -1,10 +1,11 @@
 // Made by tools/to_rust.py of crates/ixdtf_checks/src/pointed.rt. Do not edit.
 
-//! Makes the lines under a message: a text, and a mark under the position of the error.
+//! Makes the lines under a message: a text, and marks under the part that is wrong.
 //!
 //! The complete text is tested for UTF-8. Apart from this test, only the part that is shown is read: at most 48 characters before
 //! the position, and at most 24 from it on. Each character has at most four bytes.
 
+use ixdtf::WrongPart;
 use ixdtf_buffers::adding::{add_byte, add_bytes};
 use ixdtf_buffers::place::place_of;
 
@@ -16,10 +17,13 @@ const FROM_PLACE: usize = 24;
 
 /// The greatest number of bytes of a report after the name of the file.
 ///
-/// The numbers of the line and of the column have at most 44 bytes, with the colons and the space. A message has at most 70
-/// bytes with its newline. The two lines under the message have at most 345 bytes: `..`, 72 characters of four bytes, `..`, a
-/// newline, 50 spaces, `^` and a newline.
-pub const ROOM: usize = 459;
+/// The numbers of the line and of the column have at most 44 bytes, with the colons and the space. A message that is written into
+/// the same array has at most 160 bytes, and a newline follows it. The two lines under the message have at most 368 bytes: `..`, 72
+/// characters of four bytes, `..`, a newline, 50 spaces, 24 marks and a newline.
+pub const ROOM: usize = 573;
+
+/// The greatest number of marks.
+const MARKS: &[u8; 24] = b"^^^^^^^^^^^^^^^^^^^^^^^^";
 
 /// A newline, and the greatest number of spaces before a mark.
 const SPACES: &[u8; 51] = b"\n                                                  ";
@@ -43,12 +47,12 @@ const LEAD: u8 = 0xC2;
 ///
 /// First tests whether the bytes near the position are ASCII: at most 48 bytes before it, and at most 24 bytes from it on.
 /// If they are all ASCII, they are the part that is shown.
-pub fn add_lines(room: &mut [u8; ROOM], at: usize, bytes: &[u8], place: usize) -> usize {
-    let near = near_window(bytes, place);
+pub fn add_lines(room: &mut [u8; ROOM], at: usize, bytes: &[u8], part: WrongPart) -> usize {
+    let near = near_window(bytes, part.begin);
     if !bytes[near.start..near.end].is_ascii() {
-        add_any(room, at, bytes, place)
+        add_any(room, at, bytes, part)
     } else if is_text(bytes, near) {
-        add_shown(room, at, bytes, near, true)
+        add_shown(room, at, bytes, near, marks_of(part), true)
     } else {
         at
     }
@@ -83,9 +87,16 @@ fn is_text(bytes: &[u8], window: Window) -> bool {
 }
 
 /// Adds the lines for bytes that can contain non-ASCII bytes near the position. Adds nothing if the bytes are not UTF-8.
-fn add_any(room: &mut [u8; ROOM], at: usize, bytes: &[u8], place: usize) -> usize {
+fn add_any(room: &mut [u8; ROOM], at: usize, bytes: &[u8], part: WrongPart) -> usize {
     match std::str::from_utf8(bytes) {
-        Ok(_) => add_shown(room, at, bytes, window_of(bytes, place), false),
+        Ok(_) => add_shown(
+            room,
+            at,
+            bytes,
+            window_of(bytes, part.begin),
+            marks_of(part),
+            false,
+        ),
         Err(_) => at,
     }
 }
@@ -97,6 +108,7 @@ fn add_shown(
     at: usize,
     bytes: &[u8],
     window: Window,
+    marks: usize,
     is_ascii: bool,
 ) -> usize {
     let first = add_cut_mark(room, at, window.start > 0);
@@ -106,14 +118,23 @@ fn add_shown(
     } else {
         add_masked(room, first, part)
     };
-    add_behind(room, second, bytes, window)
+    add_behind(room, second, bytes, window, marks)
 }
 
-/// Adds what follows the shown part of a text: `..` if the text continues, and the line with the mark.
-fn add_behind(room: &mut [u8; ROOM], at: usize, bytes: &[u8], window: Window) -> usize {
+/// Adds what follows the shown part of a text: `..` if the text continues, and the line with the marks.
+fn add_behind(room: &mut [u8; ROOM], at: usize, bytes: &[u8], window: Window, marks: usize) -> usize {
     let third = add_cut_mark(room, at, window.end < bytes.len());
-    let mark = add_spaces(room, third, window.indent);
-    add_bytes(room, mark, b"^\n")
+    let first = add_spaces(room, third, window.indent);
+    let last = add_marks(room, first, marks);
+    add_byte(room, last, b'\n')
+}
+
+/// Returns the number of marks under a part: one for each byte, but at least one, and at most 24.
+fn marks_of(part: WrongPart) -> usize {
+    if part.end <= part.begin {
+        return 1;
+    }
+    FROM_PLACE.min(part.end - part.begin)
 }
 
 /// Returns the part of a text that is shown: at most 48 characters before the position, and at most 24 from it on.
@@ -255,4 +276,12 @@ fn begins_control(bytes: &[u8], place: usize) -> bool {
 fn add_spaces(room: &mut [u8; ROOM], at: usize, indent: usize) -> usize {
     let _end = add_bytes(room, at, SPACES);
     at + indent + 1
+}
+
+/// Adds the marks.
+///
+/// Like `add_spaces`, the function always writes the greatest number of them. The next bytes overwrite those that are too many.
+fn add_marks(room: &mut [u8; ROOM], at: usize, count: usize) -> usize {
+    let _end = add_bytes(room, at, MARKS);
+    at + count
 }

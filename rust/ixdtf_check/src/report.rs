@@ -5,15 +5,19 @@
 use crate::pointed::{ROOM, add_lines};
 use crate::printed::PrintedText;
 use crate::request::Request;
-use crate::verdict::{Reason, Refusal, Verdict};
+use crate::shown::{SHOWN_ROOM, shown_bytes};
+use crate::verdict::{Marked, Refusal, Verdict};
+use ixdtf::Message;
 use ixdtf_buffers::adding::{add_byte, add_bytes, add_number};
 use ixdtf_buffers::error::RunError;
 use ixdtf_buffers::output::Output;
 use ixdtf_buffers::sink::Sink;
-use ixdtf_print::error_parts;
 
 /// The greatest length in bytes of a canonical text with its newline that is written to the output as one slice.
 const MOST_AT_ONCE: usize = 4096;
+
+/// The greatest length in bytes of a message that is written to the output together with the other bytes of its report.
+const MOST_MESSAGE: usize = 160;
 
 /// Writes the report of the line to the output. `number` is the number of the line, from 1. `refusals` is the number of
 /// refused lines so far. If this line is refused, it is included. If the verdict is `Verdict::Printed`, `printed` contains
@@ -53,7 +57,7 @@ fn put_printed<K: Sink>(output: &mut Output<'_, K>, line: &[u8]) -> Result<(), R
 }
 
 /// Writes the report of a refused line to the output. The name of the file can be long, so it is a slice of its own. The other
-/// bytes are one slice.
+/// bytes are one slice, if the message fits into the array. All messages that a reader causes fit, but this is not proved.
 ///
 /// The function is not inlined, because most lines are accepted.
 #[inline(never)]
@@ -66,8 +70,14 @@ fn put_refusal<K: Sink>(
 ) -> Result<(), RunError> {
     output.put(name.as_bytes())?;
     let place = add_place(room, number, refusal.column);
-    let end = add_reason(room, place, &refusal.reason);
-    output.put(&room[..end])
+    match add_message(room, place, &refusal.message) {
+        Some(end) => put_lines(output, room, end, refusal.marked),
+        None => {
+            output.put(&room[..place])?;
+            put_message(output, &refusal.message)?;
+            put_lines(output, room, 0, refusal.marked)
+        }
+    }
 }
 
 /// Adds the number of a refused line, and the column of the error. Returns the index after the added bytes.
@@ -79,38 +89,43 @@ fn add_place(room: &mut [u8; ROOM], number: u64, column: usize) -> usize {
     add_bytes(room, third_colon, b": ")
 }
 
-/// Adds the message why a line is refused. If a text is refused, also adds the lines that show the position of the error. Returns
-/// the index after the added bytes.
-fn add_reason(room: &mut [u8; ROOM], at: usize, reason: &Reason<'_>) -> usize {
-    match reason {
-        Reason::TooLong => add_message(room, at, "line too long", ""),
-        Reason::NoField => add_message(room, at, "no such field", ""),
-        Reason::NotClosed => add_message(room, at, "a quote is not closed in this line", ""),
-        Reason::TextAfter => add_message(room, at, "text after a closing quote", ""),
-        Reason::Stray => add_message(room, at, "a quote in a field without quotes", ""),
-        Reason::Unread(unread) => {
-            let (message, location) = error_parts(unread.error.error);
-            let lines = add_message(room, at, message, location);
-            add_lines(room, lines, unread.text, unread.error.at)
-        }
-        Reason::Spaced(spaced) => {
-            let lines = add_message(room, at, "a space stands before the offset", "");
-            add_lines(room, lines, spaced.text, spaced.error.at)
-        }
-        Reason::NoInstant(text) => {
-            let lines = add_message(room, at, "no instant", "");
-            add_lines(room, lines, text, 0)
-        }
-        Reason::Early(early) => {
-            let lines = add_message(room, at, "earlier than the line before", "");
-            add_lines(room, lines, early.text, 0)
-        }
+/// Adds a message. Returns the index after the added bytes, or `None` if the message is longer than `MOST_MESSAGE` bytes.
+fn add_message(room: &mut [u8; ROOM], at: usize, message: &Message<'_>) -> Option<usize> {
+    let mut array = [0; SHOWN_ROOM];
+    let shown = shown_bytes(message.shown, &mut array);
+    let before = message.before.as_bytes();
+    let after = message.after.as_bytes();
+    if before.len() > MOST_MESSAGE || shown.len() > MOST_MESSAGE || after.len() > MOST_MESSAGE {
+        return None;
     }
+    if before.len() + shown.len() + after.len() > MOST_MESSAGE {
+        return None;
+    }
+    let first = add_bytes(room, at, before);
+    let second = add_bytes(room, first, shown);
+    Some(add_bytes(room, second, after))
 }
 
-/// Adds the two parts of a message, and a newline. Returns the index after the added bytes.
-fn add_message(room: &mut [u8; ROOM], at: usize, text: &str, location: &str) -> usize {
-    let middle = add_bytes(room, at, text.as_bytes());
-    let newline = add_bytes(room, middle, location.as_bytes());
-    add_byte(room, newline, b'\n')
+/// Writes a message to the output.
+#[cold]
+#[inline(never)]
+fn put_message<K: Sink>(output: &mut Output<'_, K>, message: &Message<'_>) -> Result<(), RunError> {
+    let mut array = [0; SHOWN_ROOM];
+    let shown = shown_bytes(message.shown, &mut array);
+    output.put_all(&[message.before.as_bytes(), shown, message.after.as_bytes()])
+}
+
+/// Writes to the output what is in the array before `at`, a newline, and the lines that show a text and the part that is wrong.
+fn put_lines<K: Sink>(
+    output: &mut Output<'_, K>,
+    room: &mut [u8; ROOM],
+    at: usize,
+    marked: Option<Marked<'_>>,
+) -> Result<(), RunError> {
+    let lines = add_byte(room, at, b'\n');
+    let end = match marked {
+        None => lines,
+        Some(marked) => add_lines(room, lines, marked.text, marked.part),
+    };
+    output.put(&room[..end])
 }

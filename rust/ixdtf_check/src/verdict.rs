@@ -2,7 +2,7 @@
 
 //! The verdict on a line.
 
-use ixdtf::{Instant, LocatedError};
+use ixdtf::{Instant, Message, Shown, WrongPart};
 
 /// The greatest length of a line that is read, in bytes.
 pub const LINE_LIMIT: usize = 65536;
@@ -23,56 +23,46 @@ pub enum Verdict<'a> {
     Refused(Refusal<'a>),
 }
 
-/// The column at which a line is refused, and the reason.
+/// Why a line is refused, and at which column.
 #[derive(Clone, Copy)]
 pub struct Refusal<'a> {
     /// The position in the line at which it is refused, in bytes, counted from 1.
     pub column: usize,
-    /// The reason why the line is refused.
-    pub reason: Reason<'a>,
+    /// The message that says why the line is refused.
+    pub message: Message<'a>,
+    /// The text of the line and the part of it that is wrong, or `None` if the line has no text.
+    pub marked: Option<Marked<'a>>,
+    /// The instant that the text names, if it is before the previous instant. The previous instant is that of the nearest preceding
+    /// line whose text names an instant.
+    pub instant: Option<Instant>,
 }
 
-/// The reason why a line is refused.
+/// A text, and the part of it that is wrong.
 #[derive(Clone, Copy)]
-pub enum Reason<'a> {
-    /// The line is longer than `LINE_LIMIT`.
-    TooLong,
-    /// The line has too few fields.
-    NoField,
-    /// A quote opens a field of the line, but no quote closes it.
-    NotClosed,
-    /// The line has text after a closing quote.
-    TextAfter,
-    /// A field of the line has a quote, but does not begin with one.
-    Stray,
-    /// A reader refuses the text of the line.
-    Unread(Unread<'a>),
-    /// A reader refuses the text of the line, at a space before an offset.
-    Spaced(Unread<'a>),
-    /// A reader accepts this text of the line, but the text does not name an instant.
-    NoInstant(&'a [u8]),
-    /// The text of the line names an instant that is before the previous instant. The previous instant is that of the nearest
-    /// preceding line whose text names an instant.
-    Early(Early<'a>),
-}
-
-/// A text that a reader refuses.
-#[derive(Clone, Copy)]
-pub struct Unread<'a> {
-    /// The error, with its position in the text.
-    pub error: LocatedError,
+pub struct Marked<'a> {
     /// The text. It can be invalid UTF-8.
     pub text: &'a [u8],
+    /// The part that is wrong.
+    pub part: WrongPart,
 }
 
-/// A text that names an instant before the previous instant. The previous instant is that of the nearest preceding line whose text
-/// names an instant.
-#[derive(Clone, Copy)]
-pub struct Early<'a> {
-    /// The instant that the text names.
-    pub instant: Instant,
-    /// The text.
-    pub text: &'a [u8],
+/// Returns a message that has only these words.
+pub fn words(words: &'static str) -> Message<'static> {
+    Message {
+        before: words,
+        shown: Shown::Nothing,
+        after: "",
+    }
+}
+
+impl<'a> Marked<'a> {
+    /// Marks the first byte of a text, which is refused as a whole.
+    pub fn first(text: &'a [u8]) -> Marked<'a> {
+        Marked {
+            text,
+            part: WrongPart { begin: 0, end: 0 },
+        }
+    }
 }
 
 impl Verdict<'_> {
@@ -85,25 +75,12 @@ impl Verdict<'_> {
     pub fn keep_instant(&self, last: &mut Option<Instant>) {
         match self {
             Verdict::Timed(instant) => *last = Some(*instant),
-            Verdict::Refused(refusal) => refusal.reason.keep_instant(last),
+            Verdict::Refused(refusal) => {
+                if let Some(instant) = refusal.instant {
+                    *last = Some(instant);
+                }
+            }
             Verdict::Accepted | Verdict::Printed | Verdict::Skipped => {}
-        }
-    }
-}
-
-impl Reason<'_> {
-    /// If the reason has an instant, writes it to `last`. Otherwise `last` is unchanged.
-    fn keep_instant(&self, last: &mut Option<Instant>) {
-        match self {
-            Reason::Early(early) => *last = Some(early.instant),
-            Reason::TooLong
-            | Reason::NoField
-            | Reason::NotClosed
-            | Reason::TextAfter
-            | Reason::Stray
-            | Reason::Unread(_)
-            | Reason::Spaced(_)
-            | Reason::NoInstant(_) => {}
         }
     }
 }
