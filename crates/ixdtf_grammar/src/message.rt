@@ -160,15 +160,17 @@ fn shown_part(part: &[u8]) -> Shown<'_>
 }
 
 /// Shows the first character, or the first byte if no character begins there, or nothing if there is no byte.
+///
+/// Most characters are ASCII. They are not looked up by `first_character`, which would take about 90 instructions.
 fn shown_first(rest: &[u8]) -> Shown<'static>
     ensures { ShowsCharacter rest.now result }
 {
-    let bytes = &rest[..rest.len().min(4)];
-    match first_character(bytes) {
-        Some(character) => Shown::Character(character),
-        None => match bytes.first() {
-            Some(byte) => Shown::Byte(*byte),
-            None => Shown::Nothing,
+    match rest.first() {
+        None => Shown::Nothing,
+        Some(byte) if byte.is_ascii() => Shown::Character(char::from(*byte)),
+        Some(byte) => match first_character(&rest[..rest.len().min(4)]) {
+            Some(character) => Shown::Character(character),
+            None => Shown::Byte(*byte),
         },
     }
 }
