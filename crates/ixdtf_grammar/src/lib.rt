@@ -12,19 +12,19 @@
 //!   caller that gets each annotation of a text. A *reply* is what the handler returns for one annotation.
 //!
 //! The *text readers* are five of the readers: `parse`, `parse_year_month`, `parse_month_day` and `parse_time` of
-//! `IxdtfParser`, and `parse` of `IsoDurationParser`. They read dates, times and durations. The rows of the fault table are
-//! in groups, which are called *lines*. Each line is about one kind of prefix of a text. Each row of the line has an error:
-//! for what follows the prefix, such as the end of the text, or for the prefix itself, such as one with the month 13. A
-//! *bad code unit* is a 16-bit code unit outside 1 to 126.
+//! `IxdtfParser`, and `parse` of `IsoDurationParser`. They read dates, times and durations. The fault table has
+//! *lines*. Each line is about one kind of prefix of a text, and has one or more *rows*. Each row gives one error. Some rows
+//! are about what follows the prefix, such as the end of the text. Other rows are about the prefix itself, such as a prefix in
+//! which the month is 13. A *bad code unit* is a 16-bit code unit outside 1 to 126.
 //!
 //! For the layers above, this crate also proves three facts about the definitions:
 //!
 //! - If a text is in the grammar of a reader, no row of the fault table for this reader fits the text.
-//! - Under one profile, a text is in the grammar of at most one text reader.
+//! - For each profile, no text is in the grammars of two text readers.
 //! - Suppose that a row of a line fits a text with a bad code unit. There are two cases. In the first case, the error of
-//!   the row is `NonAsciiCodePoint`, at the position of the first bad code unit. In the second case, the error does not
-//!   depend on the bad code unit. Every text that begins with the code units before the bad code unit has the same error,
-//!   because a row of the same line fits every such text.
+//!   the row is `NonAsciiCodePoint`, at the position of the first bad code unit. In the second case, the code units before
+//!   the first bad one already decide the error: if a text begins with them, it has this error, by some row of the same
+//!   line.
 #![tactic(auto)]
 
 pub mod encoding;

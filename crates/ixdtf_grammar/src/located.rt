@@ -28,8 +28,9 @@ use std::str::from_utf8;
 pub struct LocatedError {
     /// The error.
     pub error: ParseError,
-    /// The position of the error: the number of code units of the input that come before the error. If a month, day, hour,
-    /// minute or second is out of range, the position is after its two digits, such as 10 for the day of `2024-02-30`.
+    /// The position of the error: the number of code units of the input that come before it. If a code unit does not fit, the
+    /// position is the index of this code unit. For some errors, the position is after the part that is wrong. For example, it
+    /// is 10 for the day of `2024-02-30`, which begins at 8. [`part_in`](LocatedError::part_in) returns the part itself.
     pub at: usize,
     /// The reason: the line of the fault table that fits the text, or the refusal of an annotation.
     pub reason: Reason,
@@ -38,8 +39,8 @@ pub struct LocatedError {
 impl LocatedError {
     /// Returns the text with a mark under each byte of the part that is wrong, so that people can see this part.
     ///
-    /// `text` must be the complete source of the parser that returned this error. No earlier call on this parser may have
-    /// returned `Ok`. A call that returns `Ok` consumes the source, and a later call does not count positions from the
+    /// `text` must be the complete source of the parser that returned this error. This parser must not have returned
+    /// `Ok` before. A call that returns `Ok` consumes the source, and a later call does not count positions from the
     /// beginning of the source.
     ///
     /// If the source has 16-bit code units, `text` must be this source, converted to a `str`. In such a source, all code

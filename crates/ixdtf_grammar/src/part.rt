@@ -25,7 +25,7 @@ enum Extent {
     TwoDigits,
     /// All bytes before the position.
     Front,
-    /// The number that has digits directly before the position. It can go on after the position.
+    /// The complete number with the digits that are directly before the position. More of its digits can be after the position.
     Number,
     /// The number, its fraction and its unit, directly before the position.
     Group,
@@ -38,10 +38,10 @@ enum Extent {
 impl LocatedError {
     /// Returns the part of the text that is wrong.
     ///
-    /// `text` must be the complete source of the parser that returned this error, and no earlier call on this parser may
-    /// have returned `Ok`. [`in_text`](LocatedError::in_text) has the same two conditions. If the source has 8-bit code
-    /// units, `text` is the source itself, which need not be valid UTF-8. If the source has 16-bit code units, `text` must
-    /// be this source, converted to UTF-8.
+    /// `text` must be the complete source of the parser that returned this error. This parser must not have returned `Ok`
+    /// before. [`in_text`](LocatedError::in_text) has the same two conditions. If the source has 8-bit code units, `text` is
+    /// the source itself, which need not be valid UTF-8. If the source has 16-bit code units, `text` must be this source,
+    /// converted to UTF-8.
     ///
     /// - If a code unit does not fit, the part is one byte: the one at the position of the error.
     /// - If the text ends too early, the part is empty, and is at the end of the text.

@@ -30,8 +30,8 @@ static MONTHS: Months = Months {
 
 /// Returns the number of days from 1970-01-01 to a date, for every year that an `i32` can have.
 ///
-/// Returns `None` if the month is not from 1 to 12. If the month does not have the day, the result is the number of the
-/// first day of the month, plus `day - 1`. So 31 February counts as 3 March, or as 2 March in a leap year.
+/// Returns `None` if the month is not from 1 to 12. If the month does not have the day, the result is the number of days
+/// from 1970-01-01 to the first day of the month, plus `day - 1`. So 31 February counts as 3 March, or as 2 March in a leap year.
 #[inline(always)]
 pub fn day_number(year: i32, month: u8, day: u8) -> Option<i64>
     ensures some { IfSome result (λ days. IsMonth month) }

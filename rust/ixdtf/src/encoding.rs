@@ -16,7 +16,7 @@ mod private {
 /// An encoding of a text in code units: [`Utf8`] or [`Utf16`].
 ///
 /// Each code unit is a number. A code unit from 1 to 126 stands for the ASCII character with this number. No reader accepts
-/// a text that contains 0 or a code unit of 127 or more. No other crate can implement this trait.
+/// a text in which a code unit is 0, or is 127 or more. No other crate can implement this trait.
 ///
 /// # Examples
 ///

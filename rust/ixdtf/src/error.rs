@@ -67,7 +67,8 @@ pub enum ParseError {
         /// What was being parsed.
         location: &'static str,
     },
-    /// A complete part of the text is followed by a character that must not follow this part. The part is a date, a
+    /// A complete part of the text is followed by a character that must not follow this part, and no other error is about
+    /// this case. For example, the error is `TimeSeparator` if a digit follows the time `12:00`. The part is a date, a
     /// year-month such as `2020-11`, a month-day such as `11-07`, a time, an offset, a bracket or a duration.
     ///
     /// In `parse_identifier` and `parse_iana_identifier`, this is also the error if a `]` follows a name. In a duration,
@@ -119,10 +120,10 @@ pub enum ParseError {
     InvalidAnnotation,
     /// No reader returns this error.
     AnnotationOpen,
-    /// A bracket is not closed. This is the error if the text ends after the value of an annotation, after an offset in
-    /// brackets, or after the name of a zone in brackets. For a name that begins with a lowercase letter or `_`, the error
-    /// is `AbruptEnd` instead. This is also the error if the character after an offset in brackets is not a `]`, a colon or
-    /// a digit.
+    /// A `]` is missing. In a bracket, the text ends after the value of an annotation, after an offset, or after the name of
+    /// a time zone. Or the character after an offset in a bracket is none of `]`, a colon and a digit.
+    ///
+    /// If the text ends after a name that begins with a lowercase letter or `_`, the error is `AbruptEnd`.
     AnnotationClose,
     /// No reader returns this error.
     AnnotationChar,
@@ -159,8 +160,8 @@ pub enum ParseError {
     /// The name of a time zone is followed by a character that a name cannot contain, and that is not a `]`. In
     /// `parse_rfc9557`, this is also the error if RFC 9557 does not allow the name, as for `a/1` or `..`.
     IanaChar,
-    /// An offset that can have seconds has only one of its two colons: a digit follows `+05:00`, or a colon follows
-    /// `+0500`. In `parse_rfc3339` and `parse_rfc9557`, this is the error if no colon follows the hour of the offset.
+    /// In an offset, one of the two colons is missing: a digit follows `+05:00`, or a colon follows `+0500`. This is the
+    /// error only for offsets that can have seconds. In `parse_rfc3339` and `parse_rfc9557`, this is the error if no colon follows the hour of the offset.
     UtcTimeSeparator,
     /// The text for `parse_offset` begins with a character that is not a sign. In `parse_rfc3339` and `parse_rfc9557`, this
     /// is the error if the offset is missing, and another character follows the second or its fraction. If this character
@@ -182,12 +183,12 @@ pub enum ParseError {
     TimeDurationPartOrder,
     /// No digit follows the `T` of a duration. This is also the error if the text ends there.
     TimeDurationDesignator,
-    /// The text for `parse_time` is ambiguous: without its brackets, the text is a time, but it also begins with a
-    /// month-day. For example, `1200` is the time 12:00. It is also the month 12 with the day 00, and
+    /// The text for `parse_time` is ambiguous. If its brackets are taken away, the rest is a time, but this rest also begins
+    /// with a month-day. For example, `1200` is the time 12:00. It is also the month 12 with the day 00, and
     /// [`Profile::Crate`](crate::parsers::Profile::Crate) allows the day 00.
     AmbiguousTimeMonthDay,
-    /// The text for `parse_time` is ambiguous: without its brackets, the text is a time, but it also begins with a
-    /// year-month. For example, `200112` is the time 20:01:12, and also the year 2001 with the month 12. If the text also
+    /// The text for `parse_time` is ambiguous. If its brackets are taken away, the rest is a time, but this rest also begins
+    /// with a year-month. For example, `200112` is the time 20:01:12, and also the year 2001 with the month 12. If the text also
     /// begins with a month-day, the error is `AmbiguousTimeMonthDay`.
     AmbiguousTimeYearMonth,
     /// In the text for `parse_month_day`, the day is greater than the number of days in the month. February has 29 days

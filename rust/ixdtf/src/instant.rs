@@ -19,7 +19,7 @@ const BILLION: u32 = 1_000_000_000;
 ///
 /// The offset of a record can lead to a year of more than six digits: in UTC, `+999999-12-31T23:59:59-23:59` is in the year
 /// 1000000. A program can also make an instant with such a year, because the fields are public. A program can also make an
-/// instant with 1,000,000,000 nanoseconds or more. `Display` adds the complete seconds in these nanoseconds to the seconds.
+/// instant with 1,000,000,000 nanoseconds or more. `Display` counts each 1,000,000,000 of these nanoseconds as one more second.
 #[derive(Clone, Copy, Debug, PartialEq, Eq, PartialOrd, Ord, Hash)]
 pub struct Instant {
     /// The number of seconds since 1970-01-01T00:00:00Z, rounded down. It is below zero for an instant before 1970.

@@ -12,9 +12,10 @@ use core::str::from_utf8;
 /// `Display` writes one line of plain English, without a newline and without a full stop. The line says what the reader
 /// found in the text, and what it expected. `docs/FAULTS.md` has the message for each line of the fault table.
 ///
-/// A message can show one character of the text. A character from U+0021 to U+007E, except the backtick, is written in
-/// backticks, as `` `x` ``. Any other character is written by its name, such as `a space`, or by its number, such as
-/// `U+00E3`. A byte with which no UTF-8 character begins is written as a number, such as `the byte 0xE3`.
+/// A message can show a part of the text, such as a number, or one character. A part is written as it is. A character from
+/// U+0021 to U+007E, except the backtick, is written in backticks, as `` `x` ``. Any other character is written by its name,
+/// such as `a space`, or by its number, such as `U+00E3`. If the bytes of the text are not UTF-8 there, the message shows one
+/// byte by its number, such as `the byte 0xE3`.
 ///
 /// # Examples
 ///
@@ -28,11 +29,11 @@ use core::str::from_utf8;
 /// ```
 #[derive(Clone, Copy, Debug)]
 pub struct Message<'a> {
-    /// The words before what is shown of the text.
+    /// The words before the part or the character.
     pub before: &'static str,
-    /// What is shown of the text.
+    /// The part or the character that is shown.
     pub shown: Shown<'a>,
-    /// The words after what is shown of the text.
+    /// The words after the part or the character.
     pub after: &'static str,
 }
 
@@ -61,17 +62,17 @@ pub enum Shown<'a> {
     /// A character. `Display` writes a character from U+0021 to U+007E in backticks, and any other character by its name or by its
     /// number.
     Character(char),
-    /// A byte with which no character of UTF-8 begins. `Display` writes its number, such as `the byte 0xE9`.
+    /// A byte, because the bytes of the text are not UTF-8 there. `Display` writes its number, such as `the byte 0xE9`.
     Byte(u8),
 }
 
 impl LocatedError {
     /// Returns a message that says what the reader found in the text, and what it expected.
     ///
-    /// `text` must be the complete source of the parser that returned this error, and no earlier call on this parser may
-    /// have returned `Ok`. [`in_text`](LocatedError::in_text) has the same two conditions. If the source has 8-bit code
-    /// units, `text` is the source itself, which need not be valid UTF-8. If the source has 16-bit code units, `text` must
-    /// be this source, converted to UTF-8.
+    /// `text` must be the complete source of the parser that returned this error. This parser must not have returned `Ok`
+    /// before. [`in_text`](LocatedError::in_text) has the same two conditions. If the source has 8-bit code units, `text` is
+    /// the source itself, which need not be valid UTF-8. If the source has 16-bit code units, `text` must be this source,
+    /// converted to UTF-8.
     ///
     /// # Examples
     ///

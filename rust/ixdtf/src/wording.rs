@@ -13,7 +13,7 @@ pub(crate) enum Wording {
     Found(&'static str),
     /// The part of the text that is wrong, between two fixed parts of the message.
     AroundPart(&'static str, &'static str),
-    /// The character before the position of the error, which is the unit of a duration, between two fixed parts of the message.
+    /// The unit of a duration, between two fixed parts of the message. The unit is the character before the position of the error.
     AroundUnit(&'static str, &'static str),
 }
 

@@ -35,7 +35,7 @@ pub enum Profile {
 }
 
 impl Profile {
-    /// Returns the least day of a month-day.
+    /// Returns the smallest day that a month-day can have: 0 for `Crate`, and 1 for `Strict`.
     #[inline(always)]
     pub(crate) fn least_day(self) -> u8 {
         match self {
@@ -48,8 +48,8 @@ impl Profile {
     /// repeated.
     ///
     /// Each duration unit has a *rank*. In each part of a duration, the longest unit has the rank 1, the next shorter
-    /// unit has the rank 2, and so on. The rank of a unit must be at least the rank of the unit directly before it
-    /// plus the result of this function.
+    /// unit has the rank 2, and so on. If a unit has the rank `r`, the unit directly after it must have at least the rank
+    /// `r + least_step()`.
     #[inline(always)]
     pub(crate) fn least_step(self) -> u8 {
         match self {
