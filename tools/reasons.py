@@ -71,6 +71,9 @@ def digits_of(part: str, count: str = 'two') -> Texts:
     return Texts(f'the text ends in the {part}; expected {count} digits', f'expected a digit of the {part}, which has {count}, found {{char}}')
 
 
+DAY_DIGITS = digits_of('day')._replace(end='the text ends in the day; expected two digits for the month and for the day')
+
+
 def range_of(part: str, least: str, greatest: str) -> Texts:
     """The text of a number of two digits that is out of its range."""
     return Texts(whole=f'the {part} is {{number}}, and has to be {least} to {greatest}')
@@ -101,9 +104,10 @@ DATES = {
     'after_hyphened_month': AFTER_MONTH,
     'after_basic_month': Texts('the text ends after the month; expected the day', 'expected a digit of the day, which has two, found {char}',
                                at=(('-', 'found `-` before the day, but none before the month'),)),
-    'day_digits': digits_of('day'),
+    'day_digits': DAY_DIGITS,
     'day_range': range_of('day', '01', '{last}'),
-    'after_date': after_part('the date', '`T`', 'a space', '`[`', 'the end'),
+    'after_date': after_part('the date', '`T`', 'a space', '`[`', 'the end')._replace(
+        at=((DIGITS, 'expected `T`, a space, `[` or the end after the two digits of the day, found {char}'),)),
     'after_year_in_year_month': AFTER_YEAR,
     'after_year_month': after_part('the month', '`[`', 'the end'),
     'month_day_start': Texts('the text is empty; expected a month and a day', 'expected a month of two digits, found {char}'),
@@ -113,7 +117,7 @@ DATES = {
     'month_day_month_range': range_of('month', '01', '12'),
     'after_month_day_month': Texts('the text ends after the month; expected `-` and the day',
                                    'expected `-` or a digit of the day, found {char}'),
-    'month_day_day_digits': digits_of('day'),
+    'month_day_day_digits': DAY_DIGITS,
     'month_day_range': range_of('day', '01', '{last}'),
     'after_month_day': after_part('the day', '`[`', 'the end'),
 }
@@ -174,13 +178,14 @@ TIMES_ALONE = {
 
 
 def date_time_texts() -> dict[str, Texts]:
-    """The texts of the lines of date-times of RFC 3339. After the offset, `parse_rfc9557` reads brackets too. The texts do not name them."""
+    """The texts of the lines of date-times of RFC 3339. After the offset, `parse_rfc9557` reads brackets too. The texts say so."""
     parts = {'month_field': 'month', 'day_field': 'day', 'hour_field': 'hour', 'minute_field': 'minute', 'second_field': 'second',
              'offset_hour_field': "offset's hour", 'offset_minute_field': "offset's minute"}
     ranges = {'month_field': ('01', '12'), 'day_field': ('01', '{last}'), 'hour_field': ('00', '23'), 'minute_field': ('00', '59'),
               'second_field': ('00', '60'), 'offset_hour_field': ('00', '23'), 'offset_minute_field': ('00', '59')}
     return {
         **{f'field_digits {field}': digits_of(part) for field, part in parts.items()},
+        'field_digits day_field': DAY_DIGITS,
         **{f'field_range {field}': range_of(part, *ranges[field]) for field, part in parts.items()},
         'after_four_digits': needs('the year', '`-`', 'the month'),
         'after_field month_field': AFTER_MONTH,
@@ -193,8 +198,8 @@ def date_time_texts() -> dict[str, Texts]:
         'after_secfrac': Texts('the text ends after the fraction; expected an offset',
                                'expected a digit or an offset after the fraction, found {char}'),
         'after_field offset_hour_field': needs("the offset's hour", '`:`', 'its minute'),
-        'after_field offset_minute_field': after_part("the offset's minute", 'the end'),
-        'after_utc': after_part('`Z`', 'the end'),
+        'after_field offset_minute_field': Texts(other="expected the end, or `[` in RFC 9557, after the offset's minute, found {char}"),
+        'after_utc': Texts(other='expected the end, or `[` in RFC 9557, after `Z`, found {char}'),
     }
 
 

@@ -212,7 +212,7 @@ class Texts(unittest.TestCase):
     def test_numbers(self):
         lines = {it.line for it in reason_texts()} - {'UnrecognizedCritical', 'CriticalDuplicateCalendar'}
         self.assertEqual(lines, {line.name for reader in places.READERS[False].values() for line in reader.lines})
-        self.assertEqual((len(lines), len({it.text for it in reason_texts()})), (120, 152))
+        self.assertEqual((len(lines), len({it.text for it in reason_texts()})), (120, 154))
 
     def test_examples(self):
         for it in reason_texts():

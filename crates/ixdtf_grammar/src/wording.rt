@@ -78,12 +78,15 @@ pub(crate) fn wording_of(reason: Reason, place: Context<'_>) -> Wording
         ),
         Reason::DayDigits | Reason::MonthDayDayDigits | Reason::DayFieldDigits => expected(
             place,
-            "the text ends in the day; expected two digits",
+            "the text ends in the day; expected two digits for the month and for the day",
             "expected a digit of the day, which has two, found ",
         ),
         Reason::DayRange | Reason::MonthDayRange | Reason::DayFieldRange => Wording::AroundPart(
             "the day is ",
             to_day(place.last_day()),
+        ),
+        Reason::AfterDate if place.is_digit_next() => Wording::Found(
+            "expected `T`, a space, `[` or the end after the two digits of the day, found ",
         ),
         Reason::AfterDate => Wording::Found(
             "expected `T`, a space, `[` or the end after the date, found ",
@@ -340,14 +343,16 @@ pub(crate) fn wording_of(reason: Reason, place: Context<'_>) -> Wording
             "expected `:` after the offset's hour, found ",
         ),
         Reason::AfterOffsetMinuteField => Wording::Found(
-            "expected the end after the offset's minute, found ",
+            "expected the end, or `[` in RFC 9557, after the offset's minute, found ",
         ),
         Reason::AfterSecfrac => expected(
             place,
             "the text ends after the fraction; expected an offset",
             "expected a digit or an offset after the fraction, found ",
         ),
-        Reason::AfterUtc => Wording::Found("expected the end after `Z`, found "),
+        Reason::AfterUtc => Wording::Found(
+            "expected the end, or `[` in RFC 9557, after `Z`, found ",
+        ),
         Reason::IdentifierStart => expected(
             place,
             "the text is empty; expected a time zone",
