@@ -6,5 +6,6 @@ pub mod MaskedLemmas
 pub mod NameLemmas
 pub mod PartsLemmas
 pub mod PointedLemmas
+pub mod ShownLemmas
 pub mod VerdictLemmas
 pub mod ReportLemmas

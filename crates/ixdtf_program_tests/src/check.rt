@@ -4,6 +4,7 @@ mod arguments;
 mod columns;
 mod faults;
 mod ordered;
+mod shown;
 mod skips;
 mod worked;
 
