@@ -22,7 +22,7 @@ mod printing;
 mod reading;
 mod report;
 pub mod request;
-mod shown;
+pub mod shown;
 mod skipped;
 pub mod status;
 pub mod tally;
