@@ -68,9 +68,9 @@ pub enum ParseError {
         /// What was being parsed.
         location: &'static str,
     },
-    /// A complete part of the text is followed by a character that must not follow this part, and no other error is about
-    /// this case. For example, the error is `TimeSeparator` if a digit follows the time `12:00`. The part is a date, a
-    /// year-month such as `2020-11`, a month-day such as `11-07`, a time, an offset, a bracket or a duration.
+    /// A complete part of the text is followed by a character that must not follow this part. The part is a date, a
+    /// year-month such as `2020-11`, a month-day such as `11-07`, a time, an offset, a bracket or a duration. Some of these
+    /// cases have another error: if a digit follows the time `12:00`, the error is `TimeSeparator`, and not `InvalidEnd`.
     ///
     /// In `parse_identifier` and `parse_iana_identifier`, this is also the error if a `]` follows a name. In a duration,
     /// this is also the error if the character after the `P` is neither a digit nor `T` or `t`.
@@ -161,8 +161,9 @@ pub enum ParseError {
     /// The name of a time zone is followed by a character that a name cannot contain, and that is not a `]`. In
     /// `parse_rfc9557`, this is also the error if RFC 9557 does not allow the name, as for `a/1` or `..`.
     IanaChar,
-    /// In an offset, one of the two colons is missing: a digit follows `+05:00`, or a colon follows `+0500`. This is the
-    /// error only for offsets that can have seconds. In `parse_rfc3339` and `parse_rfc9557`, this is the error if no colon follows the hour of the offset.
+    /// In an offset that can have seconds, one of the two colons is missing: a digit follows `+05:00`, or a colon follows
+    /// `+0500`. In `parse_rfc3339` and `parse_rfc9557`, offsets have no seconds. There, this is the error if no colon follows
+    /// the hour of the offset after the time.
     UtcTimeSeparator,
     /// The text for `parse_offset` begins with a character that is not a sign. In `parse_rfc3339` and `parse_rfc9557`, this
     /// is the error if the offset is missing, and another character follows the second or its fraction. If this character

@@ -23,8 +23,8 @@
 //! - For each profile, no text is in the grammars of two text readers.
 //! - Suppose that a row of a line fits a text with a bad code unit. There are two cases. In the first case, the error of
 //!   the row is `NonAsciiCodePoint`, at the position of the first bad code unit. In the second case, the code units before
-//!   the first bad one already decide the error: if a text begins with them, it has this error, by some row of the same
-//!   line.
+//!   the first bad code unit are enough to decide the error. Every text that begins with these code units has the same
+//!   error. The row that gives it is in the same line, but it can be another row.
 #![tactic(auto)]
 
 pub mod encoding;

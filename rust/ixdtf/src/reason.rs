@@ -241,14 +241,14 @@ pub enum Reason {
     FirstBracketStart,
     /// Line `first_critical_start`: what follows the `[!` of the first bracket does not fit.
     FirstCriticalStart,
-    /// Line `first_bracket_scan`: the content of the first bracket begins with a lowercase letter or `_`. Before its first
-    /// `=` or `]`, the text ends, or there is a 16-bit code unit outside 1 to 126.
+    /// Line `first_bracket_scan`: the content of the first bracket begins with a lowercase letter or `_`. No `=` or `]` comes
+    /// after that: the text ends first, or a 16-bit code unit outside 1 to 126 comes first.
     FirstBracketScan,
-    /// Lines `first_dots_form` and `first_name_form`: the grammar of RFC 9557, section 4.1, does not allow this name of a
-    /// time zone. Slashes divide the name into parts. One of the parts does not begin with an ASCII letter, `.` or `_`, or
+    /// Lines `first_dots_form` and `first_name_form`, in `parse_rfc9557`: the grammar of RFC 9557, section 4.1, does not allow
+    /// this name of a time zone. Slashes divide the name into parts. One of the parts does not begin with an ASCII letter, `.` or `_`, or
     /// one of them is exactly `.` or `..`.
     FirstNameForm,
-    /// Line `first_offset_form`: the offset in the first bracket has no minutes, or no `:` before them.
+    /// Line `first_offset_form`, in `parse_rfc9557`: the offset in the first bracket has no minutes, or no `:` before them.
     FirstOffsetForm,
     /// Line `after_bracket`: what follows a bracket does not fit.
     AfterBracket,
