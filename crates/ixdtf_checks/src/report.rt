@@ -135,7 +135,9 @@ fn put_message<K: Sink>(output: &mut Output<'_, K>, message: &Message<'_>) -> Re
 {
     let mut array = [0; SHOWN_ROOM];
     let shown = shown_bytes(message.shown, &mut array);
-    output.put_all(&[message.before.as_bytes(), shown, message.after.as_bytes()])
+    output.put(message.before.as_bytes())?;
+    output.put(shown)?;
+    output.put(message.after.as_bytes())
 }
 
 /// Writes to the output what is in the array before `at`, a newline, and the lines that show a text and the part that is wrong.
@@ -147,7 +149,7 @@ fn put_lines<K: Sink>(
 ) -> Result<(), RunError>
     requires { at ≤ 204 }
     ensures { Puts K.contents K.failed output.old output.new result
-        (take at room.old ++ newline ∷ lines_in marked) }
+        (take at room.old ++ newline ∷ lines_in marked.entry) }
 {
     let lines = add_byte(room, at, b'\n');
     let end = match marked {

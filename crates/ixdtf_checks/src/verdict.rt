@@ -1,5 +1,5 @@
 //! The verdict on a line.
-ghost use Rattle.std.specs.Prelude.{◌≡◌, ℕ, List, if◌then◌else◌};
+ghost use Rattle.std.specs.Prelude.{◌≡◌, ℕ, List, Some, if◌then◌else◌};
 ghost use Rattle.ixdtf_grammar.specs.Messages.{message_text};
 
 use ixdtf::{Instant, Message, Shown, WrongPart};
@@ -58,11 +58,11 @@ pub fn words(words: &'static str) -> Message<'static>
 }
 
 impl<'a> Marked<'a> {
+    ghost use Rattle.ixdtf_checks.specs.Seen.{lines_at, lines_in};
+
     /// Marks the first byte of a text, which is refused as a whole.
     pub fn first(text: &'a [u8]) -> Marked<'a>
-        ensures text { result.text.now ≡ text.now }
-        ensures begin { result.part.begin ≡ 0 }
-        ensures end { result.part.end ≡ 0 }
+        ensures { lines_in (Some result) ≡ lines_at 0 0 text.now }
     {
         Marked {
             text,
