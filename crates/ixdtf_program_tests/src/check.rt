@@ -3,6 +3,7 @@
 mod arguments;
 mod columns;
 mod faults;
+mod marks;
 mod ordered;
 mod shown;
 mod skips;

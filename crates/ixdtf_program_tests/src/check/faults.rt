@@ -14,7 +14,7 @@ use std::test::Fail;
 const TWO_LINES: &[u8] = b"2020-13-01\n2020-W01-1\n";
 
 const FIRST_REPORT: &[u8] =
-    b"f:1:8: Parsed month value not in a valid range.\n2020-13-01\n       ^\n";
+    b"f:1:6: the month is 13, and has to be 01 to 12\n2020-13-01\n     ^^\n";
 
 /// A reader that returns some bytes, and then fails.
 #[derive(Drop)]

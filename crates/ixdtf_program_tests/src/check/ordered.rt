@@ -17,7 +17,7 @@ const LINES: &[u8] = b"2024-03-02T09:30:00Z\n\
 
 const REPORTS: &[u8] = b"f:2:1: earlier than the line before\n2024-03-02T10:00+01:00\n^\n\
 f:4:1: no instant\n2024-03-02\n^\n\
-f:5:8: Parsed month value not in a valid range.\n2024-13-02T00:00Z\n       ^\n\
+f:5:6: the month is 13, and has to be 01 to 12\n2024-13-02T00:00Z\n     ^^\n\
 f:6:1: earlier than the line before\n2024-03-02T09:00:00.49Z\n^\n\
 f:8:1: earlier than the line before\n1969-12-31T23:59:59.9Z\n^\n";
 

@@ -18,20 +18,20 @@ const LINES: &[u8] = b"when\n# a comment\n\n \t \r\n2020-01-01\n2020-13-01\n #\n
 #[rattlefmt::skip]
 const SKIPPED: &[(Skips, &str, u64)] = &[
     (Skips { header: true, blank: true, comment: Some(b'#') },
-        "f:6:8: Parsed month value not in a valid range.\n2020-13-01\n       ^\n\
-f:7:1: Invalid chracter while parsing year value.\n #\n^\n", 2),
+        "f:6:6: the month is 13, and has to be 01 to 12\n2020-13-01\n     ^^\n\
+f:7:1: expected a year of four digits, found a space\n #\n^\n", 2),
     (Skips { header: true, blank: true, comment: Some(b' ') },
-        "f:2:1: Invalid chracter while parsing year value.\n# a comment\n^\n\
-f:6:8: Parsed month value not in a valid range.\n2020-13-01\n       ^\n", 2),
+        "f:2:1: expected a year of four digits, found `#`\n# a comment\n^\n\
+f:6:6: the month is 13, and has to be 01 to 12\n2020-13-01\n     ^^\n", 2),
     (Skips { header: false, blank: true, comment: Some(b'#') },
-        "f:1:1: Invalid chracter while parsing year value.\nwhen\n^\n\
-f:6:8: Parsed month value not in a valid range.\n2020-13-01\n       ^\n\
-f:7:1: Invalid chracter while parsing year value.\n #\n^\n", 3),
+        "f:1:1: expected a year of four digits, found `w`\nwhen\n^\n\
+f:6:6: the month is 13, and has to be 01 to 12\n2020-13-01\n     ^^\n\
+f:7:1: expected a year of four digits, found a space\n #\n^\n", 3),
     (Skips { header: true, blank: false, comment: Some(b'#') },
-        "f:3:1: Parsing ended abruptly while parsing digit\n\n^\n\
-f:4:1: Invalid chracter while parsing year value.\n . \n^\n\
-f:6:8: Parsed month value not in a valid range.\n2020-13-01\n       ^\n\
-f:7:1: Invalid chracter while parsing year value.\n #\n^\n", 4),
+        "f:3:1: the text is empty; expected a year of four digits\n\n^\n\
+f:4:1: expected a year of four digits, found a space\n . \n^\n\
+f:6:6: the month is 13, and has to be 01 to 12\n2020-13-01\n     ^^\n\
+f:7:1: expected a year of four digits, found a space\n #\n^\n", 4),
 ];
 
 #[test]
@@ -49,7 +49,7 @@ fn skips_lines_without_a_text(rt: HostRuntime) -> Result<(), Fail> {
 fn skips_no_other_line(rt: HostRuntime) -> Result<(), Fail> {
     let mut request = DATE_TIMES;
     request.skips = Some(NOTHING);
-    let written = b"f:2:1: Parsing ended abruptly while parsing digit\n\n^\n";
+    let written = b"f:2:1: the text is empty; expected a year of four digits\n\n^\n";
     check_written(
         &rt,
         rt.alloc(),
@@ -65,15 +65,15 @@ const MARKED: &[(&[u8], &str)] = &[
     (b"\xEF\xBB\xBF2020-01-01\r\n2020-01-02\r\n", ""),
     (
         b"\xEF\xBB\xBF2020-13-01\n2020-01-02\n",
-        "f:1:8: Parsed month value not in a valid range.\n2020-13-01\n       ^\n",
+        "f:1:6: the month is 13, and has to be 01 to 12\n2020-13-01\n     ^^\n",
     ),
     (
         b"2020-01-01\n\xEF\xBB\xBF2020-01-02\n",
-        "f:2:1: Invalid chracter while parsing year value.\n\u{feff}2020-01-02\n^\n",
+        "f:2:1: expected a year of four digits, found U+FEFF (byte order mark)\n\u{feff}2020-01-02\n^\n",
     ),
     (
         b"2020-01-01\n\xEF\xBB2020-01-02\n",
-        "f:2:1: Invalid chracter while parsing year value.\n",
+        "f:2:1: expected a year of four digits, found the byte 0xEF\n",
     ),
 ];
 

@@ -11,11 +11,11 @@ use std::test::Fail;
 
 const MIXED: &[u8] = b"2024-03-02T08:48:00Z\n2020-W01-1\n\n2021-02-29\r\n2020-01-01\r\n2020-13-01";
 
-const MIXED_REPORTS: &[u8] = b"f:2:6: Invalid character while parsing month value.\n\
+const MIXED_REPORTS: &[u8] = b"f:2:6: expected a digit of the month, which has two, found `W`\n\
 2020-W01-1\n     ^\n\
-f:3:1: Parsing ended abruptly while parsing digit\n\n^\n\
-f:4:11: Parsed day value not in a valid range.\n2021-02-29\n          ^\n\
-f:6:8: Parsed month value not in a valid range.\n2020-13-01\n       ^\n";
+f:3:1: the text is empty; expected a year of four digits\n\n^\n\
+f:4:9: the day is 29, and has to be 01 to 28\n2021-02-29\n        ^^\n\
+f:6:6: the month is 13, and has to be 01 to 12\n2020-13-01\n     ^^\n";
 
 #[test]
 fn reports_the_lines_that_are_refused(rt: HostRuntime) -> Result<(), Fail> {
@@ -37,7 +37,8 @@ fn reports_no_more_lines_than_asked(rt: HostRuntime) -> Result<(), Fail> {
     request.most_reports = 4;
     check_written(&rt, rt.alloc(), &request, MIXED, MIXED_REPORTS, (6, 4))?;
     request.most_reports = 1;
-    let first = b"f:2:6: Invalid character while parsing month value.\n2020-W01-1\n     ^\n";
+    let first =
+        b"f:2:6: expected a digit of the month, which has two, found `W`\n2020-W01-1\n     ^\n";
     check_written(&rt, rt.alloc(), &request, MIXED, first, (6, 4))?;
     request.most_reports = 0;
     check_written(&rt, rt.alloc(), &request, MIXED, b"", (6, 4))
@@ -65,12 +66,12 @@ const TEXTS: &[(Kind, &str)] = &[
 /// Texts that are refused as texts of the kind under the profile, and their reports.
 #[rattlefmt::skip]
 const REFUSED: &[(Kind, Profile, &str, &str)] = &[
-    (Kind::YearMonth, Profile::Crate, "2020", "f:1:5: Parsing ended abruptly while parsing digit\n2020\n    ^\n"),
-    (Kind::ZoneName, Profile::Crate, "America/", "f:1:9: Expected time zone character after '/'.\nAmerica/\n        ^\n"),
-    (Kind::Iana, Profile::Crate, "+05:30", "f:1:1: Invalid time zone leading character.\n+05:30\n^\n"),
-    (Kind::Rfc3339, Profile::Crate, "1996-12-19T16:39-08:00", "f:1:17: Invalid character while parsing time separator.\n1996-12-19T16:39-08:00\n                ^\n"),
-    (Kind::Rfc9557, Profile::Crate, "1996-12-19", "f:1:11: Invalid character while parsing time separator.\n1996-12-19\n          ^\n"),
-    (Kind::MonthDay, Profile::Strict, "11-00", "f:1:6: MonthDay was not valid.\n11-00\n     ^\n"),
+    (Kind::YearMonth, Profile::Crate, "2020", "f:1:5: the text ends after the year; expected `-` and the month\n2020\n    ^\n"),
+    (Kind::ZoneName, Profile::Crate, "America/", "f:1:9: the text ends after `/`; expected more of the time zone's name\nAmerica/\n        ^\n"),
+    (Kind::Iana, Profile::Crate, "+05:30", "f:1:1: expected a letter at the start of the time zone's name, found `+`\n+05:30\n^\n"),
+    (Kind::Rfc3339, Profile::Crate, "1996-12-19T16:39-08:00", "f:1:17: expected `:` after the minute, found `-`\n1996-12-19T16:39-08:00\n                ^\n"),
+    (Kind::Rfc9557, Profile::Crate, "1996-12-19", "f:1:11: the text ends after the date; expected `T` and the time\n1996-12-19\n          ^\n"),
+    (Kind::MonthDay, Profile::Strict, "11-00", "f:1:4: the day is 00, and has to be 01 to 30\n11-00\n   ^^\n"),
 ];
 
 /// Returns a request that checks texts of the kind under the profile.
@@ -113,7 +114,7 @@ fn reads_a_field(rt: HostRuntime) -> Result<(), Fail> {
         rt.alloc(),
         &request,
         b"a,2020-01-01,b\nab,2020-W01-1\nabc\n,2020-01-01\r\n",
-        b"f:2:9: Invalid character while parsing month value.\n2020-W01-1\n     ^\n\
+        b"f:2:9: expected a digit of the month, which has two, found `W`\n2020-W01-1\n     ^\n\
 f:3:4: no such field\n",
         (4, 2),
     )
@@ -132,7 +133,7 @@ fn reads_a_field_behind_many(rt: HostRuntime) -> Result<(), Fail> {
         rt.alloc(),
         &request,
         b",,,,,,,,,,,,,,,,,,,,2020-01-01,b\n,,,,,,,,,,,,,,,,,,,ab,2020-13-01\n,,,,,,,,,,,,,,,,,,,2020-01-01\n",
-        b"f:2:30: Parsed month value not in a valid range.\n2020-13-01\n       ^\n\
+        b"f:2:28: the month is 13, and has to be 01 to 12\n2020-13-01\n     ^^\n\
 f:3:30: no such field\n",
         (3, 2),
     )
@@ -151,8 +152,8 @@ fn reads_two_fields(rt: HostRuntime) -> Result<(), Fail> {
         rt.alloc(),
         &request,
         b"a 2020-01-01 12:00:00 b\nab 2020-01-01 25:00:00\na 2020-01-01\nabc\na 2020-01-01  12:00\n",
-        b"f:2:17: Invalid character while parsing hour value.\n2020-01-01 25:00:00\n             ^\n\
-f:3:13: no such field\nf:4:4: no such field\nf:5:14: Parsing ended abruptly while parsing digit\n2020-01-01 \n           ^\n",
+        b"f:2:15: the hour is 25, and has to be 00 to 23\n2020-01-01 25:00:00\n           ^^\n\
+f:3:13: no such field\nf:4:4: no such field\nf:5:14: the text ends before the hour; expected two digits\n2020-01-01 \n           ^\n",
         (5, 4),
     )
 }
@@ -164,15 +165,15 @@ const RECORDS: &[(&[u8], &str)] = &[
     (b"\"a\"\"\"\",b\",\"2020-01-01\",\"\"\r\n", ""),
     (
         b"\"a,b\",\"2020-13-01\"\n",
-        "f:1:15: Parsed month value not in a valid range.\n2020-13-01\n       ^\n",
+        "f:1:13: the month is 13, and has to be 01 to 12\n2020-13-01\n     ^^\n",
     ),
     (
         b"a,\"2020-\"\"12\",\"\"\n",
-        "f:1:9: Invalid character while parsing month value.\n2020-\"12\n     ^\n",
+        "f:1:9: expected a digit of the month, which has two, found `\"`\n2020-\"12\n     ^\n",
     ),
     (
         b"a,\"\"\"\"\n",
-        "f:1:4: Invalid chracter while parsing year value.\n\"\n^\n",
+        "f:1:4: expected a year of four digits, found `\"`\n\"\n^\n",
     ),
     (b"\"a,2020-01-01\"\n", "f:1:15: no such field\n"),
     (b"a\n", "f:1:2: no such field\n"),
@@ -236,14 +237,14 @@ const LONG_NAME: &str =
     "a-file-of-a-name-that-is-longer-than-the-room-of-many-a-report-and-goes-on-and-on-and-on-and-on";
 
 const LONG_FRONT: &str =
-    "a-file-of-a-name-that-is-longer-than-the-room-of-many-a-report-and-goes-on-and-on-and-on-and-on:1:8: ";
+    "a-file-of-a-name-that-is-longer-than-the-room-of-many-a-report-and-goes-on-and-on-and-on-and-on:1:6: ";
 
 #[test]
 fn reports_lines_of_files_with_long_names(rt: HostRuntime) -> Result<(), Fail> {
     let mut request = DATE_TIMES;
     request.name = LONG_NAME;
     let mut report = LONG_FRONT.as_bytes().to_vec(rt.alloc())?;
-    report.extend_from_slice(b"Parsed month value not in a valid range.\n2020-13-01\n       ^\n")?;
+    report.extend_from_slice(b"the month is 13, and has to be 01 to 12\n2020-13-01\n     ^^\n")?;
     check_written(
         &rt,
         rt.alloc(),
@@ -257,14 +258,14 @@ fn reports_lines_of_files_with_long_names(rt: HostRuntime) -> Result<(), Fail> {
 /// Texts with characters outside printable ASCII, and their reports.
 #[rattlefmt::skip]
 const SHOWN: &[(&str, &str)] = &[
-    ("2024-03-02\t08:48", "f:1:11: Unexpected character found after parsing was completed.\n2024-03-02.08:48\n          ^\n"),
-    ("2024-03-02 \u{80}\u{9f}\u{a0}\u{7f}\u{bf}x", "f:1:12: Invalid character while parsing hour value.\n2024-03-02 ..\u{a0}.\u{bf}x\n           ^\n"),
-    ("2024-03-02 um acht Uhr über dem Main", "f:1:12: Invalid character while parsing hour value.\n2024-03-02 um acht Uhr über dem Mai..\n           ^\n"),
-    ("2024-03-02 um acht Uhr an der Brücke", "f:1:12: Invalid character while parsing hour value.\n2024-03-02 um acht Uhr an der Brück..\n           ^\n"),
-    ("2024-03-02 an den Stufen am Tor über dem Main", "f:1:12: Invalid character while parsing hour value.\n2024-03-02 an den Stufen am Tor übe..\n           ^\n"),
-    ("2024-03-02 an den Stufen am alten Tor ü", "f:1:12: Invalid character while parsing hour value.\n2024-03-02 an den Stufen am alten T..\n           ^\n"),
-    ("\u{1f600}\u{1f600}\u{1f600}\u{1f600}\u{1f600}\u{1f600}\u{1f600}\u{1f600}\u{1f600}\u{1f600}\u{1f600}\u{1f600}\u{1f600}\u{1f600}\u{1f600}\u{1f600}\u{1f600}\u{1f600}\u{1f600}\u{1f600}\u{1f600}\u{1f600}\u{1f600}\u{1f600}\u{1f600}", "f:1:1: Invalid chracter while parsing year value.\n\u{1f600}\u{1f600}\u{1f600}\u{1f600}\u{1f600}\u{1f600}\u{1f600}\u{1f600}\u{1f600}\u{1f600}\u{1f600}\u{1f600}\u{1f600}\u{1f600}\u{1f600}\u{1f600}\u{1f600}\u{1f600}\u{1f600}\u{1f600}\u{1f600}\u{1f600}\u{1f600}\u{1f600}..\n^\n"),
-    ("2024-03-02[America/New_York][u-ca=hebrew][u-co=standard][key=ü", "f:1:62: Invalid annotation value character.\n..erica/New_York][u-ca=hebrew][u-co=standard][key=ü\n                                                  ^\n"),
+    ("2024-03-02\t08:48", "f:1:11: expected `T`, a space, `[` or the end after the date, found a tab\n2024-03-02.08:48\n          ^\n"),
+    ("2024-03-02 \u{80}\u{9f}\u{a0}\u{7f}\u{bf}x", "f:1:12: expected a digit of the hour, which has two, found U+0080\n2024-03-02 ..\u{a0}.\u{bf}x\n           ^\n"),
+    ("2024-03-02 um acht Uhr über dem Main", "f:1:12: expected a digit of the hour, which has two, found `u`\n2024-03-02 um acht Uhr über dem Mai..\n           ^\n"),
+    ("2024-03-02 um acht Uhr an der Brücke", "f:1:12: expected a digit of the hour, which has two, found `u`\n2024-03-02 um acht Uhr an der Brück..\n           ^\n"),
+    ("2024-03-02 an den Stufen am Tor über dem Main", "f:1:12: expected a digit of the hour, which has two, found `a`\n2024-03-02 an den Stufen am Tor übe..\n           ^\n"),
+    ("2024-03-02 an den Stufen am alten Tor ü", "f:1:12: expected a digit of the hour, which has two, found `a`\n2024-03-02 an den Stufen am alten T..\n           ^\n"),
+    ("\u{1f600}\u{1f600}\u{1f600}\u{1f600}\u{1f600}\u{1f600}\u{1f600}\u{1f600}\u{1f600}\u{1f600}\u{1f600}\u{1f600}\u{1f600}\u{1f600}\u{1f600}\u{1f600}\u{1f600}\u{1f600}\u{1f600}\u{1f600}\u{1f600}\u{1f600}\u{1f600}\u{1f600}\u{1f600}", "f:1:1: expected a year of four digits, found U+1F600\n\u{1f600}\u{1f600}\u{1f600}\u{1f600}\u{1f600}\u{1f600}\u{1f600}\u{1f600}\u{1f600}\u{1f600}\u{1f600}\u{1f600}\u{1f600}\u{1f600}\u{1f600}\u{1f600}\u{1f600}\u{1f600}\u{1f600}\u{1f600}\u{1f600}\u{1f600}\u{1f600}\u{1f600}..\n^\n"),
+    ("2024-03-02[America/New_York][u-ca=hebrew][u-co=standard][key=ü", "f:1:62: expected a letter or digit of the annotation's value, found U+00FC\n..erica/New_York][u-ca=hebrew][u-co=standard][key=ü\n                                                  ^\n"),
 ];
 
 #[test]
@@ -286,7 +287,7 @@ fn writes_canonical_texts(rt: HostRuntime) -> Result<(), Fail> {
         &request,
         b"20200101T00+00[+00]\n2020-13-01\n",
         b"2020-01-01T00:00:00+00:00[+00:00]\n\
-f:2:8: Parsed month value not in a valid range.\n2020-13-01\n       ^\n",
+f:2:6: the month is 13, and has to be 01 to 12\n2020-13-01\n     ^^\n",
         (2, 1),
     )?;
     request.is_quiet = true;
@@ -349,12 +350,12 @@ const SPACED: &[(Kind, &str, &str)] = &[
     (
         Kind::Time,
         "08:48 +a",
-        "f:1:6: Unexpected character found after parsing was completed.\n08:48 +a\n     ^\n",
+        "f:1:6: expected `:`, an offset, `[` or the end after the minute, found a space\n08:48 +a\n     ^\n",
     ),
     (
         Kind::Duration,
         "P1D +05",
-        "f:1:4: Unexpected character found after parsing was completed.\nP1D +05\n   ^\n",
+        "f:1:4: expected a number, `T` or the end after the unit, found a space\nP1D +05\n   ^\n",
     ),
 ];
 
@@ -376,7 +377,7 @@ fn shows_no_line_that_is_not_utf8(rt: HostRuntime) -> Result<(), Fail> {
         rt.alloc(),
         &DATE_TIMES,
         b"2020-01-01\xff",
-        b"f:1:11: Unexpected character found after parsing was completed.\n",
+        b"f:1:11: expected `T`, a space, `[` or the end after the date, found the byte 0xFF\n",
         (1, 1),
     )?;
     // A line is not shown either if only the part that would be shown is ASCII.
@@ -385,7 +386,7 @@ fn shows_no_line_that_is_not_utf8(rt: HostRuntime) -> Result<(), Fail> {
         rt.alloc(),
         &DATE_TIMES,
         b"2020-13-01, and so on, as far as it is not shown any more \xff",
-        b"f:1:8: Parsed month value not in a valid range.\n",
+        b"f:1:6: the month is 13, and has to be 01 to 12\n",
         (1, 1),
     )
 }
@@ -406,15 +407,15 @@ fn goes_on_after_a_long_line(rt: HostRuntime) -> Result<(), Fail> {
         &rt,
         rt.alloc(),
         65536,
-        b"f:1:7: Parsed month value not in a valid range.\n\
-222222222222222222222222222222..\n      ^\n\
-f:2:8: Parsed month value not in a valid range.\n2020-13-01\n       ^\n",
+        b"f:1:5: the month is 22, and has to be 01 to 12\n\
+2222222222222222222222222222..\n    ^^\n\
+f:2:6: the month is 13, and has to be 01 to 12\n2020-13-01\n     ^^\n",
     )?;
     check_long(
         &rt,
         rt.alloc(),
         65537,
         b"f:1:65537: line too long\n\
-f:2:8: Parsed month value not in a valid range.\n2020-13-01\n       ^\n",
+f:2:6: the month is 13, and has to be 01 to 12\n2020-13-01\n     ^^\n",
     )
 }
