@@ -12,8 +12,8 @@ import unittest
 from typing import Optional
 
 sys.path.insert(0, os.path.dirname(os.path.abspath(__file__)))
+import places
 from check_documents import Document, Tree
-from places import Error
 
 ROOT = os.path.dirname(os.path.dirname(os.path.abspath(__file__)))
 
@@ -164,14 +164,21 @@ class Examples(unittest.TestCase):
         self.assertEqual([line for line, answer in zip(lines, answers) if not answer.startswith('ok')], [])
 
     def test_texts_of_other_programs(self):
-        """Each text in the table of docs/GRAMMAR.md is accepted, or refused with the error and at the position of its cell."""
+        """Each text in the table of docs/GRAMMAR.md is accepted, or refused with the error and at the position of its cell. `ixdtf_lines` gives this
+        error. `ixdtf_check` reports the message of the model, at the column where the part that is wrong begins."""
         rows = [row for _, row in Document(Tree(ROOT), 'docs/GRAMMAR.md').tables() if 'If it is refused' in row]
         self.assertEqual([it for it in rows[0] if 'parse' in it], list(KINDS))
         self.assertGreaterEqual(len(rows), 30)
+        texts = [row['Text'].strip('`') for row in rows]
         for head, kind in KINDS.items():
-            found = refusals(kind, [row['Text'].strip('`') for row in rows])
-            for number, row in enumerate(rows, 1):
-                self.assertEqual(found.get(number), reported(refusal_in(row[head]), row['Text'].strip('`')), (kind, row['Text']))
+            reader = head.strip('`')
+            reports, errors = reports_of(kind, texts), errors_of(reader, texts)
+            for number, (row, text) in enumerate(zip(rows, texts), 1):
+                found = places.refusal(reader, list(text.encode()))
+                cell = refusal_in(row[head])
+                self.assertEqual(cell, found and (found.fault.place, str(found.fault.error)), (kind, text))
+                self.assertEqual(errors[number - 1], cell and cell[1], (kind, text))
+                self.assertEqual(reports.get(number), found and report_of(found, text), (kind, text))
 
     def test_instants(self):
         """Each text in the table of docs/GRAMMAR.md has the instant of its row, or none."""
@@ -181,10 +188,13 @@ class Examples(unittest.TestCase):
         self.assertEqual(printed('ixdtf_lines', [], ''.join(lines), ROOT).splitlines(), [instant_in(row) for row in rows])
 
 
-def reported(refusal: Optional[tuple[int, str]], text: str) -> Optional[tuple[int, str]]:
-    """What `ixdtf_check` reports for a text that is refused. If a space before an offset is the reason, it says so."""
-    is_spaced = refusal is not None and re.match(r' (?:[Zz]|[+-]\d)', text[refusal[0]:])
-    return (refusal[0], 'a space stands before the offset') if is_spaced else refusal
+def report_of(found: places.Refusal, text: str) -> tuple[int, str]:
+    """The column and the message that `ixdtf_check` must report for a text that is refused. If the part that is wrong is a space before an offset,
+    the message says so."""
+    column = found.reason.begin + 1
+    if re.match(r' (?:[Zz]|[+-]\d)', text[found.reason.begin:]):
+        return column, 'a space stands before the offset'
+    return column, places.reason_text(found.reason, list(text.encode()))
 
 
 def instant_in(row: dict[str, str]) -> str:
@@ -194,10 +204,17 @@ def instant_in(row: dict[str, str]) -> str:
     return f'ok seconds={row["Seconds"]} nanoseconds={row["Nanoseconds"]}'
 
 
-def refusals(kind: str, texts: list[str]) -> dict[int, tuple[int, str]]:
-    """For the number of each line that `ixdtf_check` refuses, the position and the text of the error."""
+def reports_of(kind: str, texts: list[str]) -> dict[int, tuple[int, str]]:
+    """For the number of each line that `ixdtf_check` refuses, the column and the message of its report."""
     shown = printed('ixdtf_check', ['--kind', kind], ''.join(it + '\n' for it in texts), ROOT)
-    return {int(line): (int(column) - 1, error) for line, column, error in re.findall(r'^-:(\d+):(\d+): (.*)$', shown, re.M)}
+    return {int(line): (int(column), message) for line, column, message in re.findall(r'^-:(\d+):(\d+): (.*)$', shown, re.M)}
+
+
+def errors_of(reader: str, texts: list[str]) -> list[Optional[str]]:
+    """For each text, the text of the error that `ixdtf_lines` answers, or None if the text is accepted."""
+    word = WORDS[f'IxdtfParser::{reader}']
+    answers = printed('ixdtf_lines', [], ''.join(f'{word} {it}\n' for it in texts), ROOT).splitlines()
+    return [it.removeprefix('error ') if it.startswith('error ') else None for it in answers]
 
 
 def refusal_in(cell: str) -> Optional[tuple[int, str]]:
@@ -205,7 +222,7 @@ def refusal_in(cell: str) -> Optional[tuple[int, str]]:
     if cell == 'yes':
         return None
     variant, location, place = re.fullmatch(r'`(\w+)`(?: of `([\w-]+)`)? at (\d+)', cell).groups()
-    return int(place), str(Error(variant, location))
+    return int(place), str(places.Error(variant, location))
 
 
 if __name__ == '__main__':
