@@ -37,7 +37,7 @@ def parts(program):
 
 def plain(text):
     """The text, with each character escaped that has a meaning for `man`."""
-    return text.replace('\\', '\\e').replace('-', '\\-')
+    return text.replace('\\', '\\e').replace('-', '\\-').replace('`', '\\(ga').replace('^', '\\(ha')
 
 
 def guarded(line):

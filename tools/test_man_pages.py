@@ -48,6 +48,7 @@ class Pages(unittest.TestCase):
         self.assertEqual(man_pages.inline('the *text* of `--kind`'), 'the \\fItext\\fR of \\fB\\-\\-kind\\fR')
         self.assertEqual(man_pages.inline('a * b'), 'a * b')
         self.assertEqual(man_pages.block(['.x\\n']), ['.PP', '.nf', '.RS 4', '\\&.x\\en', '.RE', '.fi'])
+        self.assertEqual(man_pages.plain('found `-` ^'), 'found \\(ga\\-\\(ga \\(ha')
         self.assertEqual(man_pages.rows(['| A | B | C |', '|---|---|---|', '| `a` | b | c |']), ['.TP', '\\fBa\\fR', 'B: b', '.br', 'C: c'])
 
     @unittest.skipUnless(shutil.which('groff'), 'groff is not installed')
