@@ -357,6 +357,18 @@ const SPACED: &[(Kind, &str, &str)] = &[
         "P1D +05",
         "f:1:4: expected a number, `T` or the end after the unit, found a space\nP1D +05\n   ^\n",
     ),
+    // The space comes after the part that is wrong.
+    (
+        Kind::DateTime,
+        "2024-13 -05",
+        "f:1:6: the month is 13, and has to be 01 to 12\n2024-13 -05\n     ^^\n",
+    ),
+    (
+        Kind::DateTime,
+        "2024-03-02T08:48Z[!a=b] Z",
+        "f:1:18: the annotation's key is not known; without `!`, the annotation would be ignored\n\
+2024-03-02T08:48Z[!a=b] Z\n                 ^^^^^^\n",
+    ),
 ];
 
 #[test]
