@@ -39,7 +39,7 @@ pub record IsRefused (has_offset : Bool) (reader : Reader) (text : Text) (column
   pub has : HasError reader (byte_text text.bytes) error
   pub is_part : IsPart (extent_of error.reason) text.bytes error.at part
   pub place : column ≡ text.start + width_of text part.begin + 1
-  pub says : SaysWhy has_offset text.bytes error message
+  pub says : SaysWhy has_offset text.bytes error part message
   pub shows : ShowsPart text.bytes part lines
 
 -- The complete text is refused with this message. The column is that of the first byte of the text in the line.

@@ -13,7 +13,7 @@ use crate::request::{Field, Request, Task};
 use crate::skipped::kept_line;
 use crate::verdict::{LINE_LIMIT, Marked, Refusal, Verdict, words};
 use ixdtf::parsers::Profile;
-use ixdtf::{Instant, LocatedError, Message};
+use ixdtf::{Instant, LocatedError, Message, WrongPart};
 
 /// Writes the verdict on the line to `verdict`. The line is `None` if it is too long. `last` is the instant of the nearest
 /// preceding line whose text names an instant. If the task is `Task::Order` and the text of this line names an instant, `last`
@@ -228,7 +228,7 @@ fn refuse<'a>(verdict: &mut Verdict<'a>, has_offset: bool, error: LocatedError, 
     let wrong = error.part_in(part.text);
     *verdict = Verdict::Refused(Refusal {
         column: part.start + part.width_of(wrong.begin) + 1,
-        message: message_about(has_offset, error, part.text),
+        message: message_about(has_offset, error, wrong, part.text),
         marked: Some(Marked {
             text: part.text,
             part: wrong,
@@ -237,10 +237,16 @@ fn refuse<'a>(verdict: &mut Verdict<'a>, has_offset: bool, error: LocatedError, 
     });
 }
 
-/// Returns the message about a text that a reader refuses with this error. If `has_offset` is `true` and the error is at a space
-/// before an offset, the message is about this space. Otherwise it is the message of the error.
-fn message_about(has_offset: bool, error: LocatedError, text: &[u8]) -> Message<'_> {
-    if has_offset && is_spaced(&text[error.at..]) {
+/// Returns the message about a text that a reader refuses with this error. `wrong` is the part of the text that is wrong. If
+/// `has_offset` is `true` and this part begins with a space before an offset, the message is about this space. Otherwise it is
+/// the message of the error.
+fn message_about(
+    has_offset: bool,
+    error: LocatedError,
+    wrong: WrongPart,
+    text: &[u8],
+) -> Message<'_> {
+    if has_offset && is_spaced(&text[wrong.begin..]) {
         words("a space stands before the offset")
     } else {
         error.message_in(text)

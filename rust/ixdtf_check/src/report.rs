@@ -112,7 +112,9 @@ fn add_message(room: &mut [u8; ROOM], at: usize, message: &Message<'_>) -> Optio
 fn put_message<K: Sink>(output: &mut Output<'_, K>, message: &Message<'_>) -> Result<(), RunError> {
     let mut array = [0; SHOWN_ROOM];
     let shown = shown_bytes(message.shown, &mut array);
-    output.put_all(&[message.before.as_bytes(), shown, message.after.as_bytes()])
+    output.put(message.before.as_bytes())?;
+    output.put(shown)?;
+    output.put(message.after.as_bytes())
 }
 
 /// Writes to the output what is in the array before `at`, a newline, and the lines that show a text and the part that is wrong.
