@@ -93,7 +93,7 @@ extern "C" {
 /* The version of the interface that this header describes. */
 #define IXDTF_INTERFACE_VERSION 2
 /* The revision: how many times functions or numbers were added within this version. */
-#define IXDTF_INTERFACE_REVISION 4
+#define IXDTF_INTERFACE_REVISION 5
 
 /* Marks a function whose result the caller must test. If the caller ignores the result, a
  * compiler such as GCC or Clang warns. */
@@ -160,11 +160,12 @@ enum {
     IXDTF_INVALID_MONTH_DAY = 46
 };
 
-/* The numbers that printers, ixdtf_instant and ixdtf_duration_fraction return if they fail. No
- * reader returns them. */
+/* The numbers that printers, ixdtf_instant, ixdtf_duration_fraction, ixdtf_explain and
+ * ixdtf_describe return if they fail. No reader returns them. */
 enum {
     /* the value has no text: the reader that belongs to the printer never writes this value. For
-     * ixdtf_print_zone, `is_critical` does not matter: it prints a critical zone too */
+     * ixdtf_print_zone, `is_critical` does not matter: it prints a critical zone too. For
+     * ixdtf_describe: the explanation has no reason */
     IXDTF_NOT_PRINTABLE = 101,
     /* the array is too short; the length of the text is in `count` */
     IXDTF_TOO_SHORT = 102,
@@ -172,7 +173,170 @@ enum {
      * the `form` of its offset is not valid: ixdtf_instant has the details */
     IXDTF_NO_INSTANT = 103,
     /* the fraction is not a whole number of nanoseconds, or it has more than 18 digits */
-    IXDTF_NOT_EXACT = 104
+    IXDTF_NOT_EXACT = 104,
+    /* no reader has the number that was passed to ixdtf_explain */
+    IXDTF_NO_READER = 105
+};
+
+/* The readers, by the numbers that ixdtf_explain accepts. The reader ixdtf_parse_time_strict, for
+ * example, has the number IXDTF_READER_PARSE_TIME_STRICT. So does ixdtf16_parse_time_strict. */
+enum {
+    IXDTF_READER_PARSE = 1,
+    IXDTF_READER_PARSE_YEAR_MONTH = 2,
+    IXDTF_READER_PARSE_MONTH_DAY = 3,
+    IXDTF_READER_PARSE_TIME = 4,
+    IXDTF_READER_PARSE_RFC3339 = 5,
+    IXDTF_READER_PARSE_RFC9557 = 6,
+    IXDTF_READER_PARSE_OFFSET = 7,
+    IXDTF_READER_PARSE_IDENTIFIER = 8,
+    IXDTF_READER_PARSE_IANA_IDENTIFIER = 9,
+    IXDTF_READER_PARSE_DURATION = 10,
+    IXDTF_READER_PARSE_MONTH_DAY_STRICT = 11,
+    IXDTF_READER_PARSE_TIME_STRICT = 12,
+    IXDTF_READER_PARSE_DURATION_STRICT = 13,
+    IXDTF_READER_PARSE_WITH_ANNOTATIONS = 14,
+    IXDTF_READER_PARSE_YEAR_MONTH_WITH_ANNOTATIONS = 15,
+    IXDTF_READER_PARSE_MONTH_DAY_WITH_ANNOTATIONS = 16,
+    IXDTF_READER_PARSE_TIME_WITH_ANNOTATIONS = 17,
+    IXDTF_READER_PARSE_RFC9557_WITH_ANNOTATIONS = 18,
+    IXDTF_READER_PARSE_MONTH_DAY_WITH_ANNOTATIONS_STRICT = 19,
+    IXDTF_READER_PARSE_TIME_WITH_ANNOTATIONS_STRICT = 20
+};
+
+/* The reasons why a reader refuses a text. A reason is a line of the table of errors in
+ * docs/FAULTS.md, or the refusal of an annotation. Most reasons have the name of their line. If a
+ * line is for several places in a text, it has a reason for each place: the line hour_range, for
+ * example, has IXDTF_REASON_HOUR_RANGE for a time, IXDTF_REASON_OFFSET_HOUR_RANGE for an offset,
+ * and IXDTF_REASON_ZONE_OFFSET_HOUR_RANGE for an offset that is a time zone. In Rust, these reasons
+ * are the variants HourRange, OffsetHourRange and ZoneOffsetHourRange of `Reason`. No text has one
+ * of the five reasons that are marked with -. */
+enum {
+    IXDTF_REASON_YEAR_START = 1,
+    IXDTF_REASON_YEAR_DIGITS = 2,
+    IXDTF_REASON_EXTENDED_YEAR_DIGITS = 3,
+    IXDTF_REASON_MINUS_ZERO_YEAR = 4,
+    IXDTF_REASON_AFTER_YEAR = 5,
+    IXDTF_REASON_MONTH_DIGITS = 6,
+    IXDTF_REASON_MONTH_RANGE = 7,
+    IXDTF_REASON_AFTER_HYPHENED_MONTH = 8,
+    IXDTF_REASON_AFTER_BASIC_MONTH = 9,
+    IXDTF_REASON_DAY_DIGITS = 10,
+    IXDTF_REASON_DAY_RANGE = 11,
+    IXDTF_REASON_AFTER_DATE = 12,
+    IXDTF_REASON_AFTER_YEAR_IN_YEAR_MONTH = 13,
+    IXDTF_REASON_AFTER_YEAR_MONTH = 14,
+    IXDTF_REASON_MONTH_DAY_START = 15,
+    IXDTF_REASON_MONTH_DAY_HYPHEN = 16,
+    IXDTF_REASON_MONTH_DAY_MONTH_DIGITS = 17,
+    IXDTF_REASON_MONTH_DAY_MONTH_RANGE = 18,
+    IXDTF_REASON_AFTER_MONTH_DAY_MONTH = 19,
+    IXDTF_REASON_MONTH_DAY_DAY_DIGITS = 20,
+    IXDTF_REASON_MONTH_DAY_RANGE = 21,
+    IXDTF_REASON_AFTER_MONTH_DAY = 22,
+    IXDTF_REASON_TIME_START = 23,
+    IXDTF_REASON_TIME_READS_AS_MONTH_DAY = 24,
+    IXDTF_REASON_TIME_READS_AS_YEAR_MONTH = 25,
+    IXDTF_REASON_HOUR_START = 26,
+    IXDTF_REASON_HOUR_DIGIT = 27,
+    IXDTF_REASON_HOUR_RANGE = 28,
+    IXDTF_REASON_AFTER_HOUR = 29,
+    IXDTF_REASON_MINUTE_DIGITS = 30,
+    IXDTF_REASON_MINUTE_RANGE = 31,
+    IXDTF_REASON_AFTER_BASIC_MINUTE = 32,
+    IXDTF_REASON_AFTER_COLON_MINUTE = 33,
+    IXDTF_REASON_SECOND_DIGITS = 34,
+    IXDTF_REASON_SECOND_RANGE = 35,
+    IXDTF_REASON_AFTER_SECOND = 36,
+    IXDTF_REASON_FRACTION_START = 37,
+    IXDTF_REASON_AFTER_FRACTION = 38,
+    IXDTF_REASON_OFFSET_HOUR_START = 39,
+    IXDTF_REASON_OFFSET_HOUR_DIGIT = 40,
+    IXDTF_REASON_OFFSET_HOUR_RANGE = 41,
+    IXDTF_REASON_OFFSET_AFTER_HOUR = 42,
+    IXDTF_REASON_OFFSET_MINUTE_DIGITS = 43,
+    IXDTF_REASON_OFFSET_MINUTE_RANGE = 44,
+    IXDTF_REASON_OFFSET_AFTER_BASIC_MINUTE = 45,
+    IXDTF_REASON_OFFSET_AFTER_COLON_MINUTE = 46,
+    IXDTF_REASON_OFFSET_SECOND_DIGITS = 47,
+    IXDTF_REASON_OFFSET_SECOND_RANGE = 48,
+    IXDTF_REASON_OFFSET_AFTER_SECOND = 49,
+    IXDTF_REASON_OFFSET_FRACTION_START = 50,
+    IXDTF_REASON_OFFSET_AFTER_FRACTION = 51,
+    IXDTF_REASON_ZONE_OFFSET_HOUR_START = 52,
+    IXDTF_REASON_ZONE_OFFSET_HOUR_DIGIT = 53,
+    IXDTF_REASON_ZONE_OFFSET_HOUR_RANGE = 54,
+    IXDTF_REASON_ZONE_OFFSET_AFTER_HOUR = 55,
+    IXDTF_REASON_ZONE_OFFSET_MINUTE_DIGITS = 56,
+    IXDTF_REASON_ZONE_OFFSET_MINUTE_RANGE = 57,
+    IXDTF_REASON_ZONE_OFFSET_AFTER_BASIC_MINUTE = 58,
+    IXDTF_REASON_ZONE_OFFSET_AFTER_COLON_MINUTE = 59,
+    IXDTF_REASON_ZONE_OFFSET_SECOND_DIGITS = 60, /* - */
+    IXDTF_REASON_ZONE_OFFSET_SECOND_RANGE = 61, /* - */
+    IXDTF_REASON_ZONE_OFFSET_AFTER_SECOND = 62, /* - */
+    IXDTF_REASON_ZONE_OFFSET_FRACTION_START = 63, /* - */
+    IXDTF_REASON_ZONE_OFFSET_AFTER_FRACTION = 64, /* - */
+    IXDTF_REASON_OFFSET_START = 65,
+    IXDTF_REASON_AFTER_ZULU = 66,
+    IXDTF_REASON_FOUR_DIGITS = 67,
+    IXDTF_REASON_AFTER_FOUR_DIGITS = 68,
+    IXDTF_REASON_MONTH_FIELD_DIGITS = 69,
+    IXDTF_REASON_DAY_FIELD_DIGITS = 70,
+    IXDTF_REASON_HOUR_FIELD_DIGITS = 71,
+    IXDTF_REASON_MINUTE_FIELD_DIGITS = 72,
+    IXDTF_REASON_SECOND_FIELD_DIGITS = 73,
+    IXDTF_REASON_OFFSET_HOUR_FIELD_DIGITS = 74,
+    IXDTF_REASON_OFFSET_MINUTE_FIELD_DIGITS = 75,
+    IXDTF_REASON_MONTH_FIELD_RANGE = 76,
+    IXDTF_REASON_DAY_FIELD_RANGE = 77,
+    IXDTF_REASON_HOUR_FIELD_RANGE = 78,
+    IXDTF_REASON_MINUTE_FIELD_RANGE = 79,
+    IXDTF_REASON_SECOND_FIELD_RANGE = 80,
+    IXDTF_REASON_OFFSET_HOUR_FIELD_RANGE = 81,
+    IXDTF_REASON_OFFSET_MINUTE_FIELD_RANGE = 82,
+    IXDTF_REASON_AFTER_MONTH_FIELD = 83,
+    IXDTF_REASON_AFTER_DAY_FIELD = 84,
+    IXDTF_REASON_AFTER_HOUR_FIELD = 85,
+    IXDTF_REASON_AFTER_MINUTE_FIELD = 86,
+    IXDTF_REASON_AFTER_SECOND_FIELD = 87,
+    IXDTF_REASON_AFTER_OFFSET_HOUR_FIELD = 88,
+    IXDTF_REASON_AFTER_OFFSET_MINUTE_FIELD = 89,
+    IXDTF_REASON_AFTER_POINT = 90,
+    IXDTF_REASON_AFTER_SECFRAC = 91,
+    IXDTF_REASON_AFTER_UTC = 92,
+    IXDTF_REASON_IDENTIFIER_START = 93,
+    IXDTF_REASON_ZONE_NAME_START = 94,
+    IXDTF_REASON_IN_ZONE_NAME = 95,
+    IXDTF_REASON_AFTER_ZONE_SLASH = 96,
+    IXDTF_REASON_FIRST_BRACKET_START = 97,
+    IXDTF_REASON_FIRST_CRITICAL_START = 98,
+    IXDTF_REASON_FIRST_BRACKET_SCAN = 99,
+    IXDTF_REASON_FIRST_NAME_FORM = 100,
+    IXDTF_REASON_FIRST_OFFSET_FORM = 101,
+    IXDTF_REASON_AFTER_BRACKET = 102,
+    IXDTF_REASON_KEY_START = 103,
+    IXDTF_REASON_CRITICAL_KEY_START = 104,
+    IXDTF_REASON_IN_KEY = 105,
+    IXDTF_REASON_VALUE_START = 106,
+    IXDTF_REASON_IN_VALUE = 107,
+    IXDTF_REASON_AFTER_VALUE_HYPHEN = 108,
+    IXDTF_REASON_DURATION_START = 109,
+    IXDTF_REASON_AFTER_DURATION_SIGN = 110,
+    IXDTF_REASON_AFTER_DURATION_DESIGNATOR = 111,
+    IXDTF_REASON_AFTER_DATE_GROUPS = 112,
+    IXDTF_REASON_AFTER_TIME_DESIGNATOR = 113,
+    IXDTF_REASON_AFTER_TIME_GROUPS = 114,
+    IXDTF_REASON_AFTER_FRACTION_GROUP = 115,
+    IXDTF_REASON_DATE_GROUP_DIGITS = 116,
+    IXDTF_REASON_TIME_GROUP_DIGITS = 117,
+    IXDTF_REASON_DATE_GROUP_RANGE = 118,
+    IXDTF_REASON_TIME_GROUP_RANGE = 119,
+    IXDTF_REASON_DATE_UNIT_ORDER = 120,
+    IXDTF_REASON_TIME_UNIT_ORDER = 121,
+    IXDTF_REASON_DATE_UNIT_RANGE = 122,
+    IXDTF_REASON_GROUP_FRACTION_START = 123,
+    IXDTF_REASON_GROUP_FRACTION_DIGITS = 124,
+    IXDTF_REASON_UNRECOGNIZED_CRITICAL = 125,
+    IXDTF_REASON_CRITICAL_DUPLICATE_CALENDAR = 126
 };
 
 /* A slice of bytes that are valid as long as the program runs. It need not be NUL-terminated. */
@@ -292,6 +456,15 @@ typedef struct ixdtf_duration {
     size_t place;            /* as in ixdtf_record */
 } ixdtf_duration;
 
+/* Why a reader refuses a text, and which part of the text is wrong: see ixdtf_explain. If the text
+ * is accepted, each field is 0. */
+typedef struct ixdtf_explanation {
+    size_t place;      /* the number of code units before the error, as in ixdtf_record */
+    size_t begin, end; /* the part that is wrong: the code units from `begin` to before `end` */
+    uint32_t error;    /* the number of the error, such as IXDTF_INVALID_MONTH_RANGE */
+    uint32_t reason;   /* the reason, such as IXDTF_REASON_MONTH_RANGE */
+} ixdtf_explanation;
+
 /* Initial values of structs, as in `ixdtf_record record = IXDTF_RECORD;`. You can also initialise a
  * struct with zeros. */
 #ifdef __cplusplus
@@ -318,6 +491,7 @@ typedef struct ixdtf_duration {
 #define IXDTF16_CALENDAR { IXDTF16_NO_UNITS_, false, false }
 #define IXDTF_DURATION { 0, 0, 0, 0, 0, 0, 0, 0, 0, 0, false, false, IXDTF_NO_TEXT_, 0 }
 #define IXDTF_TEXT IXDTF_NO_TEXT_
+#define IXDTF_EXPLANATION { 0, 0, 0, 0, 0 }
 
 /* Readers of 8-bit text. A reader accepts a text only if the complete text is valid.
  * docs/GRAMMAR.md says which texts it accepts, and what it writes to `out` for each of them.
@@ -586,13 +760,66 @@ IXDTF_CHECKED_ uint32_t ixdtf16_print_year_month(const ixdtf16_record *record, u
 IXDTF_CHECKED_ uint32_t ixdtf16_print_month_day(const ixdtf16_record *record, uint16_t *out,
     size_t room, size_t *count);
 
+/* Explain why a reader refuses a text. `reader` is the number of the reader, such as
+ * IXDTF_READER_PARSE. The function reads the text again, as this reader does, and returns what the
+ * reader returns. It writes the error, the reason, the position and the part of the text that is
+ * wrong to `out`. If the reader accepts the text, the function returns 0, and writes 0 to each
+ * field. If no reader has the number, it returns IXDTF_NO_READER, and `out` is unchanged.
+ * The fields `begin` and `end` say which part of the text is wrong:
+ * - If a code unit does not fit, the part is this code unit.
+ * - If the text ends too early, the part is empty, and is at the end of the text.
+ * - If a number is out of range, the part is the number, even if more of its digits follow the
+ *   position. If it is a number of a duration, the part has its fraction, but not its unit.
+ * - If the year is -000000, the part is the year with its sign.
+ * - If a unit of a duration is not in order, the part is the unit with its number.
+ * - If a time is ambiguous, the part is the month and the day, or the year and the month, with
+ *   which it begins.
+ * - If an annotation is refused because of its key or its value, the part is its bracket. The same
+ *   holds if ixdtf_parse_rfc9557 refuses a time zone because of its form.
+ * For a refused reply, call ixdtf_explain_reply or ixdtf16_explain_reply. */
+IXDTF_CHECKED_ uint32_t ixdtf_explain(uint32_t reader, const uint8_t *text, size_t length,
+    ixdtf_explanation *out);
+IXDTF_CHECKED_ uint32_t ixdtf16_explain(uint32_t reader, const uint16_t *text, size_t length,
+    ixdtf_explanation *out);
+
+/* Writes a report for people to the array `out`, in UTF-8. `room` is the capacity of `out`, in
+ * bytes. The report has three lines: a message in plain English, the text, and a ^ under each byte
+ * of the part that is wrong. For example:
+ *     the month is 13, and has to be 01 to 12
+ *     2024-13-01
+ *          ^^
+ * There is no newline at the end. docs/FAULTS.md has the messages. Of a long text, the second line
+ * has at most 48 characters before the part and at most 24 from its beginning on, with .. at the
+ * places of the other ones. A control character is written as "." in this line. If the text is not
+ * valid UTF-8, this line ends before the first byte that is not.
+ * `explanation` is what ixdtf_explain wrote. The function uses only its fields `reason` and
+ * `place`. `text` must be the complete text that was refused. If it has 16-bit code units, convert
+ * it to UTF-8 first: see ixdtf16_to_utf8.
+ * The function returns one of these:
+ * - IXDTF_OK: the function has written the report to the first bytes of `out`, and its length, in
+ *   bytes, to `count`. The report is not NUL-terminated. The bytes of `out` after it are unchanged.
+ * - IXDTF_NOT_PRINTABLE: `reason` is not the number of a reason, or the report would be longer than
+ *   IXDTF_REPORT_ROOM. `out` and `count` are unchanged. A report is never too long if ixdtf_explain
+ *   wrote the explanation for this text.
+ * - IXDTF_TOO_SHORT: the array is shorter than the report. `out` is unchanged. The function has
+ *   written the length of the report, in bytes, to `count`.
+ * An array of IXDTF_REPORT_ROOM bytes is always long enough. */
+#define IXDTF_REPORT_ROOM 512
+IXDTF_CHECKED_ uint32_t ixdtf_describe(const ixdtf_explanation *explanation, const uint8_t *text,
+    size_t length, uint8_t *out, size_t room, size_t *count);
+
+/* Writes the name of a reason to `out`, as a slice: month_range for IXDTF_REASON_MONTH_RANGE. If no
+ * reason has the number, the name is empty. The name is NUL-terminated. `length` does not count
+ * this NUL. docs/FAULTS.md says for which texts a reason is given. */
+void ixdtf_reason_line(uint32_t reason, ixdtf_text *out);
+
 /* Writes the text of an error to `out`, as a slice. `error` is the number of the error, from 1 to
  * 46. The text is the one that ixdtf_error_message returns, but it is not NUL-terminated. For every
  * other number, the text is empty. */
 void ixdtf_error_text(uint32_t error, ixdtf_text *out);
 
 /* Writes the name of a number to `out`, as a slice. This header defines the names, such as
- * IXDTF_DATE_MONTH for 10 and IXDTF_OK for 0. `error` is 0, the number of an error, or 101 to 104.
+ * IXDTF_DATE_MONTH for 10 and IXDTF_OK for 0. `error` is 0, the number of an error, or 101 to 105.
  * For every other number, the name is empty. The name is NUL-terminated. `length` does not count
  * this NUL. */
 void ixdtf_error_constant(uint32_t error, ixdtf_text *out);
@@ -740,7 +967,7 @@ static inline const char *ixdtf_error_name(uint32_t error) {
 
 /* Returns the text of an error as a C string, such as "Invalid character while parsing month
  * value.". For the numbers 1 to 46, it is the text that ixdtf_error_text writes. The numbers 101 to
- * 104 have a text too. For every other number, the string is empty. */
+ * 105 have a text too. For every other number, the string is empty. */
 static inline const char *ixdtf_error_message(uint32_t error) {
     switch (error) {
     case IXDTF_IMPL_ASSERT:
@@ -843,6 +1070,8 @@ static inline const char *ixdtf_error_message(uint32_t error) {
         return "The record has no instant.";
     case IXDTF_NOT_EXACT:
         return "The fraction is not known as a whole number of nanoseconds.";
+    case IXDTF_NO_READER:
+        return "No reader has the number.";
     default:
         return "";
     }
@@ -856,6 +1085,79 @@ static inline size_t ixdtf_reply_place(const uint8_t *text, const ixdtf_annotati
 }
 static inline size_t ixdtf16_reply_place(const uint16_t *text, const ixdtf16_annotation *listed) {
     return IXDTF_AS_(size_t, listed->value.at + listed->value.length - text) + 1;
+}
+
+/* Returns the name that ixdtf_reason_line writes, as a C string. For a number without a name, the
+ * string is empty. */
+static inline const char *ixdtf_reason_name(uint32_t reason) {
+    ixdtf_text name = IXDTF_TEXT;
+    ixdtf_reason_line(reason, &name);
+    return name.at;
+}
+
+/* Explains why the reader with the number `reader` refuses a C string, as ixdtf_explain does. From
+ * C++17 on, this function also accepts a std::string_view. */
+IXDTF_CHECKED_ static inline uint32_t ixdtf_explain_text(uint32_t reader, const char *text,
+    ixdtf_explanation *out) {
+    return ixdtf_explain(reader, IXDTF_AT_(uint8_t, text), strlen(text), out);
+}
+
+/* Return the explanation of a refused reply. `text` is the text that was read. `listed` is the
+ * annotation to which the reply belongs, as the reader listed it. `error` is what ixdtf_reply
+ * returned, IXDTF_UNRECOGNIZED_CRITICAL or IXDTF_CRITICAL_DUPLICATE_CALENDAR. The part that is
+ * wrong is the bracket of the annotation. */
+static inline ixdtf_explanation ixdtf_explain_reply(const uint8_t *text,
+    const ixdtf_annotation *listed, uint32_t error) {
+    ixdtf_explanation it = IXDTF_EXPLANATION;
+    it.place = ixdtf_reply_place(text, listed);
+    it.end = it.place;
+    it.begin = IXDTF_AS_(size_t, listed->key.at - text) - (listed->is_critical ? 2 : 1);
+    it.error = error;
+    it.reason = error == IXDTF_UNRECOGNIZED_CRITICAL
+        ? IXDTF_AS_(uint32_t, IXDTF_REASON_UNRECOGNIZED_CRITICAL)
+        : IXDTF_AS_(uint32_t, IXDTF_REASON_CRITICAL_DUPLICATE_CALENDAR);
+    return it;
+}
+static inline ixdtf_explanation ixdtf16_explain_reply(const uint16_t *text,
+    const ixdtf16_annotation *listed, uint32_t error) {
+    ixdtf_explanation it = IXDTF_EXPLANATION;
+    it.place = ixdtf16_reply_place(text, listed);
+    it.end = it.place;
+    it.begin = IXDTF_AS_(size_t, listed->key.at - text) - (listed->is_critical ? 2 : 1);
+    it.error = error;
+    it.reason = error == IXDTF_UNRECOGNIZED_CRITICAL
+        ? IXDTF_AS_(uint32_t, IXDTF_REASON_UNRECOGNIZED_CRITICAL)
+        : IXDTF_AS_(uint32_t, IXDTF_REASON_CRITICAL_DUPLICATE_CALENDAR);
+    return it;
+}
+
+/* Converts 16-bit code units, UTF-16, to UTF-8. Writes the bytes to `out`, which must have room for
+ * 3 * length bytes, and returns how many it has written. A surrogate without the other one of its
+ * pair is written as U+FFFD. The code units before the error of a reader are 1 to 126, so each of
+ * them is one byte. So an explanation of ixdtf16_explain is also one for the converted text, and
+ * you can pass both to ixdtf_describe. */
+static inline size_t ixdtf16_to_utf8(const uint16_t *text, size_t length, uint8_t *out) {
+    size_t i, count = 0;
+    for (i = 0; i < length; i++) {
+        uint32_t one = text[i];
+        if (one >= 0xd800 && one < 0xdc00 && i + 1 < length && text[i + 1] >= 0xdc00
+            && text[i + 1] < 0xe000) {
+            i++;
+            one = 0x10000 + ((one - 0xd800) << 10) + (text[i] - 0xdc00u);
+            out[count++] = IXDTF_AS_(uint8_t, 0xf0 | (one >> 18));
+            out[count++] = IXDTF_AS_(uint8_t, 0x80 | ((one >> 12) & 0x3f));
+        } else if (one >= 0x800) {
+            one = one >= 0xd800 && one < 0xe000 ? 0xfffd : one;
+            out[count++] = IXDTF_AS_(uint8_t, 0xe0 | (one >> 12));
+        } else if (one >= 0x80) {
+            out[count++] = IXDTF_AS_(uint8_t, 0xc0 | (one >> 6));
+        }
+        if (one >= 0x800) {
+            out[count++] = IXDTF_AS_(uint8_t, 0x80 | ((one >> 6) & 0x3f));
+        }
+        out[count++] = IXDTF_AS_(uint8_t, one >= 0x80 ? 0x80 | (one & 0x3f) : one);
+    }
+    return count;
 }
 
 /* Set each of the `room` elements of an array to IXDTF_ANNOTATION or IXDTF16_ANNOTATION. You can
@@ -951,6 +1253,12 @@ IXDTF_PLACE_(ixdtf_duration, has_date, 54);
 IXDTF_PLACE_(ixdtf_duration, is_negative, 55);
 IXDTF_PLACE_(ixdtf_duration, location, 56);
 IXDTF_PLACE_(ixdtf_duration, place, 72);
+IXDTF_SIZE_(ixdtf_explanation, 32);
+IXDTF_PLACE_(ixdtf_explanation, place, 0);
+IXDTF_PLACE_(ixdtf_explanation, begin, 8);
+IXDTF_PLACE_(ixdtf_explanation, end, 16);
+IXDTF_PLACE_(ixdtf_explanation, error, 24);
+IXDTF_PLACE_(ixdtf_explanation, reason, 28);
 #undef IXDTF_SLICE_
 #undef IXDTF_ZONE_PLACES_
 #undef IXDTF_RECORD_PLACES_
@@ -980,6 +1288,10 @@ IXDTF_PLACE_(ixdtf_duration, place, 72);
     }
 IXDTF_READERS_(IXDTF_OF_VIEW_)
 IXDTF_LISTING_READERS_(IXDTF_LISTING_OF_VIEW_)
+[[nodiscard]] inline uint32_t ixdtf_explain_text(uint32_t reader, std::string_view text,
+    ixdtf_explanation *out) {
+    return ixdtf_explain(reader, IXDTF_AT_(uint8_t, text.data()), text.size(), out);
+}
 #undef IXDTF_OF_VIEW_
 #undef IXDTF_LISTING_OF_VIEW_
 

@@ -221,8 +221,8 @@ static ixdtf_duration used_duration(void) {
 }
 
 /* A line of tools/places.tsv: a text, its error, and the position of this error, which a person counted. `width` is the number of bytes of a code
- * unit. */
-struct place_row { const char *reader; int strict; size_t width; const char *text, *error; size_t place; };
+ * unit. `line` is the line of the table of errors. `begin` and `end` are the part that is wrong, and `message` is the message. */
+struct place_row { const char *reader; int strict; size_t width; const char *line, *text, *error; size_t place, begin, end; const char *message; };
 
 /* Returns the first cell of a line, as a NUL-terminated string, and moves `line` to the next cell. */
 static char *cell(char **line) {
@@ -254,13 +254,106 @@ static struct place_row place_row(char *line) {
     row.reader = reader_word(cell(&line));
     row.strict = !strcmp(cell(&line), "strict");
     row.width = (size_t)atoi(cell(&line)) / 8;
-    cell(&line); /* the line of the table of errors, and its row */
-    cell(&line);
+    row.line = cell(&line);
+    cell(&line); /* the row of this line */
     row.text = cell(&line);
     cell(&line); /* the prefix of the text */
     row.error = cell(&line);
     row.place = (size_t)atoi(cell(&line));
+    row.begin = (size_t)atoi(cell(&line));
+    row.end = (size_t)atoi(cell(&line));
+    row.message = cell(&line);
     return row;
+}
+
+/* Writes the name of the reason of a row to `name`, which has 64 bytes. */
+static void reason_name(const struct place_row *row, char *name) {
+    static const struct { const char *begin, *word, *front; } words[] = {
+        { "", " Time", "" }, { "", " Offset", "offset_" }, { "", " MinuteOffset", "zone_offset_" }, { "group_", " date", "date_group_" },
+        { "group_", " time", "time_group_" }, { "unit_order", " date", "date_unit_order" }, { "unit_order", " time", "time_unit_order" },
+    };
+    const char *space = strchr(row->line, ' ');
+    size_t i, length = space == NULL ? strlen(row->line) : (size_t)(space - row->line);
+    if (!strcmp(row->line, "reply")) {
+        strcpy(name, !strcmp(row->error, "UnrecognizedCritical") ? "unrecognized_critical" : "critical_duplicate_calendar");
+    } else if (!strcmp(row->line, "first_dots_form")) {
+        strcpy(name, "first_name_form"); /* the two lines have one reason */
+    } else if (!strncmp(row->line, "field_", 6)) { /* field_range month_field is month_field_range */
+        sprintf(name, "%s_%.*s", space + 1, (int)length - 6, row->line + 6);
+    } else if (!strncmp(row->line, "after_field ", 12)) { /* after_field month_field is after_month_field */
+        sprintf(name, "after_%s", space + 1);
+    } else {
+        sprintf(name, "%.*s", (int)length, row->line);
+        for (i = 0; space != NULL && i < COUNT(words); i++) {
+            if (!strcmp(space, words[i].word) && !strncmp(row->line, words[i].begin, strlen(words[i].begin))) {
+                const char *rest = row->line + strlen(words[i].begin);
+                const char *last = !strncmp(rest, "value_", 6) ? rest + 6 : rest; /* group_value_range date is date_group_range */
+                sprintf(name, "%s%.*s", words[i].front, (int)(space - last), last);
+            }
+        }
+    }
+}
+
+/* The number of the reader of a row. `lists` says whether it is the variant that lists annotations. */
+static uint32_t reader_number(const char *reader, int strict, int lists) {
+    static const struct { const char *reader; uint32_t crate, strict, lists, lists_strict; } numbers[] = {
+        { "parse", IXDTF_READER_PARSE, IXDTF_READER_PARSE, IXDTF_READER_PARSE_WITH_ANNOTATIONS, IXDTF_READER_PARSE_WITH_ANNOTATIONS },
+        { "year-month", IXDTF_READER_PARSE_YEAR_MONTH, IXDTF_READER_PARSE_YEAR_MONTH, IXDTF_READER_PARSE_YEAR_MONTH_WITH_ANNOTATIONS, IXDTF_READER_PARSE_YEAR_MONTH_WITH_ANNOTATIONS },
+        { "month-day", IXDTF_READER_PARSE_MONTH_DAY, IXDTF_READER_PARSE_MONTH_DAY_STRICT, IXDTF_READER_PARSE_MONTH_DAY_WITH_ANNOTATIONS, IXDTF_READER_PARSE_MONTH_DAY_WITH_ANNOTATIONS_STRICT },
+        { "time", IXDTF_READER_PARSE_TIME, IXDTF_READER_PARSE_TIME_STRICT, IXDTF_READER_PARSE_TIME_WITH_ANNOTATIONS, IXDTF_READER_PARSE_TIME_WITH_ANNOTATIONS_STRICT },
+        { "rfc3339", IXDTF_READER_PARSE_RFC3339, IXDTF_READER_PARSE_RFC3339, 0, 0 },
+        { "rfc9557", IXDTF_READER_PARSE_RFC9557, IXDTF_READER_PARSE_RFC9557, IXDTF_READER_PARSE_RFC9557_WITH_ANNOTATIONS, IXDTF_READER_PARSE_RFC9557_WITH_ANNOTATIONS },
+        { "offset", IXDTF_READER_PARSE_OFFSET, IXDTF_READER_PARSE_OFFSET, 0, 0 },
+        { "zone", IXDTF_READER_PARSE_IDENTIFIER, IXDTF_READER_PARSE_IDENTIFIER, 0, 0 },
+        { "iana", IXDTF_READER_PARSE_IANA_IDENTIFIER, IXDTF_READER_PARSE_IANA_IDENTIFIER, 0, 0 },
+        { "duration", IXDTF_READER_PARSE_DURATION, IXDTF_READER_PARSE_DURATION_STRICT, 0, 0 },
+    };
+    size_t i;
+    for (i = 0; i < COUNT(numbers); i++) {
+        if (!strcmp(numbers[i].reader, reader)) {
+            return lists ? (strict ? numbers[i].lists_strict : numbers[i].lists) : (strict ? numbers[i].strict : numbers[i].crate);
+        }
+    }
+    check(0, "the row names a reader");
+    return 0;
+}
+
+/* Checks the report of an explanation for a text in UTF-8: its first line is the message, its second line has the text, and its third line has a
+ * mark under each byte of the part that is wrong. Also calls ixdtf_describe with arrays that are too short. */
+static void check_report(const ixdtf_explanation *it, const uint8_t *text, size_t length, const char *expected) {
+    uint8_t out[IXDTF_REPORT_ROOM + 1], most[IXDTF_REPORT_ROOM];
+    char message[256];
+    char *unpaired;
+    size_t count = 77, again = 78, i, marks = it->end > it->begin ? it->end - it->begin : 1, line;
+    strcpy(message, expected);
+    unpaired = strstr(message, "the code unit 0x"); /* a surrogate without the other one of its pair, which ixdtf16_to_utf8 writes as U+FFFD */
+    if (unpaired != NULL) {
+        strcpy(unpaired, "U+FFFD");
+    }
+    line = strlen(message);
+    memset(out, 0xa5, sizeof out);
+    check(ixdtf_describe(it, text, length, out, IXDTF_REPORT_ROOM, &count) == IXDTF_OK, "IXDTF_REPORT_ROOM bytes are enough for a report");
+    check(count > line && !memcmp(out, message, line) && out[line] == '\n', "the first line of the report is the message");
+    for (i = count; i < sizeof out; i++) {
+        check(out[i] == 0xa5, "the bytes after the report are unchanged");
+    }
+    for (i = 0; i < marks && i < 24 && i < count; i++) {
+        check(out[count - 1 - i] == '^', "the report ends with a mark for each byte of the part that is wrong");
+    }
+    check(out[count - 1 - i] == ' ' || out[count - 1 - i] == '\n', "no other byte has a mark");
+    if (it->begin <= 48 && length <= it->begin + 24) {
+        check(out[count - 1 - i] == '\n' || count - i - it->begin > 1, "there is a space for each byte before the part");
+        check(count == line + 1 + length + 1 + it->begin + i || !is_shared((const char *)text, length, 2), "the report has three lines");
+        check(!memcmp(out + line + 1, text, it->begin), "the second line of the report is the text");
+    }
+    memset(most, 0x5a, sizeof most);
+    check(ixdtf_describe(it, text, length, most, count - 1, &again) == IXDTF_TOO_SHORT && again == count, "IXDTF_TOO_SHORT, and the length, for an array that is too short");
+    for (i = 0; i < sizeof most; i++) {
+        check(most[i] == 0x5a, "after IXDTF_TOO_SHORT, the array is unchanged");
+    }
+    again = 78;
+    check(ixdtf_describe(it, text, length, NULL, 0, &again) == IXDTF_TOO_SHORT && again == count, "the array may be NULL if its capacity is 0");
+    check(ixdtf_describe(it, text, length, most, count, &again) == IXDTF_OK && again == count && !memcmp(out, most, count), "an array of the length of the report is enough");
 }
 
 /* Texts, and the expected results of ixdtf_instant. The seconds come from `date -u +%s` of GNU, and from the limits of Date in ECMAScript. */
@@ -352,7 +445,7 @@ enum printer { OF_RECORD, OF_DURATION, OF_OFFSET, OF_ZONE, OF_TIME, OF_YEAR_MONT
 #include "test_printing.h"
 
 static void test_errors(void) {
-    static const uint32_t others[] = { 0, 47, 100, 101, 102, 103, 104, 105, 0x80000000u, 0xffffffffu };
+    static const uint32_t others[] = { 0, 47, 100, 101, 102, 103, 104, 105, 106, 0x80000000u, 0xffffffffu };
     size_t i;
     check(COUNT(error_rows) == 46, "there are 46 errors");
     for (i = 0; i < COUNT(error_rows); i++) {
@@ -376,10 +469,10 @@ static void test_errors(void) {
         text.length = 4;
         ixdtf_error_text(others[i], &text);
         check(text.length == 0 && text.at != NULL, "for another number, ixdtf_error_text writes an empty text");
-        check((ixdtf_error_message(others[i])[0] != 0) == (others[i] >= 101 && others[i] <= 104), "only 101 to 104 have a message besides the errors");
+        check((ixdtf_error_message(others[i])[0] != 0) == (others[i] >= 101 && others[i] <= 105), "only 101 to 105 have a message besides the errors");
         check(!strcmp(ixdtf_error_name(others[i]), others[i] == 0 ? "IXDTF_OK" : others[i] == 101 ? "IXDTF_NOT_PRINTABLE"
                       : others[i] == 102 ? "IXDTF_TOO_SHORT" : others[i] == 103 ? "IXDTF_NO_INSTANT"
-                      : others[i] == 104 ? "IXDTF_NOT_EXACT" : ""), "only 0 and 101 to 104 have a name besides the errors");
+                      : others[i] == 104 ? "IXDTF_NOT_EXACT" : others[i] == 105 ? "IXDTF_NO_READER" : ""), "only 0 and 101 to 105 have a name besides the errors");
     }
 }
 
@@ -391,7 +484,7 @@ static void test_names(void) {
         ixdtf_error_constant(number, &name);
         check(name.at != NULL && name.at[name.length] == 0 && name.length == strlen(name.at), "the name is NUL-terminated");
         check(!strcmp(name.at, ixdtf_error_name(number)), "ixdtf_error_constant and ixdtf_error_name give the same name");
-        check((name.length != 0) == (number <= 46 || (number >= 101 && number <= 104)), "only 0 to 46 and 101 to 104 have a name");
+        check((name.length != 0) == (number <= 46 || (number >= 101 && number <= 105)), "only 0 to 46 and 101 to 105 have a name");
     }
 }
 
@@ -667,6 +760,120 @@ static void test_met(void) {
     row_shown = "";
 }
 
+/* Tests the number and the name of each reason. The list here repeats the constants of the header, so that a changed constant is found. */
+static void test_reasons(void) {
+#define NAMED(reason) { IXDTF_REASON_##reason, #reason }
+    static const struct { uint32_t number; const char *name; } named[] = {
+        NAMED(YEAR_START), NAMED(YEAR_DIGITS), NAMED(EXTENDED_YEAR_DIGITS), NAMED(MINUS_ZERO_YEAR), NAMED(AFTER_YEAR), NAMED(MONTH_DIGITS),
+        NAMED(MONTH_RANGE), NAMED(AFTER_HYPHENED_MONTH), NAMED(AFTER_BASIC_MONTH), NAMED(DAY_DIGITS), NAMED(DAY_RANGE), NAMED(AFTER_DATE),
+        NAMED(AFTER_YEAR_IN_YEAR_MONTH), NAMED(AFTER_YEAR_MONTH), NAMED(MONTH_DAY_START), NAMED(MONTH_DAY_HYPHEN), NAMED(MONTH_DAY_MONTH_DIGITS),
+        NAMED(MONTH_DAY_MONTH_RANGE), NAMED(AFTER_MONTH_DAY_MONTH), NAMED(MONTH_DAY_DAY_DIGITS), NAMED(MONTH_DAY_RANGE), NAMED(AFTER_MONTH_DAY),
+        NAMED(TIME_START), NAMED(TIME_READS_AS_MONTH_DAY), NAMED(TIME_READS_AS_YEAR_MONTH), NAMED(HOUR_START), NAMED(HOUR_DIGIT), NAMED(HOUR_RANGE),
+        NAMED(AFTER_HOUR), NAMED(MINUTE_DIGITS), NAMED(MINUTE_RANGE), NAMED(AFTER_BASIC_MINUTE), NAMED(AFTER_COLON_MINUTE), NAMED(SECOND_DIGITS),
+        NAMED(SECOND_RANGE), NAMED(AFTER_SECOND), NAMED(FRACTION_START), NAMED(AFTER_FRACTION), NAMED(OFFSET_HOUR_START), NAMED(OFFSET_HOUR_DIGIT),
+        NAMED(OFFSET_HOUR_RANGE), NAMED(OFFSET_AFTER_HOUR), NAMED(OFFSET_MINUTE_DIGITS), NAMED(OFFSET_MINUTE_RANGE), NAMED(OFFSET_AFTER_BASIC_MINUTE),
+        NAMED(OFFSET_AFTER_COLON_MINUTE), NAMED(OFFSET_SECOND_DIGITS), NAMED(OFFSET_SECOND_RANGE), NAMED(OFFSET_AFTER_SECOND),
+        NAMED(OFFSET_FRACTION_START), NAMED(OFFSET_AFTER_FRACTION), NAMED(ZONE_OFFSET_HOUR_START), NAMED(ZONE_OFFSET_HOUR_DIGIT),
+        NAMED(ZONE_OFFSET_HOUR_RANGE), NAMED(ZONE_OFFSET_AFTER_HOUR), NAMED(ZONE_OFFSET_MINUTE_DIGITS), NAMED(ZONE_OFFSET_MINUTE_RANGE),
+        NAMED(ZONE_OFFSET_AFTER_BASIC_MINUTE), NAMED(ZONE_OFFSET_AFTER_COLON_MINUTE), NAMED(ZONE_OFFSET_SECOND_DIGITS),
+        NAMED(ZONE_OFFSET_SECOND_RANGE), NAMED(ZONE_OFFSET_AFTER_SECOND), NAMED(ZONE_OFFSET_FRACTION_START), NAMED(ZONE_OFFSET_AFTER_FRACTION),
+        NAMED(OFFSET_START), NAMED(AFTER_ZULU), NAMED(FOUR_DIGITS), NAMED(AFTER_FOUR_DIGITS), NAMED(MONTH_FIELD_DIGITS), NAMED(DAY_FIELD_DIGITS),
+        NAMED(HOUR_FIELD_DIGITS), NAMED(MINUTE_FIELD_DIGITS), NAMED(SECOND_FIELD_DIGITS), NAMED(OFFSET_HOUR_FIELD_DIGITS),
+        NAMED(OFFSET_MINUTE_FIELD_DIGITS), NAMED(MONTH_FIELD_RANGE), NAMED(DAY_FIELD_RANGE), NAMED(HOUR_FIELD_RANGE), NAMED(MINUTE_FIELD_RANGE),
+        NAMED(SECOND_FIELD_RANGE), NAMED(OFFSET_HOUR_FIELD_RANGE), NAMED(OFFSET_MINUTE_FIELD_RANGE), NAMED(AFTER_MONTH_FIELD), NAMED(AFTER_DAY_FIELD),
+        NAMED(AFTER_HOUR_FIELD), NAMED(AFTER_MINUTE_FIELD), NAMED(AFTER_SECOND_FIELD), NAMED(AFTER_OFFSET_HOUR_FIELD),
+        NAMED(AFTER_OFFSET_MINUTE_FIELD), NAMED(AFTER_POINT), NAMED(AFTER_SECFRAC), NAMED(AFTER_UTC), NAMED(IDENTIFIER_START), NAMED(ZONE_NAME_START),
+        NAMED(IN_ZONE_NAME), NAMED(AFTER_ZONE_SLASH), NAMED(FIRST_BRACKET_START), NAMED(FIRST_CRITICAL_START), NAMED(FIRST_BRACKET_SCAN),
+        NAMED(FIRST_NAME_FORM), NAMED(FIRST_OFFSET_FORM), NAMED(AFTER_BRACKET), NAMED(KEY_START), NAMED(CRITICAL_KEY_START), NAMED(IN_KEY),
+        NAMED(VALUE_START), NAMED(IN_VALUE), NAMED(AFTER_VALUE_HYPHEN), NAMED(DURATION_START), NAMED(AFTER_DURATION_SIGN),
+        NAMED(AFTER_DURATION_DESIGNATOR), NAMED(AFTER_DATE_GROUPS), NAMED(AFTER_TIME_DESIGNATOR), NAMED(AFTER_TIME_GROUPS),
+        NAMED(AFTER_FRACTION_GROUP), NAMED(DATE_GROUP_DIGITS), NAMED(TIME_GROUP_DIGITS), NAMED(DATE_GROUP_RANGE), NAMED(TIME_GROUP_RANGE),
+        NAMED(DATE_UNIT_ORDER), NAMED(TIME_UNIT_ORDER), NAMED(DATE_UNIT_RANGE), NAMED(GROUP_FRACTION_START), NAMED(GROUP_FRACTION_DIGITS),
+        NAMED(UNRECOGNIZED_CRITICAL), NAMED(CRITICAL_DUPLICATE_CALENDAR),
+    };
+#undef NAMED
+    uint32_t number;
+    size_t i;
+    check(COUNT(named) == 126, "there are 126 reasons");
+    for (number = 0; number < 300; number++) {
+        ixdtf_text name = IXDTF_TEXT;
+        ixdtf_reason_line(number, &name);
+        check(name.at != NULL && name.at[name.length] == 0 && name.length == strlen(name.at), "the name is NUL-terminated");
+        check(!strcmp(name.at, ixdtf_reason_name(number)), "ixdtf_reason_line and ixdtf_reason_name give the same name");
+        check((name.length != 0) == (number >= 1 && number <= 126), "only 1 to 126 have a name");
+    }
+    for (i = 0; i < COUNT(named); i++) {
+        const char *name = ixdtf_reason_name(named[i].number);
+        size_t at;
+        row_shown = named[i].name;
+        check(named[i].number == i + 1 && strlen(name) == strlen(named[i].name), "the constant of the reason has its number");
+        for (at = 0; name[at] != 0; at++) {
+            check(named[i].name[at] == (name[at] == '_' ? '_' : name[at] - 'a' + 'A'), "ixdtf_reason_name returns the name of the constant in lower case");
+        }
+    }
+    row_shown = "";
+    check(!strcmp(ixdtf_reason_name(0x80000000u), "") && !strcmp(ixdtf_reason_name(0xffffffffu), ""), "a great number has no name");
+}
+
+/* Tests ixdtf_describe with explanations that ixdtf_explain does not write, with a long text, and with texts that are not UTF-8. */
+static void test_reports(void) {
+    static const char *const shown[][2] = {
+        { "2024-03-02T08:48:00-05:00[America/New_York][u-ca=hebrew][key=a_b]",
+            "expected `]` or more of the annotation's value, found `_`\n..48:00-05:00[America/New_York][u-ca=hebrew][key=a_b]\n"
+            "                                                  ^" },
+        { "2024-13-01", "the month is 13, and has to be 01 to 12\n2024-13-01\n     ^^" },
+        { "2020-1\xe9-01", "expected a digit of the month, which has two, found the byte 0xE9\n2020-1\n      ^" },
+        { "2024-03-02\n", "expected `T`, a space, `[` or the end after the date, found a newline\n2024-03-02.\n          ^" },
+        { "", "the text is empty; expected a year of four digits\n\n^" },
+    };
+    ixdtf_explanation it = IXDTF_EXPLANATION;
+    uint8_t out[IXDTF_REPORT_ROOM];
+    char wide[1000];
+    size_t i, count = 77;
+    for (i = 0; i < COUNT(shown); i++) {
+        const uint8_t *text = (const uint8_t *)shown[i][0];
+        row_shown = shown[i][0];
+        check(ixdtf_explain_text(IXDTF_READER_PARSE, shown[i][0], &it) != IXDTF_OK, "the text is refused");
+        check(ixdtf_describe(&it, text, strlen(shown[i][0]), out, sizeof out, &count) == IXDTF_OK && count == strlen(shown[i][1]) && !memcmp(out, shown[i][1], count), "ixdtf_describe writes the expected report");
+    }
+    /* The longest line of a report: after 48 characters before the part, there are 24 characters of four bytes. */
+    memset(wide, '1', sizeof wide);
+    wide[0] = 'P';
+    for (i = 0; i < 200; i++) {
+        memcpy(wide + 200 + 4 * i, "\xf0\x9f\x98\x80", 4);
+    }
+    row_shown = "P111..";
+    check(ixdtf_explain(IXDTF_READER_PARSE_DURATION, (const uint8_t *)wide, sizeof wide, &it) == IXDTF_DURATION_VALUE_EXCEEDED_RANGE, "the long duration is refused");
+    it.reason = IXDTF_REASON_TIME_GROUP_DIGITS;
+    it.place = 200;
+    check(ixdtf_describe(&it, (const uint8_t *)wide, sizeof wide, out, sizeof out, &count) == IXDTF_OK && count > 256, "a report with characters of four bytes is short enough");
+    /* Explanations without a reason, and one whose report is too long. */
+    for (i = 0; i < 3; i++) {
+        static const uint32_t numbers[] = { 0, 127, 0xffffffffu };
+        it.reason = numbers[i];
+        count = 77;
+        memset(out, 0xa5, sizeof out);
+        check(ixdtf_describe(&it, (const uint8_t *)wide, sizeof wide, out, sizeof out, &count) == IXDTF_NOT_PRINTABLE && count == 77 && out[0] == 0xa5 && out[511] == 0xa5, "IXDTF_NOT_PRINTABLE without a reason");
+    }
+    it.reason = IXDTF_REASON_TIME_READS_AS_MONTH_DAY;
+    it.place = 996;
+    check(ixdtf_describe(&it, (const uint8_t *)wide, sizeof wide, out, sizeof out, &count) == IXDTF_NOT_PRINTABLE && count == 77 && out[0] == 0xa5, "IXDTF_NOT_PRINTABLE for a report that is too long");
+    it.place = SIZE_MAX;
+    it.reason = IXDTF_REASON_MONTH_RANGE;
+    check(ixdtf_describe(&it, NULL, 0, out, sizeof out, &count) == IXDTF_OK, "a position after the end of the text is its end, and an empty text may be NULL");
+    {
+        static const uint16_t units[] = { '2', 0xe9, 0x2010, 0xd83d, 0xde00, 0xd800, '-', 0xdc00, 0xd83d };
+        static const char *const bytes = "2\xc3\xa9\xe2\x80\x90\xf0\x9f\x98\x80\xef\xbf\xbd-\xef\xbf\xbd\xef\xbf\xbd";
+        row_shown = "";
+        count = ixdtf16_to_utf8(units, COUNT(units), out);
+        check(count == strlen(bytes) && !memcmp(out, bytes, count), "ixdtf16_to_utf8 converts pairs of surrogates, and writes U+FFFD for the other ones");
+    }
+    it.error = 77;
+    check(ixdtf_explain(0, (const uint8_t *)"2024", 4, &it) == IXDTF_NO_READER && ixdtf_explain(21, (const uint8_t *)"2024", 4, &it) == IXDTF_NO_READER
+            && ixdtf16_explain(0xffffffffu, NULL, 0, &it) == IXDTF_NO_READER && it.error == 77 && it.place == SIZE_MAX,
+        "IXDTF_NO_READER for a number that no reader has, and nothing is written");
+}
+
 /* The argument of the program is the path of tools/places.tsv. */
 int main(int count, char **arguments) {
     if (count != 2) {
@@ -675,6 +882,8 @@ int main(int count, char **arguments) {
     }
     make_room();
     test_numbers();
+    test_reasons();
+    test_reports();
     test_errors();
     test_names();
     test_functions();

@@ -394,6 +394,36 @@ static void OWN(test_strict_listing)(const struct row *row) {
 }
 
 /* Tests a line of tools/places.tsv: a text, its error and the position of the error. The record was used before. */
+/* Tests the explanation of a row of tools/places.tsv, and its report. `error` is what the reader returned. */
+static void OWN(test_explained)(const struct place_row *row, const UNIT *text, size_t length, uint32_t error) {
+    ixdtf_explanation it = { 1, 2, 3, 4, 5 };
+    char name[64];
+    uint8_t bytes[512];
+    size_t count = 0, i;
+    uint32_t lists = reader_number(row->reader, row->strict, 1);
+    reason_name(row, name);
+    check(CALL(explain)(reader_number(row->reader, row->strict, 0), text, length, &it) == error && it.error == error, "ixdtf_explain returns what the reader returns");
+    check(it.place == row->place, "the explanation has the position of the error");
+    is(ixdtf_reason_name(it.reason), name, row->reader, row->text);
+    check(it.begin == row->begin && it.end == row->end, "the explanation has the part that is wrong");
+    if (sizeof(UNIT) == 2) {
+        check(3 * length <= sizeof bytes, "the row is short");
+        count = ixdtf16_to_utf8((const uint16_t *)(const void *)text, length, bytes);
+    } else {
+        for (i = 0; i < length; i++) {
+            bytes[count++] = (uint8_t)text[i];
+        }
+    }
+    check_report(&it, bytes, count, row->message);
+    if (lists != 0 && strcmp(row->line, "reply")) {
+        ixdtf_explanation same = { 1, 2, 3, 4, 5 };
+        CALL(record) record = NEW_RECORD;
+        CALL(annotation) list[1] = { NEW_ANNOTATION };
+        uint32_t listed = OWN(list)(row->reader, row->strict, text, length, list, 1, &count, &record);
+        check(listed == error && CALL(explain)(lists, text, length, &same) == listed && !memcmp(&it, &same, sizeof it), "the reader that lists annotations has the same explanation");
+    }
+}
+
 static void OWN(test_place)(const struct place_row *row) {
     struct line line, wanted;
     size_t length;
@@ -406,6 +436,7 @@ static void OWN(test_place)(const struct place_row *row) {
     show(&wanted, "error %s%s at %lu", abrupt ? "AE " : "", row->error + (abrupt ? 10 : 0), (unsigned long)row->place);
     OWN(show_outcome)(&line, row->reader, error, &record, &duration);
     is(line.text, wanted.text, row->reader, row->text);
+    OWN(test_explained)(row, text, length, error);
 }
 
 static void OWN(test_texts)(void) {

@@ -1,6 +1,8 @@
+pub mod Asked
 pub mod Computed
 pub mod Crossing
 pub mod Fielded
+pub mod Explained
 pub mod Instants
 pub mod Lasting
 pub mod Listing
@@ -10,7 +12,9 @@ pub mod Narrow
 pub mod Numbers
 pub mod Outcomes
 pub mod Printing
+pub mod Reasons
 pub mod Replying
+pub mod Reported
 pub mod Standing
 pub mod Turns
 pub mod Wide

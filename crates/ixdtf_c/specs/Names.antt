@@ -61,4 +61,5 @@ name_of number =
     else (if nat_eq number 102 then codes "IXDTF_TOO_SHORT"
     else (if nat_eq number 103 then codes "IXDTF_NO_INSTANT"
     else (if nat_eq number 104 then codes "IXDTF_NOT_EXACT"
-    else []))))
+    else (if nat_eq number 105 then codes "IXDTF_NO_READER"
+    else [])))))

@@ -76,6 +76,9 @@ fn name_and_zero(number: u32) -> &'static [u8]
     if number == 104 {
         return b"IXDTF_NOT_EXACT\0";
     }
+    if number == 105 {
+        return b"IXDTF_NO_READER\0";
+    }
     b"\0"
 }
 

@@ -14,10 +14,12 @@
 
 #![cfg_attr(not(test), no_std)]
 
+mod asked;
 mod duration_texts;
 mod durations;
 mod encodings;
 mod errors;
+mod explaining;
 mod exports;
 mod fields;
 mod forms;
@@ -30,16 +32,20 @@ mod part_texts;
 mod printers;
 mod printing;
 mod readers;
+mod reasons;
+mod reports;
 mod slices;
 mod texts;
 mod version;
 pub mod wide;
 mod wide_annotations;
+mod wide_parts;
 mod wide_printers;
 mod widths;
 
 pub use durations::Duration;
 pub use errors::Text;
+pub use explaining::Explanation;
 pub use forms::{Date, Offset, Time};
 
 #[cfg(not(test))]
