@@ -67,8 +67,34 @@ def refusal(call, *arguments, **keywords):
     raise AssertionError(f"expected IxdtfError, but {arguments} is accepted")
 
 
+def reason_of(row):
+    """Returns the name of the reason of a row of tools/places.tsv."""
+    line, _, word = row["line"].partition(" ")
+    if line == "reply":
+        return {"UnrecognizedCritical": "unrecognized_critical", "CriticalDuplicateCalendar": "critical_duplicate_calendar"}[row["error"]]
+    if line in ("field_digits", "field_range"):
+        return word + line.removeprefix("field")
+    if line == "after_field":
+        return "after_" + word
+    if line in ("group_digits", "group_value_range", "unit_order"):
+        return word + "_" + line.replace("value_", "")
+    clocks = {"": "", "Time": "", "Offset": "offset_", "MinuteOffset": "zone_offset_"}
+    return clocks[word] + {"first_dots_form": "first_name_form"}.get(line, line)
+
+
 class Rows(unittest.TestCase):
-    """Each row of tools/places.tsv for 8-bit text: a text, its error, and the position of the error, which a person counted."""
+    """Each row of tools/places.tsv for 8-bit text: a text, its error, the position of the error and the part that is wrong, which a person counted, and
+    the message."""
+
+    def check_explained(self, error, row):
+        """Checks the reason, the part and the message of an error, and the report, which shows the text."""
+        self.assertEqual((error.reason, error.start, error.end), (reason_of(row), int(row["begin"]), int(row["end"])))
+        message = row["reason"].replace("the code unit 0x", "U+")
+        self.assertEqual(error.message, message)
+        lines = str(error).split("\n")
+        self.assertEqual((len(lines), lines[0], lines[2].lstrip(" ")), (3, message, "^" * min(24, max(1, error.end - error.start))))
+        if error.start <= 48:
+            self.assertEqual(len(lines[2]) - len(lines[2].lstrip(" ")), error.start)
 
     def test_rows(self):
         seen = 0
@@ -83,6 +109,7 @@ class Rows(unittest.TestCase):
                     name, _, within = row["error"].partition(" ")
                     self.assertEqual(error.name.replace("_", "").lower(), name.lower())
                     self.assertEqual((error.position, error.within), (int(row["place"]), within))
+                    self.check_explained(error, row)
                     self.assertFalse(ixdtf.is_valid(text, KINDS[row["reader"]], **keywords))
                 seen += 1
         self.assertGreater(seen, 250)
@@ -94,7 +121,8 @@ class Rows(unittest.TestCase):
         seen = other = 0
         with open(TOP / "tools" / "places.tsv", encoding="utf-8", newline="") as file:
             for row in csv.DictReader(file, delimiter="\t", quoting=csv.QUOTE_NONE):
-                text = row["text"].encode("utf-8").decode("unicode_escape")
+                units = row["text"].encode("utf-8").decode("unicode_escape").encode("utf-16-le", "surrogatepass")
+                text = units.decode("utf-16-le", "surrogatepass")  # a pair of surrogates is one character
                 keywords = {"strict": True} if row["profile"] == "strict" and row["reader"] in WITH_PROFILES else {}
                 with self.subTest(row=row):
                     error = refusal(READERS[row["reader"]], text, **keywords)
@@ -104,6 +132,8 @@ class Rows(unittest.TestCase):
                         other += error.position != int(row["place"])
                     else:
                         self.assertEqual((error.position, error.within), (int(row["place"]), row["error"].partition(" ")[2]))
+                    if error.position == int(row["place"]):
+                        self.check_explained(error, row)
         self.assertGreater(seen, 350)
         self.assertLess(other, 10)
 
@@ -114,14 +144,18 @@ class Texts(unittest.TestCase):
     def test_positions_are_code_points(self):
         for front in ("", "\u00e9", "\u20ac", "\U0001f600", "\ud800"):
             error = refusal(ixdtf.parse, f"2024-03-02[a={front}]" if front else "2024-03-02[a=]")
-            self.assertEqual(error.position, 13)
+            self.assertEqual((error.position, error.start, error.end), (13, 13, 14))
             self.assertEqual(str(error).splitlines()[-1], " " * 13 + "^")
-        self.assertEqual(refusal(ixdtf.parse_duration, "P1D\u00e9").position, 3)
+            self.assertEqual(error.message.rpartition(" ")[2], f"U+{ord(front):04X}" if front else "`]`")
+        error = refusal(ixdtf.parse_duration, "P1D\u00e9")
+        self.assertEqual((error.position, error.start, error.end), (3, 3, 4))
+        error = refusal(ixdtf.parse_duration, "P1D\u00e9".encode("utf-8"))
+        self.assertEqual((error.position, error.start, error.end, str(error)), (3, 3, 4, "expected a number, `T` or the end after the unit, found U+00E9\nP1D\u00e9\n   ^"))
 
     def test_positions_of_bytes(self):
         error = refusal(ixdtf.parse, b"2024-03-02[a=\xff]")
         self.assertEqual((error.position, error.text), (13, b"2024-03-02[a=\xff]"))
-        self.assertIn("\\xff", str(error))
+        self.assertEqual(str(error), "expected a letter or digit of the annotation's value, found the byte 0xFF\n2024-03-02[a=\n             ^")
 
     def test_each_width_of_a_str(self):
         for character in ("\u00e9", "\u20ac", "\U0001f600"):
@@ -201,7 +235,9 @@ class Texts(unittest.TestCase):
             for front in ("", "2024-03-02", "2024-03-02[Europe/Paris", "2024-03-02[a="):
                 error = refusal(ixdtf.parse, front + text)
                 self.assertEqual((error.position, error.text), (len(front), front + text))
-                self.assertEqual(str(error).splitlines()[1:], [front + ascii(text)[1:-1], " " * len(front) + "^"])
+                shown = text if text == "\U0001f600" else "\ufffd" * len(text)
+                self.assertEqual(str(error).split("\n")[1:], [front + shown, " " * len(front) + "^"])
+                self.assertEqual(error.message.rpartition(" ")[2], f"U+{ord(text[0]):04X}")
                 self.assertEqual(pickle.loads(pickle.dumps(error)).text, front + text)
 
     def test_no_text(self):
@@ -214,7 +250,9 @@ class Texts(unittest.TestCase):
     def test_long_texts(self):
         long = "2024-03-02[A" + "a" * 9_999_999 + "]"
         self.assertEqual(len(ixdtf.parse(long).zone.name), 10_000_000)
-        self.assertEqual(refusal(ixdtf.parse, long[:-1] + "\u00e9").position, len(long) - 1)
+        error = refusal(ixdtf.parse, long[:-1] + "\u00e9")
+        self.assertEqual((error.position, error.start, error.end), (len(long) - 1, len(long) - 1, len(long)))
+        self.assertEqual(str(error).split("\n")[1:], [".." + "a" * 48 + "\u00e9", " " * 50 + "^"])
         self.assertEqual(len(ixdtf.canonical(ixdtf.parse(long))), len(long))
         self.assertTrue(ixdtf.is_valid("P" + "0" * 10_000_000 + "1D", "duration"))
 
@@ -609,9 +647,28 @@ class Calls(unittest.TestCase):
         error = refusal(ixdtf.parse, "2024-03-02T8:48")
         self.assertIsInstance(error, ValueError)
         self.assertEqual((error.text, error.name, error.position, error.within), ("2024-03-02T8:48", "TIME_HOUR", 12, ""))
-        self.assertEqual(str(error), "Invalid character while parsing hour value.\n2024-03-02T8:48\n            ^")
+        self.assertEqual((error.reason, error.start, error.end), ("hour_digit", 12, 13))
+        self.assertEqual(error.message, "expected a digit of the hour, which has two, found `:`")
+        self.assertEqual(error.crate_text, "Invalid character while parsing hour value.")
+        self.assertEqual(str(error), f"{error.message}\n2024-03-02T8:48\n            ^")
         again = pickle.loads(pickle.dumps(error))
-        self.assertEqual((str(again), again.position), (str(error), error.position))
+        self.assertEqual((str(again), again.__dict__), (str(error), error.__dict__))
+        error = refusal(ixdtf.parse, "2024-")
+        self.assertEqual((error.name, error.within, error.crate_text), ("ABRUPT_END", "digit", "Parsing ended abruptly while parsing digit"))
+        self.assertEqual((error.start, error.end, str(error)), (5, 5, "the text ends in the month; expected two digits\n2024-\n     ^"))
+
+    def test_explained_handlers(self):
+        """The error of a refused reply, and the error of a reader that would refuse an annotation which the handler drops."""
+        error = refusal(ixdtf.parse, "2024-03-02[a=b][!x=y]", handler=lambda it: it)
+        self.assertEqual((error.reason, error.start, error.end), ("unrecognized_critical", 15, 21))
+        self.assertEqual(str(error), "the annotation is critical (`!`), and its key is not known\n2024-03-02[a=b][!x=y]\n               ^^^^^^")
+        error = refusal(ixdtf.parse, "2024-03-02[u-ca=a][!u-ca=b]", handler=lambda it: it)
+        self.assertEqual((error.reason, error.start, error.end), ("critical_duplicate_calendar", 18, 27))
+        error = refusal(ixdtf.parse, "2024-03-02[!x=y]-", handler=lambda it: None)
+        self.assertEqual((error.reason, error.start, error.end), ("after_bracket", 16, 17))
+        for strict, end in ((False, 4), (True, 5)):
+            error = refusal(ixdtf.parse_time, "1200-" if strict else "1200", strict=strict, handler=lambda it: it)
+            self.assertEqual(error.end, end)
 
 
 class Runs(unittest.TestCase):

@@ -214,7 +214,7 @@ class Leaks(unittest.TestCase):
                 again = pickle.loads(pickle.dumps(error))
                 return str(error), repr(error), str(again), copy.copy(error).position, error.text
 
-        for text in ("2024-02-30", b"2024\xff", "2024\u20ac", "\ud800", "2024-"):
+        for text in ("2024-02-30", b"2024\xff", "2024\u20ac", "\ud800", "2024-", "2024-03-02[a=\ud800]", "2024-" + "\u20ac" * 5000, "2024-" + "1" * 5000):
             self.none(shown, text)
 
     def test_handlers(self):

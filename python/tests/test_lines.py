@@ -111,7 +111,7 @@ def answer(word, text, **keywords):
                 return "error no instant"
             return f"ok seconds={found.seconds} nanoseconds={found.nanoseconds}"
     except IxdtfError as error:
-        return "error " + error.reason
+        return "error " + error.crate_text
     return None
 
 

@@ -9,14 +9,14 @@
     >>> ixdtf.canonical(record)
     '2024-03-02T08:48:00.25-05:00[America/New_York][u-ca=hebrew]'
 
-If a text is refused, IxdtfError is raised. It has the reason and the position of the error:
+If a text is refused, IxdtfError is raised. It has a message, and the part of the text that is wrong:
 
     >>> ixdtf.parse("2024-13-01")
     Traceback (most recent call last):
         ...
-    ixdtf.IxdtfError: Parsed month value not in a valid range.
+    ixdtf.IxdtfError: the month is 13, and has to be 01 to 12
     2024-13-01
-           ^
+         ^^
 """
 from ixdtf._datetimes import ZoneConflictError
 from ixdtf._errors import IxdtfError

@@ -5,31 +5,34 @@ from typing import Union
 class IxdtfError(ValueError):
     """Raised if a text is refused. It has these attributes:
 
-    text      the text, as str or bytes
-    name      the name of the error, such as "DATE_MONTH"
-    reason    the error in words
-    position  the number of code points (of a str) or bytes (of bytes) before the error
-    within    what was being parsed, such as "digit", if the text ends too early; otherwise ""
+    text        the text, as str or bytes
+    message     says what the text has at the position of the error, and what was expected there
+    reason      the name of the line of the table of errors, such as "month_range"
+    start, end  the part of the text that is wrong, text[start:end], in code points (of a str) or bytes (of bytes)
+    position    the number of code points (of a str) or bytes (of bytes) before the error
+    name        the name of the error, such as "DATE_MONTH"
+    crate_text  the text of the error in the Rust crate ixdtf 0.6.7
+    within      what was being parsed, such as "digit", if the text ends too early; otherwise ""
 
-    str() returns three lines: the reason, the text, and a mark under the position.
+    str() returns three lines: the message, the text, and marks under the part that is wrong.
     """
 
     __module__ = "ixdtf"
 
-    def __init__(self, text: Union[str, bytes], name: str, reason: str, position: int, within: str) -> None:
+    def __init__(
+        self, text: Union[str, bytes], name: str, crate_text: str, reason: str, position: int, start: int, end: int, report: str, within: str
+    ) -> None:
         self.text = text
         self.name = name.removeprefix("IXDTF_")
-        self.reason = f"{reason.rstrip('.')} while parsing {within}" if within else reason
+        self.crate_text = f"{crate_text.rstrip('.')} while parsing {within}" if within else crate_text
+        self.reason = reason
         self.position = position
+        self.start = start
+        self.end = end
+        self.message = report.partition("\n")[0]
         self.within = within
-        super().__init__(text, name, reason, position, within)
+        self._report = report
+        super().__init__(text, name, crate_text, reason, position, start, end, report, within)
 
     def __str__(self) -> str:
-        return f"{self.reason}\n{_shown(self.text)}\n{' ' * len(_shown(self.text[:self.position]))}^"
-
-
-def _shown(text: Union[str, bytes]) -> str:
-    """Returns a text on one line. A character that cannot be printed is written as an escape sequence of Python, such as \\n."""
-    if isinstance(text, str):
-        return "".join(it if it.isprintable() else ascii(it)[1:-1] for it in text)
-    return "".join(it if " " <= it <= "~" else ascii(it)[1:-1] for it in text.decode("latin-1"))
+        return self._report

@@ -116,27 +116,38 @@ typedef uint32_t read_record(const uint8_t *text, size_t length, ixdtf_record *o
 typedef uint32_t list_record(const uint8_t *text, size_t length, ixdtf_annotation *annotations, size_t room, size_t *count, ixdtf_record *out);
 
 /* A kind of text, with its readers for both profiles. `list` and `list_strict` are the readers that list annotations. They are NULL if a text of this
- * kind has no annotations. */
+ * kind has no annotations. `numbers` has the numbers of these four readers, for ixdtf_explain. */
 typedef struct {
     const char *name;
     read_record *read, *read_strict;
     list_record *list, *list_strict;
+    uint32_t numbers[4];
 } kind;
 
 enum { DATE_TIME, YEAR_MONTH, MONTH_DAY, TIME, RFC3339, RFC9557, OFFSET, ZONE, ZONE_NAME, RECORD_KINDS };
 
 static const kind KINDS[RECORD_KINDS] = {
-    { "date-time", ixdtf_parse, ixdtf_parse, ixdtf_parse_with_annotations, ixdtf_parse_with_annotations },
+    { "date-time", ixdtf_parse, ixdtf_parse, ixdtf_parse_with_annotations, ixdtf_parse_with_annotations,
+      { IXDTF_READER_PARSE, IXDTF_READER_PARSE, IXDTF_READER_PARSE_WITH_ANNOTATIONS, IXDTF_READER_PARSE_WITH_ANNOTATIONS } },
     { "year-month", ixdtf_parse_year_month, ixdtf_parse_year_month, ixdtf_parse_year_month_with_annotations,
-      ixdtf_parse_year_month_with_annotations },
+      ixdtf_parse_year_month_with_annotations,
+      { IXDTF_READER_PARSE_YEAR_MONTH, IXDTF_READER_PARSE_YEAR_MONTH, IXDTF_READER_PARSE_YEAR_MONTH_WITH_ANNOTATIONS,
+        IXDTF_READER_PARSE_YEAR_MONTH_WITH_ANNOTATIONS } },
     { "month-day", ixdtf_parse_month_day, ixdtf_parse_month_day_strict, ixdtf_parse_month_day_with_annotations,
-      ixdtf_parse_month_day_with_annotations_strict },
-    { "time", ixdtf_parse_time, ixdtf_parse_time_strict, ixdtf_parse_time_with_annotations, ixdtf_parse_time_with_annotations_strict },
-    { "rfc3339", ixdtf_parse_rfc3339, ixdtf_parse_rfc3339, NULL, NULL },
-    { "rfc9557", ixdtf_parse_rfc9557, ixdtf_parse_rfc9557, ixdtf_parse_rfc9557_with_annotations, ixdtf_parse_rfc9557_with_annotations },
-    { "offset", ixdtf_parse_offset, ixdtf_parse_offset, NULL, NULL },
-    { "zone", ixdtf_parse_identifier, ixdtf_parse_identifier, NULL, NULL },
-    { "zone-name", ixdtf_parse_iana_identifier, ixdtf_parse_iana_identifier, NULL, NULL },
+      ixdtf_parse_month_day_with_annotations_strict,
+      { IXDTF_READER_PARSE_MONTH_DAY, IXDTF_READER_PARSE_MONTH_DAY_STRICT, IXDTF_READER_PARSE_MONTH_DAY_WITH_ANNOTATIONS,
+        IXDTF_READER_PARSE_MONTH_DAY_WITH_ANNOTATIONS_STRICT } },
+    { "time", ixdtf_parse_time, ixdtf_parse_time_strict, ixdtf_parse_time_with_annotations, ixdtf_parse_time_with_annotations_strict,
+      { IXDTF_READER_PARSE_TIME, IXDTF_READER_PARSE_TIME_STRICT, IXDTF_READER_PARSE_TIME_WITH_ANNOTATIONS,
+        IXDTF_READER_PARSE_TIME_WITH_ANNOTATIONS_STRICT } },
+    { "rfc3339", ixdtf_parse_rfc3339, ixdtf_parse_rfc3339, NULL, NULL, { IXDTF_READER_PARSE_RFC3339, IXDTF_READER_PARSE_RFC3339, 0, 0 } },
+    { "rfc9557", ixdtf_parse_rfc9557, ixdtf_parse_rfc9557, ixdtf_parse_rfc9557_with_annotations, ixdtf_parse_rfc9557_with_annotations,
+      { IXDTF_READER_PARSE_RFC9557, IXDTF_READER_PARSE_RFC9557, IXDTF_READER_PARSE_RFC9557_WITH_ANNOTATIONS,
+        IXDTF_READER_PARSE_RFC9557_WITH_ANNOTATIONS } },
+    { "offset", ixdtf_parse_offset, ixdtf_parse_offset, NULL, NULL, { IXDTF_READER_PARSE_OFFSET, IXDTF_READER_PARSE_OFFSET, 0, 0 } },
+    { "zone", ixdtf_parse_identifier, ixdtf_parse_identifier, NULL, NULL, { IXDTF_READER_PARSE_IDENTIFIER, IXDTF_READER_PARSE_IDENTIFIER, 0, 0 } },
+    { "zone-name", ixdtf_parse_iana_identifier, ixdtf_parse_iana_identifier, NULL, NULL,
+      { IXDTF_READER_PARSE_IANA_IDENTIFIER, IXDTF_READER_PARSE_IANA_IDENTIFIER, 0, 0 } },
 };
 
 static const char KIND_OF_DURATION[] = "duration";
@@ -166,24 +177,105 @@ static uint32_t run_duration(int strict, const text_bytes *text, ixdtf_duration 
 
 /* ---- Errors ---- */
 
-/* Raises an IxdtfError for a text, and returns NULL. The position of the error is a number of code points for a str, and a number of bytes for any other
- * text. `place` is a number of bytes. */
-static PyObject *raise_error(module_state *state, PyObject *text, const text_bytes *bytes, uint32_t number, size_t place, ixdtf_text location) {
-    Py_ssize_t position = (Py_ssize_t)place;
-    if (PyUnicode_Check(text) && !PyUnicode_IS_ASCII(text)) {
-        position = 0;
-        for (size_t i = 0; i < place; i++) {
-            position += (bytes->at[i] & 0xC0) != 0x80;
+/* Returns a number of code points for a str, and a number of bytes for any other text. `place` is a number of bytes. */
+static Py_ssize_t index_in(PyObject *text, const text_bytes *bytes, size_t place) {
+    if (!PyUnicode_Check(text) || PyUnicode_IS_ASCII(text)) {
+        return (Py_ssize_t)place;
+    }
+    Py_ssize_t index = 0;
+    for (size_t i = 0; i < place; i++) {
+        index += (bytes->at[i] & 0xC0) != 0x80;
+    }
+    return index;
+}
+
+/* Replaces each surrogate in bytes that were encoded with "surrogatepass" by U+FFFD, which has three bytes too. Returns whether there was one. */
+static int replace_surrogates(uint8_t *at, Py_ssize_t length) {
+    int found = 0;
+    for (Py_ssize_t i = 0; i + 2 < length; i++) {
+        if (at[i] == 0xED && at[i + 1] >= 0xA0) {
+            at[i] = 0xEF;
+            at[i + 1] = 0xBF;
+            at[i + 2] = 0xBD;
+            found = 1;
         }
     }
+    return found;
+}
+
+/* Returns the report of an error, as a str: the message, the text, and the marks. */
+static PyObject *report_of(const text_bytes *bytes, const ixdtf_explanation *why) {
+    uint8_t report[IXDTF_REPORT_ROOM];
+    size_t count = 0;
+    uint32_t result;
+    if (bytes->length <= LONG_TEXT) {
+        result = ixdtf_describe(why, bytes->at, (size_t)bytes->length, report, sizeof report, &count);
+    } else {
+        Py_BEGIN_ALLOW_THREADS
+        result = ixdtf_describe(why, bytes->at, (size_t)bytes->length, report, sizeof report, &count);
+        Py_END_ALLOW_THREADS
+    }
+    return result == IXDTF_OK ? PyUnicode_DecodeUTF8((const char *)report, (Py_ssize_t)count, NULL) : PyUnicode_FromString(ixdtf_error_message(why->error));
+}
+
+/* Returns the report of an error in a str that is not ASCII. A surrogate is shown as U+FFFD. If the message is about a surrogate, it has the number of
+ * this surrogate. */
+static PyObject *report_of_str(PyObject *text, const text_bytes *bytes, const ixdtf_explanation *why, Py_ssize_t start) {
+    text_bytes copy = { NULL, bytes->length, PyBytes_FromStringAndSize((const char *)bytes->at, bytes->length) };
+    if (copy.owner == NULL) {
+        return NULL;
+    }
+    copy.at = (const uint8_t *)PyBytes_AS_STRING(copy.owner);
+    int has_surrogates = replace_surrogates((uint8_t *)PyBytes_AS_STRING(copy.owner), copy.length);
+    PyObject *report = report_of(&copy, why);
+    Py_DECREF(copy.owner);
+    Py_UCS4 first = has_surrogates && start < PyUnicode_GET_LENGTH(text) ? PyUnicode_READ_CHAR(text, start) : 0;
+    if (report == NULL || !Py_UNICODE_IS_SURROGATE(first)) {
+        return report;
+    }
+    char digits[16];
+    PyOS_snprintf(digits, sizeof digits, "U+%04X", (unsigned)first);
+    PyObject *number = PyUnicode_FromString(digits), *shown = PyUnicode_FromString("U+FFFD");
+    PyObject *result = number == NULL || shown == NULL ? NULL : PyUnicode_Replace(report, shown, number, 1);
+    Py_XDECREF(number);
+    Py_XDECREF(shown);
+    Py_DECREF(report);
+    return result;
+}
+
+/* Raises an IxdtfError for a text, and returns NULL. `location` says what was being parsed, if the text ends too early. */
+static PyObject *raise_explained(module_state *state, PyObject *text, const text_bytes *bytes, const ixdtf_explanation *why, ixdtf_text location) {
+    Py_ssize_t position = index_in(text, bytes, why->place);
+    Py_ssize_t start = index_in(text, bytes, why->begin), end = index_in(text, bytes, why->end);
+    int is_wide = PyUnicode_Check(text) && !PyUnicode_IS_ASCII(text);
+    PyObject *report = is_wide ? report_of_str(text, bytes, why, start) : report_of(bytes, why);
+    if (report == NULL) {
+        return NULL;
+    }
     PyObject *shown = PyUnicode_Check(text) || PyBytes_Check(text) ? text : bytes->owner;
-    PyObject *error = PyObject_CallFunction(state->error, "Ossns#", shown, ixdtf_error_name(number), ixdtf_error_message(number), position,
-        location.at == NULL ? "" : location.at, (Py_ssize_t)location.length);
+    PyObject *error = PyObject_CallFunction(state->error, "OsssnnnOs#", shown, ixdtf_error_name(why->error), ixdtf_error_message(why->error),
+        ixdtf_reason_name(why->reason), position, start, end, report, location.at == NULL ? "" : location.at, (Py_ssize_t)location.length);
+    Py_DECREF(report);
     if (error != NULL) {
         PyErr_SetObject(state->error, error);
         Py_DECREF(error);
     }
     return NULL;
+}
+
+/* Raises an IxdtfError for a text that the reader with this number refuses, and returns NULL. */
+static PyObject *raise_error(module_state *state, PyObject *text, const text_bytes *bytes, uint32_t reader, ixdtf_text location) {
+    ixdtf_explanation why = IXDTF_EXPLANATION;
+    uint32_t error;
+    if (bytes->length <= LONG_TEXT) {
+        error = ixdtf_explain(reader, bytes->at, (size_t)bytes->length, &why);
+    } else {
+        Py_BEGIN_ALLOW_THREADS
+        error = ixdtf_explain(reader, bytes->at, (size_t)bytes->length, &why);
+        Py_END_ALLOW_THREADS
+    }
+    (void)error; /* the explanation has the error too */
+    return raise_explained(state, text, bytes, &why, location);
 }
 
 /* ---- The record ---- */
@@ -738,13 +830,14 @@ static PyObject *read_handled(module_state *state, const kind *what, int strict,
             goto end;
         }
         if (went == 0) {
+            ixdtf_explanation why = ixdtf_explain_reply(bytes->at, &list[i], refused);
             ixdtf_text none = { "", 0 };
-            raise_error(state, text, bytes, refused, ixdtf_reply_place(bytes->at, &list[i]), none);
+            raise_explained(state, text, bytes, &why, none);
             goto end;
         }
     }
     if (error != IXDTF_OK) {
-        raise_error(state, text, bytes, error, fields.place, fields.location);
+        raise_error(state, text, bytes, what->numbers[strict ? 3 : 2], fields.location);
         goto end;
     }
     ixdtf_keep_calendar(&fields, &calendar);
@@ -782,7 +875,7 @@ static PyObject *read_kind(PyObject *module, const kind *what, PyObject *text, i
     } else {
         ixdtf_record fields = IXDTF_RECORD;
         uint32_t error = run_reader(strict ? what->read_strict : what->read, &bytes, &fields);
-        result = error == IXDTF_OK ? new_record(state, &fields, bytes.owner) : raise_error(state, text, &bytes, error, fields.place, fields.location);
+        result = error == IXDTF_OK ? new_record(state, &fields, bytes.owner) : raise_error(state, text, &bytes, what->numbers[strict ? 1 : 0], fields.location);
     }
     Py_DECREF(bytes.owner);
     return result;
@@ -834,7 +927,7 @@ static PyObject *read_part(PyObject *module, PyObject *text, const kind *what) {
     uint32_t error = run_reader(what->read, &bytes, &fields);
     PyObject *result;
     if (error != IXDTF_OK) {
-        result = raise_error(state, text, &bytes, error, fields.place, fields.location);
+        result = raise_error(state, text, &bytes, what->numbers[0], fields.location);
     } else if (what == &KINDS[OFFSET]) {
         result = offset_object(state, &fields.offset);
     } else {
@@ -872,7 +965,7 @@ static PyObject *parse_duration(PyObject *module, PyObject *arguments, PyObject 
     uint32_t error = run_duration(strict, &bytes, &fields);
     PyObject *result;
     if (error != IXDTF_OK) {
-        result = raise_error(state, text, &bytes, error, fields.place, fields.location);
+        result = raise_error(state, text, &bytes, strict ? IXDTF_READER_PARSE_DURATION_STRICT : IXDTF_READER_PARSE_DURATION, fields.location);
     } else {
         result = PyObject_CallFunction(state->make_duration, "iiIIIKiKKKiK", (int)fields.is_negative, (int)fields.has_date, (unsigned)fields.years,
             (unsigned)fields.months, (unsigned)fields.weeks, (unsigned long long)fields.days, (int)fields.time_form, (unsigned long long)fields.hours,
