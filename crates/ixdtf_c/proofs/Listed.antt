@@ -36,7 +36,7 @@ unrefused calls earlier later reply fault e refused =
 nones_accepted : {A : Type 0} (calls : List A) → NoneRefused (nones calls)
 nones_accepted calls = record { none = λ earlier later reply fault split. unrefused calls earlier later reply fault split }
 
-nones_not_last : {A : Type 0} (calls : List A) (fault : Fault) → ¬ (LastRefused (nones calls) fault)
+pub nones_not_last : {A : Type 0} (calls : List A) (fault : Fault) → ¬ (LastRefused (nones calls) fault)
 nones_not_last calls fault last = unrefused calls last.earlier [] last.reply fault last.split last.refused
 
 -- The record that the grammar derives has no calendar. Only replies add one.

@@ -27,4 +27,4 @@ pub record Explains (asked : Asked) (text : Text) (units : List ℕ) (number : �
   pub accepted : (number ≡ 0) ↔ Accepts asked text
   pub nothing : number ≡ 0 → explanation ≡ nothing_wrong
   pub refused : number ≢ 0 → IsExplanation asked text units explanation
-  pub number : number ≡ explanation.error
+  pub has_number : number ≡ explanation.error

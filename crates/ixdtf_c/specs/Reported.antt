@@ -13,7 +13,7 @@ report_text message part text = message_text message ++ (10 ∷ pointed_text (ta
 -- bytes are unchanged, and the count is the length of the report. After 102, the array is too short, and the count is the length too. After
 -- 101 or 102, the array is unchanged, and after 101 also the count. If the number is not 101, the report has at most 512 bytes.
 pub record WritesReport (report old new : List ℕ) (count_old count_new number : ℕ) : Type 0 where
-  pub number : (number ≡ 0) ⊎ ((number ≡ 101) ⊎ (number ≡ 102))
+  pub known : (number ≡ 0) ⊎ ((number ≡ 101) ⊎ (number ≡ 102))
   pub count : number ≢ 101 → count_new ≡ length report
   pub most : number ≢ 101 → length report ≤ 512
   pub fits : number ≡ 0 → length report ≤ length old

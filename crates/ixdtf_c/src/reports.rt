@@ -1,11 +1,11 @@
 //! The report of an error: its message, the text, and marks under the part of the text that is wrong.
 
-ghost use Rattle.std.specs.Prelude.{◌≡◌, ◌≢◌, ◌≤◌, ◌<◌, length, ◌++◌, ◌∷◌, take, drop, IfSome};
+ghost use Rattle.std.specs.Prelude.{◌≡◌, ◌≢◌, ◌≤◌, ◌++◌, ◌∷◌, take, IfSome};
 ghost use Rattle.ixdtf_grammar.specs.declared.reason.Reason.{Reason as AnyReason};
 ghost use Rattle.ixdtf_grammar.specs.LocatedTexts.{pointed_text};
 ghost use Rattle.ixdtf_grammar.specs.Messages.{message_text};
 ghost use Rattle.ixdtf_c.specs.Reasons.{reason_number};
-ghost use Rattle.ixdtf_c.specs.Reported.{Describes};
+ghost use Rattle.ixdtf_c.specs.Reported.{Describes, WritesReport};
 
 use crate::explaining::Explanation;
 use crate::reasons::reason_by_number;
@@ -65,11 +65,7 @@ fn report_of(message: &Message<'_>, pointed: &PointedText<'_>) -> Option<Report>
 /// Returns 102 if `out` is too short. Then `out` is unchanged, and `count` is the length.
 fn copy_report(report: &Report, out: &mut [u8], count: &mut usize) -> u32
     requires { report.now.length ≤ 512 }
-    ensures count { count.new ≡ report.now.length }
-    ensures fits { result ≡ 0 → report.now.length ≤ length out.old }
-    ensures text { result ≡ 0 → take count.new out.new ≡ take report.now.length report.now.bytes }
-    ensures rest { result ≡ 0 → drop count.new out.new ≡ drop count.new out.old }
-    ensures too_short { result ≢ 0 → (result ≡ 102) × (length out.old < report.now.length) × (out.new ≡ out.old) }
+    ensures { WritesReport (take report.now.length report.now.bytes) out.old out.new count.old count.new result }
 {
     *count = report.length;
     if out.len() < report.length {

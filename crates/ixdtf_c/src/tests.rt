@@ -1,6 +1,7 @@
 //! Tests of the functions for C. The tables in `rows` have texts that are accepted and some that are refused. The tests for 8-bit
 //! text and for 16-bit text use the same tables.
 
+mod explaining;
 mod fields;
 mod narrow;
 mod printing;

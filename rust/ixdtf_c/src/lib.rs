@@ -33,6 +33,7 @@ mod printers;
 mod printing;
 mod readers;
 mod reasons;
+mod refusals;
 mod reports;
 mod slices;
 mod texts;

@@ -1,0 +1,146 @@
+//! Tests of the functions that explain an error.
+
+use super::wide::units_of;
+use crate::errors::Text;
+use crate::explaining::{Explanation, ixdtf_explain, ixdtf16_explain};
+use crate::reasons::ixdtf_reason_line;
+use crate::reports::ixdtf_describe;
+
+/// An explanation in which no field is 0.
+const EXPLANATION: Explanation = Explanation {
+    place: 1,
+    begin: 1,
+    end: 1,
+    error: 1,
+    reason: 1,
+};
+
+/// The number of a reader, a text, and the explanation. It has the number of the error, the number of the reason, the position, and the
+/// part that is wrong.
+type Row = (u32, &'static [u8], (u32, u32, usize, usize, usize));
+
+/// Each reader has a row. The last rows have texts that are accepted.
+const ROWS: [Row; 25] = [
+    (1, b"2024-13-01", (6, 7, 7, 5, 7)),
+    (1, b"2024-03-02[!a=b]", (32, 125, 16, 10, 16)),
+    (2, b"2024-3", (4, 6, 6, 6, 6)),
+    (3, b"11-00-", (5, 22, 5, 5, 6)),
+    (4, b"1200", (44, 24, 4, 0, 4)),
+    (5, b"2024-03-02T08:48", (19, 86, 16, 16, 16)),
+    (6, b"2024-03-02T08:48:00Z[+05]", (30, 101, 25, 20, 25)),
+    (7, b"Z", (37, 65, 0, 0, 1)),
+    (8, b"+05:30:10", (30, 59, 6, 6, 7)),
+    (9, b"+05", (33, 94, 0, 0, 1)),
+    (10, b"P1Y2Y3", (4, 116, 6, 6, 6)),
+    (10, b"PT1H18446744073709551616H", (40, 119, 24, 4, 24)),
+    (11, b"11-00", (46, 21, 5, 3, 5)),
+    (12, b"1200-", (4, 39, 5, 5, 5)),
+    (13, b"P1Y2Y", (41, 120, 5, 3, 5)),
+    (13, b"P4294967296Y", (40, 122, 12, 1, 11)),
+    (14, b"2024-03-02[!a=b]-", (5, 102, 16, 16, 17)),
+    (15, b"2024-03[!a=b][", (26, 103, 14, 14, 14)),
+    (16, b"11-00[!a=b]x", (5, 102, 11, 11, 12)),
+    (17, b"1200", (44, 24, 4, 0, 4)),
+    (18, b"2024-03-02T08:48:00Z[..]", (35, 100, 24, 20, 24)),
+    (19, b"11-00", (46, 21, 5, 3, 5)),
+    (20, b"1200-", (4, 39, 5, 5, 5)),
+    (1, b"2024-03-02", (0, 0, 0, 0, 0)),
+    (14, b"2024-03-02[!a=b]", (0, 0, 0, 0, 0)),
+];
+
+/// Returns the fields of an explanation, in the order of a row.
+fn fields(it: &Explanation) -> (u32, u32, usize, usize, usize) {
+    (it.error, it.reason, it.place, it.begin, it.end)
+}
+
+#[test]
+fn explains_errors(rt: HostRuntime) {
+    for (reader, text, wanted) in ROWS {
+        let mut narrow = EXPLANATION;
+        assert_eq!(rt; ixdtf_explain(reader, text, &mut narrow), wanted.0);
+        assert_eq!(rt; fields(&narrow), wanted);
+        let mut wide = EXPLANATION;
+        let units = units_of(text);
+        assert_eq!(rt;
+            ixdtf16_explain(reader, &units[..text.len()], &mut wide),
+            wanted.0
+        );
+        assert_eq!(rt; fields(&wide), wanted);
+    }
+}
+
+#[test]
+fn refuses_numbers_that_no_reader_has(rt: HostRuntime) {
+    for number in [0, 21, u32::MAX] {
+        let mut out = EXPLANATION;
+        assert_eq!(rt; ixdtf_explain(number, b"2024", &mut out), 105);
+        assert_eq!(rt; ixdtf16_explain(number, &[50], &mut out), 105);
+        assert_eq!(rt; fields(&out), (1, 1, 1, 1, 1));
+    }
+}
+
+/// Each row has a number, and the name of the reason with this number.
+const LINES: [(u32, &[u8]); 6] = [
+    (0, b""),
+    (1, b"year_start"),
+    (7, b"month_range"),
+    (41, b"offset_hour_range"),
+    (126, b"critical_duplicate_calendar"),
+    (127, b""),
+];
+
+#[test]
+fn names_reasons(rt: HostRuntime) {
+    for (number, wanted) in LINES {
+        let mut text = Text { bytes: &[1] };
+        ixdtf_reason_line(number, &mut text);
+        assert_eq!(rt; text.bytes, wanted);
+    }
+}
+
+/// A text that is refused, and its report.
+const REPORTS: [(&[u8], &[u8]); 3] = [
+    (
+        b"2024-13-01",
+        b"the month is 13, and has to be 01 to 12\n2024-13-01\n     ^^",
+    ),
+    (
+        b"2020-1\xE9-01",
+        b"expected a digit of the month, which has two, found the byte 0xE9\n2020-1\n      ^",
+    ),
+    (
+        b"",
+        b"the text is empty; expected a year of four digits\n\n^",
+    ),
+];
+
+#[test]
+fn describes_errors(rt: HostRuntime) {
+    for (text, report) in REPORTS {
+        let mut why = EXPLANATION;
+        let mut out = [0u8; 512];
+        let mut count = 0;
+        assert!(rt; ixdtf_explain(1, text, &mut why) != 0);
+        let shorter = report.len() - 1;
+        assert_eq!(rt;
+            ixdtf_describe(&why, text, &mut out[..shorter], &mut count),
+            102
+        );
+        assert_eq!(rt; (out[0], count), (0, report.len()));
+        assert_eq!(rt; ixdtf_describe(&why, text, &mut out, &mut count), 0);
+        assert_eq!(rt; &out[..report.len()], report);
+        assert_eq!(rt; (out[report.len()], count), (0, report.len()));
+    }
+}
+
+#[test]
+fn describes_nothing_without_a_reason(rt: HostRuntime) {
+    for reason in [0, 127, u32::MAX] {
+        let mut why = EXPLANATION;
+        why.reason = reason;
+        let mut out = [7u8; 8];
+        let mut count = 7;
+        assert_eq!(rt; ixdtf_describe(&why, b"2024", &mut out, &mut count), 101);
+        assert_eq!(rt; (out[0], count), (7, 7));
+    }
+}
