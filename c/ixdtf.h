@@ -165,7 +165,7 @@ enum {
 enum {
     /* the value has no text: the reader that belongs to the printer never writes this value. For
      * ixdtf_print_zone, `is_critical` does not matter: it prints a critical zone too. For
-     * ixdtf_describe: the explanation has no reason */
+     * ixdtf_describe: `reason` is not the number of a reason, or the report would be too long */
     IXDTF_NOT_PRINTABLE = 101,
     /* the array is too short; the length of the text is in `count` */
     IXDTF_TOO_SHORT = 102,
@@ -784,13 +784,14 @@ IXDTF_CHECKED_ uint32_t ixdtf16_explain(uint32_t reader, const uint16_t *text, s
 
 /* Writes a report for people to the array `out`, in UTF-8. `room` is the capacity of `out`, in
  * bytes. The report has three lines: a message in plain English, the text, and a ^ under each byte
- * of the part that is wrong. For example:
+ * of the part that is wrong. There is at least one ^, and there are at most 24. If the part is
+ * empty, one ^ is after the end of the text. For example:
  *     the month is 13, and has to be 01 to 12
  *     2024-13-01
  *          ^^
  * There is no newline at the end. docs/FAULTS.md has the messages. Of a long text, the second line
- * has at most 48 characters before the part and at most 24 from its beginning on, with .. at the
- * places of the other ones. A control character is written as "." in this line. If the text is not
+ * shows at most 48 characters before the part, and at most 24 characters from the beginning of the
+ * part on. Two dots stand for the characters that are left out. A control character is written as "." in this line. If the text is not
  * valid UTF-8, this line ends before the first byte that is not.
  * `explanation` is what ixdtf_explain wrote. The function uses only its fields `reason` and
  * `place`. `text` must be the complete text that was refused. If it has 16-bit code units, convert

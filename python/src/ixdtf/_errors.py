@@ -6,13 +6,13 @@ class IxdtfError(ValueError):
     """Raised if a text is refused. It has these attributes:
 
     text        the text, as str or bytes
-    message     says what the text has at the position of the error, and what was expected there
+    message     says what is wrong in the text, and what was expected
     reason      the name of the line of the table of errors, such as "month_range"
     start, end  the part of the text that is wrong, text[start:end], in code points (of a str) or bytes (of bytes)
     position    the number of code points (of a str) or bytes (of bytes) before the error
     name        the name of the error, such as "DATE_MONTH"
     crate_text  the text of the error in the Rust crate ixdtf 0.6.7
-    within      what was being parsed, such as "digit", if the text ends too early; otherwise ""
+    within      what was being parsed, such as "digit", if the name of the error is "ABRUPT_END"; otherwise ""
 
     str() returns three lines: the message, the text, and marks under the part that is wrong.
     """
