@@ -1,5 +1,5 @@
 -- The explanation of what a reader returned.
-use Rattle.std.proofs.Common.{◌≡◌, ℕ, List, length, min, Some, None, refl, sym, rules}
+use Rattle.std.proofs.Common.{◌≡◌, ℕ, List, length, min, Some, None, refl}
 use Rattle.ixdtf_grammar.specs.{declared.{located.LocatedError.LocatedError, part.WrongPart.WrongPart}, Parts.{IsPart, extent_of}}
 use Rattle.ixdtf.specs.{language.Letters.Text, table.Faults.{fault_of_located, stands_behind}}
 use Rattle.ixdtf_c.specs.{declared.explaining.Explanation.Explanation, Asked.{Asked, IsOutcome, IsRefusal}, Explained.{Explains, nothing_wrong, explanation_for}}

@@ -1,6 +1,6 @@
 -- The reasons at the indices of their numbers, and their names.
 use Rattle.ixdtf_grammar.specs.declared.reason.Reason.TheVariants as reasons
-use Rattle.std.proofs.Common.{◌≡◌, ◌⊎◌, ℕ, ◌+◌, ◌-◌, ◌≤◌, ◌<◌, suc, zero, List, [], ◌∷◌, ◌++◌, map, get_or, refl, ◌∙◌, ap, inl, inr, arith}
+use Rattle.std.proofs.Common.{◌≡◌, ◌⊎◌, ℕ, ◌+◌, ◌-◌, ◌≤◌, ◌<◌, suc, zero, List, [], ◌∷◌, ◌++◌, map, get_or, refl, ◌∙◌, inl, inr, arith}
 use Rattle.std.proofs.Math.ListN.{get_or-map}
 use Rattle.std.proofs.lemmas.{List.{get_or_default, get_or_past}, Bool.ne_eqb}
 use Rattle.ixdtf_grammar.specs.declared.reason.Reason.{Reason}

@@ -1,10 +1,10 @@
 -- The error of a reader, with its position and its reason.
-use Rattle.std.proofs.Common.{◌≡◌, ℕ, List, [], ◌∷◌, map, Option, Some, None, option_map, Result, Ok, Err, refl, sym, ap, ◌∙◌, inl, inr}
-use Rattle.ixdtf_grammar.specs.declared.{located.LocatedError.LocatedError, reason.Reason.Reason, records.Annotation.Annotation}
-use Rattle.ixdtf.specs.language.{Letters.{Letter, Text}, Readers.{CoreKind, Reader, Reader.bracketed}, Languages.{Parsed, Found, Found.parsed, Derives}, Brackets.Pair}
+use Rattle.std.proofs.Common.{◌≡◌, ℕ, [], ◌∷◌, map, Some, None, option_map, Result, Ok, Err, refl, sym, ap, ◌∙◌, inl, inr}
+use Rattle.ixdtf_grammar.specs.declared.{located.LocatedError.LocatedError, reason.Reason.Reason}
+use Rattle.ixdtf.specs.language.{Letters.{Letter, Text}, Readers.{CoreKind, Reader, Reader.bracketed}, Languages.{Parsed, Found, Found.parsed}}
 use Rattle.ixdtf.specs.{table.{Faults.{Fault, fault_of_located, stands_behind}, Outcomes.{HasFaultAt, HasReason}}, Promises.ReadsPartAt, Views.{Unread, returned_by}}
 use Rattle.ixdtf.specs.Places.{HandledToAt, GivesFaultAt, GivesReason, UnhandledFaultAt, UnhandledReason}
-use Rattle.ixdtf.specs.Handlers.{Step, Handled, HandledTo, Calls, IsChain, UnhandledRecord, pair_of, handed, replies_of}
+use Rattle.ixdtf.specs.Handlers.{Step, Handled, Calls, IsChain, pair_of, handed, replies_of}
 use Rattle.ixdtf_reading.proofs.theorems.{Handled.{OwnReplies, NoReplies, replies_own, unhandled_form}, OnePlace.one_unhandled_place, OneReason.{one_unhandled_reason, reason_once}}
 use Rattle.ixdtf_reading.proofs.theorems.{OneOutcome.place_once, OnlyOutcome.only_fault, Replies.nones}
 use Rattle.ixdtf_c.specs.Asked.{Asked, Asked.{unhandled, listing}, Accepts, Reads, HasError, Refuses, IsOutcome}

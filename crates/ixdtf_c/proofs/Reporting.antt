@@ -1,5 +1,5 @@
 -- The bytes of a report after several parts were written.
-use Rattle.std.proofs.Common.{◌≡◌, ℕ, List, [], ◌∷◌, subst, refl, inl, inr, arith}
+use Rattle.std.proofs.Common.{ℕ, List, [], ◌∷◌, subst, refl, inl, inr, arith}
 use Rattle.std.specs.{List.FoldsTo, Fmt.WritesInCalls}
 use Rattle.ixdtf_c.specs.Reported.{WritesReport}
 

@@ -1,5 +1,4 @@
 use Rattle.ixdtf_c.proofs.explaining.explain_into.Goals as goal
-use Rattle.std.proofs.Common.{rules}
 use Rattle.ixdtf_c.proofs.Explanations.{nothing_explained, error_explained}
 
 pub returns-in-None-clause-explains : goal.returns-in-None-clause-explains

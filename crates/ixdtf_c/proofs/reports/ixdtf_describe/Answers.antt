@@ -1,6 +1,5 @@
 use Rattle.ixdtf_c.proofs.reports.ixdtf_describe.Goals as goal
 use Rattle.std.proofs.Common.{◌≡◌, ◌∙◌, ℕ, List, take, length, min}
-use Rattle.std.specs.Str.Lossy.{utf8_valid_len}
 use Rattle.ixdtf_grammar.specs.declared.{reason.Reason.Reason, part.WrongPart.WrongPart, message.Message.Message}
 use Rattle.ixdtf_grammar.specs.{Parts.{IsPart, extent_of}, Messages.IsMessage}
 use Rattle.ixdtf_c.specs.Reported.{Describes, WritesReport, report_text}

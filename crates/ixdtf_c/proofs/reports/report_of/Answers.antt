@@ -1,5 +1,5 @@
 use Rattle.ixdtf_c.proofs.reports.report_of.Goals as goal
-use Rattle.std.proofs.Common.{◌≡◌, ◌≤◌, ◌++◌, take, rules, arith}
+use Rattle.std.proofs.Common.{◌≤◌, take, arith}
 use Rattle.std.proofs.lemmas.Fmt.{contents_after_writes}
 use Rattle.ixdtf_c.proofs.Reporting.{writes_keep}
 
