@@ -31,7 +31,7 @@ pub fn shown_bytes<'b>(shown: Shown<'b>, room: &'b mut [u8; SHOWN_ROOM]) -> &'b 
 
 /// Returns the character in backticks, or its name, or its number. Most characters are returned in backticks, so they are tested
 /// first.
-fn character_bytes<'b>(character: char, room: &'b mut [u8; SHOWN_ROOM]) -> &'b [u8]
+fn character_bytes(character: char, room: &mut [u8; SHOWN_ROOM]) -> &[u8]
     ensures { result.now ≡ character_text character }
 {
     match character {
@@ -46,7 +46,7 @@ fn character_bytes<'b>(character: char, room: &'b mut [u8; SHOWN_ROOM]) -> &'b [
 }
 
 /// Returns the byte in backticks.
-fn quoted_bytes<'b>(byte: u8, room: &'b mut [u8; SHOWN_ROOM]) -> &'b [u8]
+fn quoted_bytes(byte: u8, room: &mut [u8; SHOWN_ROOM]) -> &[u8]
     ensures { result.now ≡ codes "`" ++ byte ∷ codes "`" }
 {
     let quoted = add_byte(room, 0, b'`');
@@ -60,7 +60,7 @@ fn quoted_bytes<'b>(byte: u8, room: &'b mut [u8; SHOWN_ROOM]) -> &'b [u8]
 /// The function is not inlined, because few characters are shown by their number.
 #[cold]
 #[inline(never)]
-fn number_bytes<'b>(character: char, room: &'b mut [u8; SHOWN_ROOM]) -> &'b [u8]
+fn number_bytes(character: char, room: &mut [u8; SHOWN_ROOM]) -> &[u8]
     ensures { result.now ≡ codes "U+" ++ (hex_text 4 character ++ look_alike character) }
 {
     let number = add_bytes(room, 0, b"U+");
@@ -70,7 +70,7 @@ fn number_bytes<'b>(character: char, room: &'b mut [u8; SHOWN_ROOM]) -> &'b [u8]
 }
 
 /// Returns the number of a byte with which no character begins.
-fn byte_bytes<'b>(byte: u8, room: &'b mut [u8; SHOWN_ROOM]) -> &'b [u8]
+fn byte_bytes(byte: u8, room: &mut [u8; SHOWN_ROOM]) -> &[u8]
     ensures { result.now ≡ codes "the byte 0x" ++ hex_text 2 byte }
 {
     let number = add_bytes(room, 0, b"the byte 0x");

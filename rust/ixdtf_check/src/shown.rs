@@ -27,7 +27,7 @@ pub fn shown_bytes<'b>(shown: Shown<'b>, room: &'b mut [u8; SHOWN_ROOM]) -> &'b 
 
 /// Returns the character in backticks, or its name, or its number. Most characters are returned in backticks, so they are tested
 /// first.
-fn character_bytes<'b>(character: char, room: &'b mut [u8; SHOWN_ROOM]) -> &'b [u8] {
+fn character_bytes(character: char, room: &mut [u8; SHOWN_ROOM]) -> &[u8] {
     match character {
         '!'..='_' | 'a'..='~' => quoted_bytes(character as u8, room),
         ' ' => b"a space",
@@ -40,7 +40,7 @@ fn character_bytes<'b>(character: char, room: &'b mut [u8; SHOWN_ROOM]) -> &'b [
 }
 
 /// Returns the byte in backticks.
-fn quoted_bytes<'b>(byte: u8, room: &'b mut [u8; SHOWN_ROOM]) -> &'b [u8] {
+fn quoted_bytes(byte: u8, room: &mut [u8; SHOWN_ROOM]) -> &[u8] {
     let quoted = add_byte(room, 0, b'`');
     let last = add_byte(room, quoted, byte);
     let end = add_byte(room, last, b'`');
@@ -52,7 +52,7 @@ fn quoted_bytes<'b>(byte: u8, room: &'b mut [u8; SHOWN_ROOM]) -> &'b [u8] {
 /// The function is not inlined, because few characters are shown by their number.
 #[cold]
 #[inline(never)]
-fn number_bytes<'b>(character: char, room: &'b mut [u8; SHOWN_ROOM]) -> &'b [u8] {
+fn number_bytes(character: char, room: &mut [u8; SHOWN_ROOM]) -> &[u8] {
     let number = add_bytes(room, 0, b"U+");
     let name = add_number(room, number, u32::from(character));
     let end = add_bytes(room, name, look_alike(character));
@@ -60,7 +60,7 @@ fn number_bytes<'b>(character: char, room: &'b mut [u8; SHOWN_ROOM]) -> &'b [u8]
 }
 
 /// Returns the number of a byte with which no character begins.
-fn byte_bytes<'b>(byte: u8, room: &'b mut [u8; SHOWN_ROOM]) -> &'b [u8] {
+fn byte_bytes(byte: u8, room: &mut [u8; SHOWN_ROOM]) -> &[u8] {
     let number = add_bytes(room, 0, b"the byte 0x");
     let end = add_two_digits(room, number, byte);
     &room[..end]
