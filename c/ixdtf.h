@@ -29,13 +29,16 @@
  * If a reader returns 0, it also writes 0 to `place`, and a slice of length 0 to `location`.
  * If a reader returns an error, the record is unchanged, except for `location` and `place`. So its
  * other fields have the values from before the call. They can be about an earlier text.
- * - `location` says what was being parsed, such as "digit", if the error is IXDTF_ABRUPT_END. This
- *   error says that the text ends too early. After every other error, `location` has length 0.
+ * - `location` says what was being parsed, such as "digit", if the error is IXDTF_ABRUPT_END. After
+ *   every other error, `location` has length 0. This error does not say that the text ends too
+ *   early: the duration PT1x has it too, and many texts that end too early have other errors. See
+ *   ixdtf_explain.
  * - `place` is the position of the error: the number of code units before it. If a code unit is
  *   wrong, the position is before this code unit. If the text ends too early, the position is the
  *   end of the text. If something longer than one code unit is wrong, the position is directly
  *   after it: for example, after a number that is out of range, or after an annotation that is
- *   refused. docs/FAULTS.md has the position of each error.
+ *   refused. docs/FAULTS.md has the position of each error. c/install installs this page in
+ *   share/doc/ixdtf.
  *
  * RECORDS. The caller owns every record, array and text. Before you pass a record to a function,
  * initialise it: with zeros ({0}, calloc), with the macro of its type (IXDTF_RECORD for an
@@ -767,9 +770,11 @@ IXDTF_CHECKED_ uint32_t ixdtf16_print_month_day(const ixdtf16_record *record, ui
  * field. If no reader has the number, it returns IXDTF_NO_READER, and `out` is unchanged.
  * The fields `begin` and `end` say which part of the text is wrong:
  * - If a code unit does not fit, the part is this code unit.
- * - If the text ends too early, the part is empty, and is at the end of the text.
+ * - If the text ends too early, the part is empty, and is at the end of the text. In all other
+ *   cases, the part is not empty. So if the reader refuses the text, and `begin == end`, the text
+ *   ends too early.
  * - If a number is out of range, the part is the number, even if more of its digits follow the
- *   position. If it is a number of a duration, the part has its fraction, but not its unit.
+ *   position. If it is a number of a duration, the part has neither its fraction nor its unit.
  * - If the year is -000000, the part is the year with its sign.
  * - If a unit of a duration is not in order, the part is the unit with its number.
  * - If a time is ambiguous, the part is the month and the day, or the year and the month, with
@@ -791,8 +796,9 @@ IXDTF_CHECKED_ uint32_t ixdtf16_explain(uint32_t reader, const uint16_t *text, s
  *          ^^
  * There is no newline at the end. docs/FAULTS.md has the messages. Of a long text, the second line
  * shows at most 48 characters before the part, and at most 24 characters from the beginning of the
- * part on. Two dots stand for the characters that are left out. A control character is written as "." in this line. If the text is not
- * valid UTF-8, this line ends before the first byte that is not.
+ * part on. Two dots stand for the characters that are left out. A control character is written as
+ * "." in this line. If the text is not valid UTF-8, this line ends before the first byte that is
+ * not.
  * `explanation` is what ixdtf_explain wrote. The function uses only its fields `reason` and
  * `place`. `text` must be the complete text that was refused. If it has 16-bit code units, convert
  * it to UTF-8 first: see ixdtf16_to_utf8.
@@ -811,7 +817,9 @@ IXDTF_CHECKED_ uint32_t ixdtf_describe(const ixdtf_explanation *explanation, con
 
 /* Writes the name of a reason to `out`, as a slice: month_range for IXDTF_REASON_MONTH_RANGE. If no
  * reason has the number, the name is empty. The name is NUL-terminated. `length` does not count
- * this NUL. docs/FAULTS.md says for which texts a reason is given. */
+ * this NUL. docs/FAULTS.md says for which texts a reason is given. It lists the reasons in the
+ * section "Messages", with other names: MonthRange is month_range. Each word of such a name begins
+ * with a capital letter, and there is no _ between the words. */
 void ixdtf_reason_line(uint32_t reason, ixdtf_text *out);
 
 /* Writes the text of an error to `out`, as a slice. `error` is the number of the error, from 1 to

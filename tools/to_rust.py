@@ -141,7 +141,7 @@ ADDED = {
     ('records', 'IxdtfParseRecord'): OPEN_FOR_C, ('records', 'Annotation'): OPEN_FOR_C,
     ('records', 'TimeZoneAnnotation'): OPEN_FOR_C, ('records', 'TimeZoneRecord'): '#[non_exhaustive]',
     ('records', 'UtcOffsetRecord'): '#[non_exhaustive]', ('error', 'ParseError'): '#[non_exhaustive]',
-    ('records', 'Sign'): '#[repr(i8)]',
+    ('reason', 'Reason'): '#[non_exhaustive]', ('records', 'Sign'): '#[repr(i8)]',
 }
 OPEN = {name for (_, name), attribute in ADDED.items() if attribute == '#[non_exhaustive]'}
 INLINED = {'parsers', 'parsers/constructors', 'parsers/exact', 'parsers/handled', 'parsers/unhandled', 'parsers/time_zone_parser', 'parsers/duration'}

@@ -17,6 +17,16 @@ If a text is refused, IxdtfError is raised. It has a message, and the part of th
     ixdtf.IxdtfError: the month is 13, and has to be 01 to 12
     2024-13-01
          ^^
+
+These functions read a text: parse, parse_year_month, parse_month_day, parse_time, parse_rfc3339, parse_rfc9557, parse_offset, parse_zone,
+parse_zone_name and parse_duration. Three functions do something else:
+
+    is_valid(text, kind)     says whether a text is accepted
+    canonical(value)         returns the canonical text of a record, a duration, an offset or a zone
+    instant(record)          returns the time of a record since 1970
+
+Record.to_datetime() makes a datetime, and Duration.to_timedelta() a timedelta. The page docs/PYTHON.md of the repository describes all of
+these.
 """
 from ixdtf._datetimes import ZoneConflictError
 from ixdtf._errors import IxdtfError

@@ -243,7 +243,7 @@ static PyObject *report_of_str(PyObject *text, const text_bytes *bytes, const ix
     return result;
 }
 
-/* Raises an IxdtfError for a text, and returns NULL. `location` says what was being parsed, if the text ends too early. */
+/* Raises an IxdtfError for a text, and returns NULL. `location` says what was being parsed, if the error is IXDTF_ABRUPT_END. */
 static PyObject *raise_explained(module_state *state, PyObject *text, const text_bytes *bytes, const ixdtf_explanation *why, ixdtf_text location) {
     Py_ssize_t position = index_in(text, bytes, why->place);
     Py_ssize_t start = index_in(text, bytes, why->begin), end = index_in(text, bytes, why->end);

@@ -6,7 +6,7 @@ fn main() {
     for text in ["2024-03-02T08:48:00Z", "2024-03-02T8:48"] {
         match IxdtfParser::from_str(text).parse_located() {
             Ok(record) => println!("{:?}", record.date.unwrap()),
-            Err(error) => println!("{error}\n{}", error.in_text(text)),
+            Err(error) => println!("{}\n{}", error.message_in(text.as_bytes()), error.in_text(text)),
         }
     }
 }

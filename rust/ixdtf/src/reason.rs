@@ -26,6 +26,7 @@
 /// assert_eq!(error.reason, Reason::MonthDigits);
 /// ```
 #[derive(Clone, Copy, Debug, PartialEq, Eq, Hash)]
+#[non_exhaustive]
 pub enum Reason {
     // Dates
     /// Line `year_start`: a year has to begin.
