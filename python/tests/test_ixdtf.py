@@ -661,7 +661,7 @@ class Calls(unittest.TestCase):
         """The error of a refused reply, and the error of a reader that would refuse an annotation which the handler drops."""
         error = refusal(ixdtf.parse, "2024-03-02[a=b][!x=y]", handler=lambda it: it)
         self.assertEqual((error.reason, error.start, error.end), ("unrecognized_critical", 15, 21))
-        self.assertEqual(str(error), "the annotation is critical (`!`), and its key is not known\n2024-03-02[a=b][!x=y]\n               ^^^^^^")
+        self.assertEqual(str(error), "the annotation's key is not known; without `!`, the annotation would be ignored\n2024-03-02[a=b][!x=y]\n               ^^^^^^")
         error = refusal(ixdtf.parse, "2024-03-02[u-ca=a][!u-ca=b]", handler=lambda it: it)
         self.assertEqual((error.reason, error.start, error.end), ("critical_duplicate_calendar", 18, 27))
         error = refusal(ixdtf.parse, "2024-03-02[!x=y]-", handler=lambda it: None)
