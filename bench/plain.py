@@ -33,7 +33,7 @@ BENCHMARK = to_rust.Crate('crates/ixdtf_bench/src', '', root='main', tests=True,
 USES = {'use crate::runtime::{AllocError, Global, String};': 'use crate::runtime::{AllocError, Global, TryToVec, Vec};',
         'use std::env;': 'use crate::runtime::{HostRuntime, env};', '.to_vec(alloc)': '.try_to_vec(alloc)'}
 # The later fields of `Request` in the workloads, and their values. A checkout may be older than such a field.
-LATER_FIELDS = {'skips': 'None', 'most_reports': 'u64::MAX', 'extent': 'Extent::One'}
+LATER_FIELDS = {'skips': 'None', 'most_reports': 'u64::MAX', 'format': 'Format::Text', 'extent': 'Extent::One'}
 # A loop has a label if a proof names it. Rust needs no label there.
 HEAD = '#![forbid(unsafe_code)]\n#![allow(unused_imports, unused_labels)]\n\n#[macro_use]\nmod runtime;\n'
 
@@ -89,6 +89,8 @@ def without_later(plain, checkout):
             plain = plain.replace(f'    {field}: {value},\n', '')
     if 'enum Extent' not in fields:
         plain = plain.replace('Extent, ', '')
+    if 'enum Format' not in fields:
+        plain = plain.replace('Format, ', '')
     # In older checkouts, only date-times have canonical texts.
     return plain if 'Print(Kind)' in fields else plain.replace('Task::Print(Kind::DateTime)', 'Task::Print')
 

@@ -2,6 +2,7 @@
 """Tests of the examples in the documents. They run the examples of README.md, of docs/PROGRAM.md and of the READMEs of the two programs, and
 compare the output with the output that the documents show. cargo and a C compiler build the examples. The tests also read the texts of
 docs/GRAMMAR.md: `ixdtf_check` reads the texts of other programs, and `ixdtf_lines` the texts with instants."""
+import json
 import os
 import re
 import shutil
@@ -38,6 +39,22 @@ WORDS = {
 
 # the kind of `ixdtf_check` for each column of the texts of other programs
 KINDS = {'`parse`': 'date-time', '`parse_rfc3339`': 'rfc3339', '`parse_rfc9557`': 'rfc9557'}
+# the kind of `ixdtf_check` for each reader of tools/places.tsv
+KINDS_OF_READERS = {
+    'parse': 'date-time',
+    'parse_year_month': 'year-month',
+    'parse_month_day': 'month-day',
+    'parse_time': 'time',
+    'parse_rfc3339': 'rfc3339',
+    'parse_rfc9557': 'rfc9557',
+    'parse_offset': 'offset',
+    'parse_identifier': 'zone',
+    'parse_iana_identifier': 'zone-name',
+    'duration': 'duration',
+}
+# a space before an offset: in texts of these kinds, a report is about the space
+SPACED = re.compile(r' (?:[Zz]|[+-]\d)')
+SPACED_KINDS = ('date-time', 'time', 'rfc3339', 'rfc9557')
 
 
 def read(path: str) -> str:
@@ -99,6 +116,42 @@ class Examples(unittest.TestCase):
             with open(os.path.join(folder, arguments[-1]), 'w', encoding='utf-8') as file:
                 file.write(LOG)
             self.assertEqual(printed(name, arguments, '', folder), wanted)
+
+    def test_objects(self):
+        """The command for reports in JSON prints what the document shows. The objects have the lines, the columns and the messages of the text."""
+        command, wanted = next(it for it in blocks('docs/PROGRAM.md') if it.startswith('$ ixdtf_check') and '--format json' in it).split('\n', 1)
+        name, *arguments = command.removeprefix('$ ').split()
+        with tempfile.TemporaryDirectory() as folder:
+            with open(os.path.join(folder, arguments[-1]), 'w', encoding='utf-8') as file:
+                file.write(MONTHS)
+            self.assertEqual(printed(name, arguments, '', folder), wanted)
+            text = printed(name, [it for it in arguments if it not in ('--format', 'json')], '', folder)
+        objects = [json.loads(it) for it in wanted.splitlines()[:-1]]
+        self.assertEqual([f'{it["file"]}:{it["line"]}:{it["column"]}: {it["text"]}' for it in objects], re.findall(r'^months.txt:.*$', text, re.M))
+
+    @unittest.skipUnless(shutil.which('jq'), 'jq is not installed')
+    def test_reasons_of_objects(self):
+        """The pipe of PROGRAM counts the lines by the names of their reasons."""
+        command = next(it for it in blocks('docs/PROGRAM.md', 'sh') if it.startswith('ixdtf_check --format json'))
+        path = os.pathsep.join([os.path.dirname(program('ixdtf_check')), os.environ['PATH']])
+        with tempfile.TemporaryDirectory() as folder:
+            with open(os.path.join(folder, 'dates.txt'), 'w', encoding='utf-8') as file:
+                file.write('2024-13-01\n2024-03-02\n2024-14-01\n2024-02-30\n')
+            ran = subprocess.run(['sh', '-c', command], capture_output=True, text=True, env=os.environ | {'PATH': path}, cwd=folder)
+        self.assertEqual([it.split() for it in ran.stdout.splitlines()], [['1', 'day_range'], ['2', 'month_range']], ran.stderr)
+
+    def test_members_of_objects(self):
+        """Each text of tools/places.tsv has an object with the columns and the message of its row. Python reads the objects."""
+        for reader, kind in KINDS_OF_READERS.items():
+            some = rows_of_places(reader)
+            self.assertGreater(len(some), 5)
+            shown = printed('ixdtf_check', ['--kind', kind, '--format', 'json'], ''.join(it['text'] + '\n' for it in some), ROOT)
+            objects = [json.loads(it) for it in shown.splitlines() if it.startswith('{')]
+            self.assertEqual([it['line'] for it in objects], list(range(1, len(some) + 1)), reader)
+            for row, it in zip(some, objects):
+                is_spaced = kind in SPACED_KINDS and SPACED.match(row['text'], int(row['begin']))
+                message = 'a space stands before the offset' if is_spaced else row['reason']
+                self.assertEqual((it['column'], it['end'], it['text']), (int(row['begin']) + 1, int(row['end']) + 1, message), row)
 
     def test_records(self):
         """The command on a table with quotes prints what the document shows."""
@@ -186,6 +239,14 @@ class Examples(unittest.TestCase):
         self.assertGreater(len(rows), 5)
         lines = [f'instant {row["`parse` of"].strip("`")}\n' for row in rows]
         self.assertEqual(printed('ixdtf_lines', [], ''.join(lines), ROOT).splitlines(), [instant_in(row) for row in rows])
+
+
+def rows_of_places(reader: str) -> list[dict[str, str]]:
+    """The rows of tools/places.tsv about texts of bytes for a reader, with the profile of the crate. Texts that the file writes with an escape are
+    left out."""
+    heads, *rows = [it.split('\t') for it in read('tools/places.tsv').splitlines()]
+    named = [dict(zip(heads, it)) for it in rows]
+    return [it for it in named if (it['reader'], it['profile'], it['bits']) == (reader, 'crate', '8') and '\\' not in it['text']]
 
 
 def report_of(found: places.Refusal, text: str) -> tuple[int, str]:

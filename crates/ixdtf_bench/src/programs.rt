@@ -6,7 +6,7 @@ use ixdtf::parsers::Profile;
 use ixdtf_answers::runner::run;
 use ixdtf_checks::checker::check;
 use ixdtf_checks::kind::Kind;
-use ixdtf_checks::request::{Extent, Field, Request, Task};
+use ixdtf_checks::request::{Extent, Field, Format, Request, Task};
 use std::alloc::{AllocError, Global};
 
 /// A request that checks complete lines as date-times.
@@ -17,6 +17,7 @@ pub const DATE_TIMES: Request<'static> = Request {
     field: None,
     skips: None,
     most_reports: u64::MAX,
+    format: Format::Text,
     is_quiet: false,
 };
 
@@ -28,6 +29,7 @@ pub const PRINTED: Request<'static> = Request {
     field: None,
     skips: None,
     most_reports: u64::MAX,
+    format: Format::Text,
     is_quiet: false,
 };
 
@@ -43,6 +45,7 @@ const THIRD_FIELD: Request<'static> = Request {
     }),
     skips: None,
     most_reports: u64::MAX,
+    format: Format::Text,
     is_quiet: false,
 };
 

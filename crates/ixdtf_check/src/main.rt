@@ -52,6 +52,7 @@ Which part of a line is read:\n\
 What is written:\n\
 \x20 --canonical      the canonical text of each accepted text\n\
 \x20 --max-reports N  at most N reports, and the number of the others\n\
+\x20 --format FORMAT  the form of the reports: text (the default), or json\n\
 \x20 --quiet          nothing about lines that are refused\n\
 \x20 ixdtf_check --canonical --quiet dates.txt\n\
 \n\

@@ -2,6 +2,7 @@ pub mod CharactersLemmas
 pub mod ColumnLemmas
 pub mod CsvLemmas
 pub mod InstantLemmas
+pub mod JsonLemmas
 pub mod MaskedLemmas
 pub mod NameLemmas
 pub mod PartsLemmas

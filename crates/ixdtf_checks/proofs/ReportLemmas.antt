@@ -17,7 +17,7 @@ one_most = elim [
   | accepted instant ↦ omega arith
   | printed canonical ↦ omega arith
   | skipped ↦ omega arith
-  | refused instant column message lines ↦ omega arith
+  | refused instant refusal ↦ omega arith
 ]
 
 -- This is one step of a check: one line is reported and counted.

@@ -91,6 +91,12 @@ quoting_message NotClosed = codes "a quote is not closed in this line"
 quoting_message TextAfter = codes "text after a closing quote"
 quoting_message Stray = codes "a quote in a field without quotes"
 
+-- This is the name of the reason.
+abbrev pub quoting_name : Quoting → List ℕ
+quoting_name NotClosed = codes "quote_not_closed"
+quoting_name TextAfter = codes "text_after_quote"
+quoting_name Stray = codes "stray_quote"
+
 -- This is the number of quotes in the bytes.
 abbrev pub quotes_in : List ℕ → ℕ
 quotes_in [] = 0

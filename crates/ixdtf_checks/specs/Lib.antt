@@ -3,6 +3,7 @@ pub mod Checks
 pub mod Columns
 pub mod Csv
 pub mod Errors
+pub mod Json
 pub mod Kept
 pub mod Kinds
 pub mod Order

@@ -7,5 +7,5 @@ abbrev pub IsRefusal : Bool → Reader → Text → Verdict → Type 0
 IsRefusal has_offset reader text (accepted instant) = ⊥
 IsRefusal has_offset reader text (printed canonical) = ⊥
 IsRefusal has_offset reader text skipped = ⊥
-IsRefusal has_offset reader text (refused None column message lines) = IsRefused has_offset reader text column message lines
-IsRefusal has_offset reader text (refused (Some instant) column message lines) = ⊥
+IsRefusal has_offset reader text (refused None refusal) = IsRefused has_offset reader text refusal
+IsRefusal has_offset reader text (refused (Some instant) refusal) = ⊥

@@ -6,18 +6,30 @@ use Rattle.ixdtf_grammar.specs.{language.Readers.{Reader}}
 use Rattle.ixdtf_buffers.specs.Lines.{newline}
 use Rattle.ixdtf_checks.specs.{declared.{part.Lost.{Lost, TheVariants.{NoField, Broken}}, request.{Request.Request, Task.{Task, TheVariants.{Check, Print, Order}}}}, Kinds.{has_offset, reader_of, instant_reader_of}}
 use Rattle.ixdtf_instants.specs.declared.instant.Instant.{Instant}
-use Rattle.ixdtf_checks.specs.{Canonicals.IsCanonical, Order.{IsTimed, IsUntimed, IsTooEarly}, Csv.quoting_message, Parts.{Text, HasText, IsLost, line_in, width_of}, Skipped.is_skipped, Spaced.SaysWhy, Errors.HasError}
+use Rattle.ixdtf_checks.specs.{Canonicals.IsCanonical, Order.{IsTimed, IsUntimed, IsTooEarly}, Csv.{quoting_message, quoting_name}, Parts.{Text, HasText, IsLost, line_in, width_of}, Skipped.is_skipped, Spaced.SaysWhy, Errors.HasError}
+
+-- Why a line is refused. `column` is where the wrong part begins, and `end` is after its last byte. Both are counted in bytes from 1.
+-- `reason` is the name of the reason, and `lines` are the lines under the message.
+pub record Refusal : Type 0 where
+  pub column : ℕ
+  pub end : ℕ
+  pub reason : List ℕ
+  pub message : List ℕ
+  pub lines : List ℕ
 
 -- `accepted`: the text of the line is accepted, and has this instant if it was read for its instant.
 -- `printed`: the text is accepted, and this is its canonical text.
 -- `skipped`: the line is skipped.
--- `refused`: the line is refused at this column, counted in bytes from 1, with this message and these lines under it. It has an
--- instant if its text is accepted, but is too early.
+-- `refused`: the line is refused. It has an instant if its text is accepted, but is too early.
 pub data Verdict : Type 0 where
   accepted : Option Instant → Verdict
   printed : List ℕ → Verdict
   skipped : Verdict
-  refused : Option Instant → ℕ → List ℕ → List ℕ → Verdict
+  refused : Option Instant → Refusal → Verdict
+
+-- The line, or its text, is refused as a whole at this column.
+abbrev pub whole : ℕ → List ℕ → List ℕ → List ℕ → Refusal
+whole column reason message lines = record { column = column; end = column; reason = reason; message = message; lines = lines }
 
 -- A line with more bytes than this is refused, and no reader reads its text.
 abbrev pub line_limit : ℕ
@@ -32,19 +44,21 @@ abbrev pub ShowsPart : List ℕ → WrongPart → List ℕ → Type 0
 ShowsPart bytes part lines =
     (IsUtf8 bytes × (lines ≡ pointed_text bytes part.begin part.end ++ newline ∷ [])) ⊎ (¬ (IsUtf8 bytes) × (lines ≡ []))
 
--- The reader refuses the text. This is the column in the line, the message, and the lines under it.
-pub record IsRefused (has_offset : Bool) (reader : Reader) (text : Text) (column : ℕ) (message lines : List ℕ) : Type 0 where
+-- The reader refuses the text for this reason.
+pub record IsRefused (has_offset : Bool) (reader : Reader) (text : Text) (refusal : Refusal) : Type 0 where
   pub error : LocatedError
   pub part : WrongPart
   pub has : HasError reader (byte_text text.bytes) error
   pub is_part : IsPart (extent_of error.reason) text.bytes error.at part
-  pub place : column ≡ text.start + width_of text part.begin + 1
-  pub says : SaysWhy has_offset text.bytes error part message
-  pub shows : ShowsPart text.bytes part lines
+  pub column : refusal.column ≡ text.start + width_of text part.begin + 1
+  pub end : refusal.end ≡ text.start + width_of text part.end + 1
+  pub says : SaysWhy has_offset text.bytes error part refusal.reason refusal.message
+  pub shows : ShowsPart text.bytes part refusal.lines
 
--- The complete text is refused with this message. The column is that of the first byte of the text in the line.
-abbrev pub IsMarked : Text → List ℕ → ℕ → List ℕ → List ℕ → Type 0
-IsMarked text why column message lines = (column ≡ text.start + 1) × (message ≡ why) × ShowsPart text.bytes (record { begin = 0; end = 0 }) lines
+-- The complete text is refused for this reason, with this message. The column is that of the first byte of the text in the line.
+abbrev pub IsMarked : Text → List ℕ → List ℕ → Refusal → Type 0
+IsMarked text reason message refusal =
+    (refusal ≡ whole (text.start + 1) reason message refusal.lines) × ShowsPart text.bytes (record { begin = 0; end = 0 }) refusal.lines
 
 -- This is the verdict on a text that has to name an instant. The text is accepted if the reader accepts it, and if it names an
 -- instant that is not before `last`.
@@ -53,10 +67,10 @@ IsOrderVerdict reader last text (accepted None) = ⊥
 IsOrderVerdict reader last text (accepted (Some instant)) = IsTimed reader text.bytes instant × ¬ (IsTooEarly instant last)
 IsOrderVerdict reader last text (printed canonical) = ⊥
 IsOrderVerdict reader last text skipped = ⊥
-IsOrderVerdict reader last text (refused None column message lines) =
-    IsRefused true reader text column message lines ⊎ (IsUntimed reader text.bytes × IsMarked text (codes "no instant") column message lines)
-IsOrderVerdict reader last text (refused (Some instant) column message lines) =
-    IsTimed reader text.bytes instant × IsTooEarly instant last × IsMarked text (codes "earlier than the line before") column message lines
+IsOrderVerdict reader last text (refused None refusal) =
+    IsRefused true reader text refusal ⊎ (IsUntimed reader text.bytes × IsMarked text (codes "no_instant") (codes "no instant") refusal)
+IsOrderVerdict reader last text (refused (Some instant) refusal) =
+    IsTimed reader text.bytes instant × IsTooEarly instant last × IsMarked text (codes "earlier") (codes "earlier than the line before") refusal
 
 -- This is the verdict on the text of a line. `last` is the instant of the last earlier line that has one.
 abbrev pub IsTextVerdict : Task → Profile → Option Instant → Text → Verdict → Type 0
@@ -64,19 +78,19 @@ IsTextVerdict (Check kind) profile last text (accepted None) = IsRead (reader_of
 IsTextVerdict (Check kind) profile last text (accepted (Some instant)) = ⊥
 IsTextVerdict (Check kind) profile last text (printed canonical) = ⊥
 IsTextVerdict (Check kind) profile last text skipped = ⊥
-IsTextVerdict (Check kind) profile last text (refused None column message lines) = IsRefused (has_offset kind) (reader_of kind profile) text column message lines
-IsTextVerdict (Check kind) profile last text (refused (Some instant) column message lines) = ⊥
+IsTextVerdict (Check kind) profile last text (refused None refusal) = IsRefused (has_offset kind) (reader_of kind profile) text refusal
+IsTextVerdict (Check kind) profile last text (refused (Some instant) refusal) = ⊥
 IsTextVerdict (Print kind) profile last text (accepted instant) = ⊥
 IsTextVerdict (Print kind) profile last text (printed canonical) = IsCanonical kind profile text.bytes canonical
 IsTextVerdict (Print kind) profile last text skipped = ⊥
-IsTextVerdict (Print kind) profile last text (refused None column message lines) = IsRefused (has_offset kind) (reader_of kind profile) text column message lines
-IsTextVerdict (Print kind) profile last text (refused (Some instant) column message lines) = ⊥
+IsTextVerdict (Print kind) profile last text (refused None refusal) = IsRefused (has_offset kind) (reader_of kind profile) text refusal
+IsTextVerdict (Print kind) profile last text (refused (Some instant) refusal) = ⊥
 IsTextVerdict (Order kind) profile last text verdict = IsOrderVerdict (instant_reader_of kind) last text verdict
 
 -- This is the verdict on a line without a text.
 abbrev pub IsLostVerdict : List ℕ → Lost → Verdict → Type 0
-IsLostVerdict line NoField verdict = verdict ≡ refused None (length line + 1) (codes "no such field") []
-IsLostVerdict line (Broken broken) verdict = verdict ≡ refused None (broken.at + 1) (quoting_message broken.quoting) []
+IsLostVerdict line NoField verdict = verdict ≡ refused None (whole (length line + 1) (codes "no_such_field") (codes "no such field") [])
+IsLostVerdict line (Broken broken) verdict = verdict ≡ refused None (whole (broken.at + 1) (quoting_name broken.quoting) (quoting_message broken.quoting) [])
 
 -- This is the verdict on a line that is neither too long nor skipped, without the bytes that do not belong to it.
 abbrev pub IsLineVerdict : Request → Option Instant → List ℕ → Verdict → Type 0
@@ -91,5 +105,5 @@ IsShortVerdict request is_first last line verdict =
 -- This is the verdict on any line. `last` is the instant of the last earlier line that has one.
 abbrev pub IsVerdict : Request → Bool → Option Instant → List ℕ → Verdict → Type 0
 IsVerdict request is_first last line verdict = MatchBool (nat_lt line_limit (length line))
-    (verdict ≡ refused None (line_limit + 1) (codes "line too long") [])
+    (verdict ≡ refused None (whole (line_limit + 1) (codes "line_too_long") (codes "line too long") []))
     (IsShortVerdict request is_first last (line_in is_first line) verdict)

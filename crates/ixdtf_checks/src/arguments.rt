@@ -2,8 +2,8 @@
 
 use crate::csv::QUOTE;
 use crate::kind::{InstantKind, Kind};
-use crate::nearest::{KINDS, OPTIONS, nearest_of};
-use crate::request::{Extent, Field, Request, Skips, Task};
+use crate::nearest::{FORMATS, KINDS, OPTIONS, nearest_of};
+use crate::request::{Extent, Field, Format, Request, Skips, Task};
 use ixdtf::parsers::Profile;
 
 /// The separator of fields, if no option gives another one.
@@ -59,6 +59,8 @@ pub enum Wrong {
     InvalidComment,
     /// The value of `--max-reports` is not a number below `2^64`.
     InvalidCount,
+    /// There is no form of reports with this name.
+    UnknownFormat,
     /// There is `--separator`, but neither `--field` nor `--fields`.
     SeparatorWithoutField,
     /// The value of `--fields` does not have the form `FIRST-LAST`, where FIRST and LAST are the numbers of two fields, and LAST
@@ -96,6 +98,7 @@ impl Wrong {
                 "expected a separator of one byte; in bash, write a tab as $'\\t'",
             Wrong::InvalidComment => "expected the one byte with which comments begin",
             Wrong::InvalidCount => "expected a number of reports",
+            Wrong::UnknownFormat => "there is no such format; the formats are text and json",
             Wrong::SeparatorWithoutField => "--separator needs --field or --fields",
             Wrong::InvalidFields => {
                 "expected the numbers of two fields with a - between them, such as 1-2; the first is 1 or more, and the second is not less"
@@ -113,7 +116,7 @@ impl Wrong {
     }
 }
 
-/// Returns the option or the name of a kind that the user probably meant with a refused word.
+/// Returns the option, or the name of a kind or of a format, that the user probably meant with a refused word.
 pub fn meant_by(word: &str, wrong: Wrong) -> Option<&'static str> {
     let (option, value) = match word.split_once('=') {
         None => (word, word),
@@ -122,6 +125,7 @@ pub fn meant_by(word: &str, wrong: Wrong) -> Option<&'static str> {
     match wrong {
         Wrong::UnknownOption => nearest_of(option, &OPTIONS),
         Wrong::UnknownKind => nearest_of(value, &KINDS),
+        Wrong::UnknownFormat => nearest_of(value, &FORMATS),
         Wrong::UnexpectedValue
         | Wrong::MissingValue
         | Wrong::InvalidField
@@ -149,6 +153,7 @@ enum Awaited {
     Separator,
     Comment,
     MaxReports,
+    Format,
     File,
 }
 
@@ -193,6 +198,7 @@ pub struct Options {
     is_csv: bool,
     skips: Skips,
     most_reports: Option<u64>,
+    format: Format,
     is_canonical: bool,
     is_ordered: bool,
     is_quiet: bool,
@@ -211,6 +217,7 @@ impl Options {
             is_csv: false,
             skips: NOTHING_SKIPPED,
             most_reports: None,
+            format: Format::Text,
             is_canonical: false,
             is_ordered: false,
             is_quiet: false,
@@ -226,7 +233,8 @@ impl Options {
             | Awaited::Fields
             | Awaited::Separator
             | Awaited::Comment
-            | Awaited::MaxReports => self.take_value(word, 0),
+            | Awaited::MaxReports
+            | Awaited::Format => self.take_value(word, 0),
             Awaited::File => Word::File,
         };
         self.words = self.words.saturating_add(1);
@@ -242,6 +250,7 @@ impl Options {
             Awaited::Separator => self.take_separator(value),
             Awaited::Comment => self.take_comment(value),
             Awaited::MaxReports => self.take_count(value),
+            Awaited::Format => self.take_format(value),
             Awaited::Anything | Awaited::File => Word::Wrong(Wrong::UnexpectedValue),
         }
     }
@@ -302,6 +311,8 @@ impl Options {
             self.awaited = Awaited::Comment;
         } else if option == "--max-reports" {
             self.awaited = Awaited::MaxReports;
+        } else if option == "--format" {
+            self.awaited = Awaited::Format;
         } else {
             return false;
         }
@@ -399,6 +410,19 @@ impl Options {
         }
     }
 
+    /// Applies the value of `--format`, the name of a form of reports.
+    fn take_format(&mut self, word: &str) -> Word {
+        self.awaited = Awaited::Anything;
+        if word == "text" {
+            self.format = Format::Text;
+        } else if word == "json" {
+            self.format = Format::Json;
+        } else {
+            return Word::Wrong(Wrong::UnknownFormat);
+        }
+        Word::Option
+    }
+
     /// Returns the reason why the words do not fit together. Returns `None` if they do.
     pub fn wrong(&self) -> Option<Wrong> {
         let kind = self.kind.unwrap_or(Kind::DateTime);
@@ -408,7 +432,8 @@ impl Options {
             | Awaited::Fields
             | Awaited::Separator
             | Awaited::Comment
-            | Awaited::MaxReports => Some(Wrong::MissingValue),
+            | Awaited::MaxReports
+            | Awaited::Format => Some(Wrong::MissingValue),
             Awaited::Anything | Awaited::File => {
                 if self.separator.is_some() && self.column.is_none() {
                     Some(Wrong::SeparatorWithoutField)
@@ -490,6 +515,7 @@ impl Options {
             field: self.numbered_field(),
             skips: self.skips(),
             most_reports: self.most_reports.unwrap_or(u64::MAX),
+            format: self.format,
             is_quiet: self.is_quiet,
         })
     }

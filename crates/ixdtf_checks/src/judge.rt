@@ -5,13 +5,13 @@ ghost use Rattle.ixdtf_grammar.specs.Widths.{byte_text};
 ghost use Rattle.ixdtf_grammar.specs.language.Readers.{Reader};
 ghost use Rattle.ixdtf_instants.specs.declared.instant.Instant.{Instant};
 ghost use Rattle.ixdtf_buffers.specs.Line.{IsLine};
-ghost use Rattle.ixdtf_checks.specs.Csv.{quoting_message};
+ghost use Rattle.ixdtf_checks.specs.Csv.{quoting_message, quoting_name};
 ghost use Rattle.ixdtf_checks.specs.Errors.{HasError};
 ghost use Rattle.ixdtf_checks.specs.Kinds.{instant_reader_of};
 ghost use Rattle.ixdtf_checks.specs.Order.{IsTimed, latest};
 ghost use Rattle.ixdtf_checks.specs.Parts.{line_in, seen_part};
 ghost use Rattle.ixdtf_checks.specs.Seen.{seen};
-ghost use Rattle.ixdtf_checks.specs.Verdicts.{IsVerdict, IsShortVerdict, IsLineVerdict, IsOrderVerdict, IsTextVerdict};
+ghost use Rattle.ixdtf_checks.specs.Verdicts.{IsVerdict, IsShortVerdict, IsLineVerdict, IsOrderVerdict, IsTextVerdict, whole};
 ghost use Rattle.ixdtf_checks.specs.Verdicts.Verdict.{refused};
 ghost use Rattle.ixdtf_checks.specs.Reports.{instant_in};
 ghost use Rattle.ixdtf_checks.specs.Refusals.{IsRefusal};
@@ -54,7 +54,7 @@ pub fn judge<'a>(
 {
     match line {
         None => {
-            *verdict = refused_whole(LINE_LIMIT + 1, "line too long");
+            *verdict = refused_whole(LINE_LIMIT + 1, "line_too_long", "line too long");
         }
         Some(bytes) => judge_short(request, is_first, last, bytes, printed, unquoted, verdict),
     }
@@ -129,25 +129,42 @@ fn judge_field<'a>(
 {
     match part_of(field, line, unquoted) {
         Err(Lost::NoField) => {
-            *verdict = refused_whole(line.len() + 1, "no such field");
+            *verdict = refused_whole(line.len() + 1, "no_such_field", "no such field");
         }
         Err(Lost::Broken(broken)) => {
-            *verdict = refused_whole(broken.at + 1, message_of_quoting(broken.quoting));
+            *verdict = refused_whole(
+                broken.at + 1,
+                name_of_quoting(broken.quoting),
+                message_of_quoting(broken.quoting),
+            );
         }
         Ok(part) => judge_text(request, last, part, printed, verdict),
     }
 }
 
-/// Returns the verdict on a line that has no text.
-fn refused_whole<'a>(column: usize, message: &'static str) -> Verdict<'a>
-    ensures { (printed : List ℕ) → seen printed result ≡ refused None column message.now [] }
+/// Returns the verdict on a line that has no text. `reason` is the name of the reason.
+fn refused_whole<'a>(column: usize, reason: &'static str, message: &'static str) -> Verdict<'a>
+    ensures { (printed : List ℕ) → seen printed result ≡ refused None (whole column reason.now message.now []) }
 {
     Verdict::Refused(Refusal {
         column,
+        end: column,
+        reason,
         message: words(message),
         marked: None,
         instant: None,
     })
+}
+
+/// Returns the name of the reason why a line is no record of RFC 4180.
+fn name_of_quoting(quoting: Quoting) -> &'static str
+    ensures { result.now ≡ quoting_name quoting }
+{
+    match quoting {
+        Quoting::NotClosed => "quote_not_closed",
+        Quoting::TextAfter => "text_after_quote",
+        Quoting::Stray => "stray_quote",
+    }
 }
 
 /// Returns the message about a line that is no record of RFC 4180.
@@ -265,6 +282,8 @@ fn judge_instant<'a>(
         Ok(None) => {
             *verdict = Verdict::Refused(Refusal {
                 column: part.start + 1,
+                end: part.start + 1,
+                reason: "no_instant",
                 message: words("no instant"),
                 marked: Some(Marked::first(part.text)),
                 instant: None,
@@ -283,6 +302,8 @@ fn order(instant: Instant, last: Option<Instant>, part: Part<'_>) -> Verdict<'_>
     match last {
         Some(last) if instant < last => Verdict::Refused(Refusal {
             column: part.start + 1,
+            end: part.start + 1,
+            reason: "earlier",
             message: words("earlier than the line before"),
             marked: Some(Marked::first(part.text)),
             instant: Some(instant),
@@ -305,9 +326,12 @@ fn refuse<'a>(verdict: &mut Verdict<'a>, has_offset: bool, error: LocatedError, 
     ensures instant { (printed : List ℕ) → instant_in (seen printed verdict.new) ≡ None }
 {
     let wrong = error.part_in(part.text);
+    let why = explain(has_offset, error, wrong, part.text);
     *verdict = Verdict::Refused(Refusal {
         column: part.start + part.width_of(wrong.begin) + 1,
-        message: message_about(has_offset, error, wrong, part.text),
+        end: part.start + part.width_of(wrong.end) + 1,
+        reason: why.reason,
+        message: why.message,
         marked: Some(Marked {
             text: part.text,
             part: wrong,
@@ -316,23 +340,34 @@ fn refuse<'a>(verdict: &mut Verdict<'a>, has_offset: bool, error: LocatedError, 
     });
 }
 
-/// Returns the message about a text that a reader refuses with this error. `wrong` is the part of the text that is wrong. If
-/// `has_offset` is `true` and this part begins with a space before an offset, the message is about this space. Otherwise it is
-/// the message of the error.
-fn message_about(
-    has_offset: bool,
-    error: LocatedError,
-    wrong: WrongPart,
-    text: &[u8],
-) -> Message<'_>
+/// Why a text is refused.
+#[derive(Clone, Copy)]
+struct Explanation<'a> {
+    /// The name of the reason.
+    reason: &'static str,
+    /// The message.
+    message: Message<'a>,
+}
+
+/// Returns why a reader refuses a text with this error. `wrong` is the part of the text that is wrong. If `has_offset` is `true` and
+/// this part begins with a space before an offset, this space is the reason, and the message is about it. Otherwise the reason and
+/// the message are those of the error.
+#[inline(always)]
+fn explain(has_offset: bool, error: LocatedError, wrong: WrongPart, text: &[u8]) -> Explanation<'_>
     requires at { error.at ≤ length text.now }
     requires begin { wrong.begin ≤ length text.now }
-    ensures { SaysWhy has_offset text.entry.now error wrong (message_text result) }
+    ensures { SaysWhy has_offset text.entry.now error wrong result.reason.now (message_text result.message) }
 {
     if has_offset && is_spaced(&text[wrong.begin..]) {
-        words("a space stands before the offset")
+        Explanation {
+            reason: "space_before_offset",
+            message: words("a space stands before the offset"),
+        }
     } else {
-        error.message_in(text)
+        Explanation {
+            reason: error.reason.name(),
+            message: error.message_in(text),
+        }
     }
 }
 

@@ -11,6 +11,7 @@ mod checking;
 pub mod column;
 mod csv;
 mod instants;
+mod json;
 mod judge;
 pub mod kind;
 pub mod laws;

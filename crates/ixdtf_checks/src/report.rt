@@ -4,12 +4,13 @@ ghost use Rattle.ixdtf_grammar.specs.Messages.{message_text};
 ghost use Rattle.ixdtf_buffers.specs.Adding.{Adds};
 ghost use Rattle.ixdtf_buffers.specs.Lines.{newline};
 ghost use Rattle.ixdtf_buffers.specs.Output.{Puts};
-ghost use Rattle.ixdtf_checks.specs.Reports.{line_and_column, refusal_of, report_of};
+ghost use Rattle.ixdtf_checks.specs.Reports.{line_and_column, text_of, report_of};
 ghost use Rattle.ixdtf_checks.specs.Seen.{seen, lines_in};
 
+use crate::json::put_object;
 use crate::pointed::{ROOM, add_lines};
 use crate::printed::PrintedText;
-use crate::request::Request;
+use crate::request::{Format, Request};
 use crate::shown::{SHOWN_ROOM, shown_bytes};
 use crate::verdict::{Marked, Refusal, Verdict};
 use ixdtf::Message;
@@ -49,7 +50,10 @@ pub fn put_report<K: Sink>(
             if request.is_quiet || refusals > request.most_reports {
                 return Ok(());
             }
-            put_refusal(output, room, request.name, number, refusal)
+            match request.format {
+                Format::Text => put_refusal(output, room, request.name, number, refusal),
+                Format::Json => put_object(output, request.name, number, refusal),
+            }
         }
     }
 }
@@ -79,7 +83,7 @@ fn put_refusal<K: Sink>(
     refusal: &Refusal<'_>,
 ) -> Result<(), RunError>
     ensures { Puts K.contents K.failed output.old output.new result
-        (refusal_of name.now number refusal.now.column (message_text refusal.now.message) (lines_in refusal.now.marked)) }
+        (text_of name.now number refusal.now.column (message_text refusal.now.message) (lines_in refusal.now.marked)) }
 {
     output.put(name.as_bytes())?;
     let place = add_place(room, number, refusal.column);

@@ -51,6 +51,16 @@ pub struct Skips {
     pub comment: Option<u8>,
 }
 
+/// The form of the report of a refused line.
+#[derive(Clone, Copy, Debug, PartialEq)]
+pub enum Format {
+    /// The name of the file, the number of the line, the column and the message. Under them, the text of the line is shown, with
+    /// marks under the part that is wrong.
+    Text,
+    /// An object of JSON (RFC 8259) on a line of its own.
+    Json,
+}
+
 /// The options of the check of one file.
 #[derive(Clone, Copy)]
 pub struct Request<'n> {
@@ -66,6 +76,8 @@ pub struct Request<'n> {
     pub skips: Option<Skips>,
     /// The greatest number of reports about refused lines. If it is `n`, only the first `n` refused lines can have a report.
     pub most_reports: u64,
+    /// The form of the reports.
+    pub format: Format,
     /// Whether no report is written about a refused line.
     pub is_quiet: bool,
 }

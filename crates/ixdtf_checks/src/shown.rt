@@ -105,7 +105,7 @@ fn add_first_digits(room: &mut [u8; SHOWN_ROOM], at: usize, number: u8) -> usize
 }
 
 /// Writes the number of a byte in two hexadecimal digits, and returns the index after them.
-fn add_two_digits(room: &mut [u8; SHOWN_ROOM], at: usize, byte: u8) -> usize
+pub fn add_two_digits(room: &mut [u8; SHOWN_ROOM], at: usize, byte: u8) -> usize
     requires { at + 2 ≤ 40 }
     ensures place { result ≡ at + 2 }
     ensures text { Adds room.old room.new at result (hex_text 2 byte) }

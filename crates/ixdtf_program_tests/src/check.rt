@@ -3,6 +3,7 @@
 mod arguments;
 mod columns;
 mod faults;
+mod json;
 mod marks;
 mod ordered;
 mod shown;
@@ -12,7 +13,7 @@ mod worked;
 use ixdtf::parsers::Profile;
 use ixdtf_checks::checker::check;
 use ixdtf_checks::kind::Kind;
-use ixdtf_checks::request::{Request, Task};
+use ixdtf_checks::request::{Format, Request, Task};
 use std::alloc::Global;
 use std::process::Abort;
 use std::test::Fail;
@@ -25,6 +26,7 @@ const DATE_TIMES: Request<'static> = Request {
     field: None,
     skips: None,
     most_reports: u64::MAX,
+    format: Format::Text,
     is_quiet: false,
 };
 

@@ -9,6 +9,7 @@ mod checking;
 mod column;
 mod csv;
 mod instants;
+mod json;
 mod judge;
 mod kind;
 mod nearest;
@@ -72,6 +73,7 @@ Which part of a line is read:
 What is written:
   --canonical      the canonical text of each accepted text
   --max-reports N  at most N reports, and the number of the others
+  --format FORMAT  the form of the reports: text (the default), or json
   --quiet          nothing about lines that are refused
   ixdtf_check --canonical --quiet dates.txt
 

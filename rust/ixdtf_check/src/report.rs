@@ -2,9 +2,10 @@
 
 //! Writes the report of a line.
 
+use crate::json::put_object;
 use crate::pointed::{ROOM, add_lines};
 use crate::printed::PrintedText;
-use crate::request::Request;
+use crate::request::{Format, Request};
 use crate::shown::{SHOWN_ROOM, shown_bytes};
 use crate::verdict::{Marked, Refusal, Verdict};
 use ixdtf::Message;
@@ -41,7 +42,10 @@ pub fn put_report<K: Sink>(
             if request.is_quiet || refusals > request.most_reports {
                 return Ok(());
             }
-            put_refusal(output, room, request.name, number, refusal)
+            match request.format {
+                Format::Text => put_refusal(output, room, request.name, number, refusal),
+                Format::Json => put_object(output, request.name, number, refusal),
+            }
         }
     }
 }

@@ -84,7 +84,7 @@ fn add_first_digits(room: &mut [u8; SHOWN_ROOM], at: usize, number: u8) -> usize
 }
 
 /// Writes the number of a byte in two hexadecimal digits, and returns the index after them.
-fn add_two_digits(room: &mut [u8; SHOWN_ROOM], at: usize, byte: u8) -> usize {
+pub fn add_two_digits(room: &mut [u8; SHOWN_ROOM], at: usize, byte: u8) -> usize {
     let last = add_byte(room, at, digit(byte / 16));
     add_byte(room, last, digit(byte % 16))
 }

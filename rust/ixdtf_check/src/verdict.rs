@@ -28,6 +28,11 @@ pub enum Verdict<'a> {
 pub struct Refusal<'a> {
     /// The position in the line at which it is refused, in bytes, counted from 1.
     pub column: usize,
+    /// The column after the last byte of the part that is wrong. It is equal to `column` if this part is empty, or if the line or
+    /// its text is refused as a whole.
+    pub end: usize,
+    /// The name of the reason: that of `Reason::name`, or a name of this crate.
+    pub reason: &'static str,
     /// The message that says why the line is refused.
     pub message: Message<'a>,
     /// The text of the line and the part of it that is wrong, or `None` if the line has no text.

@@ -3,7 +3,7 @@
 use ixdtf::parsers::Profile;
 use ixdtf_checks::arguments::{FieldName, Options, Word, Wrong, meant_by};
 use ixdtf_checks::kind::{InstantKind, Kind};
-use ixdtf_checks::request::{Extent, Field, Skips, Task};
+use ixdtf_checks::request::{Extent, Field, Format, Skips, Task};
 use ixdtf_checks::status::status_of;
 use ixdtf_checks::tally::Tally;
 use std::process::Abort;
@@ -29,6 +29,7 @@ fn takes_options(rt: HostRuntime) {
         "--header",
         "--comment=#",
         "--max-reports=20",
+        "--format=json",
         "--quiet",
     ];
     let options = options_of(&rt, &words);
@@ -47,6 +48,7 @@ fn takes_options(rt: HostRuntime) {
         })
     );
     assert_eq!(rt; request.most_reports, 20);
+    assert_eq!(rt; request.format, Format::Json);
     assert_eq!(rt;
         request.skips,
         Some(Skips {
@@ -137,6 +139,7 @@ fn asks_for_date_times_where_nothing_is_said(rt: HostRuntime) {
     assert_eq!(rt; request.field, None);
     assert_eq!(rt; request.skips, None);
     assert_eq!(rt; request.most_reports, u64::MAX);
+    assert_eq!(rt; request.format, Format::Text);
     assert!(rt; !request.is_quiet);
 }
 
@@ -146,6 +149,9 @@ const TOGETHER: &[(&[&str], Option<Wrong>)] = &[
     (&["--separator", ";"], Some(Wrong::SeparatorWithoutField)),
     (&["--kind"], Some(Wrong::MissingValue)),
     (&["--comment"], Some(Wrong::MissingValue)),
+    (&["--format"], Some(Wrong::MissingValue)),
+    (&["--format=json", "--format", "text"], None),
+    (&["--format=json", "--canonical", "--quiet"], None),
     (&["--skip-blank"], None),
     (&["--kind=time", "--canonical"], None),
     (&["--field=when"], Some(Wrong::NameWithoutHeader)),
@@ -203,6 +209,9 @@ const WITHOUT_VALUES: &[(&str, &str, Wrong)] = &[
     ("--separator", ",,", Wrong::InvalidSeparator),
     ("--comment", "//", Wrong::InvalidComment),
     ("--max-reports", "-1", Wrong::InvalidCount),
+    ("--format", "xml", Wrong::UnknownFormat),
+    ("--format", "", Wrong::UnknownFormat),
+    ("--format", "JSON", Wrong::UnknownFormat),
 ];
 
 /// Refused words, each with the reason and the word that the user probably meant.
@@ -217,6 +226,10 @@ const MEANT: &[(&str, Wrong, Option<&str>)] = &[
     ("--STRICT", Wrong::UnknownOption, Some("--strict")),
     ("rfc9999999999999999999999", Wrong::UnknownKind, None),
     ("week", Wrong::UnknownKind, None),
+    ("--formats=json", Wrong::UnknownOption, Some("--format")),
+    ("--format=jsn", Wrong::UnknownFormat, Some("json")),
+    ("JSON", Wrong::UnknownFormat, Some("json")),
+    ("xml", Wrong::UnknownFormat, None),
     ("0", Wrong::InvalidField, None),
 ];
 

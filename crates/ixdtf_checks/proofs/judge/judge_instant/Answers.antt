@@ -20,4 +20,4 @@ pub returns-in-Ok-None : goal.returns-in-Ok-None
 returns-in-Ok-None c = λ printed.
     let bytes = c.args.part.text.now in
     let shows = subst (λ lines. ShowsPart bytes (record { begin = 0; end = 0 }) lines) (sym c.first.ensures) (shows_part bytes (record { begin = 0; end = 0 })) in
-    inr (rw c.in-Ok-None.field-0-is at c.in-Ok-None.ensures.ok, (refl, c.words.ensures, shows))
+    inr (rw c.in-Ok-None.field-0-is at c.in-Ok-None.ensures.ok, (rw c.words.ensures refl, shows))

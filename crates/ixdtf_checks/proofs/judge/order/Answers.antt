@@ -9,4 +9,4 @@ returns-in-Some c = λ reader timed printed.
     let before : IsBefore c.args.instant c.in-Some.last = search rules in
     let bytes = c.args.part.text.now in
     let shows = subst (λ lines. ShowsPart bytes (record { begin = 0; end = 0 }) lines) (sym c.first.ensures) (shows_part bytes (record { begin = 0; end = 0 })) in
-    rw c.in-Some.is (timed, before, (refl, c.words.ensures, shows))
+    rw c.in-Some.is (timed, before, (rw c.words.ensures refl, shows))

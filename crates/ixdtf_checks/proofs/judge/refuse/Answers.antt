@@ -16,7 +16,8 @@ returns-clause-verdict c = λ reader has printed.
       part = wrong;
       has = has;
       is_part = subst (λ at. IsPart (extent_of error.reason) bytes at wrong) within c.part_in-wrong.ensures.part;
-      place = ap (λ n. c.args.part.start + n + 1) c.width_of.ensures.width;
-      says = c.message_about.ensures;
+      column = ap (λ n. c.args.part.start + n + 1) c.width_of.ensures.width;
+      end = ap (λ n. c.args.part.start + n + 1) c.width_of-2.ensures.width;
+      says = c.explain-why.ensures;
       shows = shows_part bytes wrong;
     }

@@ -1,0 +1,42 @@
+-- The parts of an object of JSON, one after the other.
+use Rattle.std.proofs.Common.{◌≡◌, ℕ, ◌+◌, ◌<◌, List, [], ◌∷◌, ◌++◌, length, take, drop, get_or, codes, Option, Result, refl, sym, ap, subst, ◌∙◌, append_assoc}
+use Rattle.std.proofs.lemmas.{Grind.flat_map-append, List.{append-nil, take_more, take-append-drop}}
+use Rattle.std.specs.List.{flat_map}
+use Rattle.ixdtf_buffers.specs.{declared.{error.RunError.RunError, output.Output.Output}, Lines.newline, Output.Puts}
+use Rattle.ixdtf_checks.specs.{Json.{json_byte, json_object, json_place, json_string}, Verdicts.Refusal}
+
+pub escaped-parts : (bytes : List ℕ) (n : ℕ) → flat_map json_byte bytes ≡ flat_map json_byte (take n bytes) ++ flat_map json_byte (drop n bytes)
+escaped-parts bytes n = sym (sym (flat_map-append json_byte (take n bytes) (drop n bytes)) ∙ ap (flat_map json_byte) (take-append-drop n bytes))
+
+pub escaped-next : (bytes : List ℕ) (i d : ℕ) → i < length bytes
+    → flat_map json_byte (take (i + 1) bytes) ≡ flat_map json_byte (take i bytes) ++ json_byte (get_or bytes i d)
+escaped-next bytes i d inside = ap (flat_map json_byte) (take_more bytes i d inside) ∙ simp (flat_map-append, append-nil)
+
+-- A string with three parts.
+pub string-parts : (before shown after : List ℕ) → json_string (before ++ (shown ++ after))
+    ≡ codes "\"" ++ (flat_map json_byte before ++ (flat_map json_byte shown ++ (flat_map json_byte after ++ codes "\"")))
+string-parts before shown after =
+    ap (λ (t : List ℕ). codes "\"" ++ t)
+    (ap (λ (t : List ℕ). t ++ codes "\"") (flat_map-append json_byte before (shown ++ after) ∙ ap (λ (t : List ℕ). flat_map json_byte before ++ t) (flat_map-append json_byte shown after))
+    ∙ append_assoc (flat_map json_byte before) (flat_map json_byte shown ++ flat_map json_byte after) (codes "\"")
+    ∙ ap (λ (t : List ℕ). flat_map json_byte before ++ t) (append_assoc (flat_map json_byte shown) (flat_map json_byte after) (codes "\"")))
+
+-- An object and a newline.
+pub object-line : (name : List ℕ) (number : ℕ) (refusal : Refusal) →
+    (codes "{\"file\":" ++ json_string name) ++ (json_place number refusal.column refusal.end
+    ++ ((codes ",\"reason\":" ++ json_string refusal.reason) ++ (codes ",\"text\":" ++ (json_string refusal.message ++ codes "}\n"))))
+    ≡ json_object name number refusal ++ newline ∷ []
+object-line name number refusal =
+    let file = codes "{\"file\":" ++ json_string name in
+    let place = json_place number refusal.column refusal.end in
+    let reason = codes ",\"reason\":" ++ json_string refusal.reason in
+    let text = codes ",\"text\":" in
+    sym (joined file place reason text (json_string refusal.message) (codes "}") (newline ∷ []))
+  where
+    joined : (a b c d e f g : List ℕ) → (a ++ (b ++ (c ++ ((d ++ e) ++ f)))) ++ g ≡ a ++ (b ++ (c ++ (d ++ (e ++ (f ++ g)))))
+    joined a b c d e f g = simp (append_assoc)
+
+-- The bytes are the same.
+pub Puts-same : {K : Type 0} {contents : K → Option (List ℕ)} {failed : K → Type 0} {x y : Output K} {r : Result (Unit {0}) RunError} {xs ys : List ℕ}
+    → xs ≡ ys → Puts contents failed x y r xs → Puts contents failed x y r ys
+Puts-same {contents = contents} {failed = failed} {x = x} {y = y} {r = r} same puts = subst (λ (t : List ℕ). Puts contents failed x y r t) same puts
