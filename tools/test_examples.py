@@ -141,7 +141,7 @@ class Examples(unittest.TestCase):
         self.assertEqual([it.split() for it in ran.stdout.splitlines()], [['1', 'day_range'], ['2', 'month_range']], ran.stderr)
 
     def test_members_of_objects(self):
-        """Each text of tools/places.tsv has an object with the columns and the message of its row. Python reads the objects."""
+        """Each text of tools/places.tsv has an object with the columns, the reason and the message of its row. Python reads the objects."""
         for reader, kind in KINDS_OF_READERS.items():
             some = rows_of_places(reader)
             self.assertGreater(len(some), 5)
@@ -150,8 +150,10 @@ class Examples(unittest.TestCase):
             self.assertEqual([it['line'] for it in objects], list(range(1, len(some) + 1)), reader)
             for row, it in zip(some, objects):
                 is_spaced = kind in SPACED_KINDS and SPACED.match(row['text'], int(row['begin']))
+                reason = 'space_before_offset' if is_spaced else reason_name(row)
                 message = 'a space stands before the offset' if is_spaced else row['reason']
-                self.assertEqual((it['column'], it['end'], it['text']), (int(row['begin']) + 1, int(row['end']) + 1, message), row)
+                self.assertEqual((it['column'], it['end']), (int(row['begin']) + 1, int(row['end']) + 1), row)
+                self.assertEqual((it['reason'], it['text']), (reason, message), row)
 
     def test_records(self):
         """The command on a table with quotes prints what the document shows."""
@@ -247,6 +249,20 @@ def rows_of_places(reader: str) -> list[dict[str, str]]:
     heads, *rows = [it.split('\t') for it in read('tools/places.tsv').splitlines()]
     named = [dict(zip(heads, it)) for it in rows]
     return [it for it in named if (it['reader'], it['profile'], it['bits']) == (reader, 'crate', '8') and '\\' not in it['text']]
+
+
+def reason_name(row: dict[str, str]) -> str:
+    """The name of the reason of a row of tools/places.tsv: the name of its line, with a word for the part of the text to which the line belongs. If
+    a reply is refused, it is the name of the error."""
+    line, _, part = row['line'].partition(' ')
+    if line == 'reply':
+        return re.sub('(?<=[a-z])(?=[A-Z])', '_', row['error']).lower()
+    if line == 'after_field':
+        return f'after_{part}'
+    front = {'': '', 'Time': '', 'Offset': 'offset_', 'MinuteOffset': 'zone_offset_', 'date': 'date_', 'time': 'time_'}.get(part, f'{part}_')
+    # The library has one reason for a name with a part of dots and for a name with another wrong part.
+    others = {'first_dots_form': 'first_name_form', 'group_value_range': 'group_range', 'field_digits': 'digits', 'field_range': 'range'}
+    return front + others.get(line, line)
 
 
 def report_of(found: places.Refusal, text: str) -> tuple[int, str]:

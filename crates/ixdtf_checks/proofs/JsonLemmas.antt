@@ -1,5 +1,5 @@
 -- The parts of an object of JSON, one after the other.
-use Rattle.std.proofs.Common.{◌≡◌, ℕ, ◌+◌, ◌<◌, List, [], ◌∷◌, ◌++◌, length, take, drop, get_or, codes, Option, Result, refl, sym, ap, subst, ◌∙◌, append_assoc}
+use Rattle.std.proofs.Common.{◌≡◌, ℕ, ◌+◌, ◌<◌, List, [], ◌∷◌, ◌++◌, length, take, drop, get_or, codes, Option, Result, sym, ap, subst, ◌∙◌, append_assoc}
 use Rattle.std.proofs.lemmas.{Grind.flat_map-append, List.{append-nil, take_more, take-append-drop}}
 use Rattle.std.specs.List.{flat_map}
 use Rattle.ixdtf_buffers.specs.{declared.{error.RunError.RunError, output.Output.Output}, Lines.newline, Output.Puts}

@@ -13,9 +13,9 @@ use ixdtf_buffers::error::RunError;
 use ixdtf_buffers::output::Output;
 use ixdtf_buffers::sink::Sink;
 
-/// The size in bytes of the array in which the numbers of an object are made. They are at most three numbers of 20 digits, and the
-/// 25 bytes of their names.
-const PLACE_ROOM: usize = 96;
+/// The size in bytes of the array in which the numbers of an object are made. These are three numbers of at most 20 digits, and the
+/// 25 bytes of the names before them.
+const PLACE_ROOM: usize = 85;
 
 /// Writes the object about a refused line to the output, and a newline. `name` is the name of the file, and `number` is the number
 /// of the line, from 1.

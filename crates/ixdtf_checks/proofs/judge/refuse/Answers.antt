@@ -1,6 +1,6 @@
 -- Proves which message and which lines are about a refused text.
 use Rattle.ixdtf_checks.proofs.judge.refuse.Goals as goal
-use Rattle.std.proofs.Common.{◌≡◌, ◌+◌, ap, subst, length, refl, arith}
+use Rattle.std.proofs.Common.{◌≡◌, ◌+◌, ap, subst, length, arith}
 use Rattle.std.specs.Prelude.{min}
 use Rattle.ixdtf_grammar.specs.Parts.{IsPart, extent_of}
 use Rattle.ixdtf_checks.proofs.VerdictLemmas.{shows_part}
