@@ -23,8 +23,9 @@ where
 /// A *calendar* is an annotation with the key `u-ca`. If the reply is a calendar, and no earlier reply was one, keeps it.
 ///
 /// Returns `UnrecognizedCritical` if the reply is critical and is not a calendar. Returns `CriticalDuplicateCalendar`
-/// if it is a calendar, its value differs from that of the first one, and at least one of the two is critical. The
-/// cursor counts the code units that are compared, and does not move.
+/// if it is a calendar, its value differs from that of the first one, and at least one of the two is critical. If none
+/// of the two is critical, the values are not compared. The cursor counts the code units that are compared, and does not
+/// move.
 #[inline(always)]
 pub(crate) fn keep_first_calendar<'a, T: EncodingType>(
     cursor: &mut Cursor<'a, T>,
@@ -46,8 +47,8 @@ pub(crate) fn keep_first_calendar<'a, T: EncodingType>(
             Ok(())
         }
         Some(first) => {
-            if !cursor.has_same_units(first.value, found.value)
-                && (first.critical || found.critical)
+            if (first.critical || found.critical)
+                && !cursor.has_same_units(first.value, found.value)
             {
                 return Err(Reason::CriticalDuplicateCalendar);
             }

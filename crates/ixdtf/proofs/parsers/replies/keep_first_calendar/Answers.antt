@@ -5,5 +5,5 @@ use Rattle.ixdtf_grammar.specs.table.Faults.Fault.{UnrecognizedCritical, Critica
 pub returns-then-found-clause-err : goal.returns-then-found-clause-err
 returns-then-found-clause-err g c = (UnrecognizedCritical, inl (refl, refl), search rules)
 
-pub returns-then-found-2-clause-err : goal.returns-then-found-2-clause-err
-returns-then-found-2-clause-err g c = (CriticalDuplicateCalendar, inr (refl, refl), search rules)
+pub returns-then-not-has_same_units-clause-err : goal.returns-then-not-has_same_units-clause-err
+returns-then-not-has_same_units-clause-err g c = (CriticalDuplicateCalendar, inr (refl, refl), search rules)
