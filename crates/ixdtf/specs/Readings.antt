@@ -1,11 +1,15 @@
 -- The contracts of the private functions that read complete texts, each as one clause. No clause of a public reader refers to
 -- this module.
-use Rattle.std.specs.Prelude.{◌≡◌, ℕ, Bool, true, false, ◌+◌, map, Result, OnOk, IfErr}
-use Rattle.ixdtf_grammar.specs.{language.{Letters.Letter, Readers.Reader, Languages.Parsed}, table.{Faults.Fault, Outcomes.NoRowFits}, Handlers.{Step, replies_of}}
+use Rattle.std.specs.Prelude.{◌≡◌, ◌⊎◌, ℕ, Bool, true, false, ◌+◌, List, map, Option, option_map, Result, Ok, Err, OnOk, IfErr}
+use Rattle.ixdtf_grammar.specs.{language.{Letters.{Letter, Text}, Brackets.Pair, Cores.Core, Readers.{Reader, CoreKind, has_exact_zones}, Languages.{Parsed, parsed_with}}}
+use Rattle.ixdtf_grammar.specs.{table.{Faults.Fault, Outcomes.NoRowFits}, Handlers.{Step, replies_of, with_calendar, calendar_value, pair_of}}
 use Rattle.ixdtf_grammar.specs.{Laws.InNoOther, Places.{HandledToAt, UnhandledFaultAt, UnhandledOnlyPlace, UnhandledReason, UnhandledOnlyReason}}
-use Rattle.ixdtf_grammar.specs.declared.reason.Reason.{Reason}
-use Rattle.ixdtf_grammar.specs.{Views.{UnreadUnder, unread_of, most_looks, LeavesBehind, returned_by}, Promises.most_looks_beside}
-use Rattle.ixdtf_reading.specs.{declared.stop.StopAt.StopAt, reading.{Chains.{Counting, TextReadTo}, Clauses.UnhandledForm, Stops.fault_of_code}}
+use Rattle.ixdtf_grammar.specs.declared.{reason.Reason.{Reason}, records.{Annotation.Annotation, IxdtfParseRecord.IxdtfParseRecord}}
+use Rattle.ixdtf_grammar.specs.{Views.{Unread, UnreadUnder, unread_of, parsed_of, most_looks, LeavesBehind, returned_by}, Promises.most_looks_beside}
+use Rattle.ixdtf_reading.specs.{declared.stop.StopAt.StopAt, reading.{Chains.{Counting, TextReadTo, PairsRead, first_pairs}, Stops.fault_of_code}}
+use Rattle.ixdtf_reading.specs.reading.{Clauses.{UnhandledForm, HasNoBrackets, core_in}, Looks.{Placed, error_of}, Cores.core_at, ExactZones.bracket_by}
+use Rattle.ixdtf_reading.specs.reading.Brackets.{Bracket, zone_in, pairs_in}
+use Rattle.ixdtf_times.specs.{declared.offsets.AfterCore.{AfterCore}, TimeTypes.opens_bracket}
 
 -- The fault of a `StopAt`.
 abbrev pub fault_of_stop_at : StopAt → Fault
@@ -25,6 +29,33 @@ pub record ReadsInto {T U F : Type 0} (letter : ℕ → Letter) (number : U → 
   pub replied : TextReadTo number (Counting step) (handler, 0) (last, spent) (λ _. found) reader (map letter old.rest) result
   pub leaves : LeavesBehind fault_of_stop_at (most_looks old.rest + spent) (unread_of old) result (unread_of new)
   pub profile : new.profile ≡ old.profile
+
+-- The front of the text was read: its core, and its first bracket, if it has brackets. `opens` says whether it has. `inner` is
+-- what follows the first `[`.
+abbrev pub FrontRead : {T U : Type 0} → (ℕ → Letter) → (U → ℕ) → CoreKind → Text → Bool → Option (Annotation T U) → IxdtfParseRecord T U → Text → Type 0
+FrontRead letter number kind text false first found rest = (core_at error_of kind text ≡ Ok ((core_in found, false), rest)) × HasNoBrackets found
+FrontRead letter number kind text true first found rest = (core : Core) × (inner : List ℕ) × (bracket : Bracket)
+    × (core_at error_of kind text ≡ Ok ((core, true), map letter inner))
+    × (bracket_by error_of (has_exact_zones kind) (map letter inner) ≡ Ok (bracket, rest))
+    × (first_pairs (option_map (pair_of number) first) ≡ pairs_in bracket)
+    × (parsed_of number found ≡ parsed_with core (zone_in bracket))
+
+-- The front of the text is refused: its core, or its first bracket.
+abbrev pub FrontRefused : CoreKind → Text → Placed → Type 0
+FrontRefused kind text fault = (core_at error_of kind text ≡ Err fault)
+    ⊎ ((core : Core) × (inner : Text) × (core_at error_of kind text ≡ Ok ((core, true), inner)) × (bracket_by error_of (has_exact_zones kind) inner ≡ Err fault))
+
+-- The function read the front of a text.
+abbrev pub ReadsFront : {T U : Type 0} → (ℕ → Letter) → (U → ℕ) → CoreKind → Unread → Result AfterCore Reason → Option (Annotation T U) → IxdtfParseRecord T U
+    → Unread → Type 0
+ReadsFront letter number kind old (Ok after) first found new = FrontRead letter number kind (map letter old.rest) (opens_bracket after) first found (map letter new.rest)
+ReadsFront letter number kind old (Err stop) first found new = FrontRefused kind (map letter old.rest) (stop, map letter new.rest)
+
+-- The function read the annotations after the first ones. The record was `old` before, and is `new` after the call.
+abbrev pub PairsReadInto : {T U F : Type 0} → (U → ℕ) → Step T U F → F → F → List Pair → Text → Parsed → Parsed → Result Unit Reason → Text → Type 0
+PairsReadInto number step handler last first text old new (Ok x) left =
+    (calendar : Option Pair) × PairsRead number step handler last first text (Ok calendar) × (new ≡ with_calendar old (calendar_value calendar))
+PairsReadInto number step handler last first text old new (Err stop) left = PairsRead number step handler last first text (Err (stop, left))
 
 -- The function read into a record, with each annotation as its own reply.
 pub record ReadsUnhandled (letter : ℕ → Letter) (found : Parsed) (reader : Reader)

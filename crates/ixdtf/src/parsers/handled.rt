@@ -431,7 +431,7 @@ impl<'a, T: EncodingType> IxdtfParser<'a, T> {
         ensures places { HandlesTextAt T.letter T.number F.step handler E.fault E.stands (parsed_of T.number) (bracketed (C.kind self.old.profile)) self.old result self.new }
     {
         let mut found = IxdtfParseRecord::default();
-        match self.read_into::<C, F>(&mut handler, &mut found) {
+        match self.read_handled::<C, F>(&mut handler, &mut found) {
             Ok(()) => Ok(found),
             Err(why) => return Err(error_of_stop(why)),
         }
@@ -461,7 +461,7 @@ impl<'a, T: EncodingType> IxdtfParser<'a, T> {
         ensures handles { HandlesTextTo T.letter T.number F.step handler.old handler.new E.fault E.stands (parsed_of T.number) (bracketed (C.kind self.old.profile)) self.old result self.new }
     {
         let mut found = IxdtfParseRecord::default();
-        match self.read_into::<C, F>(handler, &mut found) {
+        match self.read_handled::<C, F>(handler, &mut found) {
             Ok(()) => Ok(found),
             Err(refused) => return Err(error_of_stop(refused)),
         }

@@ -387,7 +387,7 @@ impl<'a, T: EncodingType> IxdtfParser<'a, T> {
         F: FnMut(Annotation<'a, T>) -> Option<Annotation<'a, T>>,
     {
         let mut found = IxdtfParseRecord::default();
-        match self.read_into::<C, F>(&mut handler, &mut found) {
+        match self.read_handled::<C, F>(&mut handler, &mut found) {
             Ok(()) => Ok(found),
             Err(why) => return Err(error_of_stop(why)),
         }
@@ -414,7 +414,7 @@ impl<'a, T: EncodingType> IxdtfParser<'a, T> {
         F: FnMut(Annotation<'a, T>) -> Option<Annotation<'a, T>>,
     {
         let mut found = IxdtfParseRecord::default();
-        match self.read_into::<C, F>(handler, &mut found) {
+        match self.read_handled::<C, F>(handler, &mut found) {
             Ok(()) => Ok(found),
             Err(refused) => return Err(error_of_stop(refused)),
         }

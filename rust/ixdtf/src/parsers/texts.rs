@@ -13,6 +13,7 @@ use crate::parsers::profile::Profile;
 use crate::records::{Annotation, IxdtfParseRecord};
 use crate::cursor::Cursor;
 use crate::stop::{StopAt, code_of};
+use crate::parsers::offsets::AfterCore;
 
 impl<'a, T: EncodingType> IxdtfParser<'a, T> {
     /// Reads all of the remaining input into an empty record. After an error, the remaining input is unchanged.
@@ -36,6 +37,37 @@ impl<'a, T: EncodingType> IxdtfParser<'a, T> {
     {
         let mut here = self.cursor.fork();
         match parse_text::<T, C, F>(&mut here, self.profile, handler, found) {
+            Ok(()) => {
+                self.cursor = here;
+                Ok(())
+            }
+            Err(stop) => {
+                let at = self.cursor.remaining().saturating_sub(here.remaining());
+                let next = here.next();
+                Err(StopAt {
+                    reason: stop,
+                    code: code_of(stop, true, next),
+                    at,
+                })
+            }
+        }
+    }
+
+    /// Does what [`read_into`](Self::read_into) does. Only the readers with a handler call this function.
+    ///
+    /// A reader with a handler is compiled once for each handler. So that the compiled code is small, this function reads
+    /// the core and the first bracket with `parse_front`, which is compiled once for all handlers.
+    #[inline(always)]
+    pub(crate) fn read_handled<C: CoreReader, F>(
+        &mut self,
+        handler: &mut F,
+        found: &mut IxdtfParseRecord<'a, T>,
+    ) -> Result<(), StopAt>
+    where
+        F: FnMut(Annotation<'a, T>) -> Option<Annotation<'a, T>>,
+    {
+        let mut here = self.cursor.fork();
+        match parse_handled_text::<T, C, F>(&mut here, self.profile, handler, found) {
             Ok(()) => {
                 self.cursor = here;
                 Ok(())
@@ -90,6 +122,67 @@ where
     let bracket = parse_bracket_by(&mut here, is_exact);
     *cursor = here;
     let first = place_bracket(bracket?, found);
+    let mut here = cursor.fork();
+    let calendar = parse_annotations::<T, F>(&mut here, first, handler);
+    *cursor = here;
+    place_calendar(calendar?, found);
+    Ok(())
+}
+
+/// Does what `parse_text` does. Only the readers with a handler call this function.
+#[inline(always)]
+fn parse_handled_text<'a, T: EncodingType, C: CoreReader, F>(
+    cursor: &mut Cursor<'a, T>,
+    profile: Profile,
+    handler: &mut F,
+    found: &mut IxdtfParseRecord<'a, T>,
+) -> Result<(), Reason>
+where
+    F: FnMut(Annotation<'a, T>) -> Option<Annotation<'a, T>>,
+{
+    let mut first = None;
+    if parse_front::<T, C>(cursor, profile, found, &mut first)?.opens_bracket() {
+        return parse_later_brackets(cursor, first, found, handler);
+    }
+    Ok(())
+}
+
+/// Reads the *front* of a text: a core of the kind that `C` reads under the profile, and the first bracket, if the text has
+/// brackets. Writes the core and the zone into an empty record, and an annotation into `first`.
+///
+/// Returns whether the text has a bracket. The function is not inlined, so it is compiled once for all handlers.
+#[inline(never)]
+fn parse_front<'a, T: EncodingType, C: CoreReader>(
+    cursor: &mut Cursor<'a, T>,
+    profile: Profile,
+    found: &mut IxdtfParseRecord<'a, T>,
+    first: &mut Option<Annotation<'a, T>>,
+) -> Result<AfterCore, Reason> {
+    let mut here = cursor.fork();
+    let read = C::parse_core(&mut here, profile, found);
+    *cursor = here;
+    let after = read?;
+    if after.opens_bracket() {
+        let mut here = cursor.fork();
+        let bracket = parse_bracket_by(&mut here, C::has_exact_zones());
+        *cursor = here;
+        *first = place_bracket(bracket?, found);
+    }
+    Ok(after)
+}
+
+/// Reads the annotations after a first bracket, up to the end of the input. `first` is the annotation of the first
+/// bracket, if it has one. Writes the calendar into the record.
+#[inline(never)]
+fn parse_later_brackets<'a, T: EncodingType, F>(
+    cursor: &mut Cursor<'a, T>,
+    first: Option<Annotation<'a, T>>,
+    found: &mut IxdtfParseRecord<'a, T>,
+    handler: &mut F,
+) -> Result<(), Reason>
+where
+    F: FnMut(Annotation<'a, T>) -> Option<Annotation<'a, T>>,
+{
     let mut here = cursor.fork();
     let calendar = parse_annotations::<T, F>(&mut here, first, handler);
     *cursor = here;

@@ -1,0 +1,1 @@
+use Rattle.ixdtf.proofs.parsers.texts.parse_later_brackets.Goals as goal
