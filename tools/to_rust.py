@@ -154,7 +154,7 @@ DERIVED = {('error', 'ParseError'): {'variant_index', 'location'}, ('located', '
 UNSEEN = [phrase.split() for phrase in ['use crate :: looks :: Looks ;', 'looks : Looks ,', 'looks : Looks :: none ( ) ,', 'self . looks . tick ( ) ;',
                                         'let common = left . len ( ) . min ( right . len ( ) ) ;', 'self . looks . tick_by ( common ) ;', 'self . looks . tick_by ( 4 ) ;',
                                         'looks : std :: mem :: replace ( & mut self . looks , Looks :: none ( ) ) ,',
-                                        'self . keep_looks ( here ) ;', 'self . cursor . keep_looks ( here ) ;', 'cursor . keep_looks ( again ) ;', 'cursor . keep_looks ( front ) ;']]
+                                        'self . keep_looks ( here ) ;', 'self . cursor . keep_looks ( here ) ;', 'self . cursor . keep_looks ( text . here ) ;', 'cursor . keep_looks ( again ) ;', 'cursor . keep_looks ( front ) ;']]
 COUNT = '# [ inline ( always ) ] pub fn keep_looks ('.split()
 WRITER, LAST_WRITER, FORMATTER = '< W : fmt :: Write >'.split(), ', W : fmt :: Write > ('.split(), 'fmt :: Formatter < W >'.split()
 USES = {'std::marker::Model': '', 'std::marker::{Model,PhantomData}': 'use std::marker::PhantomData;'}

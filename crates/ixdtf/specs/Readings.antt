@@ -57,6 +57,14 @@ PairsReadInto number step handler last first text old new (Ok x) left =
     (calendar : Option Pair) × PairsRead number step handler last first text (Ok calendar) × (new ≡ with_calendar old (calendar_value calendar))
 PairsReadInto number step handler last first text old new (Err stop) left = PairsRead number step handler last first text (Err (stop, left))
 
+-- The function read into a record, and returned the record, or the error of a `StopAt`.
+abbrev pub ReadsHandled : {T U F E : Type 0} → (ℕ → Letter) → (U → ℕ) → Step T U F → F → F → (E → Fault) → (Reason → ℕ → E → Type 0) → Reader → UnreadUnder
+    → Result (IxdtfParseRecord T U) E → UnreadUnder → Type 0
+ReadsHandled letter number step handler last fault stands reader old (Ok found) new =
+    ReadsInto letter number step handler last (parsed_of number found) reader old (Ok tt) new
+ReadsHandled letter number step handler last fault stands reader old (Err e) new = (found : Parsed) × (why : StopAt)
+    × ReadsInto letter number step handler last found reader old (Err why) new × (fault e ≡ fault_of_stop_at why) × stands why.reason why.at e
+
 -- The function read into a record, with each annotation as its own reply.
 pub record ReadsUnhandled (letter : ℕ → Letter) (found : Parsed) (reader : Reader)
     (old : UnreadUnder) (result : Result Unit StopAt) (new : UnreadUnder) : Type 0 where

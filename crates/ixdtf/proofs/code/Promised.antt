@@ -1,16 +1,16 @@
 -- The contract of a reader of complete texts follows from the contract of the function that reads into a record.
 use Rattle.std.proofs.Common.{◌≡◌, ℕ, ◌+◌, ◌≤◌, map, Result, Ok, Err, refl, arith}
-use Rattle.ixdtf_grammar.specs.{declared.located.LocatedError.LocatedError, language.{Letters.{Letter, Text}, Languages.{Parsed, Found}}}
+use Rattle.ixdtf_grammar.specs.{declared.{located.LocatedError.LocatedError, records.IxdtfParseRecord.IxdtfParseRecord}, language.{Letters.{Letter, Text}, Languages.{Parsed, Found}}}
 use Rattle.ixdtf_grammar.specs.{language.Readers.{Reader, CoreKind, Reader.bracketed}, table.Faults.{Fault, fault_of_located}, Handlers.{Step, replies_of}}
 use Rattle.ixdtf_grammar.specs.{Promises.{ReadsText, ReadsTextAt, HandlesText, HandlesTextAt, ReadsPartAt, most_looks_beside}}
-use Rattle.ixdtf_grammar.specs.Views.{Unread, UnreadUnder, most_looks, LeavesBehind}
+use Rattle.ixdtf_grammar.specs.Views.{Unread, UnreadUnder, parsed_of, most_looks, LeavesBehind}
 use Rattle.ixdtf_reading.specs.{declared.stop.StopAt.StopAt, reading.{Chains.{Counting, TextRead}, Looks.{Read, Placed}}}
 use Rattle.ixdtf_reading.proofs.{code.Located.Located, theorems.Handled.{OwnReplies, handled, handled_of, gives_result, handled_accepted, unhandled_form}}
 use Rattle.ixdtf_reading.proofs.theorems.HandledAt.{handled_at_ok, handled_at_err, handled_to_at_ok, handled_to_at_err, unhandled_at, unhandled_reason}
 use Rattle.ixdtf_reading.proofs.theorems.{OnePlace.one_unhandled_place, OneReason.one_unhandled_reason}
 use Rattle.ixdtf_grammar.specs.declared.reason.Reason.{Reason}
 use Rattle.ixdtf.proofs.code.Counted.{cost_of, own_costs_nothing, text_of}
-use Rattle.ixdtf.specs.Readings.{ReadsInto, ReadsUnhandled, HandlesTextTo, fault_of_stop_at}
+use Rattle.ixdtf.specs.Readings.{ReadsInto, ReadsHandled, ReadsUnhandled, HandlesTextTo, fault_of_stop_at}
 
 -- The results of reading into a record: success, and an error.
 abbrev ended : Result Unit StopAt
@@ -188,6 +188,26 @@ module _ {T U F X E : Type 0} (letter : ℕ → Letter) (number : U → ℕ) (st
         let alone = text_of number step counted in
         let to = handled_to_at_err number step handler last reader (map letter old.rest) fault stands view why e same there (left, lengths, alone, code) in
         record { handled = to; no_row = tt; no_other_reader = tt; leaves = leaves_err fault (within counted) e why same read.leaves; profile = read.profile }
+
+-- The contracts of the two functions that only call `read_handled`.
+module _ {T U F E : Type 0} (letter : ℕ → Letter) (number : U → ℕ) (step : Step T U F) (handler last : F) (reader : Reader) (old new : UnreadUnder)
+    (fault : E → Fault) (stands : Reason → ℕ → E → Type 0) where
+  pub handles_by : (result : Result (IxdtfParseRecord T U) E) → ReadsHandled letter number step handler last fault stands reader old result new
+      → HandlesText letter number step handler fault (parsed_of number) reader old result new
+  handles_by (Ok found) read = handles_ok letter number step handler last (parsed_of number) reader old new fault found read
+  handles_by (Err e) (found, why, read, same, there) = handles_err letter number step handler last (parsed_of number) reader old new fault found e why same read
+
+  pub handles_by_at : (result : Result (IxdtfParseRecord T U) E) → ReadsHandled letter number step handler last fault stands reader old result new
+      → HandlesTextAt letter number step handler fault stands (parsed_of number) reader old result new
+  handles_by_at (Ok found) read = handles_ok_at letter number step handler last (parsed_of number) reader old new fault stands found read
+  handles_by_at (Err e) (found, why, read, same, there) =
+      handles_err_at letter number step handler last (parsed_of number) reader old new fault stands found e why same there read
+
+  pub handles_by_to : (result : Result (IxdtfParseRecord T U) E) → ReadsHandled letter number step handler last fault stands reader old result new
+      → HandlesTextTo letter number step handler last fault stands (parsed_of number) reader old result new
+  handles_by_to (Ok found) read = handles_ok_to letter number step handler last (parsed_of number) reader old new fault stands found read
+  handles_by_to (Err e) (found, why, read, same, there) =
+      handles_err_to letter number step handler last (parsed_of number) reader old new fault stands found e why same there read
 
 -- ---- a part on its own
 

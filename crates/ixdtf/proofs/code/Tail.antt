@@ -1,5 +1,5 @@
 -- What the code read as a core, and as the first bracket after it, gives what the text is.
-use Rattle.std.proofs.Common.{◌≡◌, ℕ, ◌≤◌, ◌+◌, suc, Bool, true, false, List, [], ◌∷◌, ◌++◌, length, map, Option, None, Result, Ok, Err, refl, sym, ap, ◌∙◌, subst}
+use Rattle.std.proofs.Common.{◌≡◌, ℕ, ◌≤◌, ◌+◌, suc, Bool, true, false, List, [], ◌∷◌, ◌++◌, length, map, Option, None, Result, Ok, Err, sym, ap, ◌∙◌, subst}
 use Rattle.std.proofs.{Common.arith, lemmas.List.{length-map, length-append}}
 use Rattle.ixdtf_grammar.specs.language.{Letters.{Letter, Text, Letter.Plain}, Cores.Core, Brackets.Pair, Languages.parsed_with, Readers.{CoreKind, has_exact_zones}}
 use Rattle.ixdtf_grammar.specs.{language.Readers.Reader.bracketed, Handlers.{Step, with_calendar}}

@@ -19,7 +19,7 @@ use crate::parsers::{
 use crate::{LocatedError, ParseError, ParserResult};
 use ixdtf_grammar::encoding::EncodingType;
 use ixdtf_grammar::records::{Annotation, IxdtfParseRecord};
-use ixdtf_reading::stop::{Next, code_of, error_of_stop};
+use ixdtf_reading::stop::{Next, StopAt, code_of, error_of_stop};
 
 impl<'a, T: EncodingType> IxdtfParser<'a, T> {
     /// Parses the remaining input like [`parse`](Self::parse), and lets a handler decide about each annotation.
@@ -430,11 +430,7 @@ impl<'a, T: EncodingType> IxdtfParser<'a, T> {
         ensures handles { HandlesText T.letter T.number F.step handler E.fault (parsed_of T.number) (bracketed (C.kind self.old.profile)) self.old result self.new }
         ensures places { HandlesTextAt T.letter T.number F.step handler E.fault E.stands (parsed_of T.number) (bracketed (C.kind self.old.profile)) self.old result self.new }
     {
-        let mut found = IxdtfParseRecord::default();
-        match self.read_handled::<C, F>(&mut handler, &mut found) {
-            Ok(()) => Ok(found),
-            Err(why) => return Err(error_of_stop(why)),
-        }
+        self.read_handled::<E, C, F>(&mut handler)
     }
 
     /// Reads a text with a core of the kind that `C` reads, like
@@ -460,11 +456,7 @@ impl<'a, T: EncodingType> IxdtfParser<'a, T> {
         requires callable { F.IsAlwaysCallable handler.old }
         ensures handles { HandlesTextTo T.letter T.number F.step handler.old handler.new E.fault E.stands (parsed_of T.number) (bracketed (C.kind self.old.profile)) self.old result self.new }
     {
-        let mut found = IxdtfParseRecord::default();
-        match self.read_handled::<C, F>(handler, &mut found) {
-            Ok(()) => Ok(found),
-            Err(refused) => return Err(error_of_stop(refused)),
-        }
+        self.read_handled::<E, C, F>(handler)
     }
 
     /// Stores a reply in `calendar`, as the readers do, if the reply has the key `u-ca` and `calendar` is `None`.
@@ -496,7 +488,11 @@ impl<'a, T: EncodingType> IxdtfParser<'a, T> {
     {
         if let Err(stop) = keep_first_calendar::<T>(&mut self.cursor, calendar, reply) {
             // The error of a refusal does not depend on what follows.
-            return Err(code_of(stop, true, Next::End).error());
+            return Err(error_of_stop(StopAt {
+                reason: stop,
+                code: code_of(stop, true, Next::End),
+                at: 0,
+            }));
         }
         Ok(())
     }

@@ -1,6 +1,6 @@
 //! Functions that read complete texts: a core, a first bracket, and the brackets after it.
 
-ghost use Rattle.std.specs.Prelude.{◌≡◌, ℕ, ◌+◌, ◌*◌, ◌≤◌, [], true, map, length, OnOk, None, option_map};
+ghost use Rattle.std.specs.Prelude.{◌≡◌, ℕ, ◌+◌, ◌-◌, ◌*◌, ◌≤◌, [], true, map, length, OnOk, Err, None, option_map};
 ghost use Rattle.ixdtf_grammar.specs.language.Readers.Reader.{bracketed};
 ghost use Rattle.ixdtf_grammar.specs.language.Languages.{parsed_with};
 ghost use Rattle.ixdtf_grammar.specs.Handlers.{with_calendar, calendar_value, pair_of};
@@ -9,11 +9,12 @@ ghost use Rattle.ixdtf_reading.specs.reading.Brackets.{zone_in, pairs_in};
 ghost use Rattle.ixdtf_reading.specs.reading.Chains.{TextRead, TextReadAfter, Counting, first_pairs};
 ghost use Rattle.ixdtf_reading.specs.reading.Clauses.{Spends, SpendsOr, HasNoBrackets, yielded_at, core_in};
 ghost use Rattle.ixdtf_brackets.specs.BracketTypes.{bracket_of, exact_looks};
-ghost use Rattle.ixdtf.specs.Readings.{ReadsInto, ReadsFront, PairsReadInto};
+ghost use Rattle.ixdtf.specs.Readings.{ReadsInto, ReadsHandled, ReadsFront, PairsReadInto};
+ghost use Rattle.ixdtf_reading.specs.reading.Stops.{fault_of_code, fault_at};
 
-use crate::parsers::IxdtfParser;
 use crate::parsers::cores::CoreReader;
 use crate::parsers::replies::parse_annotations;
+use crate::parsers::{FromStop, IxdtfParser};
 use ixdtf_brackets::brackets::Bracket;
 use ixdtf_brackets::exact_zones::parse_bracket_by;
 use ixdtf_grammar::Reason;
@@ -66,37 +67,35 @@ impl<'a, T: EncodingType> IxdtfParser<'a, T> {
         }
     }
 
-    /// Does what [`read_into`](Self::read_into) does. Only the readers with a handler call this function.
+    /// Reads all of the remaining input with a handler. After an error, the remaining input is unchanged.
     ///
-    /// A reader with a handler is compiled once for each handler. So that the compiled code is small, this function reads
-    /// the core and the first bracket with `parse_front`, which is compiled once for all handlers.
+    /// `read_as` and `read_lending_handler` call this function. It is compiled once for each handler. So that the compiled
+    /// code is small, it has only what depends on the handler, and calls functions that are compiled once for all
+    /// handlers: `parse_front` reads the core and the first bracket, and `refuse` makes the error.
     #[inline(always)]
-    pub(crate) fn read_handled<C: CoreReader, F>(
+    pub(crate) fn read_handled<E: FromStop, C: CoreReader, F>(
         &mut self,
         handler: &mut F,
-        found: &mut IxdtfParseRecord<'a, T>,
-    ) -> Result<(), StopAt>
+    ) -> Result<IxdtfParseRecord<'a, T>, E>
     where
         F: FnMut(Annotation<'a, T>) -> Option<Annotation<'a, T>>,
         requires callable { F.IsAlwaysCallable handler.old }
-        requires empty { IsEmptyRecord found.old }
-        ensures reads { ReadsInto T.letter T.number F.step handler.old handler.new (parsed_of T.number found.new) (bracketed (C.kind self.old.profile)) self.old result self.new }
+        ensures reads { ReadsHandled T.letter T.number F.step handler.old handler.new E.fault E.stands (bracketed (C.kind self.old.profile)) self.old result self.new }
     {
-        let mut here = self.cursor.fork();
-        match parse_handled_text::<T, C, F>(&mut here, self.profile, handler, found) {
+        let mut text = OpenText {
+            here: self.cursor.fork(),
+            found: IxdtfParseRecord::default(),
+            first: None,
+        };
+        match parse_handled_text::<T, C, F>(&mut text, self.profile, handler) {
             Ok(()) => {
-                self.cursor = here;
-                Ok(())
+                self.cursor = text.here;
+                Ok(text.found)
             }
             Err(stop) => {
-                let at = self.cursor.remaining().saturating_sub(here.remaining());
-                let next = here.next();
-                self.cursor.keep_looks(here);
-                Err(StopAt {
-                    reason: stop,
-                    code: code_of(stop, true, next),
-                    at,
-                })
+                let refused = refuse(&mut text, self.cursor.remaining(), stop);
+                self.cursor.keep_looks(text.here);
+                return refused;
             }
         }
     }
@@ -163,68 +162,79 @@ where
     Ok(())
 }
 
-/// Does what `parse_text` does. Only the readers with a handler call this function.
+/// A text of which a part was read. All that a reader with a handler knows about its text is in one value, so it is passed
+/// on with one reference.
+#[derive(Drop)]
+struct OpenText<'a, T: EncodingType> {
+    /// The cursor after the part that was read.
+    here: Cursor<'a, T>,
+    /// The record of what was found.
+    found: IxdtfParseRecord<'a, T>,
+    /// The annotation of the first bracket, if it has one.
+    first: Option<Annotation<'a, T>>,
+}
+
+/// Reads a core of the kind that `C` reads under the profile, and the brackets after it, up to the end of the input. Calls
+/// the handler with each annotation.
 #[inline(always)]
 fn parse_handled_text<'a, T: EncodingType, C: CoreReader, F>(
-    cursor: &mut Cursor<'a, T>,
+    text: &mut OpenText<'a, T>,
     profile: Profile,
     handler: &mut F,
-    found: &mut IxdtfParseRecord<'a, T>,
 ) -> Result<(), Reason>
 where
     F: FnMut(Annotation<'a, T>) -> Option<Annotation<'a, T>>,
-    requires empty { IsEmptyRecord found.old }
+    requires empty { IsEmptyRecord text.old.found }
+    requires no_pair { text.old.first ≡ None }
     requires callable { F.IsAlwaysCallable handler.old }
     ensures replied { (spent : ℕ) ×
         TextRead T.number (Counting F.step) (handler.old, 0) (handler.new, spent)
-        (bracketed (C.kind profile)) (map T.letter cursor.old.rest)
-        (yielded_at (λ _. parsed_of T.number found.new) result (map T.letter cursor.new.rest)) ×
-        (cursor.new.looks + 1 ≤ cursor.old.looks + (most_looks cursor.old.rest + spent)) }
-    ensures empty { OnOk result (cursor.new.rest ≡ []) }
-    ensures counted { cursor.old.looks ≤ cursor.new.looks }
+        (bracketed (C.kind profile)) (map T.letter text.old.here.rest)
+        (yielded_at (λ _. parsed_of T.number text.new.found) result (map T.letter text.new.here.rest)) ×
+        (text.new.here.looks + 1 ≤ text.old.here.looks + (most_looks text.old.here.rest + spent)) }
+    ensures empty { OnOk result (text.new.here.rest ≡ []) }
+    ensures counted { text.old.here.looks ≤ text.new.here.looks }
 {
-    let mut first = None;
-    if parse_front::<T, C>(cursor, profile, found, &mut first)?.opens_bracket() {
-        return parse_later_brackets(cursor, first, found, handler);
+    if parse_front::<T, C>(text, profile)?.opens_bracket() {
+        return parse_later_brackets(text, handler);
     }
     Ok(())
 }
 
 /// Reads the *front* of a text: a core of the kind that `C` reads under the profile, and the first bracket, if the text has
-/// brackets. Writes the core and the zone into an empty record, and an annotation into `first`.
+/// brackets. Returns whether it has.
 ///
-/// Returns whether the text has a bracket. The function is not inlined, so it is compiled once for all handlers.
+/// The function is not inlined, so it is compiled once for all handlers.
 #[inline(never)]
 fn parse_front<'a, T: EncodingType, C: CoreReader>(
-    cursor: &mut Cursor<'a, T>,
+    text: &mut OpenText<'a, T>,
     profile: Profile,
-    found: &mut IxdtfParseRecord<'a, T>,
-    first: &mut Option<Annotation<'a, T>>,
 ) -> Result<AfterCore, Reason>
-    requires empty { IsEmptyRecord found.old }
-    ensures front { ReadsFront T.letter T.number (C.kind profile) cursor.old result first.new found.new cursor.new }
-    ensures looks { SpendsOr (3 * length cursor.old.rest + 54) (length cursor.old.rest + 54) cursor.old result cursor.new }
+    requires empty { IsEmptyRecord text.old.found }
+    requires no_pair { text.old.first ≡ None }
+    ensures front { ReadsFront T.letter T.number (C.kind profile) text.old.here result text.new.first text.new.found text.new.here }
+    ensures looks { SpendsOr (3 * length text.old.here.rest + 54) (length text.old.here.rest + 54) text.old.here result text.new.here }
 {
-    let mut here = cursor.fork();
-    let read = C::parse_core(&mut here, profile, found);
-    *cursor = here;
+    let mut here = text.here.fork();
+    let read = C::parse_core(&mut here, profile, &mut text.found);
+    text.here = here;
     let after = read?;
     if after.opens_bracket() {
-        let mut here = cursor.fork();
+        let mut here = text.here.fork();
         let bracket = parse_bracket_by(&mut here, C::has_exact_zones());
-        *cursor = here;
-        *first = place_bracket(bracket?, found);
+        text.here = here;
+        if let Some(annotation) = place_bracket(bracket?, &mut text.found) {
+            text.first = Some(annotation);
+        }
     }
     Ok(after)
 }
 
-/// Reads the annotations after a first bracket, up to the end of the input. `first` is the annotation of the first
-/// bracket, if it has one. Writes the calendar into the record.
+/// Reads the annotations after the front of a text, up to the end of the input, and writes the calendar into the record.
+/// Calls the handler with each annotation, also with that of the first bracket.
 #[inline(never)]
 fn parse_later_brackets<'a, T: EncodingType, F>(
-    cursor: &mut Cursor<'a, T>,
-    first: Option<Annotation<'a, T>>,
-    found: &mut IxdtfParseRecord<'a, T>,
+    text: &mut OpenText<'a, T>,
     handler: &mut F,
 ) -> Result<(), Reason>
 where
@@ -232,16 +242,61 @@ where
     requires callable { F.IsAlwaysCallable handler.old }
     ensures replied { (spent : ℕ) ×
         PairsReadInto T.number (Counting F.step) (handler.old, 0) (handler.new, spent)
-        (first_pairs (option_map (pair_of T.number) first.entry)) (map T.letter cursor.old.rest)
-        (parsed_of T.number found.old) (parsed_of T.number found.new) result (map T.letter cursor.new.rest) ×
-        Spends (2 * length cursor.old.rest + 10 + spent) cursor.old cursor.new }
-    ensures empty { OnOk result (cursor.new.rest ≡ []) }
+        (first_pairs (option_map (pair_of T.number) text.old.first)) (map T.letter text.old.here.rest)
+        (parsed_of T.number text.old.found) (parsed_of T.number text.new.found) result (map T.letter text.new.here.rest) ×
+        Spends (2 * length text.old.here.rest + 10 + spent) text.old.here text.new.here }
+    ensures empty { OnOk result (text.new.here.rest ≡ []) }
 {
-    let mut here = cursor.fork();
+    // If the annotation were taken out of the text, the code would be larger.
+    let first = match &text.first {
+        Some(pair) => Some(copied(pair)),
+        None => None,
+    };
+    let mut here = text.here.fork();
     let calendar = parse_annotations::<T, F>(&mut here, first, handler);
-    *cursor = here;
-    place_calendar(calendar?, found);
+    text.here = here;
+    place_calendar(calendar?, &mut text.found);
     Ok(())
+}
+
+/// Returns a copy of an annotation.
+///
+/// A `Copy` of an annotation needs a `T` that is `Copy` in Rust.
+#[inline(always)]
+fn copied<'a, T: EncodingType>(pair: &Annotation<'a, T>) -> Annotation<'a, T>
+    ensures { result ≡ pair.now }
+{
+    Annotation {
+        critical: pair.critical,
+        key: pair.key,
+        value: pair.value,
+    }
+}
+
+/// Returns the error of a `Reason`. The cursor of the text is at the position of the error, and `start` is the number of
+/// code units that remained before the text was read.
+///
+/// The function is not inlined, so it is compiled once for all handlers. It returns the error as the result of a reader, so
+/// the error is written where the reader returns it, and is not copied.
+#[inline(never)]
+fn refuse<'a, T: EncodingType, E: FromStop>(
+    text: &mut OpenText<'a, T>,
+    start: usize,
+    stop: Reason,
+) -> Result<IxdtfParseRecord<'a, T>, E>
+    ensures refused { (why : StopAt) × (e : E) × (result ≡ Err e) × (E.fault e ≡ fault_of_code why.code) × E.stands why.reason why.at e ×
+        (why.reason ≡ stop) × (why.at ≡ start - length text.old.here.rest) ×
+        (fault_of_code why.code ≡ fault_at true stop (map T.letter text.old.here.rest)) }
+    ensures rest { text.new.here.rest ≡ text.old.here.rest }
+    ensures looks { text.new.here.looks ≡ text.old.here.looks + 1 }
+{
+    let at = start.saturating_sub(text.here.remaining());
+    let next = text.here.next();
+    Err(E::of_stop(StopAt {
+        reason: stop,
+        code: code_of(stop, true, next),
+        at,
+    }))
 }
 
 /// Writes the zone of a first bracket into the record. If the bracket is an annotation, returns it.

@@ -9,7 +9,7 @@ use crate::parsers::{
 use crate::{LocatedError, ParseError, ParserResult};
 use crate::encoding::EncodingType;
 use crate::records::{Annotation, IxdtfParseRecord};
-use crate::stop::{Next, code_of, error_of_stop};
+use crate::stop::{Next, StopAt, code_of, error_of_stop};
 
 impl<'a, T: EncodingType> IxdtfParser<'a, T> {
     /// Parses the remaining input like [`parse`](Self::parse), and lets a handler decide about each annotation.
@@ -386,11 +386,7 @@ impl<'a, T: EncodingType> IxdtfParser<'a, T> {
     where
         F: FnMut(Annotation<'a, T>) -> Option<Annotation<'a, T>>,
     {
-        let mut found = IxdtfParseRecord::default();
-        match self.read_handled::<C, F>(&mut handler, &mut found) {
-            Ok(()) => Ok(found),
-            Err(why) => return Err(error_of_stop(why)),
-        }
+        self.read_handled::<E, C, F>(&mut handler)
     }
 
     /// Reads a text with a core of the kind that `C` reads, like
@@ -413,11 +409,7 @@ impl<'a, T: EncodingType> IxdtfParser<'a, T> {
     where
         F: FnMut(Annotation<'a, T>) -> Option<Annotation<'a, T>>,
     {
-        let mut found = IxdtfParseRecord::default();
-        match self.read_handled::<C, F>(handler, &mut found) {
-            Ok(()) => Ok(found),
-            Err(refused) => return Err(error_of_stop(refused)),
-        }
+        self.read_handled::<E, C, F>(handler)
     }
 
     /// Stores a reply in `calendar`, as the readers do, if the reply has the key `u-ca` and `calendar` is `None`.
@@ -436,7 +428,11 @@ impl<'a, T: EncodingType> IxdtfParser<'a, T> {
     ) -> ParserResult<()> {
         if let Err(stop) = keep_first_calendar::<T>(&mut self.cursor, calendar, reply) {
             // The error of a refusal does not depend on what follows.
-            return Err(code_of(stop, true, Next::End).error());
+            return Err(error_of_stop(StopAt {
+                reason: stop,
+                code: code_of(stop, true, Next::End),
+                at: 0,
+            }));
         }
         Ok(())
     }

@@ -1,5 +1,5 @@
 use Rattle.ixdtf.proofs.parsers.texts.parse_handled_text.Goals as goal
-use Rattle.std.proofs.{Common.{length, refl, ◌∙◌, sym, arith}, lemmas.Result.err_from_is_err_and}
+use Rattle.std.proofs.{Common.{refl, ◌∙◌, sym, arith}, lemmas.Result.err_from_is_err_and}
 use Rattle.ixdtf_grammar.specs.language.Readers.{has_exact_zones as exact_zones}
 use Rattle.ixdtf_reading.proofs.code.Units.{no_units}
 use Rattle.ixdtf.proofs.code.{Tail.{core_opens, core_ends_text, bracket_shortens}, Placed.{no_brackets, placed_alone, placed_later, front_refused}}
@@ -15,7 +15,7 @@ pub returns-clause-replied : goal.returns-clause-replied
 returns-clause-replied g c =
     let ends = sym c.opens_bracket.ensures ∙ c.if-opens_bracket.false in
     let (read, none) = rw ends at c.in_ok-parse_front.ensures.front in
-    let whole = no_brackets g.T.EncodingType.number c.parse_front.new.found none.0 none.1 in
+    let whole = no_brackets g.T.EncodingType.number c.parse_front.new.text.found none.0 none.1 in
     let looks = c.in_ok-parse_front.ensures.looks in
     (0, placed_alone _ _ _ (exact_zones (g.C.CoreReader.kind c.args.profile)) _ _ _ whole (g.C.CoreReader.kind c.args.profile) _ refl read, omega (arith, looks))
 
