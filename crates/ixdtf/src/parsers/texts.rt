@@ -28,9 +28,8 @@ use ixdtf_times::offsets::AfterCore;
 impl<'a, T: EncodingType> IxdtfParser<'a, T> {
     /// Reads all of the remaining input into an empty record. After an error, the remaining input is unchanged.
     ///
-    /// All public readers of `IxdtfParser` call this function, except `parse_rfc3339` and `parse_rfc3339_located`. The
-    /// readers without a handler call it through `read_unhandled`, and those with a handler call it through `read_as`.
-    /// `read_lending_handler` calls it directly.
+    /// All public readers of `IxdtfParser` without a handler call this function through `read_unhandled`, except
+    /// `parse_rfc3339` and `parse_rfc3339_located`. The readers with a handler call `read_handled`.
     ///
     /// Most of these readers make the record as a local variable, and then have a `match` on the result of the call.
     /// For speed, one arm of this `match` gives the record, and the arm of the error has its own `return`. The arm of
