@@ -30,9 +30,9 @@
  * If a reader returns an error, the record is unchanged, except for `location` and `place`. So its
  * other fields have the values from before the call. They can be about an earlier text.
  * - `location` says what was being parsed, such as "digit", if the error is IXDTF_ABRUPT_END. After
- *   every other error, `location` has length 0. This error does not say that the text ends too
- *   early: the duration PT1x has it too, and many texts that end too early have other errors. See
- *   ixdtf_explain.
+ *   every other error, `location` has length 0. IXDTF_ABRUPT_END does not mean that the text ends
+ *   too early: the duration PT1x has this error too, and many texts that end too early have other
+ *   errors. See ixdtf_explain.
  * - `place` is the position of the error: the number of code units before it. If a code unit is
  *   wrong, the position is before this code unit. If the text ends too early, the position is the
  *   end of the text. If something longer than one code unit is wrong, the position is directly
@@ -206,7 +206,7 @@ enum {
     IXDTF_READER_PARSE_TIME_WITH_ANNOTATIONS_STRICT = 20
 };
 
-/* The reasons why a reader refuses a text. A reason is a line of the table of errors in
+/* The reasons why a reader refuses a text. A reason is a line of the fault table in
  * docs/FAULTS.md, or the refusal of an annotation. Most reasons have the name of their line. If a
  * line is for several places in a text, it has a reason for each place: the line hour_range, for
  * example, has IXDTF_REASON_HOUR_RANGE for a time, IXDTF_REASON_OFFSET_HOUR_RANGE for an offset,
@@ -773,8 +773,8 @@ IXDTF_CHECKED_ uint32_t ixdtf16_print_month_day(const ixdtf16_record *record, ui
  * - If the text ends too early, the part is empty, and is at the end of the text. In all other
  *   cases, the part is not empty. So if the reader refuses the text, and `begin == end`, the text
  *   ends too early.
- * - If a number is out of range, the part is the number, even if more of its digits follow the
- *   position. If it is a number of a duration, the part has neither its fraction nor its unit.
+ * - If a number is out of range, the part is the number. A number of a duration can go on after the
+ *   position. The part of such a number has neither its fraction nor its unit.
  * - If the year is -000000, the part is the year with its sign.
  * - If a unit of a duration is not in order, the part is the unit with its number.
  * - If a time is ambiguous, the part is the month and the day, or the year and the month, with
@@ -1142,8 +1142,8 @@ static inline ixdtf_explanation ixdtf16_explain_reply(const uint16_t *text,
 
 /* Converts 16-bit code units, UTF-16, to UTF-8. Writes the bytes to `out`, which must have room for
  * 3 * length bytes, and returns how many it has written. A surrogate without the other one of its
- * pair is written as U+FFFD. The code units before the error of a reader are 1 to 126, so each of
- * them is one byte. So an explanation of ixdtf16_explain is also one for the converted text, and
+ * pair is written as U+FFFD. Each code unit before the error of a reader has a value from 1 to
+ * 126, so it is one byte in UTF-8. So an explanation of ixdtf16_explain is also one for the converted text, and
  * you can pass both to ixdtf_describe. */
 static inline size_t ixdtf16_to_utf8(const uint16_t *text, size_t length, uint8_t *out) {
     size_t i, count = 0;

@@ -7,7 +7,7 @@ class IxdtfError(ValueError):
 
     text        the text, as str or bytes
     message     says what is wrong in the text, and what was expected
-    reason      the name of the line of the table of errors, such as "month_range"
+    reason      the name of the reason, such as "month_range"
     start, end  the part of the text that is wrong, text[start:end], in code points (of a str) or bytes (of bytes)
     position    the number of code points (of a str) or bytes (of bytes) before the error
     name        the name of the error, such as "DATE_MONTH"

@@ -376,7 +376,7 @@ fn matches_errors(rt: HostRuntime) {
 
 // ==== Places of errors ====
 
-// Explains why a text is refused, and marks the position of the error. The result is empty if the text is accepted.
+// Explains why a text is refused, and marks the part that is wrong. The result is empty if the text is accepted.
 fn explain(alloc: Global, text: &str) -> Result<String, AllocError> {
     match IxdtfParser::from_str(text).parse_located() {
         Ok(_record) => Ok(String::new(alloc)),
