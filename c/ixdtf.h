@@ -211,8 +211,8 @@ enum {
  * line is for several places in a text, it has a reason for each place: the line hour_range, for
  * example, has IXDTF_REASON_HOUR_RANGE for a time, IXDTF_REASON_OFFSET_HOUR_RANGE for an offset,
  * and IXDTF_REASON_ZONE_OFFSET_HOUR_RANGE for an offset that is a time zone. In Rust, these reasons
- * are the variants HourRange, OffsetHourRange and ZoneOffsetHourRange of `Reason`. No text has one
- * of the five reasons that are marked with -. */
+ * are the variants HourRange, OffsetHourRange and ZoneOffsetHourRange of `Reason`. The five
+ * reasons that are marked with - are never returned. */
 enum {
     IXDTF_REASON_YEAR_START = 1,
     IXDTF_REASON_YEAR_DIGITS = 2,
@@ -773,12 +773,13 @@ IXDTF_CHECKED_ uint32_t ixdtf16_print_month_day(const ixdtf16_record *record, ui
  * - If the text ends too early, the part is empty, and is at the end of the text. In all other
  *   cases, the part is not empty. So if the reader refuses the text, and `begin == end`, the text
  *   ends too early.
- * - If a number is out of range, the part is the number. A number of a duration can go on after the
- *   position. The part of such a number has neither its fraction nor its unit.
+ * - If a number is out of range, the part is the number. In a duration, the position can be before
+ *   the last digit of the number. The part still contains all digits of the number. It contains
+ *   neither the fraction nor the unit.
  * - If the year is -000000, the part is the year with its sign.
  * - If a unit of a duration is not in order, the part is the unit with its number.
- * - If a time is ambiguous, the part is the month and the day, or the year and the month, with
- *   which it begins.
+ * - If a time is ambiguous, because it begins like a month and a day or like a year and a month,
+ *   the part is this beginning.
  * - If an annotation is refused because of its key or its value, the part is its bracket. The same
  *   holds if ixdtf_parse_rfc9557 refuses a time zone because of its form.
  * For a refused reply, call ixdtf_explain_reply or ixdtf16_explain_reply. */
@@ -795,10 +796,10 @@ IXDTF_CHECKED_ uint32_t ixdtf16_explain(uint32_t reader, const uint16_t *text, s
  *     2024-13-01
  *          ^^
  * There is no newline at the end. docs/FAULTS.md has the messages. Of a long text, the second line
- * shows at most 48 characters before the part, and at most 24 characters from the beginning of the
- * part on. Two dots stand for the characters that are left out. A control character is written as
+ * shows at most 48 characters before the part. Then it shows at most 24 characters: the part, and
+ * the characters after it. Two dots stand for the characters that are left out. A control character is written as
  * "." in this line. If the text is not valid UTF-8, this line ends before the first byte that is
- * not.
+ * not valid.
  * `explanation` is what ixdtf_explain wrote. The function uses only its fields `reason` and
  * `place`. `text` must be the complete text that was refused. If it has 16-bit code units, convert
  * it to UTF-8 first: see ixdtf16_to_utf8.
@@ -1143,8 +1144,8 @@ static inline ixdtf_explanation ixdtf16_explain_reply(const uint16_t *text,
 /* Converts 16-bit code units, UTF-16, to UTF-8. Writes the bytes to `out`, which must have room for
  * 3 * length bytes, and returns how many it has written. A surrogate without the other one of its
  * pair is written as U+FFFD. Each code unit before the error of a reader has a value from 1 to
- * 126, so it is one byte in UTF-8. So an explanation of ixdtf16_explain is also one for the converted text, and
- * you can pass both to ixdtf_describe. */
+ * 126, so it is one byte in UTF-8. So an explanation from ixdtf16_explain is also right for the
+ * converted text. You can pass this explanation and the converted text to ixdtf_describe. */
 static inline size_t ixdtf16_to_utf8(const uint16_t *text, size_t length, uint8_t *out) {
     size_t i, count = 0;
     for (i = 0; i < length; i++) {

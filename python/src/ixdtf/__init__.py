@@ -23,7 +23,7 @@ parse_zone_name and parse_duration. Three functions do something else:
 
     is_valid(text, kind)     says whether a text is accepted
     canonical(value)         returns the canonical text of a record, a duration, an offset or a zone
-    instant(record)          returns the time of a record since 1970
+    instant(record)          returns the time from the beginning of 1970 (UTC) to the time of a record
 
 Record.to_datetime() makes a datetime, and Duration.to_timedelta() a timedelta. The page docs/PYTHON.md of the repository describes all of
 these.
