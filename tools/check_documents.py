@@ -12,6 +12,7 @@ must be those with the contracts of its tables. Each line of a table must begin 
 example is a text with the position of its error (`place` in this file). It must have this error at this position in the model, and in
 places.tsv, in which a person counted the positions. The errors must have the texts that they have in the code and in the model, and the
 readers that they have in the model. Each reason must have one row with its messages, and these must be the messages that wording.rt has.
+The hints must be those that hint.rt has, and each example of a hint must have this hint in the model.
 
 (c) Snippets. Each block of Rattle or Rust in README.md and docs/CALLING.md must be in a crate of tests or in an example of rust/ixdtf,
 which are compiled: all of its items, word by word, and all of its imports. The blocks in the READMEs of `rust/` are tests of their crates.
@@ -1019,6 +1020,41 @@ def findings_in_messages(document: Document) -> Iterator[Finding]:
 
 
 # ---------------------------------------------------------------------------------------------------------------------------------
+# The hints of docs/FAULTS.md
+
+# what is a hint in the code, and what the table has instead of the part that the hint shows
+SHOWN_IN_HINTS = {'Hint::Fixed': '', 'Hint::BeforeFront': '{front}', 'Hint::BeforeNext': '{char}', 'Hint::AroundLast': '{digit}`', 'in_clock': '{digit}`'}
+HINT = re.compile(rf'\b({"|".join(SHOWN_IN_HINTS)})\(\s*"((?:[^"\\]|\\.)*)"')
+IN_A_HINT = {'{digit}': '[0-9]', '{front}': '[0-9]+', '{char}': '.+'}
+
+
+def hints_in_code(tree: Tree) -> set[str]:
+    """The hints of the code, as the table has them."""
+    return {words + SHOWN_IN_HINTS[kind] for kind, words in HINT.findall(tree.read(GRAMMAR + 'hint.rt'))}
+
+
+def is_hint_of(hint: str, line: str) -> bool:
+    """Whether the model has this hint for a line of the program `ixdtf_lines`."""
+    pattern = re.sub(r'\\{\w+\\}', lambda it: IN_A_HINT[it[0].replace('\\', '')], re.escape(hint))
+    last = places.answer(line.encode(), False, places.REPORTS).split('\n')[-1]
+    return re.fullmatch(f'hint: {pattern}', last) is not None
+
+
+def findings_in_hints(document: Document) -> Iterator[Finding]:
+    """The differences of the table of hints from the code and from the model."""
+    rows = [(number, row) for number, row in document.tables() if 'Hint' in row and 'Example' in row]
+    had, said = hints_in_code(document.tree), {row['Hint'] for _, row in rows}
+    yield from (Finding(document.path, 1, f'no row for the hint "{it}"') for it in sorted(had - said))
+    for number, row in rows:
+        if row['Hint'] not in had:
+            yield Finding(document.path, number, f'the code does not have the hint "{row["Hint"]}"')
+        unknown = sorted(set(re.findall(r'`([A-Z][A-Za-z]+)`', row['Reasons'])) - set(reasons(document.tree)))
+        yield from (Finding(document.path, number, f'no reason {it}') for it in unknown)
+        if not is_hint_of(row['Hint'], row['Example'].strip('`')):
+            yield Finding(document.path, number, f'the model does not have this hint for {row["Example"]}')
+
+
+# ---------------------------------------------------------------------------------------------------------------------------------
 # All of it
 
 def findings(tree: Tree) -> Iterator[Finding]:
@@ -1035,6 +1071,7 @@ def findings(tree: Tree) -> Iterator[Finding]:
         if path == 'docs/FAULTS.md':
             yield from findings_in_faults(document)
             yield from findings_in_messages(document)
+            yield from findings_in_hints(document)
         if path in WITH_SNIPPETS:
             yield from findings_in_snippets(document)
     yield from findings_in_code(tree)

@@ -1,6 +1,6 @@
 #!/usr/bin/env python3
-"""compare_messages.py [--jobs N] [COUNT [SEED]]: compares the reasons, the parts that are wrong and the messages of refused texts with
-the model places.py.
+"""compare_messages.py [--jobs N] [COUNT [SEED]]: compares the reasons, the parts that are wrong, the messages and the hints of refused
+texts with the model places.py.
 
 The tool makes COUNT texts of 8-bit code units, and COUNT texts of 16-bit code units. If you do not give COUNT, it is 100000. If you do
 not give SEED, it is 1. The texts are for all readers, and for both profiles if the profile changes what the reader accepts. Each text is
@@ -9,14 +9,14 @@ tool builds the example `messages` of `rust/ixdtf` with cargo, and this example 
 the tool uses N processes. The texts and the output do not depend on N.
 
 A reader must accept the texts that the model accepts, and no others. For each other text, these must be as in the model: the error, its
-position, the reason, where the part that is wrong begins and ends, and the message.
+position, the reason, where the part that is wrong begins and ends, the message, and the hint. A text has at most one hint.
 
 A 16-bit text can have a lone surrogate, which is a half of a character. The library shows characters, and cannot show it. So the message
-is compared with the message of the model for a text with U+FFFD instead of each lone surrogate. The example does the same to the text
-before it asks for the part and for the message. All else is compared with the model of the text itself.
+and the hint are compared with those of the model for a text with U+FFFD instead of each lone surrogate. The example does the same to the
+text before it asks for the part, for the message and for the hint. All else is compared with the model of the text itself.
 
-For each width, the tool prints the number of texts, the number of refused texts, and the number of different reasons that the refused
-texts had. At the first difference, it prints the text, the expected result and the result of the reader, and ends with the exit status
+For each width, the tool prints the number of texts, the number of refused texts, and the numbers of different reasons and of different
+hints that the refused texts had. At the first difference, it prints the text, the expected result and the result of the reader, and ends with the exit status
 1."""
 import argparse
 import multiprocessing
@@ -184,8 +184,10 @@ def wanted(case: Case, units: Units, wide: bool) -> str:
     if found is None:
         return places.OK
     fault, reason = found
-    message = places.reason_text(reason, with_characters(units, wide), wide, case.strict)
-    return '\t'.join(map(str, (fault.error, fault.place, reason_name(reason.line), reason.begin, reason.end, message)))
+    characters = with_characters(units, wide)
+    message = places.reason_text(reason, characters, wide, case.strict)
+    hint = ' and '.join(places.hints_of(case.reader, found, characters, wide, case.strict))
+    return '\t'.join(map(str, (fault.error, fault.place, reason_name(reason.line), reason.begin, reason.end, message, hint)))
 
 
 # ---------------------------------------------------------------------------------------------------------------------------------
@@ -196,17 +198,18 @@ class Difference(Exception):
 
 
 class Counts(NamedTuple):
-    """How many texts were compared, how many were refused, and the reasons that these had."""
+    """How many texts were compared, how many were refused, and the reasons and the hints that these had."""
     texts: int
     refused: int
     reasons: frozenset[str]
+    hints: frozenset[str]
 
     def __add__(self, other: 'Counts') -> 'Counts':
         """The counts of both."""
-        return Counts(self.texts + other.texts, self.refused + other.refused, self.reasons | other.reasons)
+        return Counts(self.texts + other.texts, self.refused + other.refused, self.reasons | other.reasons, self.hints | other.hints)
 
 
-NO_TEXTS = Counts(0, 0, frozenset())
+NO_TEXTS = Counts(0, 0, frozenset(), frozenset())
 
 
 def shown(case: Case, units: Units, wide: bool) -> str:
@@ -231,8 +234,8 @@ def compared(program: str, chunk: Chunk) -> Counts:
         right = wanted(case, units, chunk.wide)
         if answer != right:
             raise Difference(f'{shown(case, units, chunk.wide)}:\nexpected {right!r}\nfound    {answer!r}')
-    refusals = [answer.split('\t')[2] for answer in found if answer != places.OK]
-    return Counts(len(found), len(refusals), frozenset(refusals))
+    refusals = [answer.split('\t') for answer in found if answer != places.OK]
+    return Counts(len(found), len(refusals), frozenset(it[2] for it in refusals), frozenset(it[6] for it in refusals) - {''})
 
 
 def compared_job(job: tuple[str, Chunk]) -> Counts:
@@ -268,7 +271,7 @@ def main() -> int:
         for wide in (False, True):
             counts = compared_all(program, wide, given.count, given.seed, given.jobs)
             print(f'{16 if wide else 8}-bit: {counts.texts} texts, {counts.refused} refused, {len(counts.reasons)} different reasons, '
-                  'no difference', flush=True)
+                  f'{len(counts.hints)} different hints, no difference', flush=True)
     except Difference as difference:
         print(difference)
         return 1

@@ -1,6 +1,7 @@
 #!/usr/bin/env python3
 """Tests of check_documents.py: it finds each kind of mistake, and has no findings if there is no mistake."""
 import os
+import re
 import sys
 import tempfile
 import unittest
@@ -375,6 +376,26 @@ class Repository(unittest.TestCase):
         self.assertEqual(self.faults('`20-06-05` at 2', '`20-06-05` at 3')[0], 'places.tsv has no Invalid chracter while parsing year '
                          'value. at 3 for `20-06-05`')
         self.assertTrue(self.faults('`[!c=d]junk` | `UnrecognizedCritical` at 16', '`[!c=d]junk` | `UnrecognizedCritical` at 15'))
+
+    def test_hints(self):
+        def found(old: str, new: str) -> list[str]:
+            return self.found('docs/FAULTS.md', old, new, check.findings_in_hints)
+        self.assertEqual(found('| write `Z` for UTC |', '| write `Z` for UCT |'),
+                         ['no row for the hint "write `Z` for UTC"', 'the code does not have the hint "write `Z` for UCT"',
+                          'the model does not have this hint for `parse 2024-03-02 08:48 UTC`'])
+        self.assertEqual(found('`duration P-1D`', '`duration PX1D`'), ['the model does not have this hint for `duration PX1D`'])
+        self.assertEqual(found('`rfc3339 +012024-03-02T08:48:00Z`', '`parse 2024-03-02`'),
+                         ['the model does not have this hint for `parse 2024-03-02`'])
+        self.assertEqual(found('| `DateUnitOrder` | `M` is', '| `DateUnits` | `M` is'), ['no reason DateUnits'])
+        self.assertEqual(len(found('write the day as `0{digit}`', 'write the day as `0{char}`')), 2)
+
+    def test_hints_in_code(self):
+        """All strings of the code from which hints are made are found."""
+        code = self.TREE.read(check.GRAMMAR + 'hint.rt').partition('impl Hint {')[2]
+        strings = {it for it in re.findall(r'"((?:[^"\\]|\\.)*)"', code) if it != '`'}
+        found = check.hints_in_code(self.TREE)
+        self.assertEqual({it.partition('{')[0] for it in found}, {it.partition('{')[0] for it in strings})
+        self.assertGreater(len(found), 40)
 
     def test_another_error(self):
         self.assertTrue(self.faults('`UTC]`: `InvalidEnd` at 3', '`UTC]`: `IanaChar` at 3'))

@@ -117,8 +117,8 @@ class Comparison(unittest.TestCase):
             self.assertEqual(*found)
 
     def with_model(self, wrong: Callable[[places.Reason], places.Reason]) -> contextlib.AbstractContextManager:
-        """A model with other reasons. The messages stay those of the right reasons."""
-        right, message = places.refusal, places.reason_text
+        """A model with other reasons. The messages and the hints stay those of the right reasons."""
+        right, message, hints = places.refusal, places.reason_text, places.hints_of
         unchanged = {}
 
         def refusal(*arguments) -> Optional[places.Refusal]:
@@ -131,7 +131,10 @@ class Comparison(unittest.TestCase):
 
         def reason_text(reason: places.Reason, *arguments) -> str:
             return message(unchanged[reason], *arguments)
-        return mock.patch.multiple(places, refusal=refusal, reason_text=reason_text)
+
+        def hints_of(name: str, found: places.Refusal, *arguments) -> list[str]:
+            return hints(name, found._replace(reason=unchanged[found.reason]), *arguments)
+        return mock.patch.multiple(places, refusal=refusal, reason_text=reason_text, hints_of=hints_of)
 
     def test_wrong_reasons(self):
         """Another beginning, end or line in the model is a difference."""
@@ -155,6 +158,28 @@ class Comparison(unittest.TestCase):
             self.find()
         with mock.patch.dict(reasons.LOOK_ALIKES, clear=True):
             self.find()
+
+    def test_wrong_hints(self):
+        """If the model has other hints than the library, or two hints, or none, this is a difference."""
+        right = places.hints_of
+        for wrong in (lambda *given: [], lambda *given: right(*given)[:1] * 2, lambda *given: right(*given) or ['write something else'],
+                      lambda *given: [it + ' now' for it in right(*given)]):
+            with mock.patch.object(places, 'hints_of', wrong):
+                self.find()
+        for hint in (places.hints.one_digit, places.hints.blank_at_start, places.hints.other_hyphen, places.hints.sign_in_duration):
+            others = tuple(it for it in places.hints.HINTS if it is not hint)
+            with mock.patch.object(places.hints, 'HINTS', others):
+                self.find(hint.__name__, 3000)
+
+    def test_hints(self):
+        """The texts have many hints. Both say the same hint, or none."""
+        for wide in WIDTHS:
+            self.assertGreater(len(self.compare(wide, 3000).hints), 40)
+        for reader, text, hint in (('parse', '2024-3-2', 'write the month as `03`'), ('parse', '2024-13-02', ''),
+                                   ('parse', '2024\u201303', 'write `-` instead'), ('duration', 'P-1D', 'a sign can only stand before `P`')):
+            for wide in WIDTHS:
+                units = [it for character in text for it in compare_messages.units_of(character, wide)]
+                self.assertEqual(self.answer(reader, units, wide).split('\t')[6], hint, (text, wide))
 
     def test_other_leap_years(self):
         """If the model has a leap day in 1900, or none in 2000, this is a difference."""
@@ -186,7 +211,7 @@ class Comparison(unittest.TestCase):
 
         def with_part(at: int) -> Callable[[list[str]], list[str]]:
             return lambda lines: ['\t'.join(part + '1' * (index == at) for index, part in enumerate(it.split('\t'))) for it in lines]
-        for wrong in (*map(with_part, range(6)), lambda lines: lines[:-1], lambda lines: lines + [lines[-1]],
+        for wrong in (*map(with_part, range(7)), lambda lines: lines[:-1], lambda lines: lines + [lines[-1]],
                       lambda lines: lines[:-1] + ['no such line']):
             with mock.patch.object(compare_messages, 'answers', lambda program, lines: wrong(right(program, lines))):
                 self.find()
@@ -204,7 +229,7 @@ class Comparison(unittest.TestCase):
                                    (list('\U0001f600'.encode()), False, 'U+1F600'), ([0xf0, 0x9f], False, 'the byte 0xF0'),
                                    ([0xe2, 0x80, 0x93], False, 'U+2013 (en dash)'), ([0xe9], False, 'the byte 0xE9')):
             for reader in places.READERS[False]:
-                self.assertTrue(self.answer(reader, units, wide).endswith(f', found {shown}'), (reader, units))
+                self.assertTrue(self.answer(reader, units, wide).split('\t')[5].endswith(f', found {shown}'), (reader, units))
 
     def run_main(self, *arguments: str) -> tuple[int, str]:
         """The exit status and the output of the tool."""
@@ -214,7 +239,7 @@ class Comparison(unittest.TestCase):
     def test_output(self):
         """The tool prints the counts of both widths. It ends with 1 at a difference, and prints the text and both results."""
         status, output = self.run_main('200', '3', '--jobs', '2')
-        line = r'-bit: 200 texts, \d+ refused, \d+ different reasons, no difference\n'
+        line = r'-bit: 200 texts, \d+ refused, \d+ different reasons, \d+ different hints, no difference\n'
         self.assertEqual(status, 0)
         self.assertRegex(output, f'\\A8{line}16{line}\\Z')
         with self.with_model(lambda reason: reason._replace(begin=reason.begin + 1)):

@@ -12,5 +12,6 @@ pub use Rattle.ixdtf_grammar.specs.Rfc9557Laws
 pub use Rattle.ixdtf_grammar.specs.LocatedTexts
 pub use Rattle.ixdtf_grammar.specs.Parts
 pub use Rattle.ixdtf_grammar.specs.Messages
+pub use Rattle.ixdtf_grammar.specs.Hints
 pub use Rattle.ixdtf_grammar.specs.Widths
 pub mod Readings

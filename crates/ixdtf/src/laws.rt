@@ -1,9 +1,11 @@
 //! Theorems for callers, which follow from the contracts of the readers.
 //!
 //! A law is a function whose contract states the theorem. To use a law, call the function: after the call, the prover
-//! knows what the function ensures. A law without parameters does nothing when it runs. [`parse_unanswered`] is the only
-//! law that parses a text. Its contract has the clauses of [`IxdtfParser::parse_with_annotation_handler`]. Three more
-//! clauses, `calendar`, `unrecognized` and `duplicate`, state the theorem.
+//! knows what the function ensures. At run time, a law without parameters does nothing. [`parse_unanswered`] is the
+//! only law that parses a text. A contract consists of *clauses*: each `requires` is a clause, and each `ensures` is
+//! one. The contract of `parse_unanswered` has the clauses of [`IxdtfParser::parse_with_annotation_handler`] and four
+//! more. The clause `unanswered` requires that the handler returns only `None`. The clauses `calendar`, `unrecognized`
+//! and `duplicate` state the theorem.
 
 pub mod instants;
 
@@ -37,8 +39,8 @@ use ixdtf_reading::stop::FromStop;
 /// States that [`IxdtfParser::parse`] accepts every date-time of RFC 3339, section 5.6. Its `T` and `Z` may be
 /// lowercase.
 ///
-/// The law does not name an encoding, so it is about sources in every encoding. It states that, without a handler, each
-/// of these texts gives a record. By the clause `reads` in the contract of `parse`, `parse` then returns this record.
+/// The law is about texts in every encoding. It states that the grammar derives a record from each date-time. By the
+/// clause `reads` in the contract of `parse`, `parse` then returns this record.
 pub fn every_rfc3339_date_time_is_read()
     ensures { EveryDateTimeIsRead }
 {}
@@ -53,22 +55,22 @@ pub fn rfc3339_date_times_are_read_alike()
     ensures same { ParseReadsTheSame }
 {}
 
-/// States that `parse_rfc9557` accepts every text of `parse_rfc3339`, that `parse` accepts every text of `parse_rfc9557`,
-/// and that the records are equal.
+/// States that `parse_rfc9557` accepts every text of `parse_rfc3339`, and that `parse` accepts every text of
+/// `parse_rfc9557`.
 ///
 /// - `dated`: [`IxdtfParser::parse_rfc9557`] accepts each text that [`IxdtfParser::parse_rfc3339`] accepts, and returns an
 ///   equal record.
 /// - `same`: [`IxdtfParser::parse`] accepts each text that [`IxdtfParser::parse_rfc9557`] accepts, and returns an equal
-///   record. This is also true for the readers with a handler, if the handler returns the same replies to both.
+///   record. This is also true for the readers with a handler, if the handler returns the same replies to both readers.
 pub fn rfc9557_texts_are_read_alike()
     ensures dated { Rfc9557ReadsTheSame }
     ensures same { ParseGivesTheSame }
 {}
 
-/// States that an accepted name is the complete text, and that `parse_identifier` returns it too.
+/// States that `parse_identifier` accepts every name that `parse_iana_identifier` accepts, and returns the same name.
 ///
 /// If [`TimeZoneParser::parse_iana_identifier`](crate::parsers::TimeZoneParser::parse_iana_identifier) accepts a text,
-/// its result is the complete text. Then
+/// its result is the complete text. For this text,
 /// [`TimeZoneParser::parse_identifier`](crate::parsers::TimeZoneParser::parse_identifier) returns a `Name` with the
 /// same code units.
 pub fn every_name_is_an_identifier()
@@ -79,8 +81,8 @@ pub fn every_name_is_an_identifier()
 ///
 /// If [`TimeZoneParser::parse_offset`](crate::parsers::TimeZoneParser::parse_offset) and
 /// [`TimeZoneParser::parse_identifier`](crate::parsers::TimeZoneParser::parse_identifier) both accept a text, the text
-/// is a sign and an hour, with or without a minute. Then both return this offset: the first as `MinutePrecision`, and
-/// the second as `Offset`.
+/// is a sign and an hour, with or without a minute. Then both return this offset: `parse_offset` as `MinutePrecision`,
+/// and `parse_identifier` as `Offset`.
 pub fn offsets_agree()
     ensures { OffsetsAgree }
 {}
@@ -111,14 +113,16 @@ pub fn hyphens_say_nothing()
 /// - `outcome`: each text has exactly one outcome in each reader.
 /// - `begins`: if the grammar derives a value from a prefix of the text, the annotations of this prefix are the first
 ///   annotations in the outcome of the text.
-/// - `chain`: a text, its annotations, and the replies to them give at most one result, a record or an error.
-/// - `place`: a text, its annotations, and one reply for each annotation give at most one position of an error.
+/// - `chain`: if the annotations of a text and the replies to them are given, there is at most one result: a record or
+///   an error.
+/// - `place`: if the annotations of a text and one reply for each of them are given, there is at most one position of
+///   an error.
 /// - `replied`: suppose that each reply of a handler depends only on the annotation of this call and on the annotations of
 ///   the earlier calls. Then, for each text, there is exactly one list of annotations for which the handler
 ///   is called, and exactly one result.
 ///
-/// The law is about all texts. The contract of each reader says the same about one call: after `Ok`, no row fits, and
-/// after an error, no other error is possible.
+/// The law is about all texts. The contract of each reader is about the text of one call. It says that after `Ok`, no
+/// row fits this text, and that after an error, no other error is possible for this text.
 pub fn one_outcome()
     ensures outcome { OneOutcome }
     ensures begins { FrontsBegin }
@@ -133,23 +137,24 @@ pub fn one_outcome()
 /// [`IxdtfParser::parse_time`] and [`IsoDurationParser::parse`](crate::parsers::IsoDurationParser::parse).
 ///
 /// The law is about what the grammar derives from a text. So it is also true for the readers with a handler, whatever
-/// the handler replies. The contract of each of these readers says the same about a call that returned `Ok`.
+/// the handler replies. The contract of each of these readers is about one call. It says that after `Ok`, the grammar
+/// derives no value from the text for any of the other four readers.
 pub fn languages_disjoint()
     ensures { LanguagesDisjoint }
 {}
 
-/// Compares 8-bit and 16-bit text, for each reader without a handler.
+/// States when a reader without a handler has the same outcome for 8-bit text and for 16-bit text.
 ///
 /// The law is about a list of numbers. *The 8-bit text* is the text whose 8-bit code units are these numbers, and *the
 /// 16-bit text* is the text whose 16-bit code units are these numbers. A *bad* number is one outside 1 to 126.
 ///
-/// - A text has exactly one outcome: a value or an error. If the value contains a slice, the law compares the numbers of
-///   its code units.
+/// - A text has exactly one outcome: a value or an error. If the value contains a slice, the law compares the numbers
+///   of the code units of this slice.
 /// - If no number is bad, the 8-bit text and the 16-bit text have the same outcome, and the same errors at the same
 ///   positions.
 /// - If a number is bad, the 16-bit text has an error. If this error is not `NonAsciiCodePoint`, replace each bad number by
 ///   128, and read the new list as 8-bit text. This 8-bit text has the same error, at the same position.
-/// - The position of `NonAsciiCodePoint` is that of the first bad number. No 8-bit text has this error.
+/// - The position of `NonAsciiCodePoint` is the position of the first bad number. No 8-bit text has this error.
 pub fn widths_agree()
     ensures one { OneUnhandledOutcome }
     ensures same { SameWhereShared }
@@ -160,8 +165,8 @@ pub fn widths_agree()
     ensures wide { NonAsciiIsWide }
 {}
 
-/// States that [`Fraction::to_truncated_nanoseconds`] returns the same number as [`Fraction::to_nanoseconds`], if the
-/// latter returns `Some`.
+/// States that [`Fraction::to_nanoseconds`] returns `None`, or `Some` with the number that
+/// [`Fraction::to_truncated_nanoseconds`] returns.
 pub fn exact_nanoseconds_are_the_truncated_ones(fraction: &Fraction)
     ensures { IfSome (exact_nanoseconds_of fraction.now) (λ n. nanoseconds_of fraction.now ≡ n) }
 {
@@ -170,9 +175,9 @@ pub fn exact_nanoseconds_are_the_truncated_ones(fraction: &Fraction)
 
 /// States that `==` of two values is true exactly if the two values have the same content.
 ///
-/// The law is about slices of code units, records and errors, in every encoding. The content of a slice is the list of the
-/// numbers of its code units. The content of a record is that of its fields. The content of an error is its variant and,
-/// for `AbruptEnd`, the bytes of its `location`. So `==` is reflexive, symmetric and transitive.
+/// The law is about slices of code units, records and errors, in every encoding. The content of a slice is the list of
+/// the numbers of its code units. The content of a record is the content of its fields. The content of an error is its
+/// variant and, for `AbruptEnd`, the bytes of its `location`. So `==` is reflexive, symmetric and transitive.
 pub fn equality_is_of_what_is_seen<'a, T: EncodingType>()
 where
     T::CodeUnit: 'a,
@@ -202,7 +207,8 @@ where
 /// States that each number of the default `DateRecord`, `TimeRecord` and `DateDurationRecord` is 0. The default time has
 /// no fraction.
 ///
-/// The default [`IxdtfParseRecord`] is empty. The contract of its `default` says this.
+/// The law does not mention [`IxdtfParseRecord`], because the contract of `IxdtfParseRecord::default` already says that
+/// the default record is empty.
 pub fn defaults_are_zero()
     ensures date { DefaultIs ⟦<DateRecord as Default>⟧.is_default
         (record { year = pos 0; month = 0; day = 0 }) }
@@ -252,10 +258,9 @@ where
         ⟦<ParseError as Clone>⟧.is_infallible }
 {}
 
-/// Calls [`IxdtfParser::parse_with_annotation_handler`] with a handler that returns only `None`, and states what
-/// follows.
+/// Calls [`IxdtfParser::parse_with_annotation_handler`] with a handler of the caller that returns only `None`.
 ///
-/// The record has no calendar, and no reply is refused.
+/// The law states that the record then has no calendar, and that no reply is refused.
 ///
 /// # Errors
 ///

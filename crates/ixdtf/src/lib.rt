@@ -7,12 +7,12 @@
 //! ISO 8601. The brackets are those of RFC 9557, section 4.1 (`suffix`): a time zone, and annotations
 //! with a key and a value, such as `[u-ca=hebrew]`.
 //!
-//! - `parse_rfc9557` of the same parser accepts only the texts of RFC 9557, and `parse_rfc3339` only the date-times of
-//!   RFC 3339.
+//! - `parse_rfc9557` of the same parser accepts only the texts of RFC 9557. `parse_rfc3339` accepts only the date-times
+//!   of RFC 3339.
 //! - `parse_year_month` parses a year and a month, such as `2020-11`. `parse_month_day` parses a month and a day, such
 //!   as `11-07`. `parse_time` parses a time. The same brackets can follow each of them.
-//! - Each of these parsing methods except `parse_rfc3339` has a variant `*_with_annotation_handler`. It calls a closure of
-//!   the caller, the *handler*, with each annotation.
+//! - Each parsing method of this parser except `parse_rfc3339` has a variant `*_with_annotation_handler`. The variant
+//!   calls a closure of the caller, the *handler*, with each annotation.
 //! - [`parsers::TimeZoneParser`] parses a text that is only an offset, or only a time zone.
 //! - [`parsers::IsoDurationParser`] parses a duration, such as `P1Y2M3DT4H`.
 //! - Each parsing method of the three parsers has a variant `*_located`, whose error has a position.
@@ -20,11 +20,11 @@
 //!   `Profile::Crate`, which a new parser has. `parse_time` refuses a text that begins like a month and a day. So the rules
 //!   for a month and a day also decide which texts `parse_time` refuses.
 //!
-//! The grammar is written down. A *reader* is one of these parsing methods. It accepts every text of its grammar,
-//! unless an annotation must be refused, and accepts no other text. For every text that it does not accept, a
-//! reader returns one error: the error that a written table has for this text, or the error of a refused
-//! annotation. A reader without a handler does not allocate, and returns on every input. In a reader with a handler, only
-//! the calls of the handler can allocate, and the reader returns if these calls return.
+//! A *reader* is one of these parsing methods. Each reader has a grammar. A reader accepts a text of its grammar,
+//! unless an annotation of the text must be refused. It accepts no other text. If a reader does not accept a text, it
+//! returns one error: the error that the table of errors has for this text, or the error of a refused annotation. A
+//! reader without a handler does not allocate, and returns on every input. In a reader with a handler, only the calls
+//! of the handler can allocate, and the reader returns if these calls return.
 //!
 //! - [`parsers`]: the parsers.
 //! - [`records`]: what the parsers return.
@@ -33,8 +33,9 @@
 //! - [`laws`]: theorems for callers, which follow from the contracts of the parsers.
 //!
 //! In the repository, `docs/GRAMMAR.md` describes the grammar, and `docs/FAULTS.md` has the table of errors. The
-//! definitions are in `crates/ixdtf_grammar/specs`. `language` has the grammar, and `table` has the table of errors.
-//! `Handlers` says how the result depends on what a handler returns.
+//! definitions are in the folder `crates/ixdtf_grammar/specs`. There, the folder `language` has the grammar, and the
+//! folder `table` has the table of errors. The file `Handlers.antt` says how the result depends on what a handler
+//! returns.
 #![tactic(auto)]
 
 pub mod laws;

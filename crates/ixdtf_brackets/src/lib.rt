@@ -1,4 +1,5 @@
-//! Names of time zones, and the first bracket after a date or a time, which is a zone or an annotation.
+//! Functions that read names of time zones, and the first bracket after a date or a time. The first bracket is a zone
+//! or an annotation.
 //!
 //! This is a layer of the library `ixdtf`, above `ixdtf_grammar`, `ixdtf_reading` and `ixdtf_times`. It uses
 //! `ixdtf_times`, because an offset can be in a bracket. The module `zone` reads a name or an offset without seconds.

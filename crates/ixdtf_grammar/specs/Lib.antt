@@ -1,4 +1,5 @@
 pub mod Handlers
+pub mod Hints
 pub mod InstantLaws
 pub mod Instants
 pub mod Laws

@@ -23,12 +23,13 @@
 //! - For each profile, no text is in the grammars of two text readers.
 //! - Suppose that a row of a line fits a text with a bad code unit. There are two cases. In the first case, the error of
 //!   the row is `NonAsciiCodePoint`, at the position of the first bad code unit. In the second case, the code units before
-//!   the first bad code unit are enough to decide the error. Every text that begins with these code units has the same
-//!   error. The row that gives it is in the same line, but it can be another row.
+//!   the first bad code unit are enough to decide the error: every text that begins with these code units has the same
+//!   error. For each of these texts, a row of the same line fits, but it need not be the same row.
 #![tactic(auto)]
 
 pub mod encoding;
 mod error;
+mod hint;
 mod instants;
 mod located;
 mod message;

@@ -11,12 +11,14 @@ use crate::wording::{Context, Wording, wording_of};
 use std::fmt;
 use std::str::from_utf8;
 
-/// A message that says why a reader refused a text, as [`LocatedError::message_in`] returns it.
+/// A message that says why a reader refused a text, as [`LocatedError::message_in`] returns it. A hint of
+/// [`LocatedError::hint_in`], which says what to change in the text, is a `Message` too.
 ///
-/// `Display` writes one line of plain English, without a newline and without a full stop. The line says what the reader
-/// found in the text, and what it expected. `docs/FAULTS.md` has the message for each line of the fault table.
+/// `Display` writes one line of plain English, without a newline and without a full stop. A message of `message_in` says
+/// what the reader found in the text, and what it expected. A hint says what to change. `docs/FAULTS.md` has the message
+/// for each line of the fault table, and all hints.
 ///
-/// A message can show a part of the text, such as a number, or one character. A part is written as it is. A character from
+/// A message can show something of the text: either a part, such as a number, or one character. A part is written as it is. A character from
 /// U+0021 to U+007E, except the backtick, is written in backticks, as `` `x` ``. Any other character is written by its name,
 /// such as `a space`, or by its number, such as `U+00E3`. If the bytes of the text are not UTF-8 there, the message shows one
 /// byte by its number, such as `the byte 0xE3`.
@@ -151,7 +153,7 @@ impl<'a> fmt::Display for Shown<'a> {
 }
 
 /// Shows the part if it is UTF-8, and otherwise nothing.
-fn shown_part(part: &[u8]) -> Shown<'_>
+pub(crate) fn shown_part(part: &[u8]) -> Shown<'_>
     ensures { ShowsText part.now result }
 {
     match from_utf8(part) {
@@ -163,7 +165,8 @@ fn shown_part(part: &[u8]) -> Shown<'_>
 /// Shows the first character, or the first byte if no character begins there, or nothing if there is no byte.
 ///
 /// Most characters are ASCII. They are not looked up by `first_character`, which would take about 90 instructions.
-fn shown_first(rest: &[u8]) -> Shown<'static>
+#[inline(always)]
+pub(crate) fn shown_first(rest: &[u8]) -> Shown<'static>
     ensures { ShowsCharacter rest.now result }
 {
     match rest.first() {

@@ -31,6 +31,7 @@ pub(crate) struct Context<'a> {
 }
 
 /// Returns the words of the message of a reason.
+#[inline(always)]
 pub(crate) fn wording_of(reason: Reason, place: Context<'_>) -> Wording
     ensures { words_of result ≡ wording reason place.entry }
 {
@@ -503,6 +504,7 @@ pub(crate) fn wording_of(reason: Reason, place: Context<'_>) -> Wording
 }
 
 /// Returns the words for a line that expects more text: other words at the end of the text than at a character that does not fit.
+#[inline(always)]
 fn expected(place: Context<'_>, at_end: &'static str, other: &'static str) -> Wording
     ensures { words_of result ≡ expected place.entry at_end.now other.now }
 {
@@ -603,7 +605,7 @@ impl<'a> Context<'a> {
 }
 
 /// Returns whether the text is a sign, and then only digits, `:`, `.` and `,`.
-fn begins_with_offset(front: &[u8]) -> bool
+pub(crate) fn begins_with_offset(front: &[u8]) -> bool
     ensures { result ≡ begins_with_offset front.now }
 {
     match front {

@@ -19,17 +19,17 @@ pub fn canonical_fits()
 /// States that a canonical text is parsed as the record that was printed.
 ///
 /// Suppose that [`IxdtfParser::parse`](ixdtf::parsers::IxdtfParser::parse) returns a record for some text. Then it also
-/// returns this record for the canonical text of the record. No other record that `parse` returns for some text has this
-/// canonical text. So two canonical texts are equal exactly if the two records are equal.
+/// returns this record for the canonical text of the record. Two records that are not equal have different canonical
+/// texts, if `parse` returns each of them for some text.
 pub fn canonical_is_read_back()
     ensures { CanonicalIsReadBack }
 {}
 
 /// States that a canonical text is a text of RFC 9557 if the parsed text was one.
 ///
-/// Suppose that [`IxdtfParser::parse_rfc9557`](ixdtf::parsers::IxdtfParser::parse_rfc9557) returns a record for some text.
-/// Then it also returns this record for the canonical text of the record. No other record that `parse_rfc9557` returns for
-/// some text has this canonical text.
+/// Suppose that [`IxdtfParser::parse_rfc9557`](ixdtf::parsers::IxdtfParser::parse_rfc9557) returns a record for some
+/// text. Then it also returns this record for the canonical text of the record. Two records that are not equal have
+/// different canonical texts, if `parse_rfc9557` returns each of them for some text.
 pub fn rfc9557_is_read_back()
     ensures { Rfc9557IsReadBack }
 {}
@@ -45,9 +45,10 @@ pub fn duration_fits()
 
 /// States that the canonical text of a duration is parsed as this duration.
 ///
-/// Suppose that [`IsoDurationParser::parse`](ixdtf::parsers::IsoDurationParser::parse) returns a duration for some text,
-/// under some profile. Then it also returns this duration for the canonical text of the duration, under either profile. No
-/// other duration that `parse` returns for some text, under either profile, has this canonical text.
+/// Suppose that [`IsoDurationParser::parse`](ixdtf::parsers::IsoDurationParser::parse) returns a duration for some
+/// text, under some profile. Then it also returns this duration for the canonical text of the duration, under either
+/// profile. Two durations that are not equal have different canonical texts, if `parse` returns each of them for some
+/// text, under some profile.
 pub fn duration_is_read_back()
     ensures { DurationIsReadBack }
 {}
@@ -63,9 +64,9 @@ pub fn offset_fits()
 
 /// States that the canonical text of an offset is parsed as this offset.
 ///
-/// Suppose that [`TimeZoneParser::parse_offset`](ixdtf::parsers::TimeZoneParser::parse_offset) returns an offset for some
-/// text. Then it also returns this offset for the canonical text of the offset. No other offset that `parse_offset` returns
-/// for some text has this canonical text.
+/// Suppose that [`TimeZoneParser::parse_offset`](ixdtf::parsers::TimeZoneParser::parse_offset) returns an offset for
+/// some text. Then it also returns this offset for the canonical text of the offset. Two offsets that are not equal have
+/// different canonical texts, if `parse_offset` returns each of them for some text.
 pub fn offset_is_read_back()
     ensures { OffsetIsReadBack }
 {}
@@ -81,9 +82,9 @@ pub fn zone_fits()
 
 /// States that the canonical text of a zone is parsed as this zone.
 ///
-/// Suppose that [`TimeZoneParser::parse_identifier`](ixdtf::parsers::TimeZoneParser::parse_identifier) returns a zone for
-/// some text. Then it also returns this zone for the canonical text of the zone. No other zone that `parse_identifier`
-/// returns for some text has this canonical text.
+/// Suppose that [`TimeZoneParser::parse_identifier`](ixdtf::parsers::TimeZoneParser::parse_identifier) returns a zone
+/// for some text. Then it also returns this zone for the canonical text of the zone. Two zones that are not equal have
+/// different canonical texts, if `parse_identifier` returns each of them for some text.
 pub fn zone_is_read_back()
     ensures { ZoneIsReadBack }
 {}
@@ -99,9 +100,10 @@ pub fn time_fits()
 
 /// States that the canonical text of a time is parsed as the record that was printed.
 ///
-/// Suppose that [`IxdtfParser::parse_time`](ixdtf::parsers::IxdtfParser::parse_time) returns a record for some text, under
-/// some profile. Then it also returns this record for the canonical text of the record, under either profile. No other record
-/// that `parse_time` returns for some text, under either profile, has this canonical text.
+/// Suppose that [`IxdtfParser::parse_time`](ixdtf::parsers::IxdtfParser::parse_time) returns a record for some text,
+/// under some profile. Then it also returns this record for the canonical text of the record, under either profile. Two
+/// records that are not equal have different canonical texts, if `parse_time` returns each of them for some text, under
+/// some profile.
 pub fn time_is_read_back()
     ensures { TimeIsReadBack }
 {}
@@ -117,9 +119,9 @@ pub fn year_month_fits()
 
 /// States that the canonical text of a year and a month is parsed as the record that was printed.
 ///
-/// Suppose that [`IxdtfParser::parse_year_month`](ixdtf::parsers::IxdtfParser::parse_year_month) returns a record for some
-/// text. Then it also returns this record for the canonical text of the record. No other record that `parse_year_month`
-/// returns for some text has this canonical text.
+/// Suppose that [`IxdtfParser::parse_year_month`](ixdtf::parsers::IxdtfParser::parse_year_month) returns a record for
+/// some text. Then it also returns this record for the canonical text of the record. Two records that are not equal have
+/// different canonical texts, if `parse_year_month` returns each of them for some text.
 pub fn year_month_is_read_back()
     ensures { YearMonthIsReadBack }
 {}
@@ -135,9 +137,10 @@ pub fn month_day_fits()
 
 /// States that the canonical text of a month and a day is parsed as the record that was printed.
 ///
-/// Suppose that [`IxdtfParser::parse_month_day`](ixdtf::parsers::IxdtfParser::parse_month_day) returns a record for some
-/// text, under a profile. Then it also returns this record for the canonical text of the record, under this profile. No other
-/// record that `parse_month_day` returns for some text, under this profile, has this canonical text.
+/// Suppose that [`IxdtfParser::parse_month_day`](ixdtf::parsers::IxdtfParser::parse_month_day) returns a record for
+/// some text, under a profile. Then it also returns this record for the canonical text of the record, under this
+/// profile. Two records that are not equal have different canonical texts, if `parse_month_day` returns each of them for
+/// some text, under this profile.
 pub fn month_day_is_read_back()
     ensures { MonthDayIsReadBack }
 {}

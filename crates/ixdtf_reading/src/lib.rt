@@ -9,10 +9,10 @@
 //! function is not code, but a definition: it says which result a function of the code must have for each list of code
 //! units. This crate proves three things about the reading functions:
 //!
-//! - If the grammar derives a value for a text, the reading function returns this value, and the other way round
-//!   (`proofs/to_reading`, `proofs/to_grammar`).
-//! - For any other text, exactly one row of the fault table of `ixdtf_grammar` fits, and the reading function returns the
-//!   error of this row (`proofs/theorems`).
+//! - If the grammar derives a value from a text, the reading function returns this value (`proofs/to_reading`). If the
+//!   reading function returns a value for a text, the grammar derives this value from the text (`proofs/to_grammar`).
+//! - If the grammar derives no value from a text, exactly one row of the fault table of `ixdtf_grammar` fits the text,
+//!   and the reading function returns the error of this row (`proofs/theorems`).
 //! - If all code units are 1 to 126, the result is the same for 8-bit and for 16-bit text (`proofs/widths`).
 //!
 //! So the layers above only have to prove that their functions do what the reading functions do.

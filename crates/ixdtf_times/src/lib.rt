@@ -1,9 +1,12 @@
 //! Functions that read dates, year-months, month-days, times and offsets.
 //!
-//! This is a layer of the library `ixdtf`, above `ixdtf_grammar` and `ixdtf_reading`. It reads a part of a text in
-//! fixed columns if the part fits them, and otherwise part by part. The contract of a function promises two things to
-//! the layers above. First, the function does what the reading function of its part does. Second, it makes at most a
-//! certain number of accesses.
+//! This is a layer of the library `ixdtf`, above `ixdtf_grammar` and `ixdtf_reading`. The code first tries to read a date
+//! or a time in *fixed columns*: each digit and each separator must be at a fixed index. If the text does not fit these
+//! columns, the code reads one number after another.
+//!
+//! The contract of a function promises two things to the layers above. First, the function does what its reading
+//! function does. A *reading function* is a definition in `specs/reading` of `ixdtf_reading`. Second, the function
+//! accesses code units at most a certain number of times.
 #![tactic(auto)]
 
 pub mod date_times;

@@ -1,7 +1,7 @@
 //! Reads texts whose code units are given as numbers. So a text can contain any code unit. Each line of standard input has the name of a
 //! reader, `crate` or `strict` for the profile, the number of bits of a code unit, and the code units in hexadecimal. For each line, it writes
 //! `ok` if the reader accepts the text. Otherwise it writes these parts, with a tab between them: the error, its position, the reason, where the
-//! part that is wrong begins and ends, and the message. A reader has the name of its method. The reader of durations has the name `duration`.
+//! part that is wrong begins and ends, the message, and the hint. If there is no hint, the last part is empty. A reader has the name of its method. The reader of durations has the name `duration`.
 //! For any other name, it writes `no such reader`. For a line of any other form, it writes `no such line`. `tools/compare_messages.py` runs this
 //! example.
 //!
@@ -41,13 +41,14 @@ fn answer(outcome: Option<Outcome>, text: &[u8]) -> String {
         Some(Ok(())) => String::from("ok"),
         Some(Err(error)) => {
             let (part, message) = (error.part_in(text), error.message_in(text));
+            let hint = error.hint_in(text).map(|hint| hint.to_string()).unwrap_or_default();
             let LocatedError { error, at, reason } = error;
-            format!("{error}\t{at}\t{reason:?}\t{}\t{}\t{message}", part.begin, part.end)
+            format!("{error}\t{at}\t{reason:?}\t{}\t{}\t{message}\t{hint}", part.begin, part.end)
         }
     }
 }
 
-/// Returns the answer for a text of 16-bit code units. `part_in` and `message_in` need the text as bytes, so it is converted to UTF-8. No
+/// Returns the answer for a text of 16-bit code units. `part_in`, `message_in` and `hint_in` need the text as bytes, so it is converted to UTF-8. No
 /// character has a lone surrogate, so U+FFFD stands for each lone surrogate. All code units before an error are from 1 to 126. So the part that
 /// is wrong has the same indices in both texts.
 fn wide_answer(reader: &str, profile: Profile, units: &[u16]) -> String {
@@ -98,19 +99,19 @@ fn answers_in_both_widths() {
         assert_eq!(answer_to("parse crate", bits, "2024-03-02"), "ok");
         assert_eq!(
             answer_to("parse crate", bits, "2024-13-02"),
-            "Parsed month value not in a valid range.\t7\tMonthRange\t5\t7\tthe month is 13, and has to be 01 to 12"
+            "Parsed month value not in a valid range.\t7\tMonthRange\t5\t7\tthe month is 13, and has to be 01 to 12\t"
         );
     }
-    assert!(answer_line("parse crate 8 c3 a9").unwrap().ends_with("\t0\tYearStart\t0\t1\texpected a year of four digits, found U+00E9"));
-    assert!(answer_line("parse crate 8 c3").unwrap().ends_with("\t0\tYearStart\t0\t1\texpected a year of four digits, found the byte 0xC3"));
+    assert!(answer_line("parse crate 8 c3 a9").unwrap().ends_with("\t0\tYearStart\t0\t1\texpected a year of four digits, found U+00E9\t"));
+    assert!(answer_line("parse crate 8 c3").unwrap().ends_with("\t0\tYearStart\t0\t1\texpected a year of four digits, found the byte 0xC3\t"));
 }
 
 #[test]
 fn shows_characters_of_several_code_units() {
-    assert!(answer_line("parse crate 16 d83d de00").unwrap().ends_with("\t0\tYearStart\t0\t1\texpected a year of four digits, found U+1F600"));
+    assert!(answer_line("parse crate 16 d83d de00").unwrap().ends_with("\t0\tYearStart\t0\t1\texpected a year of four digits, found U+1F600\t"));
     for units in ["d83d", "de00", "d83d 30"] {
         let answer = answer_line(&format!("parse crate 16 {units}")).unwrap();
-        assert!(answer.ends_with("\t0\tYearStart\t0\t1\texpected a year of four digits, found U+FFFD"), "{answer}");
+        assert!(answer.ends_with("\t0\tYearStart\t0\t1\texpected a year of four digits, found U+FFFD\t"), "{answer}");
     }
 }
 

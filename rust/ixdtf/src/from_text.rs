@@ -1,7 +1,7 @@
 //! Implements `FromStr` and `TryFrom<&str>` for offsets and for durations.
 //!
-//! A person wrote this file, because Rattle cannot have it. There, the records and the readers are in different crates, and a crate cannot
-//! implement a trait of `core` for a type of another crate.
+//! A person wrote this file, because the library in Rattle has no such implementations. In Rattle, the records and the readers are in
+//! different crates, and a crate cannot implement a trait of `core` for a type of another crate.
 
 use crate::parsers::{IsoDurationParser, TimeZoneParser};
 use crate::records::{DurationParseRecord, UtcOffsetRecord};

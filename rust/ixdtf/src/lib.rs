@@ -15,6 +15,7 @@ mod days;
 mod display;
 pub mod encoding;
 mod error;
+mod hint;
 mod instant;
 mod instants;
 mod located;

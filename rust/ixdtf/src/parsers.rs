@@ -6,12 +6,13 @@
 //! A parsing method accepts its complete input, or returns an error:
 //!
 //! - It returns `Ok` exactly if the grammar derives the input, and no annotation is refused.
-//! - It returns an error only for one of two reasons. Either the table of errors has this error for the input, or an
-//!   annotation is refused with this error.
+//! - If it returns an error, there is one of two reasons. Either the table of errors has this error for the input, or
+//!   an annotation is refused with this error.
 //!
-//! A handler returns an annotation, or nothing, for each annotation of the text. If a method has a handler, an
-//! annotation is refused only if the handler returned it. In the repository, `docs/GRAMMAR.md` describes the grammar,
-//! and `docs/FAULTS.md` has the table of errors.
+//! A *handler* is a closure that the caller passes to a method `*_with_annotation_handler`. The method calls the
+//! handler with each annotation up to the first error. The handler returns an annotation, or nothing. If a method has a
+//! handler, an annotation is refused only if the handler returned it. In the repository, `docs/GRAMMAR.md` describes
+//! the grammar, and `docs/FAULTS.md` has the table of errors.
 
 mod constructors;
 mod unhandled;
@@ -58,7 +59,7 @@ pub use self::dates::days_in_month;
 
 /// A parser of dates and times, with an offset, a time zone and annotations.
 ///
-/// It borrows its source. It is as large as a slice and a profile.
+/// The parser borrows the text that it parses. It contains only a slice of this text and a profile.
 ///
 /// # Examples
 ///

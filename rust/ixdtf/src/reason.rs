@@ -242,12 +242,12 @@ pub enum Reason {
     FirstBracketStart,
     /// Line `first_critical_start`: what follows the `[!` of the first bracket does not fit.
     FirstCriticalStart,
-    /// Line `first_bracket_scan`: the content of the first bracket begins with a lowercase letter or `_`. No `=` or `]` comes
-    /// after that: the text ends first, or a 16-bit code unit outside 1 to 126 comes first.
+    /// Line `first_bracket_scan`: the content of the first bracket begins with a lowercase letter or `_`. After it, the text ends, or
+    /// has a 16-bit code unit outside 1 to 126, before any `=` or `]`.
     FirstBracketScan,
     /// Lines `first_dots_form` and `first_name_form`, in `parse_rfc9557`: the grammar of RFC 9557, section 4.1, does not allow
-    /// this name of a time zone. Slashes divide the name into parts. One of the parts does not begin with an ASCII letter, `.` or `_`, or
-    /// one of them is exactly `.` or `..`.
+    /// this name of a time zone. Slashes divide the name into parts. A part must not be `.` or `..`, and it must begin with an ASCII
+    /// letter, `.` or `_`. At least one part does not meet these two conditions.
     FirstNameForm,
     /// Line `first_offset_form`, in `parse_rfc9557`: the offset in the first bracket has no minutes, or no `:` before them.
     FirstOffsetForm,

@@ -13,7 +13,8 @@ impl HostRuntime {
     }
 }
 
-/// The permission to end a test.
+/// In Rattle, a function needs a value of a type with this trait to end a test, and passes the value to `assert!`. In Rust, `assert!` does
+/// not need the value.
 pub trait Abort {}
 
 impl Abort for HostRuntime {}

@@ -27,6 +27,7 @@ pub(crate) struct Context<'a> {
 }
 
 /// Returns the words of the message of a reason.
+#[inline(always)]
 pub(crate) fn wording_of(reason: Reason, place: Context<'_>) -> Wording {
     match reason {
         Reason::YearStart => expected(
@@ -497,6 +498,7 @@ pub(crate) fn wording_of(reason: Reason, place: Context<'_>) -> Wording {
 }
 
 /// Returns the words for a line that expects more text: other words at the end of the text than at a character that does not fit.
+#[inline(always)]
 fn expected(place: Context<'_>, at_end: &'static str, other: &'static str) -> Wording {
     match place.next {
         None => Wording::Fixed(at_end),
@@ -575,7 +577,7 @@ impl<'a> Context<'a> {
 }
 
 /// Returns whether the text is a sign, and then only digits, `:`, `.` and `,`.
-fn begins_with_offset(front: &[u8]) -> bool {
+pub(crate) fn begins_with_offset(front: &[u8]) -> bool {
     match front {
         [b'+' | b'-', rest @ ..] => are_of_clock(rest),
         _ => false,

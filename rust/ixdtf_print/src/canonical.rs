@@ -60,8 +60,8 @@ use core::fmt;
 ///
 /// After an error, the slice is unchanged.
 ///
-/// - [`PrintError::NotPrintable`]: the record has no canonical text as a date-time. This is so if it has no date, if it has
-///   an offset without a time, or if it has a value that `parse` never returns, such as the month 13 or February 30.
+/// - [`PrintError::NotPrintable`]: the record has no canonical text as a date-time: it has no date, it has an offset
+///   without a time, or it has a value that `parse` never returns, such as the month 13 or February 30.
 /// - [`PrintError::TooShort`]: the slice is shorter than the canonical text.
 pub fn print(parsed: &IxdtfParseRecord<'_, Utf8>, out: &mut [u8]) -> Result<usize, PrintError> {
     text::print(Canonical { parsed }, out)
@@ -69,9 +69,9 @@ pub fn print(parsed: &IxdtfParseRecord<'_, Utf8>, out: &mut [u8]) -> Result<usiz
 
 /// Writes the canonical text of the record as 16-bit code units, like [`print`](crate::print).
 ///
-/// The record is one that [`IxdtfParser::parse`](ixdtf::parsers::IxdtfParser::parse) returns for 16-bit
-/// text. To read the code units that were written, make a parser of them with `from_utf16`. Each of them is the number of an
-/// ASCII character. There are as many of them as `print` writes bytes for the same fields.
+/// The record is one that [`IxdtfParser::parse`](ixdtf::parsers::IxdtfParser::parse) returns for 16-bit text. Each code
+/// unit that was written is the number of an ASCII character. To read the code units, make a parser with `from_utf16`.
+/// The number of code units is the number of bytes that `print` writes for the same fields.
 ///
 /// # Examples
 ///
@@ -93,9 +93,9 @@ pub fn print(parsed: &IxdtfParseRecord<'_, Utf8>, out: &mut [u8]) -> Result<usiz
 ///
 /// After an error, the slice is unchanged.
 ///
-/// - [`PrintError::NotPrintable`]: the record has no canonical text as a date-time. This is so if it has no date, if it has
-///   an offset without a time, or if it has a value that `parse` never returns for 16-bit text, such as a name with a code
-///   unit that is not ASCII.
+/// - [`PrintError::NotPrintable`]: the record has no canonical text as a date-time: it has no date, it has an offset
+///   without a time, or it has a value that `parse` never returns for 16-bit text, such as a name with a code unit that
+///   is not ASCII.
 /// - [`PrintError::TooShort`]: the slice is shorter than the canonical text.
 #[inline]
 pub fn print_utf16(

@@ -25,9 +25,11 @@ pub enum PrintError {
     /// canonical text.
     NotPrintable,
     /// The canonical text of the record is longer than the slice. For [`print`](crate::print), the function
-    /// [`printed_length`](crate::printed_length) returns the length of the canonical text. If `parse` returned the record,
-    /// the canonical text has at most 14 bytes more than the text that was parsed. For each other kind of record there is
-    /// another function for the length, such as [`time_length`](crate::time_length), and another limit instead of 14.
+    /// [`printed_length`](crate::printed_length) returns the length of the canonical text. If `parse` returned the
+    /// record, the canonical text has at most 14 bytes more than the text that was parsed. Each other kind of record
+    /// has its own function for the length, such as [`time_length`](crate::time_length). The documentation of a
+    /// printing function, such as [`print_time`](crate::print_time), says how many bytes more the canonical text can
+    /// have.
     TooShort,
 }
 

@@ -16,10 +16,9 @@ use core::fmt;
 /// Writes the canonical text of a month and a day, such as `11-07[u-ca=hebrew]`, to the beginning of the slice.
 ///
 /// The record is one that [`IxdtfParser::parse_month_day`](ixdtf::parsers::IxdtfParser::parse_month_day) returns. The
-/// canonical text has the month, a hyphen and the day. The two hyphens with which a text such as `--11-07` begins are not
-/// written. If the record has a zone or a calendar,
-/// they follow the day, as [`print`](crate::print) writes them. The day can be 00, because `parse_month_day` returns such a
-/// record under the default profile.
+/// canonical text has the month, a hyphen and the day. If the text began with two hyphens, such as `--11-07`, they are
+/// not written. If the record has a zone or a calendar, they follow the day, as [`print`](crate::print) writes them.
+/// The day can be 00, because `parse_month_day` returns such a record under the default profile.
 ///
 /// The record of the date `0000-11-07` is equal to the record of `11-07`. `print` writes both as `0000-11-07`, and this
 /// function writes both as `11-07`.
@@ -52,8 +51,8 @@ use core::fmt;
 ///
 /// After an error, the slice is unchanged.
 ///
-/// - [`PrintError::NotPrintable`]: the record has no canonical text. This is so if it has no date, if its year is not 0, if
-///   it has a time or an offset, or if it has a value that `parse_month_day` never returns, such as the month 13.
+/// - [`PrintError::NotPrintable`]: the record has no canonical text: it has no date, its year is not 0, it has a time
+///   or an offset, or it has a value that `parse_month_day` never returns, such as the month 13.
 /// - [`PrintError::TooShort`]: the slice is shorter than the canonical text.
 pub fn print_month_day(
     parsed: &IxdtfParseRecord<'_, Utf8>,
@@ -64,9 +63,10 @@ pub fn print_month_day(
 
 /// Writes the canonical text of a month and a day as 16-bit code units, like [`print_month_day`](crate::print_month_day).
 ///
-/// The record is one that [`IxdtfParser::parse_month_day`](ixdtf::parsers::IxdtfParser::parse_month_day) returns for 16-bit
-/// text. To read the code units that were written, make a parser of them with `from_utf16`. Each of them is the number of an
-/// ASCII character. There are as many of them as `print_month_day` writes bytes for the same fields.
+/// The record is one that [`IxdtfParser::parse_month_day`](ixdtf::parsers::IxdtfParser::parse_month_day) returns for
+/// 16-bit text. Each code unit that was written is the number of an ASCII character. To read the code units, make a
+/// parser with `from_utf16`. The number of code units is the number of bytes that `print_month_day` writes for the same
+/// fields.
 ///
 /// # Examples
 ///
@@ -86,8 +86,8 @@ pub fn print_month_day(
 ///
 /// After an error, the slice is unchanged.
 ///
-/// - [`PrintError::NotPrintable`]: the record has no canonical text. This is so if it has no date, if its year is not 0, if
-///   it has a time or an offset, or if it has a value that `parse_month_day` never returns for 16-bit text.
+/// - [`PrintError::NotPrintable`]: the record has no canonical text: it has no date, its year is not 0, it has a time
+///   or an offset, or it has a value that `parse_month_day` never returns for 16-bit text.
 /// - [`PrintError::TooShort`]: the slice is shorter than the canonical text.
 #[inline]
 pub fn print_month_day_utf16(

@@ -20,8 +20,8 @@ use core::fmt;
 /// follow the time, as [`print`](crate::print) writes them.
 ///
 /// `parse_time` accepts the canonical text, although this text has no `T`. Without a `T`, `parse_time` refuses a text
-/// that begins with a month and a day, or with a year and a month. A canonical text cannot begin with them, because its
-/// third byte is a colon.
+/// that begins with a month and a day, or with a year and a month. A canonical text cannot begin in one of these two
+/// ways, because its third byte is a colon.
 ///
 /// Returns the number of bytes that were written. The canonical text has at most 12 bytes more than the text that was
 /// parsed.
@@ -51,7 +51,7 @@ use core::fmt;
 ///
 /// After an error, the slice is unchanged.
 ///
-/// - [`PrintError::NotPrintable`]: the record has no canonical text. It has a date, or no time, or a value
+/// - [`PrintError::NotPrintable`]: the record has no canonical text: it has a date, it has no time, or it has a value
 ///   that `parse_time` never returns, such as the hour 24.
 /// - [`PrintError::TooShort`]: the slice is shorter than the canonical text.
 pub fn print_time(parsed: &IxdtfParseRecord<'_, Utf8>, out: &mut [u8]) -> Result<usize, PrintError> {
@@ -60,9 +60,9 @@ pub fn print_time(parsed: &IxdtfParseRecord<'_, Utf8>, out: &mut [u8]) -> Result
 
 /// Writes the canonical text of a time as 16-bit code units, like [`print_time`](crate::print_time).
 ///
-/// The record is one that [`IxdtfParser::parse_time`](ixdtf::parsers::IxdtfParser::parse_time) returns for 16-bit
-/// text. To read the code units that were written, make a parser of them with `from_utf16`. Each of them is the number of an
-/// ASCII character. There are as many of them as `print_time` writes bytes for the same fields.
+/// The record is one that [`IxdtfParser::parse_time`](ixdtf::parsers::IxdtfParser::parse_time) returns for 16-bit text.
+/// Each code unit that was written is the number of an ASCII character. To read the code units, make a parser with
+/// `from_utf16`. The number of code units is the number of bytes that `print_time` writes for the same fields.
 ///
 /// # Examples
 ///
@@ -83,8 +83,8 @@ pub fn print_time(parsed: &IxdtfParseRecord<'_, Utf8>, out: &mut [u8]) -> Result
 ///
 /// After an error, the slice is unchanged.
 ///
-/// - [`PrintError::NotPrintable`]: the record has no canonical text. It has a date, or no time, or a value that
-///   `parse_time` never returns for 16-bit text.
+/// - [`PrintError::NotPrintable`]: the record has no canonical text: it has a date, it has no time, or it has a value
+///   that `parse_time` never returns for 16-bit text.
 /// - [`PrintError::TooShort`]: the slice is shorter than the canonical text.
 #[inline]
 pub fn print_time_utf16(

@@ -50,8 +50,8 @@ use core::fmt;
 ///
 /// After an error, the slice is unchanged.
 ///
-/// - [`PrintError::NotPrintable`]: the record has no canonical text. This is so if it has no date, if its day is not 1, if
-///   it has a time or an offset, or if it has a value that `parse_year_month` never returns, such as the month 13.
+/// - [`PrintError::NotPrintable`]: the record has no canonical text: it has no date, its day is not 1, it has a time or
+///   an offset, or it has a value that `parse_year_month` never returns, such as the month 13.
 /// - [`PrintError::TooShort`]: the slice is shorter than the canonical text.
 pub fn print_year_month(
     parsed: &IxdtfParseRecord<'_, Utf8>,
@@ -62,9 +62,10 @@ pub fn print_year_month(
 
 /// Writes the canonical text of a year and a month as 16-bit code units, like [`print_year_month`](crate::print_year_month).
 ///
-/// The record is one that [`IxdtfParser::parse_year_month`](ixdtf::parsers::IxdtfParser::parse_year_month) returns for 16-bit
-/// text. To read the code units that were written, make a parser of them with `from_utf16`. Each of them is the number of an
-/// ASCII character. There are as many of them as `print_year_month` writes bytes for the same fields.
+/// The record is one that [`IxdtfParser::parse_year_month`](ixdtf::parsers::IxdtfParser::parse_year_month) returns for
+/// 16-bit text. Each code unit that was written is the number of an ASCII character. To read the code units, make a
+/// parser with `from_utf16`. The number of code units is the number of bytes that `print_year_month` writes for the
+/// same fields.
 ///
 /// # Examples
 ///
@@ -84,8 +85,8 @@ pub fn print_year_month(
 ///
 /// After an error, the slice is unchanged.
 ///
-/// - [`PrintError::NotPrintable`]: the record has no canonical text. This is so if it has no date, if its day is not 1, if
-///   it has a time or an offset, or if it has a value that `parse_year_month` never returns for 16-bit text.
+/// - [`PrintError::NotPrintable`]: the record has no canonical text: it has no date, its day is not 1, it has a time or
+///   an offset, or it has a value that `parse_year_month` never returns for 16-bit text.
 /// - [`PrintError::TooShort`]: the slice is shorter than the canonical text.
 #[inline]
 pub fn print_year_month_utf16(

@@ -45,8 +45,8 @@ use core::fmt;
 ///
 /// After an error, the slice is unchanged.
 ///
-/// - [`PrintError::NotPrintable`]: the zone has no canonical text. Its name is one that `parse_iana_identifier` refuses,
-///   or the hour or the minute of its offset is out of range.
+/// - [`PrintError::NotPrintable`]: the zone has no canonical text: its name is one that `parse_iana_identifier`
+///   refuses, or the hour or the minute of its offset is out of range.
 /// - [`PrintError::TooShort`]: the slice is shorter than the canonical text.
 pub fn print_zone(zone: &TimeZoneRecord<'_, Utf8>, out: &mut [u8]) -> Result<usize, PrintError> {
     text::print(CanonicalZone { zone }, out)
@@ -54,10 +54,10 @@ pub fn print_zone(zone: &TimeZoneRecord<'_, Utf8>, out: &mut [u8]) -> Result<usi
 
 /// Writes the canonical text of a time zone as 16-bit code units, like [`print_zone`](crate::print_zone).
 ///
-/// The zone is a record that [`TimeZoneParser::parse_identifier`](ixdtf::parsers::TimeZoneParser::parse_identifier) returns
-/// for 16-bit text. To read the code units that were written, make a parser of them with
-/// [`TimeZoneParser::from_utf16`](ixdtf::parsers::TimeZoneParser::from_utf16). Each of them is the number of an ASCII
-/// character. There are as many of them as `print_zone` writes bytes for the same zone.
+/// The zone is a record that [`TimeZoneParser::parse_identifier`](ixdtf::parsers::TimeZoneParser::parse_identifier)
+/// returns for 16-bit text. Each code unit is the number of an ASCII character, so
+/// [`TimeZoneParser::from_utf16`](ixdtf::parsers::TimeZoneParser::from_utf16) makes a parser that reads the text. The
+/// number of code units is the number of bytes that `print_zone` writes for the same zone.
 ///
 /// # Examples
 ///
@@ -83,8 +83,8 @@ pub fn print_zone(zone: &TimeZoneRecord<'_, Utf8>, out: &mut [u8]) -> Result<usi
 ///
 /// After an error, the slice is unchanged.
 ///
-/// - [`PrintError::NotPrintable`]: the zone has no canonical text. Its name is one that `parse_iana_identifier` refuses,
-///   or the hour or the minute of its offset is out of range.
+/// - [`PrintError::NotPrintable`]: the zone has no canonical text: its name is one that `parse_iana_identifier`
+///   refuses, or the hour or the minute of its offset is out of range.
 /// - [`PrintError::TooShort`]: the slice is shorter than the canonical text.
 #[inline]
 pub fn print_zone_utf16(

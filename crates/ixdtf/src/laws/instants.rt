@@ -1,4 +1,4 @@
-//! Laws of instants: what follows from the contract of
+//! Laws of instants. They follow from the contract of
 //! [`IxdtfParseRecord::instant`](crate::records::IxdtfParseRecord::instant).
 //!
 //! The laws are about dates, times and offsets, and about the *count* of an instant: the number of nanoseconds from
@@ -18,11 +18,12 @@ pub fn next_day_is_a_day_later()
     ensures next { NextDayIsADayLater }
 {}
 
-/// States that dates and times, their instants and the counts of these instants have the same order.
+/// States that a later date and time, at the same offset, has an instant with a larger count, and that a greater instant
+/// has a larger count.
 ///
-/// - `counts`: suppose that two dates are dates that exist, and that two times have hours of at most 23, minutes of at
-///   most 59 and seconds of at most 60. Second 60 counts as second 59. Then, at the same offset, one date and time comes
-///   before the other exactly if the count of its instant is smaller.
+/// - `counts`: suppose that two dates exist, and that each has a time. The hours are at most 23, the minutes are at
+///   most 59, and the seconds are at most 60. Second 60 counts as second 59. Then, at the same offset, one date and
+///   time comes before the other exactly if the count of its instant is smaller.
 /// - `instants`: suppose that the nanoseconds of two instants are below 1,000,000,000. `Ord` compares the seconds, and
 ///   then the nanoseconds. One instant is less than the other in this order exactly if its count is smaller.
 pub fn instants_are_in_order()
@@ -47,9 +48,9 @@ pub fn second_60_is_59()
 /// States that `parse` accepts the text that `Display` writes for an instant, and that the record has this instant.
 ///
 /// The law is about each instant that is not before -999999-01-01T00:00:00Z, and is before +1000000-01-01T00:00:00Z. It
-/// states that, without a handler, the text of this instant gives a record with a date, a time and `Z`, and nothing
-/// else. By the clause `reads` in the contract of [`IxdtfParser::parse`](crate::parsers::IxdtfParser::parse), `parse` then
-/// returns this record.
+/// states that the grammar derives a record from the text of this instant. This record has a date, a time and `Z`, and
+/// nothing else. By the clause `reads` in the contract of [`IxdtfParser::parse`](crate::parsers::IxdtfParser::parse),
+/// `parse` then returns this record.
 pub fn text_is_read_back()
     ensures { TextIsReadBack }
 {}

@@ -97,9 +97,9 @@ impl<'a, T: EncodingType> IxdtfParser<'a, T> {
 
     /// Returns the parser with another profile. The remaining input is unchanged.
     ///
-    /// The profile decides which texts [`parse_month_day`](Self::parse_month_day) accepts.
-    /// [`parse_time`](Self::parse_time) refuses a time without `T` or `t` that begins with such a text. So the profile also
-    /// decides which times are refused.
+    /// The profile decides which texts [`parse_month_day`](Self::parse_month_day) accepts. A time without `T` or `t`
+    /// must not begin with a text that `parse_month_day` accepts. So the profile also decides which times
+    /// [`parse_time`](Self::parse_time) refuses.
     ///
     /// # Examples
     ///

@@ -35,7 +35,7 @@ impl<'a, T: EncodingType> IxdtfParser<'a, T> {
     /// The reader then tests the reply: see the errors below. With the handler `|annotation| Some(annotation)`, the
     /// result is the same as the result of [`parse`](Self::parse).
     ///
-    /// `calendar` is the value of the first reply with the key `u-ca`. So the slice comes from the handler, and it need
+    /// `calendar` is the value of the first reply with the key `u-ca`. So this value comes from the handler. It need
     /// not be a part of the source.
     ///
     /// If the call succeeds, no input remains, and a second call returns the error of the empty text. If it fails, the
@@ -251,8 +251,8 @@ impl<'a, T: EncodingType> IxdtfParser<'a, T> {
 
     /// Parses the remaining input as a date, or as a date and a time, with a handler. An error includes its position.
     ///
-    /// This is [`parse_with_annotation_handler`](Self::parse_with_annotation_handler) with positions as in
-    /// [`parse_located`](Self::parse_located).
+    /// The handler and the record are as in [`parse_with_annotation_handler`](Self::parse_with_annotation_handler). The
+    /// position of an error is as in [`parse_located`](Self::parse_located).
     ///
     /// # Examples
     ///
@@ -284,8 +284,9 @@ impl<'a, T: EncodingType> IxdtfParser<'a, T> {
 
     /// Parses the remaining input as a text of RFC 9557, with a handler. An error includes its position.
     ///
-    /// This is [`parse_rfc9557_with_annotation_handler`](Self::parse_rfc9557_with_annotation_handler) with positions as
-    /// in [`parse_rfc9557_located`](Self::parse_rfc9557_located).
+    /// The handler and the record are as in
+    /// [`parse_rfc9557_with_annotation_handler`](Self::parse_rfc9557_with_annotation_handler). The position of an error
+    /// is as in [`parse_rfc9557_located`](Self::parse_rfc9557_located).
     ///
     /// # Examples
     ///
@@ -317,8 +318,9 @@ impl<'a, T: EncodingType> IxdtfParser<'a, T> {
 
     /// Parses the remaining input as a year and a month, with a handler. An error includes its position.
     ///
-    /// This is [`parse_year_month_with_annotation_handler`](Self::parse_year_month_with_annotation_handler) with
-    /// positions as in [`parse_year_month_located`](Self::parse_year_month_located).
+    /// The handler and the record are as in
+    /// [`parse_year_month_with_annotation_handler`](Self::parse_year_month_with_annotation_handler). The position of an
+    /// error is as in [`parse_year_month_located`](Self::parse_year_month_located).
     ///
     /// # Examples
     ///
@@ -350,8 +352,9 @@ impl<'a, T: EncodingType> IxdtfParser<'a, T> {
 
     /// Parses the remaining input as a month and a day, with a handler. An error includes its position.
     ///
-    /// This is [`parse_month_day_with_annotation_handler`](Self::parse_month_day_with_annotation_handler) with
-    /// positions as in [`parse_month_day_located`](Self::parse_month_day_located).
+    /// The handler and the record are as in
+    /// [`parse_month_day_with_annotation_handler`](Self::parse_month_day_with_annotation_handler). The position of an
+    /// error is as in [`parse_month_day_located`](Self::parse_month_day_located).
     ///
     /// # Examples
     ///
@@ -383,8 +386,9 @@ impl<'a, T: EncodingType> IxdtfParser<'a, T> {
 
     /// Parses the remaining input as a time, with a handler. An error includes its position.
     ///
-    /// This is [`parse_time_with_annotation_handler`](Self::parse_time_with_annotation_handler) with positions as in
-    /// [`parse_time_located`](Self::parse_time_located).
+    /// The handler and the record are as in
+    /// [`parse_time_with_annotation_handler`](Self::parse_time_with_annotation_handler). The position of an error is as
+    /// in [`parse_time_located`](Self::parse_time_located).
     ///
     /// # Examples
     ///

@@ -18,7 +18,7 @@ use std::marker::Model;
 
 /// A parser of texts that are only an offset from UTC, or only a time zone.
 ///
-/// It borrows its source. It is as large as a slice.
+/// The parser borrows the text that it parses. It contains only a slice of this text.
 ///
 /// # Examples
 ///
@@ -90,13 +90,16 @@ impl<'a, T: EncodingType> TimeZoneParser<'a, T> {
 
     /// Parses the remaining input as a time zone, such as `Europe/Berlin` or `+05:30`.
     ///
-    /// A time zone is a name, or an offset without seconds. More names are accepted than `time-zone-name` of RFC 9557,
-    /// section 4.1, allows: a part after a `/` can begin with a digit, `+` or `-`, and a part can be `.` or `..`.
+    /// A time zone is a name, or an offset without seconds.
     ///
     /// - A name consists of ASCII letters, digits, `_`, `.`, `+`, `-` and `/`. Its first character is a letter, `_` or
-    ///   `.`. Its last character is not a `/`, and no `/` directly follows another `/`. The result is a slice of the text.
-    ///   It is not checked that such a zone exists.
+    ///   `.`. Its last character is not a `/`, and no `/` directly follows another `/`. The result is a slice of the
+    ///   text. The parser does not check that a zone with this name exists.
     /// - An offset is as in [`parse_offset`](Self::parse_offset), but without seconds.
+    ///
+    /// Some of these names are not allowed by RFC 9557, section 4.1 (`time-zone-name`). A `/` separates two parts of a
+    /// name. In RFC 9557, no part can be `.` or `..`, and no part can begin with a digit, `+` or `-`. This method accepts
+    /// a part that is `.` or `..`. After a `/`, it also accepts a part that begins with a digit, `+` or `-`.
     ///
     /// If the call succeeds, no input remains, and a second call returns the error of the empty text. If it fails, the
     /// input is unchanged, and a second call returns the same error.
@@ -136,8 +139,8 @@ impl<'a, T: EncodingType> TimeZoneParser<'a, T> {
     /// - `TimeHour`: the hour of an offset contains a character that is not a digit, or is greater than 23.
     /// - `TimeMinuteSecond`: the minute of an offset contains a character that is not a digit, or is greater than 59.
     /// - `InvalidMinutePrecisionOffset`: a colon or a digit follows the minute of an offset.
-    /// - `InvalidEnd`: a `]` follows a name. Or a character that is neither a colon nor a digit follows the hour or the
-    ///   minute of an offset.
+    /// - `InvalidEnd`: a `]` follows a name. This is also the error if a character that is neither a colon nor a digit
+    ///   follows the hour or the minute of an offset.
     /// - `NonAsciiCodePoint`: 16-bit text has a code unit outside 1 to 126. 8-bit text never has this error.
     pub fn parse_identifier(&mut self) -> ParserResult<TimeZoneRecord<'a, T>>
         ensures reads { ReadsPart T.letter fault_of (zone_of T.number) identified parse_identifier self.old result self.new }
@@ -216,8 +219,8 @@ impl<'a, T: EncodingType> TimeZoneParser<'a, T> {
 
     /// Parses the remaining input as the name of a time zone, such as `Europe/Berlin`.
     ///
-    /// A name has the form that it has in [`parse_identifier`](Self::parse_identifier). The result is the slice with all
-    /// code units of the remaining input. It is not checked that such a zone exists.
+    /// A name has the form that it has in [`parse_identifier`](Self::parse_identifier). The result is the slice with
+    /// all code units of the remaining input. The parser does not check that a zone with this name exists.
     ///
     /// If the call succeeds, no input remains, and a second call returns the error of the empty text. If it fails, the
     /// input is unchanged, and a second call returns the same error.

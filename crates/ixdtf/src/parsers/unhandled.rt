@@ -78,8 +78,8 @@ impl<'a, T: EncodingType> IxdtfParser<'a, T> {
     ///
     /// # Errors
     ///
-    /// The first wrong part of the text decides the error. If a month, day, hour, minute or second is out of its range, this
-    /// is the error, whatever follows the number. To get the position of the error, call
+    /// The first wrong part of the text decides the error. A month, day, hour, minute or second out of its range is an
+    /// error, whatever follows this number. To get the position of the error, call
     /// [`parse_located`](Self::parse_located).
     ///
     /// - `AbruptEnd`: the text ends too early. The field `location` is `Date` if the text ends after the year, and
@@ -104,11 +104,11 @@ impl<'a, T: EncodingType> IxdtfParser<'a, T> {
     /// - `FractionPart`: no digit follows the `.` or `,`. This is also the error if the text ends there.
     /// - `InvalidMinutePrecisionOffset`: a colon or a digit follows the minute of an offset in brackets.
     /// - `TzLeadingChar`: the first bracket begins with a character that can begin neither a zone nor a key.
-    /// - `IanaChar`: the name of a zone contains a character that a name cannot contain. This is not the error if the name
-    ///   begins with a lowercase letter or `_`, and neither `=` nor `]` comes later.
+    /// - `IanaChar`: the name of a zone contains a character that a name cannot contain. If the name begins with a
+    ///   lowercase letter or `_`, and neither `=` nor `]` comes later, the text has another error: see `AbruptEnd`.
     /// - `IanaCharPostSeparator`: in the name of a zone, a `/` is followed by another `/`, by a character that a name
-    ///   cannot contain, or by the end of the text. This is not the error if the name begins with a lowercase letter or
-    ///   `_`, and neither `=` nor `]` comes later.
+    ///   cannot contain, or by the end of the text. If the name begins with a lowercase letter or `_`, and neither `=`
+    ///   nor `]` comes later, the text has another error: see `AbruptEnd`.
     /// - `AnnotationKeyLeadingChar`: a bracket that is not the first one does not begin with a key.
     /// - `AnnotationKeyChar`: a key contains a character that a key cannot contain.
     /// - `AnnotationKeyValueSeparator`: in a bracket that is not the first one, the text ends in the key.
@@ -121,8 +121,9 @@ impl<'a, T: EncodingType> IxdtfParser<'a, T> {
     ///   zone, and the name does not begin with a lowercase letter or `_`.
     /// - `UnrecognizedCritical`: an annotation is critical, and its key is not `u-ca`. What follows this annotation is
     ///   not read.
-    /// - `CriticalDuplicateCalendar`: an annotation with the key `u-ca` has a value that differs from that of the first
-    ///   such annotation, and at least one of the two is critical. What follows this annotation is not read.
+    /// - `CriticalDuplicateCalendar`: an annotation with the key `u-ca` has another value than the first annotation
+    ///   with this key, and at least one of these two annotations is critical. What follows this annotation is not
+    ///   read.
     /// - `InvalidEnd`: a date, a time, an offset or a bracket is followed by a character that must not follow it, and no
     ///   other error of this list is about this character.
     /// - `NonAsciiCodePoint`: 16-bit text has a code unit outside 1 to 126. 8-bit text never has this error.
@@ -201,9 +202,10 @@ impl<'a, T: EncodingType> IxdtfParser<'a, T> {
 
     /// Parses the remaining input as a year and a month, such as `2020-11[u-ca=hebrew]`.
     ///
-    /// A year and a month are `2020-11` or `202011` (ISO 8601; `DateSpecYearMonth` of the grammar of Temporal, a
-    /// proposal for dates and times in JavaScript). The year has the forms that it has in [`parse`](Self::parse), and the
-    /// same brackets can follow.
+    /// A year and a month have the form `2020-11` or `202011`. These forms come from ISO 8601, and from
+    /// `DateSpecYearMonth` in the grammar of Temporal, a proposal for dates and times in JavaScript. The year has the
+    /// forms that it has in [`parse`](Self::parse). The same brackets as in [`parse`](Self::parse) can follow the
+    /// month.
     ///
     /// The record has the field `date`, with the day 1. The fields `tz` and `calendar` are as in
     /// [`parse`](Self::parse).
@@ -260,9 +262,10 @@ impl<'a, T: EncodingType> IxdtfParser<'a, T> {
 
     /// Parses the remaining input as a month and a day, such as `11-07`.
     ///
-    /// A month and a day are `11-07`, `1107`, `--11-07` or `--1107` (ISO 8601; `DateSpecMonthDay` of the Temporal
-    /// grammar). The least day is 0, or 1 under [`Profile::Strict`]. The greatest day is the last day of the
-    /// month. For February, it is 29. The same brackets as in [`parse`](Self::parse) can follow.
+    /// A month and a day have one of the forms `11-07`, `1107`, `--11-07` and `--1107`. These forms come from ISO 8601,
+    /// and from `DateSpecMonthDay` in the grammar of Temporal, a proposal for dates and times in JavaScript. The least
+    /// day is 0, or 1 under [`Profile::Strict`]. The greatest day is the last day of the month. For February, it is 29.
+    /// The same brackets as in [`parse`](Self::parse) can follow.
     ///
     /// The record has the field `date`, with the year 0. The fields `tz` and `calendar` are as in
     /// [`parse`](Self::parse).
@@ -329,10 +332,10 @@ impl<'a, T: EncodingType> IxdtfParser<'a, T> {
     /// A time has the forms that it has in [`parse`](Self::parse), with or without a `T` or `t` before it. `Z`, `z` or
     /// an offset can follow, and then the same brackets as in [`parse`](Self::parse).
     ///
-    /// A text that does not begin with `T` or `t` must not begin with a text that
-    /// [`parse_month_day`](Self::parse_month_day) or [`parse_year_month`](Self::parse_year_month) accepts. For example,
-    /// `1214Z` is refused, because `1214` is also month 12, day 14. The profile decides which texts are a month and a
-    /// day.
+    /// If a text does not begin with `T` or `t`, it must not begin with a month and a day that
+    /// [`parse_month_day`](Self::parse_month_day) accepts, or with a year and a month that
+    /// [`parse_year_month`](Self::parse_year_month) accepts. For example, `1214Z` is refused, because `1214` is also
+    /// month 12, day 14. The profile decides which texts are a month and a day.
     ///
     /// The record has the field `time`. If the text has `Z`, `z` or an offset, the record also has the field `offset`.
     /// The fields `tz` and `calendar` are as in [`parse`](Self::parse).

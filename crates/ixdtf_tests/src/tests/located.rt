@@ -122,6 +122,84 @@ fn says_what_is_wrong(rt: HostRuntime) -> Result<(), Fail> {
     Ok(())
 }
 
+// Reasons, positions, texts and hints. The hint is empty if there is none.
+const HINTS: &[(Reason, usize, &[u8], &str)] = &[
+    (
+        Reason::MonthDigits,
+        6,
+        b"2024-3-02",
+        "write the month as `03`",
+    ),
+    (Reason::MonthDigits, 6, b"2024-0-02", ""),
+    (
+        Reason::MonthDigits,
+        5,
+        b"12024-03-02",
+        "write a year after 9999 with a sign and six digits, like +012024",
+    ),
+    (
+        Reason::MonthRange,
+        6,
+        b"1709369280",
+        "a Unix time is not read; convert it first",
+    ),
+    (Reason::MonthRange, 7, b"2024-13-01", ""),
+    (Reason::AfterYear, 4, b"2024/03/02", "write `-` instead"),
+    (
+        Reason::AfterColonMinute,
+        16,
+        b"2024-03-02T08:48 +01:00",
+        "remove the space before `+`",
+    ),
+    (
+        Reason::AfterColonMinute,
+        16,
+        b"2024-03-02T08:48 UTC",
+        "write `Z` for UTC",
+    ),
+    (
+        Reason::AfterDate,
+        10,
+        b"2024-03-02\n",
+        "remove the white space at the end",
+    ),
+    (Reason::AfterDate, 10, b"2024-03-02\xE9", ""),
+    (
+        Reason::KeyStart,
+        16,
+        b"2024-03-02[UTC][Knort=blue]",
+        "write an annotation's key in lower-case letters",
+    ),
+    (
+        Reason::KeyStart,
+        16,
+        b"2024-03-02[UTC][Europe/Rome][a=b]",
+        "",
+    ),
+    (
+        Reason::DateUnitOrder,
+        5,
+        b"P2D5M",
+        "`M` before `T` is months; write `T` before minutes",
+    ),
+];
+
+#[test]
+fn gives_hints(rt: HostRuntime) -> Result<(), Fail> {
+    for (reason, at, text, said) in HINTS {
+        let error = LocatedError {
+            error: InvalidEnd,
+            at: *at,
+            reason: *reason,
+        };
+        match error.hint_in(text) {
+            Some(hint) => check_displayed(&rt, rt.alloc(), &hint, said)?,
+            None => check(&rt, "no hint", said.is_empty()),
+        }
+    }
+    Ok(())
+}
+
 #[test]
 fn gives_its_error(rt: HostRuntime) {
     let error: ParseError = ParseError::from(AT_FIVE);

@@ -15,7 +15,7 @@ use crate::parsers::offsets::sign_from;
 
 /// A parser of durations, such as `P1Y2M3DT4H`.
 ///
-/// It borrows its source. It is as large as a slice and a profile.
+/// The parser borrows the text that it parses. It contains only a slice of this text and a profile.
 ///
 /// # Examples
 ///
@@ -67,8 +67,8 @@ impl<'a> IsoDurationParser<'a, Utf16> {
 
     /// Creates a parser of 16-bit code units, as [`from_utf16`](Self::from_utf16) does.
     ///
-    /// The name of this function is that of the crate `ixdtf` 0.6.7 of ICU4X, which the library ports. There are two
-    /// functions `from_utf8`, one for each encoding. So a caller must name the encoding:
+    /// The crate `ixdtf` 0.6.7 of ICU4X has a function with this name, and this library is a port of that crate. There
+    /// are two functions `from_utf8`, one for each encoding. So a caller must name the encoding:
     /// `IsoDurationParser::<Utf16>::from_utf8`.
     ///
     /// # Examples
@@ -176,8 +176,8 @@ impl<'a, T: EncodingType> IsoDurationParser<'a, T> {
     ///
     /// # Errors
     ///
-    /// The first wrong part of the text decides the error. In one group, three tests follow each other: the number must be
-    /// less than `2^64`, the unit must be in order, and a number of years, months or weeks must be less than `2^32`. To get
+    /// The first wrong part of the text decides the error. A group is tested in this order: its number must be less
+    /// than `2^64`, its unit must be in order, and a number of years, months or weeks must be less than `2^32`. To get
     /// the position of the error, call [`parse_located`](Self::parse_located).
     ///
     /// - `AbruptEnd`: the text is empty (location `DurationStart`), or ends after the sign (`DurationDesignator`) or
@@ -208,7 +208,8 @@ impl<'a, T: EncodingType> IsoDurationParser<'a, T> {
     /// The position is the number of code units before the error. It is the index of the code unit that does not fit,
     /// or the end of the input if the input ends too early. There are three exceptions:
     ///
-    /// - If a number is `2^64` or more, the position is after the digit at which it becomes so great. More digits can follow.
+    /// - If a number is `2^64` or more, the position is after the first digit with which it is `2^64` or more. More
+    ///   digits can follow.
     /// - If a number of years, months or weeks is `2^32` or more, but less than `2^64`, the position is after the letter of
     ///   its unit.
     /// - If a group is out of order, the position is after the letter of its unit.

@@ -63,17 +63,21 @@ impl<'a, T: EncodingType> IxdtfParser<'a, T> {
     /// - `AbruptEnd`: the text ends where a digit has to follow (location `digit`), after the year (location `Date`), or
     ///   where an offset has to begin (location `time-numoffset`).
     /// - `DateYear`: the year has another character than a digit.
-    /// - `DateMonth`, `DateDay`, `TimeHour`, `TimeMinuteSecond`, `TimeSecond`: the month, the day, the hour, the minute or
-    ///   the second has another character than a digit. For the hour, the minute and the second, this is also the error of
-    ///   a number out of its range. The hour and the minute can be those of the time or those of the offset.
-    /// - `InvalidMonthRange`: there is no such month.
+    /// - `DateMonth`: the month has another character than a digit.
+    /// - `DateDay`: the day has another character than a digit.
+    /// - `TimeHour`: the hour of the time or of the offset has another character than a digit, or is greater than 23.
+    /// - `TimeMinuteSecond`: the minute of the time or of the offset has another character than a digit, or is greater
+    ///   than 59.
+    /// - `TimeSecond`: the second has another character than a digit, or is greater than 60.
+    /// - `InvalidMonthRange`: the month is not 01 to 12.
     /// - `InvalidDayRange`: the month does not have this day.
     /// - `DateSeparator`: no `-` follows the month, or another character than `-` follows the year.
     /// - `TimeSeparator`: neither `T` nor `t` follows the date, or no `:` follows the hour or the minute of the time.
     /// - `FractionPart`: no digit follows the `.`. This is also the error if the text ends there, or if a `,` follows
     ///   the second.
     /// - `OffsetNeedsSign`: an offset has to begin, but the next character is not a sign, `Z` or `z`. There are two
-    ///   exceptions directly after the seconds: a `.` begins a fraction, and a `,` has the error `FractionPart`.
+    ///   exceptions. A `.` directly after the second begins a fraction. For a `,` directly after the second, the error
+    ///   is `FractionPart`.
     /// - `UtcTimeSeparator`: no `:` follows the hour of the offset.
     /// - `InvalidEnd`: any character follows the offset.
     /// - `NonAsciiCodePoint`: 16-bit text has a code unit outside 1 to 126. 8-bit text never has this error.
